@@ -1,0 +1,4 @@
+pub mod Kind
+pub mod Letter
+pub mod Tiploc
+pub mod View

@@ -1,0 +1,13 @@
+-- Texts that name a timing point.
+use Rattle.std.specs.Prelude.{ℕ, ◌<◌, ◌≤◌, Bool, ◌&&◌, nat_le, List, length}
+use Rattle.std.specs.List.{AllPass}
+
+-- a byte that a word may hold: printable and no space
+abbrev pub is_graphic : ℕ → Bool
+is_graphic b = nat_le 0x21 b && nat_le b 0x7E
+
+-- one to seven such bytes
+pub record IsTiplocText (text : List ℕ) : Type 0 where
+  pub some : 0 < length text
+  pub few : length text ≤ 7
+  pub graphic : AllPass is_graphic text

@@ -1,0 +1,151 @@
+//! A line of a CIF file: 80 printable bytes.
+ghost use Rattle.std.specs.Prelude.{◌≡◌, ℕ, ◌↔◌, ◌<◌, length, IsTrue, IsOk, IfOk, Ok, Err, Some, IsNone, IfSome, position, not, ◌≤◌, ◌-◌, ◌+◌, true};
+ghost use Rattle.std.specs.List.{AllPass};
+ghost use Rattle.docker_model.specs.Clock.{is_present_time, half_minutes};
+ghost use Rattle.docker_model.specs.Field.{is_tiploc};
+ghost use Rattle.docker_model.specs.State.{IsTextOfLength};
+ghost use Rattle.docker_model.specs.Record.{IsRecord, leftmost_bad_byte, is_printable, columns, column};
+
+use crate::time::Time;
+use crate::tiploc::Tiploc;
+use std::marker::Model;
+use thiserror::Error;
+
+/// A line of a CIF file: 80 bytes, each from a space (0x20) to a tilde (0x7E).
+#[derive(Clone, Copy, PartialEq, Eq, PartialOrd, Ord, Debug)]
+pub struct Line {
+    bytes: [u8; 80],
+}
+
+impl Model for Line {
+    ghost use Rattle.std.specs.Prelude.{List, ℕ};
+    ghost use Rattle.docker_model.specs.Record.{IsRecord};
+
+    ghost Value = { List ℕ };
+
+    ghost view = { λ line. line.bytes };
+
+    ghost invariant = { λ line. IsRecord line.bytes };
+
+    ghost inverse = { λ bytes. record { bytes = bytes } };
+}
+
+/// Why bytes are no line. The length is judged before any byte.
+#[derive(Clone, Copy, PartialEq, Eq, Debug, Error)]
+pub enum LineFault {
+    /// There are not 80 bytes.
+    #[error("Length")]
+    Length,
+    /// A byte is not printable: the leftmost such column, from 1.
+    #[error("Byte {0}")]
+    Byte(u8),
+}
+
+impl Line {
+    /// A line of these bytes, if they are one.
+    pub fn new(bytes: &[u8]) -> Result<Line, LineFault>
+        ensures ok { IsOk result ↔ IsRecord bytes.now }
+        ensures value { IfOk result (λ line. line ≡ bytes.now) }
+        ensures length { (result ≡ Err LineFault.Length) ↔ (¬ (length bytes.now ≡ 80)) }
+        ensures byte { (column : ℕ) → (result ≡ Err (LineFault.Byte column)) ↔ ((length bytes.now ≡ 80) × (leftmost_bad_byte bytes.now ≡ Some column)) }
+    {
+        let Ok(bytes) = <[u8; 80]>::try_from(bytes) else {
+            return Err(LineFault::Length);
+        };
+        match first_bad_column(&bytes) {
+            Some(column) => Err(LineFault::Byte(column)),
+            None => Ok(Line { bytes }),
+        }
+    }
+
+    /// The `N` bytes from a column on, counted from 1.
+    pub(crate) fn field<const N: usize>(&self, first: usize) -> &[u8; N]
+        requires from { 0 < first }
+        requires within { first - 1 + N ≤ 80 }
+        ensures bytes { result.now ≡ columns first (first - 1 + N) self.now }
+        ensures text { IsTextOfLength N result.now }
+    {
+        match self.bytes[first - 1..first - 1 + N].first_chunk() {
+            Some(field) => field,
+            None => unreachable!(),
+        }
+    }
+
+    /// The TIPLOC in the seven columns from one on.
+    pub(crate) fn tiploc(&self, first: usize) -> Tiploc
+        requires from { 0 < first }
+        requires within { first ≤ 74 }
+        requires good { is_tiploc (columns first (first - 1 + 7) self.now) ≡ true }
+        ensures { result ≡ columns first (first - 1 + 7) self.now }
+    {
+        match Tiploc::from_field(self.field(first)) {
+            Some(tiploc) => tiploc,
+            None => unreachable!(),
+        }
+    }
+
+    /// The scheduled time in the five columns from one on.
+    pub(crate) fn present_time(&self, first: usize) -> Time
+        requires from { 0 < first }
+        requires within { first ≤ 76 }
+        requires good { is_present_time (columns first (first - 1 + 5) self.now) ≡ true }
+        ensures { result ≡ half_minutes (columns first (first - 1 + 5) self.now) }
+    {
+        match Time::from_field(self.field(first)) {
+            Some(time) => time,
+            None => unreachable!(),
+        }
+    }
+
+    /// The byte in a column, counted from 1.
+    pub(crate) fn column(&self, n: usize) -> u8
+        requires from { 0 < n }
+        requires within { n ≤ 80 }
+        ensures byte { result ≡ column n self.now }
+        ensures printable { is_printable result ≡ true }
+    {
+        self.bytes[n - 1]
+    }
+
+    /// The 80 bytes of the line.
+    pub fn bytes(&self) -> &[u8; 80]
+        ensures bytes { result.now ≡ self.now }
+        ensures record { IsRecord self.now }
+    {
+        &self.bytes
+    }
+}
+
+/// A byte that a line may hold.
+fn is_printable(byte: u8) -> bool
+    ensures { result ≡ is_printable byte }
+{
+    b' ' <= byte && byte <= b'~'
+}
+
+/// The index of the leftmost byte that is not printable.
+fn first_bad_index(bytes: &[u8]) -> Option<usize>
+    ensures value { result ≡ position (λ b. not (is_printable b)) bytes.now }
+    ensures within { IfSome result (λ index. index < length bytes.now) }
+    ensures none { IsNone result ↔ AllPass is_printable bytes.now }
+{
+    bytes.iter().position(|byte| !is_printable(*byte))
+}
+
+/// The leftmost column, from 1, whose byte is not printable.
+fn first_bad_column(bytes: &[u8; 80]) -> Option<u8>
+    ensures value { result ≡ leftmost_bad_byte bytes.now }
+    ensures none { IsNone result ↔ AllPass is_printable bytes.now }
+{
+    match first_bad_index(bytes) {
+        Some(index) => Some(index as u8 + 1),
+        None => None,
+    }
+}
+
+/// Each byte is one that a line may hold.
+pub(crate) fn are_printable(bytes: &[u8]) -> bool
+    ensures { IsTrue result ↔ AllPass is_printable bytes.now }
+{
+    bytes.iter().all(|byte| is_printable(*byte))
+}

@@ -1,0 +1,134 @@
+//! Times of day.
+ghost use Rattle.std.specs.Prelude.{◌≡◌, ◌↔◌, ◌≤◌, ◌<◌, ◌+◌, length, IsSome, IfSome, IsTrue, ◌*◌, true, take, option_map};
+ghost use Rattle.std.specs.List.{list_all};
+ghost use Rattle.std.specs.Char.{is_ascii_digit};
+ghost use Rattle.docker_model.specs.Date.{two_digits};
+ghost use Rattle.docker_model.specs.Clock.{is_blank, is_clock, minute_of, is_present_time, half_minutes, is_public_time, public_time};
+ghost use Rattle.std.specs.Option.{option_map_or};
+ghost use Rattle.docker_model.specs.DockerLine.{shown_public, spaces};
+ghost use Rattle.docker_model.specs.DockerText.{time_text};
+
+use std::marker::Model;
+
+/// A scheduled time of day, in half minutes from midnight: 0 to 2879.
+#[derive(Clone, Copy, PartialEq, Eq, PartialOrd, Ord, Debug)]
+pub struct Time {
+    half_minutes: u16,
+}
+
+impl Model for Time {
+    ghost use Rattle.std.specs.Prelude.{ℕ, ◌<◌};
+
+    ghost Value = { ℕ };
+
+    ghost view = { λ time. time.half_minutes };
+
+    ghost invariant = { λ time. time.half_minutes < 2880 };
+
+    ghost inverse = { λ half_minutes. record { half_minutes = half_minutes } };
+}
+
+impl Time {
+    /// The time of a field HHMM with `H` for half a minute or a space behind it, which is not blank.
+    pub fn from_field(field: &[u8; 5]) -> Option<Time>
+        ensures some { IsSome result ↔ IsTrue (is_present_time field.now) }
+        ensures value { IfSome result (λ time. time ≡ half_minutes field.now) }
+    {
+        let minute = clock(field)?;
+        match field[4] {
+            b'H' => Some(Time {
+                half_minutes: 2 * minute + 1,
+            }),
+            b' ' => Some(Time {
+                half_minutes: 2 * minute,
+            }),
+            _ => None,
+        }
+    }
+
+    /// The public time of a field HHMM, which is a whole minute; none where the field is blank or `0000`.
+    pub(crate) fn from_public(field: &[u8; 4]) -> Option<Time>
+        requires good { is_public_time field.now ≡ true }
+        ensures value { result ≡ option_map (λ minute. 2 * minute) (public_time field.now) }
+        ensures shown { shown_public field.now ≡ option_map_or (λ time. take 4 (time_text time)) result (spaces 4) }
+    {
+        if is_blank(field) || field == b"0000" {
+            return None;
+        }
+        match clock(field) {
+            Some(minute) => Some(Time {
+                half_minutes: 2 * minute,
+            }),
+            None => unreachable!(),
+        }
+    }
+
+    /// The half minutes from midnight.
+    pub fn half_minutes(&self) -> u16
+        ensures value { result ≡ self.now }
+        ensures bound { self.now < 2880 }
+    {
+        self.half_minutes
+    }
+
+    /// The time as HHMM, and then `H` for half a minute or a space.
+    pub fn text(&self) -> [u8; 5]
+        ensures { result ≡ time_text self.now }
+    {
+        let minute = self.half_minutes / 2;
+        let hour = (minute / 60) as u8;
+        let minute = (minute % 60) as u8;
+        let half = if self.half_minutes % 2 == 1 { b'H' } else { b' ' };
+        [
+            b'0' + hour / 10,
+            b'0' + hour % 10,
+            b'0' + minute / 10,
+            b'0' + minute % 10,
+            half,
+        ]
+    }
+}
+
+/// The number that two digits of a field spell, from a place on.
+pub(crate) fn two_digits(field: &[u8], at: usize) -> u16
+    requires { at + 1 < length field.now }
+    ensures value { result ≡ two_digits field.now at }
+    ensures bound { result < 2300 }
+{
+    let tens = u16::from(field[at]).saturating_sub(48);
+    let units = u16::from(field[at + 1]).saturating_sub(48);
+    10 * tens + units
+}
+
+/// The minute of the day that a field which begins HHMM tells.
+pub(crate) fn clock(field: &[u8]) -> Option<u16>
+    requires { 4 ≤ length field.now }
+    ensures some { IsSome result ↔ IsTrue (is_clock field.now) }
+    ensures value { IfSome result (λ minute. minute ≡ minute_of field.now) }
+    ensures bound { IfSome result (λ minute. minute < 1440) }
+{
+    if !are_digits(&field[..4]) {
+        return None;
+    }
+    let hour = two_digits(field, 0);
+    let minute = two_digits(field, 2);
+    if hour < 24 && minute < 60 {
+        Some(60 * hour + minute)
+    } else {
+        None
+    }
+}
+
+/// The field is all spaces.
+pub(crate) fn is_blank(field: &[u8]) -> bool
+    ensures { result ≡ is_blank field.now }
+{
+    field.iter().all(|byte| *byte == b' ')
+}
+
+/// The field is all digits.
+pub(crate) fn are_digits(field: &[u8]) -> bool
+    ensures { result ≡ list_all is_ascii_digit field.now }
+{
+    field.iter().all(|byte| byte.is_ascii_digit())
+}
