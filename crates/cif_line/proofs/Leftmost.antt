@@ -1,0 +1,78 @@
+-- The leftmost bad field of a header and of a basic schedule, by the fields to its left.
+use Rattle.std.proofs.Common.{◌≡◌, ℕ, List, true, false, cond, [], ◌∷◌, ◌++◌, Bool, Some, ap, ◌∙◌}
+use Rattle.std.specs.Prelude.{not, option_map, find, Option}
+use Rattle.std.specs.List.{AllByRecursion}
+use Rattle.docker_model.specs.Record.{Kind, HasKind, header, basic_schedule, columns}
+use Rattle.docker_model.specs.Date.{is_date, is_date_day_first, is_end_date, is_days}
+use Rattle.docker_model.specs.Clock.{is_clock}
+use Rattle.docker_model.specs.Field.{CheckedField, checked, checked_fields, fields_of, leftmost_bad_field, is_update_indicator, is_transaction, is_stp_indicator, is_deletion}
+use Rattle.docker_laws.proofs.Columns.{IsGoodIn}
+
+-- the first column of the first of some fields that is not good
+first_bad : List ℕ → List CheckedField → Option ℕ
+first_bad line fields = option_map (λ (field : CheckedField). field.first) (find (λ field. not (field.is_good (columns field.first field.last line))) fields)
+
+by_kind : (kind : Kind) (line : List ℕ) → HasKind kind line → leftmost_bad_field line ≡ first_bad line (checked_fields kind line)
+unfolding first_bad
+by_kind kind line is = ap (λ k. first_bad line (fields_of k line)) is
+
+-- a bad field behind good ones
+behind_good : (line : List ℕ) (before : List CheckedField) (field : CheckedField) (after : List CheckedField)
+    → AllByRecursion (IsGoodIn line) before → field.is_good (columns field.first field.last line) ≡ false
+    → first_bad line (before ++ field ∷ after) ≡ Some field.first
+unfolding first_bad
+behind_good line [] field after good bad = λ i. option_map (λ (f : CheckedField). f.first) (cond (not (bad i)) (Some field) (find (λ f. not (f.is_good (columns f.first f.last line))) after))
+behind_good line (one ∷ before) field after good bad =
+    (λ i. option_map (λ (f : CheckedField). f.first) (cond (not (good.0 i)) (Some one) (find (λ f. not (f.is_good (columns f.first f.last line))) (before ++ field ∷ after))))
+    ∙ behind_good line before field after good.1 bad
+
+pub header_bad_day : (line : List ℕ) → HasKind header line → is_date_day_first (columns 23 28 line) ≡ false → leftmost_bad_field line ≡ Some 23
+header_bad_day line is bad = by_kind header line is ∙ behind_good line [] (checked 23 28 is_date_day_first) _ tt bad
+
+pub header_bad_minute : (line : List ℕ) → HasKind header line → is_date_day_first (columns 23 28 line) ≡ true → is_clock (columns 29 32 line) ≡ false → leftmost_bad_field line ≡ Some 29
+header_bad_minute line is day bad = by_kind header line is ∙ behind_good line (checked 23 28 is_date_day_first ∷ []) (checked 29 32 is_clock) _ (day, tt) bad
+
+pub header_bad_indicator : (line : List ℕ) → HasKind header line → is_date_day_first (columns 23 28 line) ≡ true → is_clock (columns 29 32 line) ≡ true
+    → is_update_indicator (columns 47 47 line) ≡ false → leftmost_bad_field line ≡ Some 47
+header_bad_indicator line is day minute bad = by_kind header line is ∙ behind_good line (checked 23 28 is_date_day_first ∷ checked 29 32 is_clock ∷ []) (checked 47 47 is_update_indicator) [] (day, (minute, tt)) bad
+
+-- the leftmost bad field of a header
+pub ruleset header_faults = (header_bad_day, header_bad_minute, header_bad_indicator)
+
+-- the checked fields of a basic schedule, of a deletion or not
+basic_checked : Bool → List CheckedField
+basic_checked deletion =
+    checked 3 3 is_transaction ∷ checked 10 15 is_date
+    ∷ cond deletion [] (checked 16 21 is_end_date ∷ checked 22 28 is_days ∷ [])
+    ++ checked 80 80 is_stp_indicator ∷ []
+
+of_basic : (line : List ℕ) (deletion : Bool) → HasKind basic_schedule line → is_deletion line ≡ deletion → leftmost_bad_field line ≡ first_bad line (basic_checked deletion)
+unfolding basic_checked
+of_basic line deletion is deletes = by_kind basic_schedule line is ∙ ap (λ b. first_bad line (basic_checked b)) deletes
+
+pub basic_bad_end : (line : List ℕ) → HasKind basic_schedule line → is_transaction (columns 3 3 line) ≡ true → is_date (columns 10 15 line) ≡ true
+    → is_deletion line ≡ false → is_end_date (columns 16 21 line) ≡ false → leftmost_bad_field line ≡ Some 16
+unfolding basic_checked
+basic_bad_end line is transaction day kept bad = of_basic line false is kept
+    ∙ behind_good line (checked 3 3 is_transaction ∷ checked 10 15 is_date ∷ []) (checked 16 21 is_end_date) (checked 22 28 is_days ∷ checked 80 80 is_stp_indicator ∷ []) (transaction, (day, tt)) bad
+
+pub basic_bad_days : (line : List ℕ) → HasKind basic_schedule line → is_transaction (columns 3 3 line) ≡ true → is_date (columns 10 15 line) ≡ true
+    → is_deletion line ≡ false → is_end_date (columns 16 21 line) ≡ true → is_days (columns 22 28 line) ≡ false → leftmost_bad_field line ≡ Some 22
+unfolding basic_checked
+basic_bad_days line is transaction day kept end bad = of_basic line false is kept
+    ∙ behind_good line (checked 3 3 is_transaction ∷ checked 10 15 is_date ∷ checked 16 21 is_end_date ∷ []) (checked 22 28 is_days) (checked 80 80 is_stp_indicator ∷ []) (transaction, (day, (end, tt))) bad
+
+pub basic_bad_stp_kept : (line : List ℕ) → HasKind basic_schedule line → is_transaction (columns 3 3 line) ≡ true → is_date (columns 10 15 line) ≡ true
+    → is_deletion line ≡ false → is_end_date (columns 16 21 line) ≡ true → is_days (columns 22 28 line) ≡ true → is_stp_indicator (columns 80 80 line) ≡ false → leftmost_bad_field line ≡ Some 80
+unfolding basic_checked
+basic_bad_stp_kept line is transaction day kept end days bad = of_basic line false is kept
+    ∙ behind_good line (checked 3 3 is_transaction ∷ checked 10 15 is_date ∷ checked 16 21 is_end_date ∷ checked 22 28 is_days ∷ []) (checked 80 80 is_stp_indicator) [] (transaction, (day, (end, (days, tt)))) bad
+
+pub basic_bad_stp_deleted : (line : List ℕ) → HasKind basic_schedule line → is_transaction (columns 3 3 line) ≡ true → is_date (columns 10 15 line) ≡ true
+    → is_deletion line ≡ true → is_stp_indicator (columns 80 80 line) ≡ false → leftmost_bad_field line ≡ Some 80
+unfolding basic_checked
+basic_bad_stp_deleted line is transaction day deleted bad = of_basic line true is deleted
+    ∙ behind_good line (checked 3 3 is_transaction ∷ checked 10 15 is_date ∷ []) (checked 80 80 is_stp_indicator) [] (transaction, (day, tt)) bad
+
+-- the leftmost bad field of a basic schedule
+pub ruleset basic_faults = (basic_bad_end, basic_bad_days, basic_bad_stp_kept, basic_bad_stp_deleted)

@@ -1,0 +1,4 @@
+pub mod GoodFields
+pub mod CivilDays
+pub mod DateFields
+pub mod Leftmost

@@ -1,0 +1,113 @@
+//! A basic schedule, a record BS.
+ghost use Rattle.std.specs.Prelude.{◌≡◌, None, Some, if◌then◌else◌};
+ghost use Rattle.docker_model.specs.Record.{basic_schedule, columns, column};
+ghost use Rattle.docker_model.specs.Date.{date_number, end_number};
+ghost use Rattle.docker_model.specs.Field.{is_deletion};
+ghost use Rattle.docker_model.specs.State.{IsTextOfLength};
+ghost use Rattle.cif_line.specs.View.{IsGood};
+ghost use Rattle.cif_line.specs.Letter.{transaction_letter, stp_letter};
+
+use crate::day::Day;
+use crate::days::Days;
+use crate::letter::{Stp, Transaction};
+use crate::line::Line;
+use crate::uid::Uid;
+use crate::until::Until;
+use std::marker::Model;
+
+/// A view of a basic schedule (BS) whose checked fields are good. Of a deletion the end date and the days are not checked.
+#[derive(Debug)]
+pub struct Basic<'a> {
+    line: &'a Line,
+}
+
+impl<'a> Model for Basic<'a> {
+    ghost use Rattle.std.specs.Prelude.{List, ℕ};
+    ghost use Rattle.docker_model.specs.Record.{basic_schedule};
+    ghost use Rattle.cif_line.specs.View.{IsGood};
+
+    ghost Value = { List ℕ };
+
+    ghost view = { λ basic. basic.line.now };
+
+    ghost invariant = { λ basic. IsGood basic_schedule basic.line.now };
+}
+
+#[tactic(auto, using(crate::proofs::GoodFields::basic_fields))]
+impl<'a> Basic<'a> {
+    /// A view of a line whose fields were checked.
+    pub(crate) fn of(line: &'a Line) -> Basic<'a>
+        requires good { IsGood basic_schedule line.now }
+        ensures line { result ≡ line.entry.now }
+    {
+        Basic { line }
+    }
+
+    /// The transaction: column 3.
+    pub fn transaction(&self) -> Transaction
+        ensures { transaction_letter result ≡ column 3 self.now }
+    {
+        match Transaction::from_letter(self.line.column(3)) {
+            Some(transaction) => transaction,
+            None => unreachable!(),
+        }
+    }
+
+    /// The train's UID: columns 4 to 9.
+    pub fn uid(&self) -> Uid
+        ensures { result ≡ columns 4 9 self.now }
+    {
+        match Uid::from_field(self.line.field(4)) {
+            Some(uid) => uid,
+            None => unreachable!(),
+        }
+    }
+
+    /// The first day on which it runs: columns 10 to 15.
+    pub fn runs_from(&self) -> Day
+        ensures { result ≡ date_number (columns 10 15 self.now) }
+    {
+        match Day::from_yymmdd(self.line.field(10)) {
+            Some(day) => day,
+            None => unreachable!(),
+        }
+    }
+
+    /// The last day on which it runs, none on a deletion: columns 16 to 21.
+    pub fn runs_to(&self) -> Option<Until>
+        ensures { result ≡ (if is_deletion self.now then None else Some (end_number (columns 16 21 self.now))) }
+    {
+        match self.transaction() {
+            Transaction::Delete => None,
+            _ => Until::from_field(self.line.field(16)),
+        }
+    }
+
+    /// The weekdays on which it runs, none on a deletion: columns 22 to 28.
+    pub fn days(&self) -> Option<Days>
+        ensures { result ≡ (if is_deletion self.now then None else Some (columns 22 28 self.now)) }
+    {
+        match self.transaction() {
+            Transaction::Delete => None,
+            _ => Days::from_field(self.line.field(22)),
+        }
+    }
+
+    /// The train identity: columns 33 to 36.
+    pub fn identity(&self) -> &'a [u8; 4]
+        ensures value { result.now ≡ columns 33 36 self.now }
+        ensures text { IsTextOfLength 4 result.now }
+    {
+        self.line.field(33)
+    }
+
+    /// The STP indicator: column 80.
+    pub fn stp(&self) -> Stp
+        ensures { stp_letter result ≡ column 80 self.now }
+    {
+        match Stp::from_letter(self.line.column(80)) {
+            Some(stp) => stp,
+            None => unreachable!(),
+        }
+    }
+}

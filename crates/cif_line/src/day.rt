@@ -1,0 +1,203 @@
+//! Days of the calendar, by their number from 1 January 1960.
+ghost use Rattle.std.specs.Prelude.{◌≡◌, ℕ, ◌+◌, ◌<◌, ◌≤◌, ◌↔◌, pos, ◌+ℤ◌, IsTrue, IsSome, IfSome, Some, unsigned_abs};
+ghost use Rattle.std.specs.Int.{IsInRange};
+ghost use Rattle.std.specs.List.{list_all};
+ghost use Rattle.std.specs.Char.{is_ascii_digit};
+ghost use Rattle.std.specs.Option.{SomeIff};
+ghost use Rattle.jiff.specs.Words.{IsBetween};
+ghost use Rattle.docker_model.specs.Date.{is_date, date_number, is_date_day_first, date_number_day_first, is_calendar_day, day_number, last_day, weekday_of, two_digits as number_of_digits, full_year as full_year_of};
+ghost use Rattle.docker_model.specs.DockerText.{day_text, date_text};
+
+use jiff::civil::Date;
+use jiff_core::civil;
+use std::fmt;
+use std::marker::Model;
+
+#[cfg(test)]
+mod tests;
+
+/// How many days after -9999-01-01, where the calendar begins, 1960-01-01 is.
+const FIRST: u32 = 4_367_934;
+
+/// The number of 2059-12-31.
+const LAST: u16 = 36524;
+
+/// A day from 1960-01-01 to 2059-12-31.
+#[derive(Clone, Copy, PartialEq, Eq, PartialOrd, Ord, Debug)]
+pub struct Day {
+    number: u16,
+}
+
+impl Model for Day {
+    ghost Value = { ℕ };
+
+    ghost view = { λ day. day.number };
+
+    ghost inverse = { λ number. record { number = number } };
+
+    ghost invariant = { λ day. day.number ≤ 36524 };
+}
+
+impl Day {
+    /// The day of six digits, year first: a year from 60 is one of the twentieth century.
+    pub fn from_yymmdd(field: &[u8; 6]) -> Option<Day>
+        ensures some { IsSome result ↔ IsTrue (is_date field.now) }
+        ensures value { IfSome result (λ day. day ≡ date_number field.now) }
+    {
+        if !are_digits(field) {
+            return None;
+        }
+        day_of(full_year(two_digits(field, 0)), two_digits(field, 2), two_digits(field, 4))
+    }
+
+    /// The day of six digits, day first.
+    pub fn from_ddmmyy(field: &[u8; 6]) -> Option<Day>
+        ensures some { IsSome result ↔ IsTrue (is_date_day_first field.now) }
+        ensures value { IfSome result (λ day. day ≡ date_number_day_first field.now) }
+    {
+        if !are_digits(field) {
+            return None;
+        }
+        day_of(full_year(two_digits(field, 4)), two_digits(field, 2), two_digits(field, 0))
+    }
+
+    /// The day that is written so by `iso`, in ten bytes, and no other text.
+    pub fn from_iso(text: &str) -> Option<Day>
+        ensures value { IfSome result (λ day. text.now ≡ day_text day) }
+        ensures read { (day : ℕ) → day ≤ last_day → text.now ≡ day_text day → result ≡ Some day }
+    {
+        let [_, _, y, z, _, m, n, _, d, e] = text.as_bytes() else {
+            return None;
+        };
+        let day = Day::from_yymmdd(&[*y, *z, *m, *n, *d, *e])?;
+        if day.iso().as_slice() == text.as_bytes() {
+            Some(day)
+        } else {
+            None
+        }
+    }
+
+    /// The day with that number.
+    pub fn from_number(number: u16) -> Option<Day>
+        ensures { SomeIff result (number ≤ last_day) number }
+    {
+        if number > LAST {
+            return None;
+        }
+        Some(Day { number })
+    }
+
+    /// The day as YYYY-MM-DD.
+    pub fn iso(&self) -> [u8; 10]
+        ensures { result ≡ day_text self.now }
+    {
+        let date = self.date();
+        let (century, year) = (date.year as u16 / 100, date.year as u16 % 100);
+        let (month, day) = (date.month as u16, date.day as u16);
+        [
+            digit(century / 10),
+            digit(century % 10),
+            digit(year / 10),
+            digit(year % 10),
+            b'-',
+            digit(month / 10),
+            digit(month % 10),
+            b'-',
+            digit(day / 10),
+            digit(day % 10),
+        ]
+    }
+
+    /// The days since 1960-01-01.
+    pub fn number(&self) -> u16
+        ensures value { result ≡ self.now }
+        ensures bound { result ≤ last_day }
+    {
+        self.number
+    }
+
+    /// The day of the week, 0 for Monday.
+    pub fn weekday(&self) -> u8
+        ensures value { result ≡ weekday_of self.now }
+        ensures bound { result < 7 }
+    {
+        // Day 0 was a Friday.
+        ((self.number + 4) % 7) as u8
+    }
+
+    /// The day so many days later, or earlier where `days` is negative.
+    pub fn plus(&self, days: i32) -> Option<Day>
+        ensures some { IsSome result ↔ IsBetween (pos 0) (pos last_day) (pos self.now +ℤ days) }
+        ensures value { IfSome result (λ day. pos day ≡ pos self.now +ℤ days) }
+    {
+        let sum = self.number as i64 + days as i64;
+        if sum < 0 || sum > LAST as i64 {
+            return None;
+        }
+        Some(Day { number: sum as u16 })
+    }
+
+    fn date(&self) -> civil::Date
+        ensures years { IsBetween (pos 1960) (pos 2059) result.year }
+        ensures months { result.month ≤ 12 }
+        ensures days { result.day ≤ 31 }
+        ensures text { day_text self.now ≡ date_text (unsigned_abs result.year) result.month result.day }
+    {
+        civil::Date::from_days_since_min(FIRST + self.number as u32)
+    }
+}
+
+impl fmt::Display for Day {
+    fn fmt<W: fmt::Write>(&self, f: &mut fmt::Formatter<W>) -> fmt::Result {
+        let date = self.date();
+        write!(f, "{}-{:02}-{:02}", date.year, date.month, date.day)
+    }
+}
+
+/// The day of a year from 1960 to 2059, if the calendar has it.
+fn day_of(year: u16, month: u8, day: u8) -> Option<Day>
+    requires year_in { IsInRange 1960 2059 year }
+    requires month_in { month < 100 }
+    requires day_in { day < 100 }
+    ensures some { IsSome result ↔ IsTrue (is_calendar_day year month day) }
+    ensures value { IfSome result (λ d. d ≡ day_number year month day) }
+{
+    match Date::new(year as i16, month as i8, day as i8) {
+        Ok(date) => Some(Day {
+            number: (date.to_plain().days_since_min() - FIRST) as u16,
+        }),
+        Err(_) => None,
+    }
+}
+
+fn are_digits(field: &[u8; 6]) -> bool
+    ensures { result ≡ list_all is_ascii_digit field.now }
+{
+    field.iter().all(|b| b.is_ascii_digit())
+}
+
+/// The number that two digits spell, from that place on.
+fn two_digits(field: &[u8; 6], place: usize) -> u8
+    requires digits { IsTrue (list_all is_ascii_digit field.now) }
+    requires within { place < 5 }
+    ensures value { result ≡ number_of_digits field.now place }
+    ensures bound { result < 100 }
+{
+    10 * (field[place] - b'0') + (field[place + 1] - b'0')
+}
+
+/// The year that a year of two digits means.
+fn full_year(year: u8) -> u16
+    requires { year < 100 }
+    ensures value { result ≡ full_year_of year }
+    ensures bound { IsInRange 1960 2059 result }
+{
+    if year >= 60 { 1900 + year as u16 } else { 2000 + year as u16 }
+}
+
+fn digit(n: u16) -> u8
+    requires { n < 10 }
+    ensures { result ≡ 48 + n }
+{
+    b'0' + n as u8
+}

@@ -1,0 +1,28 @@
+//! The identity of a record, in its columns 1 and 2.
+ghost use Rattle.std.specs.Prelude.{◌≡◌, option_map};
+ghost use Rattle.docker_model.specs.Record.{kind_of};
+ghost use Rattle.cif_line.specs.Kind.{meaning};
+
+use crate::kind_of_record::Kind;
+use crate::line::Line;
+
+/// The kind of a record, by its identity in columns 1 and 2; none where no kind has it.
+pub fn kind(line: &Line) -> Option<Kind>
+    ensures { option_map meaning result ≡ kind_of line.now }
+{
+    match line.field(1) {
+        b"HD" => Some(Kind::Header),
+        b"TI" => Some(Kind::TiplocInsert),
+        b"TA" => Some(Kind::TiplocAmend),
+        b"TD" => Some(Kind::TiplocDelete),
+        b"AA" => Some(Kind::Association),
+        b"BS" => Some(Kind::BasicSchedule),
+        b"BX" => Some(Kind::ExtraDetails),
+        b"LO" => Some(Kind::OriginLocation),
+        b"LI" => Some(Kind::IntermediateLocation),
+        b"LT" => Some(Kind::TerminatingLocation),
+        b"CR" => Some(Kind::ChangeEnRoute),
+        b"ZZ" => Some(Kind::Trailer),
+        _ => None,
+    }
+}

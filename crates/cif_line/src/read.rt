@@ -1,0 +1,141 @@
+//! Views of records: each is made where the checked fields of its kind are good.
+ghost use Rattle.std.specs.Prelude.{◌≡◌, ◌↔◌, IsOk, IfOk, IfErr, Some};
+ghost use Rattle.docker_model.specs.Record.{HasKind, header, basic_schedule, origin_location, terminating_location};
+ghost use Rattle.docker_model.specs.Field.{HasGoodFields, leftmost_bad_field};
+
+use crate::basic_schedule::Basic;
+use crate::check::{FieldFault, is_clock, is_date, is_date_day_first, is_days, is_end_date, is_present_time, is_public_time, is_stp_indicator, is_tiploc, is_transaction, is_update_indicator};
+use crate::header_record::Header;
+use crate::line::Line;
+use crate::origin_location::Origin;
+use crate::terminating_location::Terminus;
+
+/// A view of a header (HD), or the first column of its leftmost bad field: date of extract, time of extract, update indicator.
+pub fn header(line: &Line) -> Result<Header<'_>, FieldFault>
+    requires kind { HasKind header line.now }
+    ensures ok { IsOk result ↔ HasGoodFields line.now }
+    ensures value { IfOk result (λ view. view ≡ line.now) }
+    ensures err { IfErr result (λ fault. leftmost_bad_field line.now ≡ Some fault.0) }
+{
+    match header_fault(line) {
+        Some(column) => Err(FieldFault(column)),
+        None => Ok(Header::of(line)),
+    }
+}
+
+/// The first column of its leftmost bad field.
+#[tactic(auto, using(crate::proofs::Leftmost::header_faults))]
+fn header_fault(line: &Line) -> Option<u8>
+    requires kind { HasKind header line.now }
+    ensures { result ≡ leftmost_bad_field line.now }
+{
+    if !is_date_day_first(line.field(23)) {
+        return Some(23);
+    }
+    if !is_clock(line.field(29)) {
+        return Some(29);
+    }
+    if !is_update_indicator(line.field(47)) {
+        return Some(47);
+    }
+    None
+}
+
+/// A view of a basic schedule (BS), or the first column of its leftmost bad field: transaction, runs from, runs to and days where it is no deletion, STP indicator.
+pub fn basic(line: &Line) -> Result<Basic<'_>, FieldFault>
+    requires kind { HasKind basic_schedule line.now }
+    ensures ok { IsOk result ↔ HasGoodFields line.now }
+    ensures value { IfOk result (λ view. view ≡ line.now) }
+    ensures err { IfErr result (λ fault. leftmost_bad_field line.now ≡ Some fault.0) }
+{
+    match basic_fault(line) {
+        Some(column) => Err(FieldFault(column)),
+        None => Ok(Basic::of(line)),
+    }
+}
+
+/// The first column of its leftmost bad field.
+#[tactic(auto, using(crate::proofs::Leftmost::basic_faults))]
+fn basic_fault(line: &Line) -> Option<u8>
+    requires kind { HasKind basic_schedule line.now }
+    ensures { result ≡ leftmost_bad_field line.now }
+{
+    if !is_transaction(line.field(3)) {
+        return Some(3);
+    }
+    if !is_date(line.field(10)) {
+        return Some(10);
+    }
+    if line.column(3) != b'D' {
+        if !is_end_date(line.field(16)) {
+            return Some(16);
+        }
+        if !is_days(line.field(22)) {
+            return Some(22);
+        }
+    }
+    if !is_stp_indicator(line.field(80)) {
+        return Some(80);
+    }
+    None
+}
+
+/// A view of an origin location (LO), or the first column of its leftmost bad field: location, departure, public departure.
+pub fn origin(line: &Line) -> Result<Origin<'_>, FieldFault>
+    requires kind { HasKind origin_location line.now }
+    ensures ok { IsOk result ↔ HasGoodFields line.now }
+    ensures value { IfOk result (λ view. view ≡ line.now) }
+    ensures err { IfErr result (λ fault. leftmost_bad_field line.now ≡ Some fault.0) }
+{
+    match origin_fault(line) {
+        Some(column) => Err(FieldFault(column)),
+        None => Ok(Origin::of(line)),
+    }
+}
+
+/// The first column of its leftmost bad field.
+fn origin_fault(line: &Line) -> Option<u8>
+    requires kind { HasKind origin_location line.now }
+    ensures { result ≡ leftmost_bad_field line.now }
+{
+    if !is_tiploc(line.field(3)) {
+        return Some(3);
+    }
+    if !is_present_time(line.field(11)) {
+        return Some(11);
+    }
+    if !is_public_time(line.field(16)) {
+        return Some(16);
+    }
+    None
+}
+
+/// A view of a terminating location (LT), or the first column of its leftmost bad field: location, arrival, public arrival.
+pub fn terminus(line: &Line) -> Result<Terminus<'_>, FieldFault>
+    requires kind { HasKind terminating_location line.now }
+    ensures ok { IsOk result ↔ HasGoodFields line.now }
+    ensures value { IfOk result (λ view. view ≡ line.now) }
+    ensures err { IfErr result (λ fault. leftmost_bad_field line.now ≡ Some fault.0) }
+{
+    match terminus_fault(line) {
+        Some(column) => Err(FieldFault(column)),
+        None => Ok(Terminus::of(line)),
+    }
+}
+
+/// The first column of its leftmost bad field.
+fn terminus_fault(line: &Line) -> Option<u8>
+    requires kind { HasKind terminating_location line.now }
+    ensures { result ≡ leftmost_bad_field line.now }
+{
+    if !is_tiploc(line.field(3)) {
+        return Some(3);
+    }
+    if !is_present_time(line.field(11)) {
+        return Some(11);
+    }
+    if !is_public_time(line.field(16)) {
+        return Some(16);
+    }
+    None
+}

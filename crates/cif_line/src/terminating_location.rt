@@ -1,0 +1,85 @@
+//! The terminating location of a schedule, a record LT.
+ghost use Rattle.std.specs.Prelude.{◌≡◌, option_map, ◌*◌, take};
+ghost use Rattle.std.specs.Option.{option_map_or};
+ghost use Rattle.docker_model.specs.Record.{terminating_location, columns, column};
+ghost use Rattle.docker_model.specs.Clock.{half_minutes, public_time};
+ghost use Rattle.docker_model.specs.DockerLine.{shown_public, spaces};
+ghost use Rattle.docker_model.specs.DockerText.{time_text};
+ghost use Rattle.cif_line.specs.View.{IsGood};
+
+use crate::line::Line;
+use crate::time::Time;
+use crate::tiploc::Tiploc;
+use std::marker::Model;
+
+/// A view of a terminating location (LT) whose checked fields are good.
+#[derive(Debug)]
+pub struct Terminus<'a> {
+    line: &'a Line,
+}
+
+impl<'a> Model for Terminus<'a> {
+    ghost use Rattle.std.specs.Prelude.{List, ℕ};
+    ghost use Rattle.docker_model.specs.Record.{terminating_location};
+    ghost use Rattle.cif_line.specs.View.{IsGood};
+
+    ghost Value = { List ℕ };
+
+    ghost view = { λ terminus. terminus.line.now };
+
+    ghost invariant = { λ terminus. IsGood terminating_location terminus.line.now };
+}
+
+#[tactic(auto, using(crate::proofs::GoodFields::terminus_fields))]
+impl<'a> Terminus<'a> {
+    /// A view of a line whose fields were checked.
+    pub(crate) fn of(line: &'a Line) -> Terminus<'a>
+        requires good { IsGood terminating_location line.now }
+        ensures line { result ≡ line.entry.now }
+    {
+        Terminus { line }
+    }
+
+    /// The timing point: columns 3 to 9.
+    pub fn tiploc(&self) -> Tiploc
+        ensures { result ≡ columns 3 9 self.now }
+    {
+        self.line.tiploc(3)
+    }
+
+    /// The suffix that tells apart several calls at one timing point: column 10.
+    pub fn suffix(&self) -> u8
+        ensures { result ≡ column 10 self.now }
+    {
+        self.line.column(10)
+    }
+
+    /// The scheduled arrival: columns 11 to 15.
+    pub fn arrival(&self) -> Time
+        ensures { result ≡ half_minutes (columns 11 15 self.now) }
+    {
+        self.line.present_time(11)
+    }
+
+    /// The public arrival, none where it is blank or `0000`: columns 16 to 19.
+    pub fn public_arrival(&self) -> Option<Time>
+        ensures value { result ≡ option_map (λ minute. 2 * minute) (public_time (columns 16 19 self.now)) }
+        ensures shown { shown_public (columns 16 19 self.now) ≡ option_map_or (λ time. take 4 (time_text time)) result (spaces 4) }
+    {
+        Time::from_public(self.line.field(16))
+    }
+
+    /// The platform: columns 20 to 22.
+    pub fn platform(&self) -> &'a [u8; 3]
+        ensures { result.now ≡ columns 20 22 self.now }
+    {
+        self.line.field(20)
+    }
+
+    /// The path by which the train arrives: columns 23 to 25.
+    pub fn path(&self) -> &'a [u8; 3]
+        ensures { result.now ≡ columns 23 25 self.now }
+    {
+        self.line.field(23)
+    }
+}

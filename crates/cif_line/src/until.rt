@@ -1,0 +1,48 @@
+//! End dates.
+ghost use Rattle.std.specs.Prelude.{◌≡◌, ℕ, ◌≤◌, ◌⊎◌, ◌↔◌, IsTrue, IsSome, IfSome};
+ghost use Rattle.docker_model.specs.Date.{is_end_date, end_number};
+
+use crate::Day;
+use std::marker::Model;
+
+/// The end number of what has no end.
+const NO_END: u16 = 65535;
+
+/// The last day that something runs, or no end, which is later than each day.
+#[derive(Clone, Copy, PartialEq, Eq, PartialOrd, Ord, Debug)]
+pub struct Until {
+    number: u16,
+}
+
+impl Model for Until {
+    ghost Value = { ℕ };
+
+    ghost view = { λ end. end.number };
+
+    ghost inverse = { λ number. record { number = number } };
+
+    ghost invariant = { λ end. (end.number ≤ 36524) ⊎ (end.number ≡ 65535) };
+}
+
+impl Until {
+    /// The end date of six digits: 999999 for no end, and otherwise a day, year first.
+    pub fn from_field(field: &[u8; 6]) -> Option<Until>
+        ensures some { IsSome result ↔ IsTrue (is_end_date field.now) }
+        ensures value { IfSome result (λ end. end ≡ end_number field.now) }
+    {
+        if field == b"999999" {
+            return Some(Until { number: NO_END });
+        }
+        let day = Day::from_yymmdd(field)?;
+        Some(Until {
+            number: day.number(),
+        })
+    }
+
+    /// The number of the day, or 65535 for no end.
+    pub fn number(&self) -> u16
+        ensures { result ≡ self.now }
+    {
+        self.number
+    }
+}
