@@ -2,3 +2,4 @@ pub mod GoodFields
 pub mod CivilDays
 pub mod DateFields
 pub mod Leftmost
+pub mod DeviceLemmas

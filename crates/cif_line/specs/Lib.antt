@@ -1,3 +1,4 @@
+pub mod Device
 pub mod Kind
 pub mod Letter
 pub mod Tiploc

@@ -1,15 +1,17 @@
-//! One line of a CIF extract: its bytes, its dates and times, and a view of each kind of record.
+//! One line of a CIF extract: its bytes, its dates and times, and a view of each kind of record. And the devices that bytes come from and go to.
 #![tactic(auto)]
 
 mod basic_schedule;
 mod check;
 mod day;
 mod days;
+mod device;
 mod header_record;
 mod identity;
 mod kind_of_record;
 mod letter;
 mod line;
+mod memory;
 mod origin_location;
 mod read;
 mod terminating_location;
@@ -22,11 +24,13 @@ pub use basic_schedule::Basic;
 pub use check::FieldFault;
 pub use day::Day;
 pub use days::Days;
+pub use device::{Failed, Memory, Sink, Source, write_all};
 pub use header_record::Header;
 pub use identity::kind;
 pub use kind_of_record::Kind;
 pub use letter::{Extract, Stp, Transaction};
 pub use line::{Line, LineFault};
+pub use memory::{Bytes, Kept};
 pub use origin_location::Origin;
 pub use read::{basic, header, origin, terminus};
 pub use terminating_location::Terminus;

@@ -1,0 +1,39 @@
+-- What a read takes from the bytes that a source has left, and a write adds to those a sink took.
+-- A device that can't tell its bytes has None in their place.
+use Rattle.std.specs.Prelude.{◌≡◌, ℕ, ◌-◌, ◌<◌, min, List, [], ◌++◌, length, take, ⊤, Option, None, Some, option_map}
+
+-- what was left is these bytes and then what is left now
+abbrev pub Reads : Option (List ℕ) → List ℕ → Option (List ℕ) → Type 0
+Reads old bytes new = old ≡ option_map (λ rest. bytes ++ rest) new
+
+-- nothing is left
+abbrev pub IsEnd : Option (List ℕ) → Type 0
+IsEnd None = ⊤
+IsEnd (Some left) = left ≡ []
+
+-- what is taken now is what was taken and then these bytes
+abbrev pub Takes : Option (List ℕ) → List ℕ → Option (List ℕ) → Type 0
+Takes old bytes new = new ≡ option_map (λ taken. taken ++ bytes) old
+
+-- a beginning of the piece was taken, but not all of it
+abbrev pub TakesPart : Option (List ℕ) → List ℕ → Option (List ℕ) → Type 0
+TakesPart old piece new = (n : ℕ) × (n < length piece) × Takes old (take n piece) new
+
+-- a source over a slice: the bytes that are left, and the most that one read gives
+pub record Feed : Type 0 where
+  pub left : List ℕ
+  pub step : ℕ
+
+-- how many bytes a read into a buffer of this length gives
+abbrev pub read_count : Feed → ℕ → ℕ
+read_count feed room = min (min feed.step room) (length feed.left)
+
+-- a sink in memory: the bytes that it took, how many it has room for, and how often it failed
+pub record Store : Type 0 where
+  pub taken : List ℕ
+  pub room : ℕ
+  pub failures : ℕ
+
+-- how many more bytes it has room for
+abbrev pub room_left : Store → ℕ
+room_left store = store.room - length store.taken
