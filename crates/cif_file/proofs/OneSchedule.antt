@@ -53,22 +53,22 @@ are_file hd bs lo lt zz told =
             origin_kind = lo_is.kind_is;
             terminus_kind = lt_is.kind_is;
             trailer_kind = zz_is.kind_is;
-            new = told.as_should.0;
-            permanent = told.as_should.1;
+            new = told.new_permanent.0;
+            permanent = told.new_permanent.1;
           })
           (record {
             records = (hd_is.is, (bs_is.is, (lo_is.is, (lt_is.is, (zz_is.is, tt)))));
             fields = (hd_is.fields, (bs_is.fields, (lo_is.fields, (lt_is.fields, (zz_is.fields, tt)))));
           });
       kinds = λ i. hd_is.kind_is i ∷ bs_is.kind_is i ∷ lo_is.kind_is i ∷ lt_is.kind_is i ∷ zz_is.kind_is i ∷ [];
-      new = told.as_should.0;
-      permanent = told.as_should.1;
+      new = told.new_permanent.0;
+      permanent = told.new_permanent.1;
     }
 
 -- five lines are a file of one schedule exactly where each is the good record of its place
 pub one_schedule_iff : (hd bs lo lt zz : List ℕ) → IsOneSchedule (hd ∷ bs ∷ lo ∷ lt ∷ zz ∷ []) ↔ AreOneSchedule hd bs lo lt zz
 one_schedule_iff hd bs lo lt zz = (
-  λ told. record { good = are_good hd bs lo lt zz (as_law hd bs lo lt zz told); as_should = (told.new, told.permanent) },
+  λ told. record { good = are_good hd bs lo lt zz (as_law hd bs lo lt zz told); new_permanent = (told.new, told.permanent) },
   are_file hd bs lo lt zz,
 )
 

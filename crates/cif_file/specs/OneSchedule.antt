@@ -46,4 +46,4 @@ IsNewPermanent basic = (column 3 basic ≡ 78) × (column 80 basic ≡ 80)
 -- and the schedule is new and permanent
 pub record AreOneSchedule (first basic origin terminus last : List ℕ) : Type 0 where
   pub good : AreFiveRecords first basic origin terminus last
-  pub as_should : IsNewPermanent basic
+  pub new_permanent : IsNewPermanent basic

@@ -76,6 +76,7 @@ impl CifFile {
     pub fn into_changes(self) -> Vec<Change>
         ensures { map change_meant result.items ≡ self.changes_made }
     {
-        self.changes
+        let CifFile { changes, .. } = self;
+        changes
     }
 }

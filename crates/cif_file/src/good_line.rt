@@ -1,9 +1,9 @@
 //! Good records of the kinds that a file of one schedule has.
 ghost use Rattle.std.specs.Prelude.{◌≡◌, ◌↔◌, IsTrue};
 ghost use Rattle.std.specs.Option.{SomeIff};
-ghost use Rattle.docker_model.specs.Record.{IsRecord, HasKind, header, basic_schedule, origin_location, terminating_location, trailer, column};
+ghost use Rattle.docker_model.specs.Record.{IsRecord, HasKind, header, basic_schedule, origin_location, terminating_location, trailer};
 ghost use Rattle.cif_line.specs.Kind.{meaning};
-ghost use Rattle.cif_file.specs.OneSchedule.{IsGoodRecord};
+ghost use Rattle.cif_file.specs.OneSchedule.{IsGoodRecord, IsNewPermanent};
 
 use cif_line::{Basic, Kind, Line, Stp, Transaction, basic, header, kind, origin, terminus};
 
@@ -73,7 +73,7 @@ pub(crate) fn trailer_line(bytes: &[u8]) -> Option<Line>
 
 /// Whether the transaction of a basic schedule is `N` and its STP indicator `P`.
 pub(crate) fn is_new_and_permanent(view: &Basic<'_>) -> bool
-    ensures { IsTrue result ↔ ((column 3 view.now ≡ 78) × (column 80 view.now ≡ 80)) }
+    ensures { IsTrue result ↔ IsNewPermanent view.now }
 {
     view.transaction() == Transaction::New && view.stp() == Stp::Permanent
 }

@@ -14,7 +14,7 @@ use std::marker::Model;
 const MOST_BYTES: usize = 410;
 
 /// A parser of one file, which comes in pieces of any length.
-#[derive(Drop)]
+#[derive(Debug, Drop)]
 pub struct FileParser {
     alloc: Global,
     limit: u32,

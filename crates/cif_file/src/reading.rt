@@ -1,10 +1,10 @@
 //! A whole text as a file of one schedule.
 ghost use Rattle.std.specs.Prelude.{◌≡◌, ◌↔◌, IsTrue, IfOk, IfErr, MatchOption, [], ◌∷◌};
 ghost use Rattle.std.specs.Option.{SomeIff};
-ghost use Rattle.docker_model.specs.Record.{basic_schedule, column};
+ghost use Rattle.docker_model.specs.Record.{basic_schedule};
 ghost use Rattle.docker_model.specs.Change.{schedule_named, put, schedule_body};
 ghost use Rattle.cif_line.specs.View.{IsGood};
-ghost use Rattle.cif_file.specs.OneSchedule.{AreFiveRecords, IsOneSchedule, IsOneScheduleText};
+ghost use Rattle.cif_file.specs.OneSchedule.{AreFiveRecords, IsNewPermanent, IsOneSchedule, IsOneScheduleText};
 ghost use Rattle.cif_file.specs.FiveLines.{records_of};
 ghost use Rattle.cif_file.specs.FileRead.{IsOfText, IsOfRecords};
 ghost use Rattle.cif_file.specs.Meaning.{change_meant, key_meant};
@@ -49,7 +49,7 @@ fn five_records(five: &FiveLines<'_>) -> Option<OneSchedule>
 /// Whether the schedule of good records is new and permanent.
 fn is_one_schedule(one: &OneSchedule) -> bool
     requires { IsGood basic_schedule one.now.basic }
-    ensures { IsTrue result ↔ ((column 3 one.now.basic ≡ 78) × (column 80 one.now.basic ≡ 80)) }
+    ensures { IsTrue result ↔ IsNewPermanent one.now.basic }
 {
     match basic(&one.basic) {
         Ok(view) => is_new_and_permanent(&view),

@@ -16,4 +16,4 @@ returns-then-is_one_schedule c =
     let one = c.in-Some.one in
     let lines : records_of one ≡ lines_of c.args.text.now = ap records_of c.in-Some.ensures.1 ∙ c.in_ok-five.ensures.lines in
     accepts_lines c.args.limit c.args.text.now one.header one.basic one.origin one.terminus one.trailer lines c.if-limit-ge5.true
-    (record { good = rw c.in-Some.ensures.1 c.in-Some.ensures.0; as_should = c.is_one_schedule.ensures.0 c.if-is_one_schedule.true })
+    (record { good = rw c.in-Some.ensures.1 c.in-Some.ensures.0; new_permanent = c.is_one_schedule.ensures.0 c.if-is_one_schedule.true })
