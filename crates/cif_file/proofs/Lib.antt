@@ -1,0 +1,6 @@
+pub mod OneSchedule
+pub mod OneScheduleText
+pub mod Accepting
+pub mod Joined
+pub mod FirstLine
+pub mod OneScheduleExample

@@ -1,0 +1,24 @@
+//! The first reader of CIF files: texts of a file of five records, one schedule from its origin to its terminus.
+#![tactic(auto)]
+
+mod change;
+mod fault;
+mod file;
+mod good_line;
+mod key;
+mod lines;
+mod parser;
+mod pieces;
+mod reading;
+mod text;
+
+pub use change::{Act, Body, Change};
+pub use fault::{FileCause, FileFault};
+pub use file::CifFile;
+pub use key::{AssocKey, Key, ScheduleKey};
+pub use lines::Lines;
+pub use parser::FileParser;
+pub use pieces::read_pieces;
+
+#[cfg(test)]
+mod tests;
