@@ -6,6 +6,7 @@ mod check;
 mod day;
 mod days;
 mod device;
+mod digits;
 mod header_record;
 mod identity;
 mod kind_of_record;

@@ -4,7 +4,10 @@ ghost use Rattle.docker_model.specs.Record.{HasKind, header, basic_schedule, ori
 ghost use Rattle.docker_model.specs.Field.{HasGoodFields, leftmost_bad_field};
 
 use crate::basic_schedule::Basic;
-use crate::check::{FieldFault, is_clock, is_date, is_date_day_first, is_days, is_end_date, is_present_time, is_public_time, is_stp_indicator, is_tiploc, is_transaction, is_update_indicator};
+use crate::check::{
+    FieldFault, is_clock, is_date, is_date_day_first, is_days, is_end_date, is_present_time,
+    is_public_time, is_stp_indicator, is_tiploc, is_transaction, is_update_indicator,
+};
 use crate::header_record::Header;
 use crate::line::Line;
 use crate::origin_location::Origin;

@@ -8,6 +8,7 @@ ghost use Rattle.std.specs.Option.{option_map_or};
 ghost use Rattle.docker_model.specs.DockerLine.{shown_public, spaces};
 ghost use Rattle.docker_model.specs.DockerText.{time_text};
 
+use crate::digits::{are_digits, two_digits};
 use std::marker::Model;
 
 /// A scheduled time of day, in half minutes from midnight: 0 to 2879.
@@ -78,7 +79,11 @@ impl Time {
         let minute = self.half_minutes / 2;
         let hour = (minute / 60) as u8;
         let minute = (minute % 60) as u8;
-        let half = if self.half_minutes % 2 == 1 { b'H' } else { b' ' };
+        let half = if self.half_minutes % 2 == 1 {
+            b'H'
+        } else {
+            b' '
+        };
         [
             b'0' + hour / 10,
             b'0' + hour % 10,
@@ -87,17 +92,6 @@ impl Time {
             half,
         ]
     }
-}
-
-/// The number that two digits of a field spell, from a place on.
-pub(crate) fn two_digits(field: &[u8], at: usize) -> u16
-    requires { at + 1 < length field.now }
-    ensures value { result ≡ two_digits field.now at }
-    ensures bound { result < 2300 }
-{
-    let tens = u16::from(field[at]).saturating_sub(48);
-    let units = u16::from(field[at + 1]).saturating_sub(48);
-    10 * tens + units
 }
 
 /// The minute of the day that a field which begins HHMM tells.
@@ -124,11 +118,4 @@ pub(crate) fn is_blank(field: &[u8]) -> bool
     ensures { result ≡ is_blank field.now }
 {
     field.iter().all(|byte| *byte == b' ')
-}
-
-/// The field is all digits.
-pub(crate) fn are_digits(field: &[u8]) -> bool
-    ensures { result ≡ list_all is_ascii_digit field.now }
-{
-    field.iter().all(|byte| byte.is_ascii_digit())
 }

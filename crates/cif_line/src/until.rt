@@ -1,6 +1,6 @@
 //! End dates.
 ghost use Rattle.std.specs.Prelude.{◌≡◌, ℕ, ◌≤◌, ◌⊎◌, ◌↔◌, IsTrue, IsSome, IfSome};
-ghost use Rattle.docker_model.specs.Date.{is_end_date, end_number};
+ghost use Rattle.docker_model.specs.Date.{is_end_date, end_number, last_day, no_end_number};
 
 use crate::Day;
 use std::marker::Model;
@@ -21,7 +21,7 @@ impl Model for Until {
 
     ghost inverse = { λ number. record { number = number } };
 
-    ghost invariant = { λ end. (end.number ≤ 36524) ⊎ (end.number ≡ 65535) };
+    ghost invariant = { λ end. (end.number ≤ last_day) ⊎ (end.number ≡ no_end_number) };
 }
 
 impl Until {
@@ -41,7 +41,8 @@ impl Until {
 
     /// The number of the day, or 65535 for no end.
     pub fn number(&self) -> u16
-        ensures { result ≡ self.now }
+        ensures value { result ≡ self.now }
+        ensures range { (result ≤ last_day) ⊎ (result ≡ no_end_number) }
     {
         self.number
     }
