@@ -14,7 +14,7 @@ use crate::time::clock;
 use std::marker::Model;
 
 /// A view of a header (HD) whose checked fields are good.
-#[derive(Debug)]
+#[derive(Debug, Drop)]
 pub struct Header<'a> {
     line: &'a Line,
 }

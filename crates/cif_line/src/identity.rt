@@ -6,6 +6,9 @@ ghost use Rattle.cif_line.specs.Kind.{meaning};
 use crate::kind_of_record::Kind;
 use crate::line::Line;
 
+#[cfg(test)]
+mod tests;
+
 /// The kind of a record, by its identity in columns 1 and 2; none where no kind has it.
 pub fn kind(line: &Line) -> Option<Kind>
     ensures { option_map meaning result ≡ kind_of line.now }

@@ -11,6 +11,9 @@ use crate::tiploc::Tiploc;
 use std::marker::Model;
 use thiserror::Error;
 
+#[cfg(test)]
+mod tests;
+
 /// A line of a CIF file: 80 bytes, each from a space (0x20) to a tilde (0x7E).
 #[derive(Clone, Copy, PartialEq, Eq, PartialOrd, Ord, Debug)]
 pub struct Line {

@@ -13,7 +13,7 @@ use crate::tiploc::Tiploc;
 use std::marker::Model;
 
 /// A view of an origin location (LO) whose checked fields are good.
-#[derive(Debug)]
+#[derive(Debug, Drop)]
 pub struct Origin<'a> {
     line: &'a Line,
 }

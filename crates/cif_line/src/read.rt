@@ -13,6 +13,9 @@ use crate::line::Line;
 use crate::origin_location::Origin;
 use crate::terminating_location::Terminus;
 
+#[cfg(test)]
+mod tests;
+
 /// A view of a header (HD), or the first column of its leftmost bad field: date of extract, time of extract, update indicator.
 pub fn header(line: &Line) -> Result<Header<'_>, FieldFault>
     requires kind { HasKind header line.now }

@@ -13,7 +13,7 @@ use crate::tiploc::Tiploc;
 use std::marker::Model;
 
 /// A view of a terminating location (LT) whose checked fields are good.
-#[derive(Debug)]
+#[derive(Debug, Drop)]
 pub struct Terminus<'a> {
     line: &'a Line,
 }

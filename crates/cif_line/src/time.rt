@@ -11,6 +11,9 @@ ghost use Rattle.docker_model.specs.DockerText.{time_text};
 use crate::digits::{are_digits, two_digits};
 use std::marker::Model;
 
+#[cfg(test)]
+mod tests;
+
 /// A scheduled time of day, in half minutes from midnight: 0 to 2879.
 #[derive(Clone, Copy, PartialEq, Eq, PartialOrd, Ord, Debug)]
 pub struct Time {
