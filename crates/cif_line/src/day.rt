@@ -22,7 +22,7 @@ const FIRST: u32 = 4_367_934;
 /// The number of 2059-12-31.
 const LAST: u16 = 36524;
 
-/// A day from 1960-01-01 to 2059-12-31.
+/// A day from 1960-01-01 to 2059-12-31, as the number of days since 1960-01-01: 0 to 36524.
 #[derive(Clone, Copy, PartialEq, Eq, PartialOrd, Ord, Debug)]
 pub struct Day {
     number: u16,
@@ -39,7 +39,8 @@ impl Model for Day {
 }
 
 impl Day {
-    /// The day of six digits, year first: a year from 60 is one of the twentieth century.
+    /// The day of six digits YYMMDD, as in a basic schedule (BS): the years 60 to 99 are 1960 to 1999, and 00 to 59 are 2000 to 2059.
+    /// None where a byte is no digit or the calendar has no such day.
     pub fn from_yymmdd(field: &[u8; 6]) -> Option<Day>
         ensures some { IsSome result ↔ IsTrue (is_date field.now) }
         ensures value { IfSome result (λ day. day ≡ date_number field.now) }
@@ -51,7 +52,8 @@ impl Day {
         day_of(year, two_digits(field, 2), two_digits(field, 4))
     }
 
-    /// The day of six digits, day first.
+    /// The day of six digits DDMMYY, as a header (HD) has its date of extract, with the same years.
+    /// None where a byte is no digit or the calendar has no such day.
     pub fn from_ddmmyy(field: &[u8; 6]) -> Option<Day>
         ensures some { IsSome result ↔ IsTrue (is_date_day_first field.now) }
         ensures value { IfSome result (λ day. day ≡ date_number_day_first field.now) }
@@ -63,7 +65,7 @@ impl Day {
         day_of(year, two_digits(field, 2), two_digits(field, 0))
     }
 
-    /// The day that is written so by `iso`, in ten bytes, and no other text.
+    /// The day that `iso` writes so, as YYYY-MM-DD. None of any other text.
     pub fn from_iso(text: &str) -> Option<Day>
         ensures value { IfSome result (λ day. text.now ≡ day_text day) }
         ensures read { (day : ℕ) → day ≤ last_day → text.now ≡ day_text day → result ≡ Some day }
@@ -79,7 +81,7 @@ impl Day {
         }
     }
 
-    /// The day with that number.
+    /// The day so many days after 1960-01-01. None above 36524.
     pub fn from_number(number: u16) -> Option<Day>
         ensures { SomeIff result (number ≤ last_day) number }
     {
@@ -89,7 +91,7 @@ impl Day {
         Some(Day { number })
     }
 
-    /// The day as YYYY-MM-DD.
+    /// The day as YYYY-MM-DD, in ten bytes of ASCII.
     pub fn iso(&self) -> [u8; 10]
         ensures text { result ≡ day_text self.now }
         ensures ascii { IsAscii result }
@@ -111,7 +113,7 @@ impl Day {
         ]
     }
 
-    /// The days since 1960-01-01.
+    /// The days since 1960-01-01: 0 to 36524.
     pub fn number(&self) -> u16
         ensures value { result ≡ self.now }
         ensures bound { result ≤ last_day }
@@ -119,7 +121,7 @@ impl Day {
         self.number
     }
 
-    /// The day of the week, 0 for Monday.
+    /// The day of the week: 0 for Monday to 6 for Sunday.
     pub fn weekday(&self) -> u8
         ensures value { result ≡ weekday_of self.now }
         ensures bound { result < 7 }
@@ -128,7 +130,7 @@ impl Day {
         ((self.number + 4) % 7) as u8
     }
 
-    /// The day so many days later, or earlier where `days` is negative.
+    /// The day so many days later, or earlier where `days` is negative. None before 1960-01-01 and after 2059-12-31.
     pub fn plus(&self, days: i32) -> Option<Day>
         ensures some { IsSome result ↔ IsBetween (pos 0) (pos last_day) (pos self.now +ℤ days) }
         ensures value { IfSome result (λ day. pos day ≡ pos self.now +ℤ days) }

@@ -9,7 +9,7 @@ use crate::line::Line;
 #[cfg(test)]
 mod tests;
 
-/// The kind of a record, by its identity in columns 1 and 2; none where no kind has it.
+/// The kind of a record, by its identity in columns 1 and 2. None where no kind has it, as `LN`.
 pub fn kind(line: &Line) -> Option<Kind>
     ensures { option_map meaning result ≡ kind_of line.now }
 {

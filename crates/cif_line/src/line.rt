@@ -45,7 +45,7 @@ pub enum LineFault {
 }
 
 impl Line {
-    /// A line of these bytes, if they are one.
+    /// A line of these bytes. `Length` where they are not 80, and otherwise `Byte` with the leftmost column whose byte is not printable.
     pub fn new(bytes: &[u8]) -> Result<Line, LineFault>
         ensures ok { IsOk result ↔ IsRecord bytes.now }
         ensures value { IfOk result (λ line. line ≡ bytes.now) }

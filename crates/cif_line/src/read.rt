@@ -16,7 +16,7 @@ use crate::terminating_location::Terminus;
 #[cfg(test)]
 mod tests;
 
-/// A view of a header (HD), or the first column of its leftmost bad field: date of extract, time of extract, update indicator.
+/// A view of a header (HD), or the first column of its leftmost bad field: 23 for the date of extract, 29 for its time, 47 for the update indicator.
 pub fn header(line: &Line) -> Result<Header<'_>, FieldFault>
     requires kind { HasKind header line.now }
     ensures ok { IsOk result ↔ HasGoodFields line.now }
@@ -47,7 +47,8 @@ fn header_fault(line: &Line) -> Option<u8>
     None
 }
 
-/// A view of a basic schedule (BS), or the first column of its leftmost bad field: transaction, runs from, runs to and days where it is no deletion, STP indicator.
+/// A view of a basic schedule (BS), or the first column of its leftmost bad field: 3 for the transaction, 10 for the first day, 16 for the end date and
+/// 22 for the weekdays where it is no deletion, 80 for the STP indicator.
 pub fn basic(line: &Line) -> Result<Basic<'_>, FieldFault>
     requires kind { HasKind basic_schedule line.now }
     ensures ok { IsOk result ↔ HasGoodFields line.now }
@@ -86,7 +87,8 @@ fn basic_fault(line: &Line) -> Option<u8>
     None
 }
 
-/// A view of an origin location (LO), or the first column of its leftmost bad field: location, departure, public departure.
+/// A view of an origin location (LO), or the first column of its leftmost bad field: 3 for the TIPLOC, 11 for the departure, which may not be blank,
+/// 16 for the public departure, which may.
 pub fn origin(line: &Line) -> Result<Origin<'_>, FieldFault>
     requires kind { HasKind origin_location line.now }
     ensures ok { IsOk result ↔ HasGoodFields line.now }
@@ -116,7 +118,8 @@ fn origin_fault(line: &Line) -> Option<u8>
     None
 }
 
-/// A view of a terminating location (LT), or the first column of its leftmost bad field: location, arrival, public arrival.
+/// A view of a terminating location (LT), or the first column of its leftmost bad field: 3 for the TIPLOC, 11 for the arrival, which may not be blank,
+/// 16 for the public arrival, which may.
 pub fn terminus(line: &Line) -> Result<Terminus<'_>, FieldFault>
     requires kind { HasKind terminating_location line.now }
     ensures ok { IsOk result ↔ HasGoodFields line.now }

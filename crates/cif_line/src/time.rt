@@ -1,4 +1,4 @@
-//! Times of day.
+//! Times of day, as location records (LO, LI and LT) have them.
 ghost use Rattle.std.specs.Prelude.{◌≡◌, ◌↔◌, ◌≤◌, ◌<◌, ◌+◌, length, IsSome, IfSome, IsTrue, ◌*◌, true, take, option_map};
 ghost use Rattle.std.specs.List.{list_all};
 ghost use Rattle.std.specs.Char.{is_ascii_digit};
@@ -33,7 +33,7 @@ impl Model for Time {
 }
 
 impl Time {
-    /// The time of a field HHMM with `H` for half a minute or a space behind it, which is not blank.
+    /// The scheduled time of a field HHMM, from `0000` to `2359`, and behind it `H` for half a minute or a space. None of any other field, a blank one too.
     pub fn from_field(field: &[u8; 5]) -> Option<Time>
         ensures some { IsSome result ↔ IsTrue (is_present_time field.now) }
         ensures value { IfSome result (λ time. time ≡ half_minutes field.now) }
@@ -67,7 +67,7 @@ impl Time {
         }
     }
 
-    /// The half minutes from midnight.
+    /// The half minutes from midnight: 0 to 2879.
     pub fn half_minutes(&self) -> u16
         ensures value { result ≡ self.now }
         ensures bound { self.now < 2880 }
