@@ -2,6 +2,7 @@
 ghost use Rattle.std.specs.Prelude.{◌≡◌, ◌↔◌, IsOk, IfOk, IfErr, Some};
 ghost use Rattle.docker_model.specs.Record.{HasKind, header, basic_schedule, origin_location, terminating_location};
 ghost use Rattle.docker_model.specs.Field.{HasGoodFields, leftmost_bad_field};
+ghost use Rattle.cif_line.specs.View.{bad_field_of};
 
 use crate::basic_schedule::Basic;
 use crate::check::{
@@ -95,27 +96,10 @@ pub fn origin(line: &Line) -> Result<Origin<'_>, FieldFault>
     ensures value { IfOk result (λ view. view ≡ line.now) }
     ensures err { IfErr result (λ fault. leftmost_bad_field line.now ≡ Some fault.0) }
 {
-    match origin_fault(line) {
+    match end_fault(line) {
         Some(column) => Err(FieldFault(column)),
         None => Ok(Origin::of(line)),
     }
-}
-
-/// The first column of its leftmost bad field.
-fn origin_fault(line: &Line) -> Option<u8>
-    requires kind { HasKind origin_location line.now }
-    ensures { result ≡ leftmost_bad_field line.now }
-{
-    if !is_tiploc(line.field(3)) {
-        return Some(3);
-    }
-    if !is_present_time(line.field(11)) {
-        return Some(11);
-    }
-    if !is_public_time(line.field(16)) {
-        return Some(16);
-    }
-    None
 }
 
 /// A view of a terminating location (LT), or the first column of its leftmost bad field: 3 for the TIPLOC, 11 for the arrival, which may not be blank,
@@ -126,16 +110,16 @@ pub fn terminus(line: &Line) -> Result<Terminus<'_>, FieldFault>
     ensures value { IfOk result (λ view. view ≡ line.now) }
     ensures err { IfErr result (λ fault. leftmost_bad_field line.now ≡ Some fault.0) }
 {
-    match terminus_fault(line) {
+    match end_fault(line) {
         Some(column) => Err(FieldFault(column)),
         None => Ok(Terminus::of(line)),
     }
 }
 
-/// The first column of its leftmost bad field.
-fn terminus_fault(line: &Line) -> Option<u8>
-    requires kind { HasKind terminating_location line.now }
-    ensures { result ≡ leftmost_bad_field line.now }
+/// The first column of the leftmost bad field of an origin location, and of a terminating location, whose checked fields stand alike.
+fn end_fault(line: &Line) -> Option<u8>
+    ensures origin { result ≡ bad_field_of origin_location line.now }
+    ensures terminus { result ≡ bad_field_of terminating_location line.now }
 {
     if !is_tiploc(line.field(3)) {
         return Some(3);
