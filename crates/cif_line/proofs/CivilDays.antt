@@ -20,6 +20,7 @@ pub record IsDayOf (number year month day : ℕ) : Type 0 where
   pub is_civil : IsCivilDate (pos year) month day
   pub count : day_count (pos year) month day ≡ number + 4_368_300
 
+-- the day counts of 1 January 1960, 31 December 2059 and 1 January 2060
 start_of_1960 : day_count (pos 1960) 1 1 ≡ 4_368_300
 unfolding day_count days_of_years days_of_months
 start_of_1960 = refl
@@ -52,7 +53,7 @@ years_between year month day is_civil low high =
     (by_lt_z year (pos 1960) (λ lt. absurd (first lt)) (λ ge. ge), by_lt_z (pos 2059) year (λ lt. absurd (last lt)) (λ ge. ge))
 
 -- the day count of a date, from the days since -9999-01-01
-pub count_of : (date : Date) (days : ℕ) → epoch_day date +ℤ pos 4_371_587 ≡ pos days → day_count date.year date.month date.day ≡ days + 366
+count_of : (date : Date) (days : ℕ) → epoch_day date +ℤ pos 4_371_587 ≡ pos days → day_count date.year date.month date.day ≡ days + 366
 count_of date days since =
     let count = days_from_civil-day_count date.year date.month date.day in
     omega (arith, signed_arith)
@@ -79,6 +80,7 @@ before_2059 number year low high count = by (cases_order year 2059)
     by (inr (inl lt)) = lt
     by (inr (inr gt)) = absurd (omega arith)
 
+-- one number is below another or not
 by_lt : {P : Type 0} (a b : ℕ) → (a < b → P) → (b ≤ a → P) → P
 by_lt {P = P} a b below above = by (cases_order a b)
   where

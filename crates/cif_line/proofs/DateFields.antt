@@ -11,17 +11,21 @@ use Rattle.docker_model.specs.DockerText.{two_digit_text, day_text}
 use Rattle.docker_laws.proofs.Dates.{is_calendar_day-IsDate}
 use Rattle.cif_line.proofs.CivilDays.{IsDayOf, number_is, text_is, day_at}
 
+-- a number below 10, written as a digit, is one
 is_digit : (n : ℕ) → n < 10 → is_ascii_digit (48 + n) ≡ true
 is_digit n low = grind (arith, nat_tests)
 
+-- and six of them
 are_digits : (a b c d e f : ℕ) → a < 10 → b < 10 → c < 10 → d < 10 → e < 10 → f < 10
     → list_all is_ascii_digit ((48 + a) ∷ (48 + b) ∷ (48 + c) ∷ (48 + d) ∷ (48 + e) ∷ (48 + f) ∷ []) ≡ true
 are_digits a b c d e f ha hb hc hd he hf =
     λ i. is_digit a ha i && (is_digit b hb i && (is_digit c hc i && (is_digit d hd i && (is_digit e he i && (is_digit f hf i && true)))))
 
+-- the last two digits of a year from 1960 to 2059 mean that year
 year_is : (year : ℕ) → 1960 ≤ year → year ≤ 2059 → full_year (year % 100) ≡ year
 year_is year low high = grind (arith, nat_tests)
 
+-- two digits spell their number
 digits_are : (n : ℕ) → 10 * ((48 + n / 10) - 48) + ((48 + n % 10) - 48) ≡ n
 digits_are n = omega arith
 

@@ -16,7 +16,7 @@ use crate::until::Until;
 use std::marker::Model;
 
 /// A view of a basic schedule (BS) whose checked fields are good. Of a deletion the end date and the days are not checked.
-#[derive(Debug)]
+#[derive(Debug, Drop)]
 pub struct Basic<'a> {
     line: &'a Line,
 }

@@ -1,17 +1,17 @@
 //! Days of the calendar, by their number from 1 January 1960.
 ghost use Rattle.std.specs.Prelude.{◌≡◌, ℕ, ◌+◌, ◌<◌, ◌≤◌, ◌↔◌, pos, ◌+ℤ◌, IsTrue, IsSome, IfSome, Some, unsigned_abs};
 ghost use Rattle.std.specs.Int.{IsInRange};
-ghost use Rattle.std.specs.List.{list_all};
-ghost use Rattle.std.specs.Char.{is_ascii_digit};
 ghost use Rattle.std.specs.Option.{SomeIff};
+ghost use Rattle.std.specs.Str.{IsAscii};
 ghost use Rattle.jiff.specs.Words.{IsBetween};
-ghost use Rattle.docker_model.specs.Date.{is_date, date_number, is_date_day_first, date_number_day_first, is_calendar_day, day_number, last_day, weekday_of, two_digits as number_of_digits, full_year as full_year_of};
+ghost use Rattle.docker_model.specs.Date.{is_date, date_number, is_date_day_first, date_number_day_first, is_calendar_day, day_number, last_day, weekday_of, full_year as full_year_of};
 ghost use Rattle.docker_model.specs.DockerText.{day_text, date_text};
 
+use crate::digits::{are_digits, two_digits};
 use jiff::civil::Date;
 use jiff_core::civil;
-use std::fmt;
 use std::marker::Model;
+use std::{fmt, str};
 
 #[cfg(test)]
 mod tests;
@@ -22,7 +22,7 @@ const FIRST: u32 = 4_367_934;
 /// The number of 2059-12-31.
 const LAST: u16 = 36524;
 
-/// A day from 1960-01-01 to 2059-12-31.
+/// A day from 1960-01-01 to 2059-12-31, as the number of days since 1960-01-01: 0 to 36524.
 #[derive(Clone, Copy, PartialEq, Eq, PartialOrd, Ord, Debug)]
 pub struct Day {
     number: u16,
@@ -35,11 +35,12 @@ impl Model for Day {
 
     ghost inverse = { λ number. record { number = number } };
 
-    ghost invariant = { λ day. day.number ≤ 36524 };
+    ghost invariant = { λ day. day.number ≤ last_day };
 }
 
 impl Day {
-    /// The day of six digits, year first: a year from 60 is one of the twentieth century.
+    /// The day of six digits YYMMDD, as in a basic schedule (BS): the years 60 to 99 are 1960 to 1999, and 00 to 59 are 2000 to 2059.
+    /// None where a byte is no digit or the calendar has no such day.
     pub fn from_yymmdd(field: &[u8; 6]) -> Option<Day>
         ensures some { IsSome result ↔ IsTrue (is_date field.now) }
         ensures value { IfSome result (λ day. day ≡ date_number field.now) }
@@ -47,10 +48,12 @@ impl Day {
         if !are_digits(field) {
             return None;
         }
-        day_of(full_year(two_digits(field, 0)), two_digits(field, 2), two_digits(field, 4))
+        let year = full_year(two_digits(field, 0));
+        day_of(year, two_digits(field, 2), two_digits(field, 4))
     }
 
-    /// The day of six digits, day first.
+    /// The day of six digits DDMMYY, as a header (HD) has its date of extract, with the same years.
+    /// None where a byte is no digit or the calendar has no such day.
     pub fn from_ddmmyy(field: &[u8; 6]) -> Option<Day>
         ensures some { IsSome result ↔ IsTrue (is_date_day_first field.now) }
         ensures value { IfSome result (λ day. day ≡ date_number_day_first field.now) }
@@ -58,18 +61,19 @@ impl Day {
         if !are_digits(field) {
             return None;
         }
-        day_of(full_year(two_digits(field, 4)), two_digits(field, 2), two_digits(field, 0))
+        let year = full_year(two_digits(field, 4));
+        day_of(year, two_digits(field, 2), two_digits(field, 0))
     }
 
-    /// The day that is written so by `iso`, in ten bytes, and no other text.
+    /// The day that `iso` writes so, as YYYY-MM-DD. None of any other text.
     pub fn from_iso(text: &str) -> Option<Day>
         ensures value { IfSome result (λ day. text.now ≡ day_text day) }
         ensures read { (day : ℕ) → day ≤ last_day → text.now ≡ day_text day → result ≡ Some day }
     {
-        let [_, _, y, z, _, m, n, _, d, e] = text.as_bytes() else {
+        let [_, _, y1, y2, _, m1, m2, _, d1, d2] = text.as_bytes() else {
             return None;
         };
-        let day = Day::from_yymmdd(&[*y, *z, *m, *n, *d, *e])?;
+        let day = Day::from_yymmdd(&[*y1, *y2, *m1, *m2, *d1, *d2])?;
         if day.iso().as_slice() == text.as_bytes() {
             Some(day)
         } else {
@@ -77,7 +81,7 @@ impl Day {
         }
     }
 
-    /// The day with that number.
+    /// The day so many days after 1960-01-01. None above 36524.
     pub fn from_number(number: u16) -> Option<Day>
         ensures { SomeIff result (number ≤ last_day) number }
     {
@@ -87,9 +91,10 @@ impl Day {
         Some(Day { number })
     }
 
-    /// The day as YYYY-MM-DD.
+    /// The day as YYYY-MM-DD, in ten bytes of ASCII.
     pub fn iso(&self) -> [u8; 10]
-        ensures { result ≡ day_text self.now }
+        ensures text { result ≡ day_text self.now }
+        ensures ascii { IsAscii result }
     {
         let date = self.date();
         let (century, year) = (date.year as u16 / 100, date.year as u16 % 100);
@@ -108,7 +113,7 @@ impl Day {
         ]
     }
 
-    /// The days since 1960-01-01.
+    /// The days since 1960-01-01: 0 to 36524.
     pub fn number(&self) -> u16
         ensures value { result ≡ self.now }
         ensures bound { result ≤ last_day }
@@ -116,7 +121,7 @@ impl Day {
         self.number
     }
 
-    /// The day of the week, 0 for Monday.
+    /// The day of the week: 0 for Monday to 6 for Sunday.
     pub fn weekday(&self) -> u8
         ensures value { result ≡ weekday_of self.now }
         ensures bound { result < 7 }
@@ -125,7 +130,7 @@ impl Day {
         ((self.number + 4) % 7) as u8
     }
 
-    /// The day so many days later, or earlier where `days` is negative.
+    /// The day so many days later, or earlier where `days` is negative. None before 1960-01-01 and after 2059-12-31.
     pub fn plus(&self, days: i32) -> Option<Day>
         ensures some { IsSome result ↔ IsBetween (pos 0) (pos last_day) (pos self.now +ℤ days) }
         ensures value { IfSome result (λ day. pos day ≡ pos self.now +ℤ days) }
@@ -137,6 +142,7 @@ impl Day {
         Some(Day { number: sum as u16 })
     }
 
+    /// The same day of the library's calendar.
     fn date(&self) -> civil::Date
         ensures years { IsBetween (pos 1960) (pos 2059) result.year }
         ensures months { result.month ≤ 12 }
@@ -148,14 +154,18 @@ impl Day {
 }
 
 impl fmt::Display for Day {
+    ghost output = { λ day. Some (day_text day) };
+
     fn fmt<W: fmt::Write>(&self, f: &mut fmt::Formatter<W>) -> fmt::Result {
-        let date = self.date();
-        write!(f, "{}-{:02}-{:02}", date.year, date.month, date.day)
+        match str::from_utf8(&self.iso()) {
+            Ok(text) => f.write_str(text),
+            Err(_) => unreachable!(),
+        }
     }
 }
 
 /// The day of a year from 1960 to 2059, if the calendar has it.
-fn day_of(year: u16, month: u8, day: u8) -> Option<Day>
+fn day_of(year: u16, month: u16, day: u16) -> Option<Day>
     requires year_in { IsInRange 1960 2059 year }
     requires month_in { month < 100 }
     requires day_in { day < 100 }
@@ -170,34 +180,20 @@ fn day_of(year: u16, month: u8, day: u8) -> Option<Day>
     }
 }
 
-fn are_digits(field: &[u8; 6]) -> bool
-    ensures { result ≡ list_all is_ascii_digit field.now }
-{
-    field.iter().all(|b| b.is_ascii_digit())
-}
-
-/// The number that two digits spell, from that place on.
-fn two_digits(field: &[u8; 6], place: usize) -> u8
-    requires digits { IsTrue (list_all is_ascii_digit field.now) }
-    requires within { place < 5 }
-    ensures value { result ≡ number_of_digits field.now place }
-    ensures bound { result < 100 }
-{
-    10 * (field[place] - b'0') + (field[place + 1] - b'0')
-}
-
 /// The year that a year of two digits means.
-fn full_year(year: u8) -> u16
+fn full_year(year: u16) -> u16
     requires { year < 100 }
     ensures value { result ≡ full_year_of year }
     ensures bound { IsInRange 1960 2059 result }
 {
-    if year >= 60 { 1900 + year as u16 } else { 2000 + year as u16 }
+    if year >= 60 { 1900 + year } else { 2000 + year }
 }
 
+/// The digit of a number below 10.
 fn digit(n: u16) -> u8
     requires { n < 10 }
-    ensures { result ≡ 48 + n }
+    ensures value { result ≡ 48 + n }
+    ensures ascii { result < 128 }
 {
     b'0' + n as u8
 }

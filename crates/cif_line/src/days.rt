@@ -1,10 +1,10 @@
-//! Marks of weekdays.
+//! The days run of a basic schedule (BS), or of an association (AA).
 ghost use Rattle.std.specs.Prelude.{◌≡◌, ℕ, ◌<◌, ◌↔◌, List, IsTrue, IsSome, IfSome};
 ghost use Rattle.docker_model.specs.Date.{is_days, runs_on_weekday};
 
 use std::marker::Model;
 
-/// On which weekdays something runs.
+/// On which weekdays something runs: seven marks, Monday's first, `1` where it does and `0` where not.
 #[derive(Clone, Copy, PartialEq, Eq, Debug)]
 pub struct Days {
     marks: [u8; 7],
@@ -24,7 +24,7 @@ impl Model for Days {
 }
 
 impl Days {
-    /// The weekdays of seven marks `0` or `1`, Monday's first.
+    /// The weekdays of seven marks. None where a byte is neither `0` nor `1`.
     pub fn from_field(field: &[u8; 7]) -> Option<Days>
         ensures some { IsSome result ↔ IsTrue (is_days field.now) }
         ensures value { IfSome result (λ days. days ≡ field.now) }
@@ -36,7 +36,7 @@ impl Days {
         }
     }
 
-    /// Whether it runs on a weekday, 0 for Monday.
+    /// Whether it runs on a weekday: 0 for Monday to 6 for Sunday.
     pub fn on(&self, weekday: u8) -> bool
         requires { weekday < 7 }
         ensures { result ≡ runs_on_weekday self.now weekday }
@@ -45,6 +45,7 @@ impl Days {
     }
 }
 
+/// Each byte is `0` or `1`.
 fn are_marks(field: &[u8; 7]) -> bool
     ensures { result ≡ is_days field.now }
 {

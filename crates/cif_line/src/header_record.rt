@@ -14,7 +14,7 @@ use crate::time::clock;
 use std::marker::Model;
 
 /// A view of a header (HD) whose checked fields are good.
-#[derive(Debug)]
+#[derive(Debug, Drop)]
 pub struct Header<'a> {
     line: &'a Line,
 }
@@ -41,7 +41,7 @@ impl<'a> Header<'a> {
         Header { line }
     }
 
-    /// The day of the extract: columns 23 to 28.
+    /// The date of extract: columns 23 to 28.
     pub fn day(&self) -> Day
         ensures { result ≡ date_number_day_first (columns 23 28 self.now) }
     {
@@ -51,7 +51,7 @@ impl<'a> Header<'a> {
         }
     }
 
-    /// The minute of the day of the extract, 0 to 1439: columns 29 to 32.
+    /// The time of extract, in minutes from midnight, 0 to 1439: columns 29 to 32.
     pub fn minute(&self) -> u16
         ensures value { result ≡ minute_of (columns 29 32 self.now) }
         ensures bound { result < 1440 }

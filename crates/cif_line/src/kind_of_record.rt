@@ -1,4 +1,4 @@
-//! Kinds of record.
+//! The kinds of record of the CIF End User Specification.
 
 /// The kinds of record, by their names in the CIF End User Specification.
 #[derive(Clone, Copy, PartialEq, Eq, Debug)]

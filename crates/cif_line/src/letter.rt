@@ -1,9 +1,9 @@
-//! Fields of one letter.
+//! Fields of one letter, of a header (HD), a basic schedule (BS) and an association (AA).
 ghost use Rattle.std.specs.Prelude.{◌≡◌, ◌↔◌, IsSome, IfSome, IsTrue, [], ◌∷◌};
 ghost use Rattle.docker_model.specs.Field.{is_update_indicator, is_transaction, is_stp_letter};
 ghost use Rattle.cif_line.specs.Letter.{extract_letter, transaction_letter, stp_letter};
 
-/// The update indicator of a header: what an extract holds.
+/// The update indicator of a header (HD): what an extract holds.
 #[derive(Clone, Copy, PartialEq, Eq, PartialOrd, Ord, Debug)]
 pub enum Extract {
     /// F, a full extract.
@@ -13,7 +13,7 @@ pub enum Extract {
 }
 
 impl Extract {
-    /// The extract that a letter stands for.
+    /// The extract that `F` or `U` stands for. None of any other byte.
     pub fn from_letter(letter: u8) -> Option<Extract>
         ensures some { IsSome result ↔ IsTrue (is_update_indicator (letter ∷ [])) }
         ensures value { IfSome result (λ extract. extract_letter extract ≡ letter) }
@@ -25,7 +25,7 @@ impl Extract {
         }
     }
 
-    /// Its letter.
+    /// Its letter, `F` or `U`.
     pub fn letter(&self) -> u8
         ensures { result ≡ extract_letter self.now }
     {
@@ -36,7 +36,7 @@ impl Extract {
     }
 }
 
-/// What a record does with its key.
+/// The transaction type of a basic schedule (BS) or an association (AA): what the record does with its key.
 #[derive(Clone, Copy, PartialEq, Eq, Debug)]
 pub enum Transaction {
     /// N, new.
@@ -48,7 +48,7 @@ pub enum Transaction {
 }
 
 impl Transaction {
-    /// The transaction that a letter stands for.
+    /// The transaction that `N`, `D` or `R` stands for. None of any other byte.
     pub fn from_letter(letter: u8) -> Option<Transaction>
         ensures some { IsSome result ↔ IsTrue (is_transaction (letter ∷ [])) }
         ensures value { IfSome result (λ transaction. transaction_letter transaction ≡ letter) }
@@ -61,7 +61,7 @@ impl Transaction {
         }
     }
 
-    /// Its letter.
+    /// Its letter, `N`, `D` or `R`.
     pub fn letter(&self) -> u8
         ensures { result ≡ transaction_letter self.now }
     {
@@ -73,7 +73,7 @@ impl Transaction {
     }
 }
 
-/// The STP (short term planning) indicator, in the order of its letters: of several that run on a day the least is chosen.
+/// The STP (short term planning) indicator of a basic schedule (BS) or an association (AA), in the order of its letters: of several that run on a day the least is chosen.
 #[derive(Clone, Copy, PartialEq, Eq, PartialOrd, Ord, Debug)]
 pub enum Stp {
     /// C, a cancellation.
@@ -87,7 +87,7 @@ pub enum Stp {
 }
 
 impl Stp {
-    /// The STP indicator that a letter stands for.
+    /// The STP indicator that `C`, `N`, `O` or `P` stands for. None of any other byte.
     pub fn from_letter(letter: u8) -> Option<Stp>
         ensures some { IsSome result ↔ IsTrue (is_stp_letter letter) }
         ensures value { IfSome result (λ stp. stp_letter stp ≡ letter) }
@@ -101,7 +101,7 @@ impl Stp {
         }
     }
 
-    /// Its letter.
+    /// Its letter, `C`, `N`, `O` or `P`.
     pub fn letter(&self) -> u8
         ensures { result ≡ stp_letter self.now }
     {

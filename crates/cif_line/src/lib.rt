@@ -1,4 +1,5 @@
-//! One line of a CIF extract: its bytes, its dates and times, and a view of each kind of record. And the devices that bytes come from and go to.
+//! One line of a CIF extract, as the CIF End User Specification lays it out: its bytes, its dates and times, and views of its records HD, BS, LO and LT.
+//! And the devices that bytes come from and go to.
 #![tactic(auto)]
 
 mod basic_schedule;
@@ -6,6 +7,7 @@ mod check;
 mod day;
 mod days;
 mod device;
+mod digits;
 mod header_record;
 mod identity;
 mod kind_of_record;

@@ -11,6 +11,9 @@ use crate::tiploc::Tiploc;
 use std::marker::Model;
 use thiserror::Error;
 
+#[cfg(test)]
+mod tests;
+
 /// A line of a CIF file: 80 bytes, each from a space (0x20) to a tilde (0x7E).
 #[derive(Clone, Copy, PartialEq, Eq, PartialOrd, Ord, Debug)]
 pub struct Line {
@@ -42,7 +45,7 @@ pub enum LineFault {
 }
 
 impl Line {
-    /// A line of these bytes, if they are one.
+    /// A line of these bytes. `Length` where they are not 80, and otherwise `Byte` with the leftmost column whose byte is not printable.
     pub fn new(bytes: &[u8]) -> Result<Line, LineFault>
         ensures ok { IsOk result ↔ IsRecord bytes.now }
         ensures value { IfOk result (λ line. line ≡ bytes.now) }

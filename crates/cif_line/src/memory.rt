@@ -95,7 +95,7 @@ impl Model for Kept {
 }
 
 impl Kept {
-    /// An empty sink with room for so many bytes.
+    /// An empty sink with room for so many bytes. `Memory` where the allocator refuses that room.
     pub fn new(alloc: Global, room: usize) -> Result<Kept, Memory>
         ensures empty { IfOk result (λ kept. kept.taken ≡ []) }
         ensures room { IfOk result (λ kept. kept.room ≡ room) }
@@ -110,7 +110,7 @@ impl Kept {
         })
     }
 
-    /// What it took.
+    /// The bytes that it took.
     pub fn bytes(&self) -> &[u8]
         ensures bytes { result.now ≡ self.now.taken }
         ensures within { length self.now.taken ≤ self.now.room }

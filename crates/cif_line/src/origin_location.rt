@@ -13,7 +13,7 @@ use crate::tiploc::Tiploc;
 use std::marker::Model;
 
 /// A view of an origin location (LO) whose checked fields are good.
-#[derive(Debug)]
+#[derive(Debug, Drop)]
 pub struct Origin<'a> {
     line: &'a Line,
 }
@@ -40,7 +40,7 @@ impl<'a> Origin<'a> {
         Origin { line }
     }
 
-    /// The timing point: columns 3 to 9.
+    /// The TIPLOC of the timing point: columns 3 to 9.
     pub fn tiploc(&self) -> Tiploc
         ensures { result ≡ columns 3 9 self.now }
     {
@@ -54,14 +54,14 @@ impl<'a> Origin<'a> {
         self.line.column(10)
     }
 
-    /// The scheduled departure: columns 11 to 15.
+    /// The scheduled departure, in half minutes: columns 11 to 15.
     pub fn departure(&self) -> Time
         ensures { result ≡ half_minutes (columns 11 15 self.now) }
     {
         self.line.present_time(11)
     }
 
-    /// The public departure, none where it is blank or `0000`: columns 16 to 19.
+    /// The public departure, a whole minute, none where it is blank or `0000`: columns 16 to 19.
     pub fn public_departure(&self) -> Option<Time>
         ensures value { result ≡ option_map (λ minute. 2 * minute) (public_time (columns 16 19 self.now)) }
         ensures shown { shown_public (columns 16 19 self.now) ≡ option_map_or (λ time. take 4 (time_text time)) result (spaces 4) }

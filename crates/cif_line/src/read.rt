@@ -2,15 +2,22 @@
 ghost use Rattle.std.specs.Prelude.{◌≡◌, ◌↔◌, IsOk, IfOk, IfErr, Some};
 ghost use Rattle.docker_model.specs.Record.{HasKind, header, basic_schedule, origin_location, terminating_location};
 ghost use Rattle.docker_model.specs.Field.{HasGoodFields, leftmost_bad_field};
+ghost use Rattle.cif_line.specs.View.{bad_field_of};
 
 use crate::basic_schedule::Basic;
-use crate::check::{FieldFault, is_clock, is_date, is_date_day_first, is_days, is_end_date, is_present_time, is_public_time, is_stp_indicator, is_tiploc, is_transaction, is_update_indicator};
+use crate::check::{
+    FieldFault, is_clock, is_date, is_date_day_first, is_days, is_end_date, is_present_time,
+    is_public_time, is_stp_indicator, is_tiploc, is_transaction, is_update_indicator,
+};
 use crate::header_record::Header;
 use crate::line::Line;
 use crate::origin_location::Origin;
 use crate::terminating_location::Terminus;
 
-/// A view of a header (HD), or the first column of its leftmost bad field: date of extract, time of extract, update indicator.
+#[cfg(test)]
+mod tests;
+
+/// A view of a header (HD), or the first column of its leftmost bad field: 23 for the date of extract, 29 for its time, 47 for the update indicator.
 pub fn header(line: &Line) -> Result<Header<'_>, FieldFault>
     requires kind { HasKind header line.now }
     ensures ok { IsOk result ↔ HasGoodFields line.now }
@@ -41,7 +48,8 @@ fn header_fault(line: &Line) -> Option<u8>
     None
 }
 
-/// A view of a basic schedule (BS), or the first column of its leftmost bad field: transaction, runs from, runs to and days where it is no deletion, STP indicator.
+/// A view of a basic schedule (BS), or the first column of its leftmost bad field: 3 for the transaction, 10 for the first day, 16 for the end date and
+/// 22 for the weekdays where it is no deletion, 80 for the STP indicator.
 pub fn basic(line: &Line) -> Result<Basic<'_>, FieldFault>
     requires kind { HasKind basic_schedule line.now }
     ensures ok { IsOk result ↔ HasGoodFields line.now }
@@ -80,53 +88,38 @@ fn basic_fault(line: &Line) -> Option<u8>
     None
 }
 
-/// A view of an origin location (LO), or the first column of its leftmost bad field: location, departure, public departure.
+/// A view of an origin location (LO), or the first column of its leftmost bad field: 3 for the TIPLOC, 11 for the departure, which may not be blank,
+/// 16 for the public departure, which may.
 pub fn origin(line: &Line) -> Result<Origin<'_>, FieldFault>
     requires kind { HasKind origin_location line.now }
     ensures ok { IsOk result ↔ HasGoodFields line.now }
     ensures value { IfOk result (λ view. view ≡ line.now) }
     ensures err { IfErr result (λ fault. leftmost_bad_field line.now ≡ Some fault.0) }
 {
-    match origin_fault(line) {
+    match end_fault(line) {
         Some(column) => Err(FieldFault(column)),
         None => Ok(Origin::of(line)),
     }
 }
 
-/// The first column of its leftmost bad field.
-fn origin_fault(line: &Line) -> Option<u8>
-    requires kind { HasKind origin_location line.now }
-    ensures { result ≡ leftmost_bad_field line.now }
-{
-    if !is_tiploc(line.field(3)) {
-        return Some(3);
-    }
-    if !is_present_time(line.field(11)) {
-        return Some(11);
-    }
-    if !is_public_time(line.field(16)) {
-        return Some(16);
-    }
-    None
-}
-
-/// A view of a terminating location (LT), or the first column of its leftmost bad field: location, arrival, public arrival.
+/// A view of a terminating location (LT), or the first column of its leftmost bad field: 3 for the TIPLOC, 11 for the arrival, which may not be blank,
+/// 16 for the public arrival, which may.
 pub fn terminus(line: &Line) -> Result<Terminus<'_>, FieldFault>
     requires kind { HasKind terminating_location line.now }
     ensures ok { IsOk result ↔ HasGoodFields line.now }
     ensures value { IfOk result (λ view. view ≡ line.now) }
     ensures err { IfErr result (λ fault. leftmost_bad_field line.now ≡ Some fault.0) }
 {
-    match terminus_fault(line) {
+    match end_fault(line) {
         Some(column) => Err(FieldFault(column)),
         None => Ok(Terminus::of(line)),
     }
 }
 
-/// The first column of its leftmost bad field.
-fn terminus_fault(line: &Line) -> Option<u8>
-    requires kind { HasKind terminating_location line.now }
-    ensures { result ≡ leftmost_bad_field line.now }
+/// The first column of the leftmost bad field of an origin location, and of a terminating location, whose checked fields stand alike.
+fn end_fault(line: &Line) -> Option<u8>
+    ensures origin { result ≡ bad_field_of origin_location line.now }
+    ensures terminus { result ≡ bad_field_of terminating_location line.now }
 {
     if !is_tiploc(line.field(3)) {
         return Some(3);

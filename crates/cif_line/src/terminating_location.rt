@@ -13,7 +13,7 @@ use crate::tiploc::Tiploc;
 use std::marker::Model;
 
 /// A view of a terminating location (LT) whose checked fields are good.
-#[derive(Debug)]
+#[derive(Debug, Drop)]
 pub struct Terminus<'a> {
     line: &'a Line,
 }
@@ -40,7 +40,7 @@ impl<'a> Terminus<'a> {
         Terminus { line }
     }
 
-    /// The timing point: columns 3 to 9.
+    /// The TIPLOC of the timing point: columns 3 to 9.
     pub fn tiploc(&self) -> Tiploc
         ensures { result ≡ columns 3 9 self.now }
     {
@@ -54,14 +54,14 @@ impl<'a> Terminus<'a> {
         self.line.column(10)
     }
 
-    /// The scheduled arrival: columns 11 to 15.
+    /// The scheduled arrival, in half minutes: columns 11 to 15.
     pub fn arrival(&self) -> Time
         ensures { result ≡ half_minutes (columns 11 15 self.now) }
     {
         self.line.present_time(11)
     }
 
-    /// The public arrival, none where it is blank or `0000`: columns 16 to 19.
+    /// The public arrival, a whole minute, none where it is blank or `0000`: columns 16 to 19.
     pub fn public_arrival(&self) -> Option<Time>
         ensures value { result ≡ option_map (λ minute. 2 * minute) (public_time (columns 16 19 self.now)) }
         ensures shown { shown_public (columns 16 19 self.now) ≡ option_map_or (λ time. take 4 (time_text time)) result (spaces 4) }

@@ -1,4 +1,4 @@
-//! Times of day.
+//! Times of day, as location records (LO, LI and LT) have them.
 ghost use Rattle.std.specs.Prelude.{◌≡◌, ◌↔◌, ◌≤◌, ◌<◌, ◌+◌, length, IsSome, IfSome, IsTrue, ◌*◌, true, take, option_map};
 ghost use Rattle.std.specs.List.{list_all};
 ghost use Rattle.std.specs.Char.{is_ascii_digit};
@@ -8,7 +8,11 @@ ghost use Rattle.std.specs.Option.{option_map_or};
 ghost use Rattle.docker_model.specs.DockerLine.{shown_public, spaces};
 ghost use Rattle.docker_model.specs.DockerText.{time_text};
 
+use crate::digits::{are_digits, two_digits};
 use std::marker::Model;
+
+#[cfg(test)]
+mod tests;
 
 /// A scheduled time of day, in half minutes from midnight: 0 to 2879.
 #[derive(Clone, Copy, PartialEq, Eq, PartialOrd, Ord, Debug)]
@@ -29,7 +33,7 @@ impl Model for Time {
 }
 
 impl Time {
-    /// The time of a field HHMM with `H` for half a minute or a space behind it, which is not blank.
+    /// The scheduled time of a field HHMM, from `0000` to `2359`, and behind it `H` for half a minute or a space. None of any other field, a blank one too.
     pub fn from_field(field: &[u8; 5]) -> Option<Time>
         ensures some { IsSome result ↔ IsTrue (is_present_time field.now) }
         ensures value { IfSome result (λ time. time ≡ half_minutes field.now) }
@@ -63,7 +67,7 @@ impl Time {
         }
     }
 
-    /// The half minutes from midnight.
+    /// The half minutes from midnight: 0 to 2879.
     pub fn half_minutes(&self) -> u16
         ensures value { result ≡ self.now }
         ensures bound { self.now < 2880 }
@@ -78,7 +82,11 @@ impl Time {
         let minute = self.half_minutes / 2;
         let hour = (minute / 60) as u8;
         let minute = (minute % 60) as u8;
-        let half = if self.half_minutes % 2 == 1 { b'H' } else { b' ' };
+        let half = if self.half_minutes % 2 == 1 {
+            b'H'
+        } else {
+            b' '
+        };
         [
             b'0' + hour / 10,
             b'0' + hour % 10,
@@ -87,17 +95,6 @@ impl Time {
             half,
         ]
     }
-}
-
-/// The number that two digits of a field spell, from a place on.
-pub(crate) fn two_digits(field: &[u8], at: usize) -> u16
-    requires { at + 1 < length field.now }
-    ensures value { result ≡ two_digits field.now at }
-    ensures bound { result < 2300 }
-{
-    let tens = u16::from(field[at]).saturating_sub(48);
-    let units = u16::from(field[at + 1]).saturating_sub(48);
-    10 * tens + units
 }
 
 /// The minute of the day that a field which begins HHMM tells.
@@ -124,11 +121,4 @@ pub(crate) fn is_blank(field: &[u8]) -> bool
     ensures { result ≡ is_blank field.now }
 {
     field.iter().all(|byte| *byte == b' ')
-}
-
-/// The field is all digits.
-pub(crate) fn are_digits(field: &[u8]) -> bool
-    ensures { result ≡ list_all is_ascii_digit field.now }
-{
-    field.iter().all(|byte| byte.is_ascii_digit())
 }

@@ -1,4 +1,4 @@
-//! Codes of timing points.
+//! Codes of timing points, as the TIPLOC records (TI, TA and TD) and the location records have them.
 ghost use Rattle.std.specs.Prelude.{◌≡◌, ◌↔◌, ◌-◌, ◌++◌, length, IsSome, IfSome, IsTrue, replicate};
 ghost use Rattle.docker_model.specs.State.{IsTiploc};
 ghost use Rattle.docker_model.specs.DockerLine.{spaces};
@@ -6,6 +6,9 @@ ghost use Rattle.cif_line.specs.Tiploc.{IsTiplocText};
 
 use crate::line::are_printable;
 use std::marker::Model;
+
+#[cfg(test)]
+mod tests;
 
 /// A TIPLOC: the code of a timing point, padded with spaces to seven bytes. Its first is not a space.
 #[derive(Clone, Copy, PartialEq, Eq, PartialOrd, Ord, Debug)]
@@ -27,7 +30,7 @@ impl Model for Tiploc {
 }
 
 impl Tiploc {
-    /// The TIPLOC of a text of one to seven bytes, none a space, which is padded.
+    /// The TIPLOC of a text of one to seven bytes, each printable and no space, padded with spaces to seven. None of any other text.
     pub fn from_text(text: &str) -> Option<Tiploc>
         ensures some { IsSome result ↔ IsTiplocText text.now }
         ensures value { IfSome result (λ tiploc. tiploc ≡ text.now ++ spaces (7 - length text.now)) }
@@ -41,7 +44,7 @@ impl Tiploc {
         Some(Tiploc { bytes })
     }
 
-    /// The TIPLOC of a field: printable bytes, of which the first is not a space.
+    /// The TIPLOC of a field. None where its first byte is a space, or a byte is not printable.
     pub fn from_field(field: &[u8; 7]) -> Option<Tiploc>
         ensures some { IsSome result ↔ IsTiploc field.now }
         ensures value { IfSome result (λ tiploc. tiploc ≡ field.now) }

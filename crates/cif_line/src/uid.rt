@@ -1,4 +1,4 @@
-//! Train UIDs.
+//! Train UIDs, as a basic schedule (BS) and an association (AA) have them.
 ghost use Rattle.std.specs.Prelude.{◌≡◌, ◌↔◌, IsSome, IfSome, IsTrue};
 ghost use Rattle.docker_model.specs.State.{IsTextOfLength};
 
@@ -25,7 +25,7 @@ impl Model for Uid {
 }
 
 impl Uid {
-    /// The UID of a field, if its bytes are printable.
+    /// The UID of a field. None where a byte is not printable.
     pub fn from_field(field: &[u8; 6]) -> Option<Uid>
         ensures some { IsSome result ↔ IsTextOfLength 6 field.now }
         ensures value { IfSome result (λ uid. uid ≡ field.now) }

@@ -1,6 +1,6 @@
-//! End dates.
+//! The end date of a basic schedule (BS), or of an association (AA).
 ghost use Rattle.std.specs.Prelude.{◌≡◌, ℕ, ◌≤◌, ◌⊎◌, ◌↔◌, IsTrue, IsSome, IfSome};
-ghost use Rattle.docker_model.specs.Date.{is_end_date, end_number};
+ghost use Rattle.docker_model.specs.Date.{is_end_date, end_number, last_day, no_end_number};
 
 use crate::Day;
 use std::marker::Model;
@@ -8,7 +8,7 @@ use std::marker::Model;
 /// The end number of what has no end.
 const NO_END: u16 = 65535;
 
-/// The last day that something runs, or no end, which is later than each day.
+/// The last day on which something runs, or no end, which is later than each day: the number of the day, or 65535.
 #[derive(Clone, Copy, PartialEq, Eq, PartialOrd, Ord, Debug)]
 pub struct Until {
     number: u16,
@@ -21,11 +21,11 @@ impl Model for Until {
 
     ghost inverse = { λ number. record { number = number } };
 
-    ghost invariant = { λ end. (end.number ≤ 36524) ⊎ (end.number ≡ 65535) };
+    ghost invariant = { λ end. (end.number ≤ last_day) ⊎ (end.number ≡ no_end_number) };
 }
 
 impl Until {
-    /// The end date of six digits: 999999 for no end, and otherwise a day, year first.
+    /// The end date of six digits: `999999` for no end, and otherwise a day YYMMDD. None where it is neither.
     pub fn from_field(field: &[u8; 6]) -> Option<Until>
         ensures some { IsSome result ↔ IsTrue (is_end_date field.now) }
         ensures value { IfSome result (λ end. end ≡ end_number field.now) }
@@ -39,9 +39,10 @@ impl Until {
         })
     }
 
-    /// The number of the day, or 65535 for no end.
+    /// The days from 1960-01-01 to the last day, or 65535 for no end.
     pub fn number(&self) -> u16
-        ensures { result ≡ self.now }
+        ensures value { result ≡ self.now }
+        ensures range { (result ≤ last_day) ⊎ (result ≡ no_end_number) }
     {
         self.number
     }

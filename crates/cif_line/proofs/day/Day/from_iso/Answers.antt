@@ -11,7 +11,7 @@ returns-in_err-day-clause-read c day low same =
 
 pub returns-then-eq-clause-value : goal.returns-then-eq-clause-value
 returns-then-eq-clause-value c =
-    sym c.as_bytes-2.ensures.value ∙ sym (same_text c.as_slice.result.now c.as_bytes-2.result.now c.if-eq.ensures) ∙ c.as_slice.ensures ∙ c.iso.ensures
+    sym c.as_bytes-2.ensures.value ∙ sym (same_text c.as_slice.result.now c.as_bytes-2.result.now c.if-eq.ensures) ∙ c.as_slice.ensures ∙ c.iso.ensures.text
 
 pub returns-then-eq-clause-read : goal.returns-then-eq-clause-read
 returns-then-eq-clause-read c day low same =
@@ -21,5 +21,5 @@ returns-then-eq-clause-read c day low same =
 pub returns-else-eq-clause-read : goal.returns-else-eq-clause-read
 returns-else-eq-clause-read c day low same =
     let read = digits_in-day_text day low c.as_bytes.result.now (c.as_bytes.ensures.value ∙ same) in
-    let written = c.as_slice.ensures ∙ c.iso.ensures ∙ ap day_text (c.in_ok-day.ensures.value ∙ read.1) ∙ sym same ∙ sym c.as_bytes-2.ensures.value in
+    let written = c.as_slice.ensures ∙ c.iso.ensures.text ∙ ap day_text (c.in_ok-day.ensures.value ∙ read.1) ∙ sym same ∙ sym c.as_bytes-2.ensures.value in
     absurd (other_text c.as_slice.result.now c.as_bytes-2.result.now c.if-eq.ensures written)
