@@ -5,6 +5,7 @@ ghost use Rattle.docker_model.specs.Record.{terminating_location, columns, colum
 ghost use Rattle.docker_model.specs.Clock.{half_minutes, public_time};
 ghost use Rattle.docker_model.specs.DockerLine.{shown_public, spaces};
 ghost use Rattle.docker_model.specs.DockerText.{time_text};
+ghost use Rattle.docker_model.specs.State.{IsTextOfLength};
 ghost use Rattle.cif_line.specs.View.{IsGood};
 
 use crate::line::Line;
@@ -71,14 +72,16 @@ impl<'a> Terminus<'a> {
 
     /// The platform: columns 20 to 22.
     pub fn platform(&self) -> &'a [u8; 3]
-        ensures { result.now ≡ columns 20 22 self.now }
+        ensures value { result.now ≡ columns 20 22 self.now }
+        ensures text { IsTextOfLength 3 result.now }
     {
         self.line.field(20)
     }
 
     /// The path by which the train arrives: columns 23 to 25.
     pub fn path(&self) -> &'a [u8; 3]
-        ensures { result.now ≡ columns 23 25 self.now }
+        ensures value { result.now ≡ columns 23 25 self.now }
+        ensures text { IsTextOfLength 3 result.now }
     {
         self.line.field(23)
     }
