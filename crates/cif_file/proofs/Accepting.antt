@@ -5,9 +5,9 @@ use Rattle.std.proofs.lemmas.Bool.{leb-false}
 use Rattle.docker_model.specs.Text.{lines_of}
 use Rattle.cif_file.specs.OneSchedule.{IsOneSchedule, IsOneScheduleText, AreOneSchedule}
 use Rattle.cif_file.specs.Reading.{IsAccepted, HasRead, IsRefused, first_place}
-use Rattle.cif_file.specs.FileRead.{Kept}
+use Rattle.cif_file.specs.FileRead.{ParserState}
 use Rattle.cif_file.proofs.OneSchedule.{one_schedule_iff}
-use Rattle.cif_file.proofs.OneScheduleText.{one_schedule_text_at_most, one_schedule_text_lines, one_schedule_text_iff}
+use Rattle.cif_file.proofs.OneScheduleText.{one_schedule_text_at_most, one_schedule_text_iff}
 
 -- what five lines of an accepted text are
 pub record AreAccepted (limit : ℕ) (hd bs lo lt zz : List ℕ) : Type 0 where
@@ -23,10 +23,6 @@ accepted_lines limit text hd bs lo lt zz lines told =
       are = (one_schedule_iff hd bs lo lt zz).0 (subst IsOneSchedule same told.1.1);
       room = omega (arith, told.1.0.within);
     }
-
--- an accepted text has five lines
-pub accepted_five : (limit : ℕ) (text : List ℕ) → IsAccepted limit text → length (lines_of text) ≡ 5
-accepted_five limit text told = one_schedule_text_lines limit text told.0 told.1
 
 -- a text whose five lines are one schedule's file is accepted, as these records
 pub accepts_lines : (limit : ℕ) (text hd bs lo lt zz : List ℕ) → hd ∷ bs ∷ lo ∷ lt ∷ zz ∷ [] ≡ lines_of text → 5 ≤ limit → AreOneSchedule hd bs lo lt zz
@@ -47,5 +43,5 @@ nothing_kept size text true told none = absurd cc
 nothing_kept size text false told none = omega (arith, leb-false size 410 told)
 
 -- a parser that keeps nothing was fed too many bytes
-pub over_by_kept : (parser : Kept) (limit : ℕ) (text : List ℕ) → parser.bytes ≡ None → HasRead parser limit text → 410 < length text
+pub over_by_kept : (parser : ParserState) (limit : ℕ) (text : List ℕ) → parser.bytes ≡ None → HasRead parser limit text → 410 < length text
 over_by_kept parser limit text none told = nothing_kept (length text) text (nat_le (length text) 410) refl (sym none ∙ told.bytes_are)

@@ -4,7 +4,7 @@ use Rattle.std.specs.List.{concat}
 use Rattle.std.proofs.Math.Nat.{lt_of_not-le}
 use Rattle.std.proofs.lemmas.List.{map_more, map-append, take-append-drop, take_all}
 use Rattle.std.proofs.lemmas.List.Folds.{concat-append}
-use Rattle.cif_file.specs.FileRead.{Kept}
+use Rattle.cif_file.specs.FileRead.{ParserState}
 use Rattle.cif_file.specs.Reading.{HasRead, IsRefused, first_place}
 use Rattle.cif_file.proofs.Accepting.{refused_over}
 
@@ -18,12 +18,12 @@ module _ {X : Type 0} (f : X → List ℕ) where
       ∙ ap (λ last. concat (map f (take i pieces)) ++ last) (append-nil (f (get_or pieces i d)))
 
   -- a parser that has read the pieces so far and then the next has read one piece more
-  pub read_more : (parser : Kept) (limit : ℕ) (pieces : List X) (i : ℕ) (d : X) → i < length pieces
+  pub read_more : (parser : ParserState) (limit : ℕ) (pieces : List X) (i : ℕ) (d : X) → i < length pieces
       → HasRead parser limit (concat (map f (take i pieces)) ++ f (get_or pieces i d)) → HasRead parser limit (concat (map f (take (i + 1) pieces)))
   read_more parser limit pieces i d below read = subst (HasRead parser limit) (sym (joined_more pieces i d below)) read
 
   -- past the last piece it has read them all
-  pub read_all : (parser : Kept) (limit : ℕ) (pieces : List X) (i : ℕ) → length pieces ≤ i → HasRead parser limit (concat (map f (take i pieces))) → HasRead parser limit (concat (map f pieces))
+  pub read_all : (parser : ParserState) (limit : ℕ) (pieces : List X) (i : ℕ) → length pieces ≤ i → HasRead parser limit (concat (map f (take i pieces))) → HasRead parser limit (concat (map f pieces))
   read_all parser limit pieces i past read = subst (λ all. HasRead parser limit (concat (map f all))) (take_all i pieces past) read
 
   -- the first pieces are no longer than all

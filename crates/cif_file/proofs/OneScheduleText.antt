@@ -1,5 +1,5 @@
 -- How long a text of a file of one schedule is.
-use Rattle.std.proofs.Common.{◌≡◌, ℕ, ◌+◌, ◌≤◌, inl, inr, List, [], ◌∷◌, ◌++◌, length, subst, ap, sym, ◌∙◌, arith, length-append}
+use Rattle.std.proofs.Common.{◌≡◌, ℕ, ◌+◌, ◌≤◌, inl, inr, List, [], ◌∷◌, ◌++◌, length, subst, ap, ◌∙◌, arith, length-append}
 use Rattle.std.specs.Prelude.{◌↔◌}
 use Rattle.docker_model.specs.Text.{IsLineEnd, IsLastLineEnd, IsTextOf, lines_of}
 use Rattle.docker_laws.proofs.Texts.{text_of_lines}
@@ -64,14 +64,6 @@ text_length limit text file told =
 pub one_schedule_text_at_most : (limit : ℕ) (text : List ℕ) (file : List (List ℕ)) → IsOneScheduleText limit text file → length text ≤ 410
 one_schedule_text_at_most limit text file told = (text_length limit text file told).at_most
 
--- a text of a file of one schedule has at least 404 bytes
-pub one_schedule_text_at_least : (limit : ℕ) (text : List ℕ) (file : List (List ℕ)) → IsOneScheduleText limit text file → 404 ≤ length text
-one_schedule_text_at_least limit text file told = (text_length limit text file told).at_least
-
--- a text of a file of one schedule has five lines
-pub one_schedule_text_lines : (limit : ℕ) (text : List ℕ) (file : List (List ℕ)) → IsOneScheduleText limit text file → length (lines_of text) ≡ 5
-one_schedule_text_lines limit text file told = ap (λ (lines : List (List ℕ)). length lines) told.0.lines ∙ one_schedule_length file told.1
-
 -- a text of five lines is one of a file of one schedule exactly where each line is the good record of its place
 pub one_schedule_text_iff : (limit : ℕ) (text hd bs lo lt zz : List ℕ) → lines_of text ≡ hd ∷ bs ∷ lo ∷ lt ∷ zz ∷ [] → 5 ≤ limit
     → IsOneScheduleText limit text (hd ∷ bs ∷ lo ∷ lt ∷ zz ∷ []) ↔ AreOneSchedule hd bs lo lt zz
@@ -81,9 +73,3 @@ one_schedule_text_iff limit text hd bs lo lt zz lines room = (
       let one = (one_schedule_iff hd bs lo lt zz).1 told in
       (record { lines = lines; is = one.is; within = room }, one),
 )
-
--- a text of five lines that are not the good records of their places is a text of no such file
-pub no_one_schedule_text : (limit : ℕ) (text hd bs lo lt zz : List ℕ) → lines_of text ≡ hd ∷ bs ∷ lo ∷ lt ∷ zz ∷ [] → ¬ AreOneSchedule hd bs lo lt zz
-    → (file : List (List ℕ)) → ¬ IsOneScheduleText limit text file
-no_one_schedule_text limit text hd bs lo lt zz lines never file told =
-    never ((one_schedule_iff hd bs lo lt zz).0 (subst IsOneSchedule (sym told.0.lines ∙ lines) told.1))

@@ -22,6 +22,6 @@ pub record IsOfText (file : FileRead) (limit : ℕ) (text : List ℕ) : Type 0 w
   pub of_records : IsOfRecords file records
 
 -- the limit on records, and the bytes that are kept, or none once they are too many
-pub record Kept : Type 0 where
+pub record ParserState : Type 0 where
   pub limit : ℕ
   pub bytes : Option (List ℕ)

@@ -3,14 +3,14 @@ use Rattle.std.specs.Prelude.{◌≡◌, ℕ, ◌⊎◌, List, length, nat_le, S
 use Rattle.cif_file.specs.declared.fault.FileFault.{FileFault}
 use Rattle.cif_file.specs.declared.fault.FileCause.TheVariants.{Place, Memory}
 use Rattle.cif_file.specs.OneSchedule.{IsOneScheduleText}
-use Rattle.cif_file.specs.FileRead.{Kept}
+use Rattle.cif_file.specs.FileRead.{ParserState}
 
 -- the most bytes that a text of a file of one schedule has
 abbrev pub most_bytes : ℕ
 most_bytes = 410
 
 -- the parser was fed this text, under this limit on records
-pub record HasRead (parser : Kept) (limit : ℕ) (text : List ℕ) : Type 0 where
+pub record HasRead (parser : ParserState) (limit : ℕ) (text : List ℕ) : Type 0 where
   pub limit_is : parser.limit ≡ limit
   pub bytes_are : parser.bytes ≡ (if nat_le (length text) most_bytes then Some text else None)
 

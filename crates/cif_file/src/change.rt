@@ -29,6 +29,8 @@ pub enum Act {
 pub struct Change {
     /// The number of the record in its file, from 1.
     pub number: u32,
+    /// The key that it changes.
     pub key: Key,
+    /// What it does to the key.
     pub act: Act,
 }

@@ -45,6 +45,7 @@ pub enum FileCause {
 pub struct FileFault {
     /// The number of the record, from 1.
     pub number: u32,
+    /// What is wrong there.
     pub cause: FileCause,
 }
 

@@ -26,6 +26,7 @@ pub struct AssocKey {
     pub location: Tiploc,
     /// The suffix that tells apart several calls of the base train there.
     pub suffix: u8,
+    /// The STP indicator.
     pub stp: Stp,
 }
 
@@ -36,5 +37,6 @@ pub struct ScheduleKey {
     pub uid: Uid,
     /// The first day on which it runs.
     pub runs_from: Day,
+    /// The STP indicator.
     pub stp: Stp,
 }

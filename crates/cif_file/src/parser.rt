@@ -24,9 +24,9 @@ pub struct FileParser {
 
 impl Model for FileParser {
     ghost use Rattle.std.specs.Prelude.{if◌then◌else◌, None, Some};
-    ghost use Rattle.cif_file.specs.FileRead.{Kept};
+    ghost use Rattle.cif_file.specs.FileRead.{ParserState};
 
-    ghost Value = { Kept };
+    ghost Value = { ParserState };
 
     ghost view = { λ parser. record {
       limit = parser.limit;
