@@ -13,7 +13,7 @@ abbrev kind_at : ℕ → List (Option Kind) → Option Kind
 kind_at n kinds = get_or kinds n None
 
 -- such a file, as the laws name it
-as_law : (hd bs lo lt zz : List ℕ) → IsOneSchedule (hd ∷ bs ∷ lo ∷ lt ∷ zz ∷ []) → law.IsOneSchedule hd bs lo lt zz
+pub as_law : (hd bs lo lt zz : List ℕ) → IsOneSchedule (hd ∷ bs ∷ lo ∷ lt ∷ zz ∷ []) → law.IsOneSchedule hd bs lo lt zz
 as_law hd bs lo lt zz told = record {
   is = told.is;
   header_kind = ap (kind_at 0) told.kinds;

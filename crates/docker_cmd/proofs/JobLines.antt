@@ -1,0 +1,104 @@
+-- Reading the job line byte by byte: what the bytes so far say of the text.
+use Rattle.std.proofs.Common.{◌≡◌, ℕ, ◌+◌, ◌<◌, ◌≤◌, ◌≢◌, List, [], ◌∷◌, ◌++◌, length, Bool, true, false, refl, sym, ◌∙◌, ap, subst, arith, append_assoc, length-append, append-nil, Some, None}
+use Rattle.std.specs.Prelude.{Option, option_map}
+use Rattle.std.specs.List.{AllByRecursion, AllPass}
+use Rattle.std.proofs.lemmas.List.Elements.{recursion_from_All, All-from_recursion}
+use Rattle.docker_model.specs.Record.{is_printable}
+use Rattle.cif_line.specs.Device.{Reads, IsEnd}
+use Rattle.docker_cmd.specs.JobLine.{IsLineText, IsJobLine, ReadsLine, HasNoLine}
+
+-- each byte is printable
+abbrev pub ArePrintable : List ℕ → Type 0
+ArePrintable = AllByRecursion (λ b. is_printable b ≡ true)
+
+-- a byte that is neither printable nor a line feed stands behind printable ones: no line
+clash : (a b : List ℕ) (x : ℕ) (r s : List ℕ) → ArePrintable a → ArePrintable b → is_printable x ≡ false → x ≢ 10 → a ++ x ∷ r ≡ b ++ 10 ∷ s → ⊥
+clash [] [] x r s a_good b_good bad other same = other (cc)
+clash [] (z ∷ b) x r s a_good b_good bad other same =
+    let head : x ≡ z = cc in
+    let good : is_printable x ≡ true = subst (λ c. is_printable c ≡ true) (sym head) b_good.0 in
+    cc
+clash (y ∷ a) [] x r s a_good b_good bad other same =
+    let head : y ≡ 10 = cc in
+    let good : is_printable 10 ≡ true = subst (λ c. is_printable c ≡ true) head a_good.0 in
+    cc
+clash (y ∷ a) (z ∷ b) x r s a_good b_good bad other same = clash a b x r s a_good.1 b_good.1 bad other (cc)
+
+-- a line feed is no printable byte
+ended : (a b s : List ℕ) → ArePrintable a → a ≡ b ++ 10 ∷ s → ⊥
+ended [] [] s good same = cc
+ended [] (z ∷ b) s good same = cc
+ended (y ∷ a) [] s good same =
+    let head : y ≡ 10 = cc in
+    let good : is_printable 10 ≡ true = subst (λ c. is_printable c ≡ true) head good.0 in
+    cc
+ended (y ∷ a) (z ∷ b) s good same = ended a b s good.1 (cc)
+
+-- more printable bytes than a line has
+long : (a b r s : List ℕ) → ArePrintable a → length b < length a → a ++ r ≡ b ++ 10 ∷ s → ⊥
+long [] b r s good short same = absurd (omega arith)
+long (y ∷ a) [] r s good short same =
+    let head : y ≡ 10 = cc in
+    let good : is_printable 10 ≡ true = subst (λ c. is_printable c ≡ true) head good.0 in
+    cc
+long (y ∷ a) (z ∷ b) r s good short same = long a b r s good.1 (omega arith) (cc)
+
+-- one printable byte more
+pub printable_more : (line : List ℕ) (b : ℕ) → ArePrintable line → is_printable b ≡ true → ArePrintable (line ++ b ∷ [])
+printable_more [] b good here = (here, tt)
+printable_more (y ∷ line) b good here = (good.0, printable_more line b good.1 here)
+
+-- what is read behind what was read
+pub reads_on : (old now new : Option (List ℕ)) (line : List ℕ) (b : ℕ) → Reads old line now → Reads now (b ∷ []) new → Reads old (line ++ b ∷ []) new
+reads_on old now None line b first then_one = first ∙ ap (option_map (λ rest. line ++ rest)) then_one
+reads_on old now (Some rest) line b first then_one = first ∙ ap (option_map (λ rest. line ++ rest)) then_one ∙ ap Some (sym (append_assoc line (b ∷ []) rest))
+
+-- the line and its line feed were read
+pub line_read : (old now new : Option (List ℕ)) (line : List ℕ) → Reads old line now → Reads now (10 ∷ []) new → ArePrintable line → length line ≤ 255 → ReadsLine old line new
+line_read old now new line first feed good short =
+    by old new (reads_on old now new line 10 first feed) (record { short = short; printable = All-from_recursion _ line good })
+  where
+    by : (old new : Option (List ℕ)) → Reads old (line ++ 10 ∷ []) new → IsLineText line → ReadsLine old line new
+    by None new read is = is
+    by (Some text) None read is = cc
+    by (Some text) (Some rest) read is =
+        let same : text ≡ (line ++ 10 ∷ []) ++ rest = cc in
+        (rest, (record { whole = same ∙ append_assoc line (10 ∷ []) rest; line_text = is }), refl)
+
+-- the text ends before a line feed
+pub no_line_at_end : (old now : Option (List ℕ)) (line : List ℕ) → Reads old line now → IsEnd now → ArePrintable line → HasNoLine old
+no_line_at_end None now line read end good = tt
+no_line_at_end (Some text) None line read end good = cc
+no_line_at_end (Some text) (Some rest) line read end good = λ other behind is.
+    let same : text ≡ line ++ rest = cc in
+    let whole : text ≡ line = same ∙ ap (λ r. line ++ r) end ∙ append-nil line in
+    ended line other behind good (sym whole ∙ is.whole)
+
+-- a byte that no line holds
+pub no_line_at : (old now new : Option (List ℕ)) (line : List ℕ) (b : ℕ) → Reads old line now → Reads now (b ∷ []) new → ArePrintable line → is_printable b ≡ false → b ≢ 10 → HasNoLine old
+no_line_at old now new line b first feed good bad other = by old new (reads_on old now new line b first feed)
+  where
+    by : (old new : Option (List ℕ)) → Reads old (line ++ b ∷ []) new → HasNoLine old
+    by None new read = tt
+    by (Some text) None read = cc
+    by (Some text) (Some rest) read = λ found behind is.
+        let same : text ≡ (line ++ b ∷ []) ++ rest = cc in
+        clash line found b rest behind good (recursion_from_All _ found is.line_text.printable) bad other
+            (sym (append_assoc line (b ∷ []) rest) ∙ sym same ∙ is.whole)
+
+-- more bytes than a line has
+pub no_line_behind : (old new : Option (List ℕ)) (line : List ℕ) → Reads old line new → ArePrintable line → 255 < length line → HasNoLine old
+no_line_behind None new line read good long_line = tt
+no_line_behind (Some text) None line read good long_line = cc
+no_line_behind (Some text) (Some rest) line read good long_line = λ found behind is.
+    let same : text ≡ line ++ rest = cc in
+    let short : length found ≤ 255 = is.line_text.short in
+    long line found rest behind good (omega arith) (sym same ∙ is.whole)
+
+-- a full line, and a byte that is no line feed
+pub no_line_full : (old now new : Option (List ℕ)) (line : List ℕ) (b : ℕ) → Reads old line now → Reads now (b ∷ []) new → ArePrintable line → length line ≡ 255 → b ≢ 10 → HasNoLine old
+no_line_full old now new line b first feed good full other = by (is_printable b) refl
+  where
+    by : (test : Bool) → is_printable b ≡ test → HasNoLine old
+    by true here = no_line_behind old new (line ++ b ∷ []) (reads_on old now new line b first feed) (printable_more line b good here) (omega (arith, length-append line (b ∷ [])))
+    by false here = no_line_at old now new line b first feed good here other

@@ -1,0 +1,15 @@
+pub mod JobLines
+pub mod LinePieces
+pub mod PlainWords
+pub mod RequiredWords
+pub mod FirstWord
+pub mod JobWords
+pub mod Outcomes
+pub mod DayWords
+pub mod JobFaults
+pub mod Listed
+pub mod Outside
+pub mod Printed
+pub mod FileSchedule
+pub mod Reading
+pub mod Output

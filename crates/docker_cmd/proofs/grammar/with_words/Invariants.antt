@@ -1,0 +1,12 @@
+use Rattle.std.proofs.Common.{◌≡◌, [], false, map, take}
+use Rattle.clap.specs.Words.{app_of}
+use Rattle.clap.specs.declared.builder.Command.TheViews.{out-Command as fields_of}
+use Rattle.docker_cmd.specs.Grammar.{words_shape}
+use Rattle.docker_cmd.proofs.grammar.with_words.Given as goal
+
+-- the command has the words so far
+abbrev pub invariant-loop-id : goal.invariant-loop-id
+invariant-loop-id l = record {
+  shape : app_of l.command ≡ record { top = words_shape l.name (map (λ id. id.now) (take l.id-index l.ids)); subs = [] };
+  local : (fields_of l.command).has_globals ≡ false;
+}

@@ -1,0 +1,15 @@
+use Rattle.std.proofs.Common.{◌≡◌, ◌++◌, length}
+use Rattle.std.specs.Prelude.{IsUtf8}
+use Rattle.docker_cmd.specs.JobLine.{words_in}
+use Rattle.docker_cmd.specs.Words.{texts}
+use Rattle.docker_cmd.proofs.job_line.words_in.Given as goal
+
+-- the words so far and those of the rest are the words of the line
+abbrev pub invariant-loop-word : goal.invariant-loop-word
+invariant-loop-word l = record {
+  words : texts l.words.items ++ words_in l.rest ≡ words_in l.fn.line;
+  text : IsUtf8 l.rest;
+}
+
+abbrev pub decreases-loop-word : goal.decreases-loop-word
+decreases-loop-word l = length l.rest

@@ -1,0 +1,11 @@
+use Rattle.std.proofs.Common.{◌≡◌, vec_len}
+use Rattle.docker_cmd.proofs.Reading.{IsAtTurn}
+use Rattle.docker_cmd.proofs.read_file.read_file.Given as goal
+
+-- the parser was fed what was read, a byte a turn at least
+abbrev pub invariant-loop : goal.invariant-loop
+invariant-loop g l = record {
+  turn : IsAtTurn (g.S.Source.left l.fn.source) l.parser (g.S.Source.left l.source) l.counter;
+  no_failure : g.S.Source.failures l.source ≡ g.S.Source.failures l.fn.source;
+  room : vec_len l.piece ≡ 65536;
+}

@@ -1,0 +1,61 @@
+-- How a fault is told: the exit status, and one line on standard error.
+use Rattle.std.specs.Prelude.{ℕ, List, [], ◌∷◌, ◌++◌, codes, decimal}
+use Rattle.cif_file.specs.declared.fault.FileFault.{FileFault}
+use Rattle.cif_file.specs.declared.fault.FileCause.{FileCause}
+use Rattle.cif_file.specs.declared.fault.FileCause.TheVariants.{Length, Byte, Kind, Place, Field, Midnights, NoEnd, After, TooMany}
+use Rattle.cif_file.specs.declared.fault.FileCause.TheVariants as cause
+use Rattle.docker_cmd.specs.declared.fault.Fault.{Fault}
+use Rattle.docker_cmd.specs.declared.fault.Fault.TheVariants.{Job, Office}
+use Rattle.docker_cmd.specs.declared.fault.JobFault.{JobFault}
+use Rattle.docker_cmd.specs.declared.fault.JobFault.TheVariants as job
+use Rattle.docker_cmd.specs.declared.fault.OfficeFault.{OfficeFault}
+use Rattle.docker_cmd.specs.declared.fault.OfficeFault.TheVariants as office
+
+-- 1 refused input, 2 usage, 3 want of memory, 4 a device
+abbrev pub status_of : Fault → ℕ
+status_of (Job job.Usage) = 2
+status_of (Job job.Memory) = 3
+status_of (Job job.Source) = 4
+status_of (Office (office.File fault)) = 1
+status_of (Office office.Source) = 4
+status_of (Office office.Sink) = 4
+status_of (Office office.Memory) = 3
+
+-- the name of a cause, and the column behind it where it has one
+abbrev pub cause_text : FileCause → List ℕ
+cause_text Length = codes "Length"
+cause_text (Byte column) = codes "Byte " ++ decimal column
+cause_text Kind = codes "Kind"
+cause_text Place = codes "Place"
+cause_text (Field column) = codes "Field " ++ decimal column
+cause_text Midnights = codes "Midnights"
+cause_text NoEnd = codes "NoEnd"
+cause_text After = codes "After"
+cause_text TooMany = codes "TooMany"
+cause_text cause.Memory = codes "Memory"
+
+-- the line of a refused file
+abbrev pub file_line : FileFault → List ℕ
+file_line fault = codes "docker: file refused: record " ++ decimal fault.number ++ codes ": " ++ cause_text fault.cause ++ codes "\n"
+
+-- the line of want of memory
+abbrev pub memory_line : List ℕ
+memory_line = codes "docker: want of memory\n"
+
+-- the line of a device that failed
+abbrev pub device_line : List ℕ
+device_line = codes "docker: device failed\n"
+
+-- the one usage line
+abbrev pub usage_line : List ℕ
+usage_line = codes "docker: usage: new STATE | check FILE | day FILE TIPLOC DATE | take STATE FILE | merge STATE OTHER | print STATE TIPLOC DATE | files STATE\n"
+
+-- the line that tells a fault
+abbrev pub fault_line : Fault → List ℕ
+fault_line (Job job.Usage) = usage_line
+fault_line (Job job.Memory) = memory_line
+fault_line (Job job.Source) = device_line
+fault_line (Office (office.File fault)) = file_line fault
+fault_line (Office office.Source) = device_line
+fault_line (Office office.Sink) = device_line
+fault_line (Office office.Memory) = memory_line

@@ -1,0 +1,34 @@
+-- The job line, and its words.
+use Rattle.std.specs.Prelude.{◌≡◌, ℕ, ◌==◌, ◌≤◌, ◌⊎◌, not, List, [], ◌∷◌, ◌++◌, length, filter, Option, Some, None, ⊤}
+use Rattle.std.specs.List.{AllPass, slice_split}
+use Rattle.docker_model.specs.Record.{is_printable}
+use Rattle.cif_line.specs.Device.{Reads, IsEnd}
+
+-- what a line may hold: at most 255 printable bytes
+pub record IsLineText (line : List ℕ) : Type 0 where
+  pub short : length line ≤ 255
+  pub printable : AllPass is_printable line
+
+-- the text begins with this line and its line feed, and then goes on with the rest
+pub record IsJobLine (text line rest : List ℕ) : Type 0 where
+  pub whole : text ≡ line ++ 10 ∷ rest
+  pub line_text : IsLineText line
+
+-- where the bytes are told, the line and its line feed were read, and the rest is left
+abbrev pub ReadsLine : Option (List ℕ) → List ℕ → Option (List ℕ) → Type 0
+ReadsLine None line new = IsLineText line
+ReadsLine (Some text) line new = (rest : List ℕ) × IsJobLine text line rest × (new ≡ Some rest)
+
+-- where the bytes are told, they begin with no job line
+abbrev pub HasNoLine : Option (List ℕ) → Type 0
+HasNoLine None = ⊤
+HasNoLine (Some text) = (line rest : List ℕ) → ¬ IsJobLine text line rest
+
+-- the longest pieces of a line without a space
+abbrev pub words_in : List ℕ → List (List ℕ)
+words_in line = filter (λ word. not (length word == 0)) (slice_split (λ b. b == 32) line)
+
+-- one byte was read, or the end was met
+abbrev pub ReadsByte : Option (List ℕ) → Option ℕ → Option (List ℕ) → Type 0
+ReadsByte old None new = IsEnd old × (new ≡ old)
+ReadsByte old (Some byte) new = Reads old (byte ∷ []) new

@@ -1,0 +1,62 @@
+//! What a job writes.
+ghost use Rattle.std.specs.Prelude.{◌≡◌, ◌+◌, ◌-◌, ◌^◌, ◌<◌, IfErr, OnErr, OnOk};
+ghost use Rattle.docker_cmd.specs.Prepared.{GainsOutput, GainsPart};
+
+use crate::docker_print::docker_text;
+use crate::fault::OfficeFault;
+use crate::preparing::Prepared;
+use crate::schedule::Schedule;
+use cif_line::{Basic, Origin, Sink, Terminus, basic, origin, terminus, write_all};
+
+/// Writes the output of a job: of `day` the docker of its timing point on its day. It is written whole, after all of it is made,
+/// and where the sink fails it has gained a beginning of it.
+pub fn emit<K: Sink>(prepared: &Prepared<'_>, sink: &mut K) -> Result<(), OfficeFault>
+    requires { K.failures sink.old < 2 ^ 64 - 1 }
+    ensures ok { OnOk result (GainsOutput prepared.now (K.taken sink.old) (K.taken sink.new)) }
+    ensures err { OnErr result (GainsPart prepared.now (K.taken sink.old) (K.taken sink.new)) }
+    ensures no_failure { OnOk result (K.failures sink.new ≡ K.failures sink.old) }
+    ensures failure { OnErr result (K.failures sink.new ≡ K.failures sink.old + 1) }
+    ensures sink { IfErr result (λ fault. fault ≡ OfficeFault.Sink) }
+{
+    let schedule = prepared.schedule();
+    let basic = basic_of(schedule);
+    let origin = origin_of(schedule);
+    let terminus = terminus_of(schedule);
+    let job = prepared.job();
+    let place = job.place();
+    let text = docker_text(&basic, &origin, &terminus, &place, job.date());
+    match write_all(sink, text.as_slice()) {
+        Ok(()) => Ok(()),
+        Err(_) => Err(OfficeFault::Sink),
+    }
+}
+
+/// The basic schedule.
+fn basic_of(schedule: &Schedule) -> Basic<'_>
+    ensures line { result ≡ schedule.now.basic }
+{
+    match basic(&schedule.basic) {
+        Ok(view) => view,
+        Err(_) => unreachable!(),
+    }
+}
+
+/// The origin.
+fn origin_of(schedule: &Schedule) -> Origin<'_>
+    ensures line { result ≡ schedule.now.origin }
+{
+    match origin(&schedule.origin) {
+        Ok(view) => view,
+        Err(_) => unreachable!(),
+    }
+}
+
+/// The terminus.
+fn terminus_of(schedule: &Schedule) -> Terminus<'_>
+    ensures line { result ≡ schedule.now.terminus }
+{
+    match terminus(&schedule.terminus) {
+        Ok(view) => view,
+        Err(_) => unreachable!(),
+    }
+}

@@ -1,0 +1,39 @@
+//! Why a job is refused.
+use cif_file::FileFault;
+use thiserror::Error;
+
+/// Why words or a line give no job.
+#[derive(Clone, Copy, PartialEq, Eq, Debug, Error)]
+pub enum JobFault {
+    /// They name no subcommand with the words that it requires.
+    #[error("usage")]
+    Usage,
+    /// A growth was refused.
+    #[error("want of memory")]
+    Memory,
+    /// The source of the line failed.
+    #[error("device failed")]
+    Source,
+}
+
+/// Why a job is refused.
+#[derive(Clone, Copy, PartialEq, Eq, Debug)]
+pub enum OfficeFault {
+    /// A file is refused: its first record at fault. The cause is never want of memory.
+    File(FileFault),
+    /// A source failed.
+    Source,
+    /// The sink failed.
+    Sink,
+    /// A growth was refused.
+    Memory,
+}
+
+/// Whatever ends the program before it is done.
+#[derive(Clone, Copy, PartialEq, Eq, Debug)]
+pub enum Fault {
+    /// There is no job.
+    Job(JobFault),
+    /// The job is refused.
+    Office(OfficeFault),
+}

@@ -1,0 +1,25 @@
+//! The program's commands: jobs from words, what a job reads and writes, and the texts of faults.
+#![tactic(auto)]
+
+mod docker_line;
+mod docker_list;
+mod docker_print;
+mod emitting;
+mod fault;
+mod fault_line;
+mod grammar;
+mod job_line;
+mod job_of_words;
+mod jobs;
+mod preparing;
+mod read_file;
+mod running;
+mod schedule;
+mod words;
+
+pub use emitting::emit;
+pub use fault::{Fault, JobFault, OfficeFault};
+pub use fault_line::{FaultText, fault_text, status};
+pub use job_of_words::job;
+pub use jobs::{Job, Subcommand};
+pub use preparing::{Prepared, prepare};

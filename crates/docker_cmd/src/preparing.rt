@@ -1,0 +1,77 @@
+//! What a job reads.
+ghost use Rattle.std.specs.Prelude.{◌≡◌, ◌≢◌, ◌+◌, ◌-◌, ◌^◌, ◌<◌, ◌↔◌, IfOk, IfErr, Err};
+ghost use Rattle.docker_cmd.specs.Prepared.{IsFileRefused, ReadsFile, ReadsSchedule};
+
+use crate::fault::OfficeFault;
+use crate::jobs::{Job, Subcommand};
+use crate::read_file::read_file;
+use crate::schedule::{Schedule, schedule_of};
+use cif_line::Source;
+use std::alloc::Global;
+use std::marker::Model;
+
+/// A job and what it has read.
+#[derive(Debug, Drop)]
+pub struct Prepared<'a> {
+    job: &'a Job,
+    schedule: Schedule,
+}
+
+impl<'a> Model for Prepared<'a> {
+    ghost use Rattle.docker_cmd.specs.Prepared.{PreparedView};
+
+    ghost Value = { PreparedView };
+
+    ghost view = { λ prepared. record {
+      job = prepared.job.now;
+      basic = prepared.schedule.basic;
+      origin = prepared.schedule.origin;
+      terminus = prepared.schedule.terminus;
+    } };
+}
+
+impl<'a> Prepared<'a> {
+    /// The job.
+    pub(crate) fn job(&self) -> &'a Job
+        ensures { result.now ≡ self.now.job }
+    {
+        self.job
+    }
+
+    /// The schedule that was read.
+    pub(crate) fn schedule(&self) -> &Schedule
+        ensures basic { result.now.basic ≡ self.now.basic }
+        ensures origin { result.now.origin ≡ self.now.origin }
+        ensures terminus { result.now.terminus ≡ self.now.terminus }
+    {
+        &self.schedule
+    }
+}
+
+/// Reads what the job reads: `day` reads the file that its first word names, from the first source to its end. No job reads a
+/// second source yet.
+pub fn prepare<'a, S: Source, T: Source>(
+    alloc: Global,
+    job: &'a Job,
+    first: &mut S,
+    _second: &mut T,
+) -> Result<Prepared<'a>, OfficeFault>
+    requires first { S.failures first.old < 2 ^ 64 - 1 }
+    ensures job { IfOk result (λ prepared. prepared.job ≡ job.now) }
+    ensures ok { IfOk result (ReadsSchedule (S.left first.old)) }
+    ensures file { (fault : _) → result ≡ Err (OfficeFault.File fault) → IsFileRefused (S.left first.old) fault }
+    ensures source { (result ≡ Err OfficeFault.Source) ↔ (S.failures first.new ≡ S.failures first.old + 1) }
+    ensures no_failure { result ≢ Err OfficeFault.Source → S.failures first.new ≡ S.failures first.old }
+    ensures sink { result ≢ Err OfficeFault.Sink }
+    ensures second { _second.new ≡ _second.old }
+{
+    match job.subcommand() {
+        Subcommand::Day => {
+            let file = read_file(alloc, first)?;
+            Ok(Prepared {
+                job,
+                schedule: schedule_of(file),
+            })
+        }
+    }
+}
