@@ -1,6 +1,6 @@
 -- The words of `day`, by their places.
-use Rattle.std.proofs.Common.{◌≡◌, ℕ, List, [], ◌∷◌, length, get_or, Bool, true, false, cond, Some, None, refl, sym, ap}
-use Rattle.std.specs.Prelude.{Option, if◌then◌else◌, codes}
+use Rattle.std.proofs.Common.{◌≡◌, List, [], ◌∷◌, length, get_or, Bool, true, false, cond, Some, None, refl}
+use Rattle.std.specs.Prelude.{Option, codes}
 use Rattle.std.specs.List.{list_all}
 use Rattle.std.specs.Str.{bytes_eq}
 use Rattle.std.specs.Borrow.{Bor}

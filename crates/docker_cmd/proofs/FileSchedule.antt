@@ -1,13 +1,11 @@
 -- The schedule of a file that was read, by its one change.
-use Rattle.std.proofs.Common.{◌≡◌, ℕ, List, [], ◌∷◌, length, Some, refl, ap, ◌∙◌, sym, subst, get_or}
+use Rattle.std.proofs.Common.{◌≡◌, ℕ, List, [], ◌∷◌, Some, ap, ◌∙◌, subst}
 use Rattle.std.specs.Prelude.{option_and_then}
-use Rattle.docker_model.specs.Record.{basic_schedule, origin_location, terminating_location, column}
 use Rattle.docker_model.specs.Change.{changes}
-use Rattle.cif_line.specs.View.{IsGood}
 use Rattle.cif_file.specs.OneSchedule.{IsOneSchedule, AreOneSchedule}
-use Rattle.cif_file.specs.FileRead.{FileRead, IsOfRecords, IsOfText}
+use Rattle.cif_file.specs.FileRead.{FileRead, IsOfRecords}
 use Rattle.cif_file.proofs.OneSchedule.{one_schedule_iff, one_schedule_change, one_schedule_length, IsFive, as_five}
-use Rattle.docker_cmd.specs.Schedule.{first_lines, only_three, IsOfSomeText, AreRecordsOf}
+use Rattle.docker_cmd.specs.Schedule.{first_lines, only_three, IsOfSomeText}
 
 -- the lines that a file of one schedule puts, and what they are
 pub record HasLines (file : FileRead) (records : List (List ℕ)) : Type 0 where
@@ -25,7 +23,11 @@ has_lines file records is of =
     let five : IsFive records = as_five records (one_schedule_length records is) in
     let one : IsOneSchedule (five.hd ∷ five.bs ∷ five.lo ∷ five.lt ∷ five.zz ∷ []) = subst IsOneSchedule five.whole is in
     record {
-      hd = five.hd; bs = five.bs; lo = five.lo; lt = five.lt; zz = five.zz;
+      hd = five.hd;
+      bs = five.bs;
+      lo = five.lo;
+      lt = five.lt;
+      zz = five.zz;
       whole = five.whole;
       are = (one_schedule_iff five.hd five.bs five.lo five.lt five.zz).0 one;
       lines = ap (λ made. option_and_then only_three (first_lines made))

@@ -25,7 +25,7 @@ pub readable_job : (words : List Text) (file tiploc date : Text) → job_of word
 readable_job words file tiploc date is good none =
     let job : JobView = record { subcommand = Day; words = file ∷ tiploc ∷ date ∷ []; tiploc = Some (tiploc ++ spaces (7 - length tiploc)); day = Some good.number } in
     let day : IsDayJob file tiploc date job =
-        record { subcommand = refl; words = refl; code = good.code; place = refl; number = good.number; within = good.within; written = good.written; day = refl } in
+    record { subcommand = refl; words = refl; code = good.code; place = refl; number = good.number; within = good.within; written = good.written; day = refl } in
     none job (subst (λ named. IsNamedJob named job) (sym is) day)
 
 -- words that name a subcommand, and are what it requires

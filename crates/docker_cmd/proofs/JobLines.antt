@@ -1,11 +1,15 @@
 -- Reading the job line byte by byte: what the bytes so far say of the text.
-use Rattle.std.proofs.Common.{◌≡◌, ℕ, ◌+◌, ◌<◌, ◌≤◌, ◌≢◌, List, [], ◌∷◌, ◌++◌, length, Bool, true, false, refl, sym, ◌∙◌, ap, subst, arith, append_assoc, length-append, append-nil, Some, None}
-use Rattle.std.specs.Prelude.{Option, option_map}
+use Rattle.std.proofs.Common.{◌≡◌, ℕ, ◌<◌, ◌≤◌, ◌≢◌, List, [], ◌∷◌, ◌++◌, length, Bool, true, false, refl, sym, ◌∙◌, ap, subst, arith, append_assoc, length-append, append-nil, Some, None, inl, inr, get_or}
+use Rattle.std.specs.Prelude.{Option, option_map, ◌&&◌, ◌⊎◌, nat_le}
+use Rattle.std.specs.Str.{IsAscii}
+use Rattle.std.proofs.lemmas.Str.Ascii.{IsAscii-from_all}
+use Rattle.std.proofs.lemmas.Bool.Decides.{leb_tells}
 use Rattle.std.specs.List.{AllByRecursion, AllPass}
 use Rattle.std.proofs.lemmas.List.Elements.{recursion_from_All, All-from_recursion}
 use Rattle.docker_model.specs.Record.{is_printable}
 use Rattle.cif_line.specs.Device.{Reads, IsEnd}
-use Rattle.docker_cmd.specs.JobLine.{IsLineText, IsJobLine, ReadsLine, HasNoLine}
+use Rattle.docker_cmd.specs.Job.{NameNoJob}
+use Rattle.docker_cmd.specs.JobLine.{IsLineText, ReadsLine, HasNoLine, HasNoJob, words_in}
 
 -- each byte is printable
 abbrev pub ArePrintable : List ℕ → Type 0
@@ -84,7 +88,7 @@ no_line_at old now new line b first feed good bad other = by old new (reads_on o
     by (Some text) (Some rest) read = λ found behind is.
         let same : text ≡ (line ++ b ∷ []) ++ rest = cc in
         clash line found b rest behind good (recursion_from_All _ found is.line_text.printable) bad other
-            (sym (append_assoc line (b ∷ []) rest) ∙ sym same ∙ is.whole)
+        (sym (append_assoc line (b ∷ []) rest) ∙ sym same ∙ is.whole)
 
 -- more bytes than a line has
 pub no_line_behind : (old new : Option (List ℕ)) (line : List ℕ) → Reads old line new → ArePrintable line → 255 < length line → HasNoLine old
@@ -102,3 +106,54 @@ no_line_full old now new line b first feed good full other = by (is_printable b)
     by : (test : Bool) → is_printable b ≡ test → HasNoLine old
     by true here = no_line_behind old new (line ++ b ∷ []) (reads_on old now new line b first feed) (printable_more line b good here) (omega (arith, length-append line (b ∷ [])))
     by false here = no_line_at old now new line b first feed good here other
+
+-- two lines before the first line feed are one
+one_line : (a b r s : List ℕ) → ArePrintable a → ArePrintable b → a ++ 10 ∷ r ≡ b ++ 10 ∷ s → a ≡ b
+one_line [] [] r s a_good b_good same = refl
+one_line [] (z ∷ b) r s a_good b_good same =
+    let head : 10 ≡ z = cc in
+    let good : is_printable 10 ≡ true = subst (λ c. is_printable c ≡ true) (sym head) b_good.0 in
+    cc
+one_line (y ∷ a) [] r s a_good b_good same =
+    let head : y ≡ 10 = cc in
+    let good : is_printable 10 ≡ true = subst (λ c. is_printable c ≡ true) head a_good.0 in
+    cc
+one_line (y ∷ a) (z ∷ b) r s a_good b_good same =
+    let head : y ≡ z = cc in
+    let rest : a ≡ b = one_line a b r s a_good.1 b_good.1 (cc) in
+    cc
+
+-- a text that begins with no line begins with none that names a job
+pub no_job_without_line : (old : Option (List ℕ)) → HasNoLine old → HasNoJob old
+no_job_without_line None none = tt
+no_job_without_line (Some text) none = λ line rest is. absurd (none line rest is)
+
+-- a line that names no job
+pub no_job_on_line : (old new : Option (List ℕ)) (line : List ℕ) → ReadsLine old line new → NameNoJob (words_in line) → HasNoJob old
+no_job_on_line None new line read none = tt
+no_job_on_line (Some text) new line read none = λ other behind is.
+    let same : line ≡ other =
+    one_line line other read.0 behind (recursion_from_All _ line read.1.line_text.printable) (recursion_from_All _ other is.line_text.printable)
+    (sym read.1.whole ∙ is.whole) in
+    subst (λ (l : List ℕ). NameNoJob (words_in l)) same none
+
+-- a line that was read is a line
+pub line_text_of : (old new : Option (List ℕ)) (line : List ℕ) → ReadsLine old line new → IsLineText line
+line_text_of None new line read = read
+line_text_of (Some text) new line read = read.1.line_text
+
+-- a printable byte is ASCII
+printable_small : (b : ℕ) → is_printable b ≡ true → b < 128
+printable_small b good = by (leb_tells b 126) good
+  where
+    by : ((nat_le b 126 ≡ true) × (b ≤ 126)) ⊎ ((nat_le b 126 ≡ false) × (126 < b)) → (nat_le 32 b && nat_le b 126) ≡ true → b < 128
+    by (inl small) good = omega (arith, small.1)
+    by (inr large) good = absurd (under (nat_le 32 b) (nat_le b 126) large.0 good)
+      where
+        under : (one two : Bool) → two ≡ false → (one && two) ≡ true → ⊥
+        under true two false_ both = cc
+        under false two false_ both = cc
+
+-- a line is ASCII
+pub line_ascii : (line : List ℕ) → AllPass is_printable line → IsAscii line
+line_ascii line good = IsAscii-from_all line (λ k d within. printable_small (get_or line k d) (good k d within))

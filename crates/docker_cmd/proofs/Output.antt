@@ -1,6 +1,5 @@
 -- The output of a job is the docker text of the plain table of its one file.
-use Rattle.std.proofs.Common.{◌≡◌, ℕ, List, [], ◌∷◌, Some, refl, ap, sym, subst}
-use Rattle.std.specs.Prelude.{Option}
+use Rattle.std.proofs.Common.{◌≡◌, ℕ, List, [], ◌∷◌, Some, subst}
 use Rattle.docker_model.specs.Table.{Table, IsPlainTable}
 use Rattle.docker_model.specs.DockerText.{IsDockerText}
 use Rattle.docker_laws.proofs.OneTable as law
@@ -11,7 +10,7 @@ use Rattle.docker_cmd.specs.Prepared.{PreparedView, IsPreparedOf, IsOutput}
 -- what is the docker text of each plain table of such a file is the output
 is_output : (prepared : PreparedView) (place : List ℕ) (day : ℕ) (text : List ℕ) → prepared.job.tiploc ≡ Some place → prepared.job.day ≡ Some day
     → ((hd zz : List ℕ) (live : Table) → law.IsOneSchedule hd prepared.basic prepared.origin prepared.terminus zz
-        → IsPlainTable ((hd ∷ prepared.basic ∷ prepared.origin ∷ prepared.terminus ∷ zz ∷ []) ∷ []) live → IsDockerText live place day text)
+    → IsPlainTable ((hd ∷ prepared.basic ∷ prepared.origin ∷ prepared.terminus ∷ zz ∷ []) ∷ []) live → IsDockerText live place day text)
     → (file : List (List ℕ)) → IsPreparedOf prepared file → IsOutput prepared file text
 is_output prepared place day text place_is day_is docker file of = record {
   live = law.one_table file;

@@ -1,5 +1,5 @@
 -- Reading a file: what the parser was fed is what the source had.
-use Rattle.std.proofs.Common.{◌≡◌, ℕ, ◌+◌, ◌<◌, ◌≤◌, List, [], ◌∷◌, ◌++◌, length, Some, None, true, false, refl, sym, ◌∙◌, ap, subst, arith, append_assoc, append-nil, length-append, ◌≢◌, inl, inr, Err, Result, ◌⊎◌}
+use Rattle.std.proofs.Common.{◌≡◌, ℕ, ◌+◌, ◌<◌, ◌≤◌, List, [], ◌++◌, length, Some, None, true, false, refl, sym, ◌∙◌, ap, subst, arith, append_assoc, append-nil, length-append, ◌≢◌, inl, inr, Err, Result, ◌⊎◌}
 use Rattle.std.specs.Prelude.{Option, option_map, ◌↔◌, IsOk, is_ok, nat_le, take, drop}
 use Rattle.std.proofs.lemmas.List.{take-append-le, take-take}
 use Rattle.std.proofs.lemmas.Bool.Decides.{leb_tells}
@@ -80,11 +80,14 @@ refused_over initial now next parser turn fault piece at more over is = by initi
     by : (initial next : Option (List ℕ)) → Reads initial (at.text ++ piece) next → IsFileRefused initial fault
     by None next lost = is
     by (Some told) None lost = cc
-    by (Some told) (Some rest) lost = (is, λ accepted.
-        let same : told ≡ (at.text ++ piece) ++ rest = cc in
-        let size : length told ≡ length ((at.text ++ piece) ++ rest) = ap (λ (l : List ℕ). length l) same in
-        let few : length told ≤ 410 = accepted_at_most most_records told accepted in
-        omega (arith, length-append (at.text ++ piece) rest))
+    by (Some told) (Some rest) lost = (
+      is,
+      λ accepted.
+          let same : told ≡ (at.text ++ piece) ++ rest = cc in
+          let size : length told ≡ length ((at.text ++ piece) ++ rest) = ap (λ (l : List ℕ). length l) same in
+          let few : length told ≤ 410 = accepted_at_most most_records told accepted in
+          omega (arith, length-append (at.text ++ piece) rest),
+    )
 
 -- a fault that is told as a file's is not want of memory
 pub told_as_file : (text : List ℕ) (fault told : FileFault) (result : OfficeFault) → IsRefused most_records text fault

@@ -1,14 +1,12 @@
 -- How a fault is told: the exit status, and one line on standard error.
-use Rattle.std.specs.Prelude.{ℕ, List, [], ◌∷◌, ◌++◌, codes, decimal}
+use Rattle.std.specs.Prelude.{ℕ, List, ◌++◌, codes, decimal}
 use Rattle.cif_file.specs.declared.fault.FileFault.{FileFault}
 use Rattle.cif_file.specs.declared.fault.FileCause.{FileCause}
 use Rattle.cif_file.specs.declared.fault.FileCause.TheVariants.{Length, Byte, Kind, Place, Field, Midnights, NoEnd, After, TooMany}
 use Rattle.cif_file.specs.declared.fault.FileCause.TheVariants as cause
 use Rattle.docker_cmd.specs.declared.fault.Fault.{Fault}
 use Rattle.docker_cmd.specs.declared.fault.Fault.TheVariants.{Job, Office}
-use Rattle.docker_cmd.specs.declared.fault.JobFault.{JobFault}
 use Rattle.docker_cmd.specs.declared.fault.JobFault.TheVariants as job
-use Rattle.docker_cmd.specs.declared.fault.OfficeFault.{OfficeFault}
 use Rattle.docker_cmd.specs.declared.fault.OfficeFault.TheVariants as office
 
 -- 1 refused input, 2 usage, 3 want of memory, 4 a device

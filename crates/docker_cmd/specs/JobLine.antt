@@ -1,8 +1,9 @@
 -- The job line, and its words.
-use Rattle.std.specs.Prelude.{◌≡◌, ℕ, ◌==◌, ◌≤◌, ◌⊎◌, not, List, [], ◌∷◌, ◌++◌, length, filter, Option, Some, None, ⊤}
+use Rattle.std.specs.Prelude.{◌≡◌, ℕ, ◌==◌, ◌≤◌, not, List, [], ◌∷◌, ◌++◌, length, filter, Option, Some, None, ⊤}
 use Rattle.std.specs.List.{AllPass, slice_split}
 use Rattle.docker_model.specs.Record.{is_printable}
 use Rattle.cif_line.specs.Device.{Reads, IsEnd}
+use Rattle.docker_cmd.specs.Job.{JobView, IsJobOf, NameNoJob}
 
 -- what a line may hold: at most 255 printable bytes
 pub record IsLineText (line : List ℕ) : Type 0 where
@@ -32,3 +33,12 @@ words_in line = filter (λ word. not (length word == 0)) (slice_split (λ b. b =
 abbrev pub ReadsByte : Option (List ℕ) → Option ℕ → Option (List ℕ) → Type 0
 ReadsByte old None new = IsEnd old × (new ≡ old)
 ReadsByte old (Some byte) new = Reads old (byte ∷ []) new
+
+-- a line names this job, and where the bytes are told it is their first, and the rest is left
+abbrev pub ReadsJob : Option (List ℕ) → JobView → Option (List ℕ) → Type 0
+ReadsJob old job new = (line : List ℕ) × ReadsLine old line new × IsJobOf (words_in line) job
+
+-- where the bytes are told, they begin with no job line that names a job
+abbrev pub HasNoJob : Option (List ℕ) → Type 0
+HasNoJob None = ⊤
+HasNoJob (Some text) = (line rest : List ℕ) → IsJobLine text line rest → NameNoJob (words_in line)

@@ -1,6 +1,6 @@
 -- The schedule of a file of one schedule.
-use Rattle.std.specs.Prelude.{◌≡◌, ℕ, ◌==◌, List, [], ◌∷◌, length, Option, Some, None, option_and_then, if◌then◌else◌}
-use Rattle.docker_model.specs.Change.{Change, Act, delete, put, Body, tiploc_body, association_body, schedule_body}
+use Rattle.std.specs.Prelude.{◌≡◌, ℕ, ◌==◌, List, [], ◌∷◌, length, Option, Some, None, if◌then◌else◌}
+use Rattle.docker_model.specs.Change.{Change, Act, delete, put, tiploc_body, association_body, schedule_body}
 use Rattle.cif_file.specs.OneSchedule.{IsOneSchedule}
 use Rattle.cif_file.specs.FileRead.{FileRead, IsOfText}
 

@@ -10,7 +10,8 @@ use itoa::Buffer;
 /// The line that tells a fault, with its line feed.
 pub type FaultText = ArrayVec<u8, 160>;
 
-const USAGE: &[u8] = b"docker: usage: new STATE | check FILE | day FILE TIPLOC DATE | take STATE FILE | merge STATE OTHER | print STATE TIPLOC DATE | files STATE\n";
+const USAGE: &[u8] =
+    b"docker: usage: new STATE | check FILE | day FILE TIPLOC DATE | take STATE FILE | merge STATE OTHER | print STATE TIPLOC DATE | files STATE\n";
 
 /// The exit status of a fault: 1 refused input, 2 usage, 3 want of memory, 4 a device.
 pub fn status(fault: &Fault) -> u8

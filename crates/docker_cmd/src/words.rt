@@ -101,7 +101,10 @@ fn found_job<'a>(found: &ArgMatches<'a>) -> Option<DayWords<'a>>
 
 /// The subcommand that the words name. No word is empty or begins with a hyphen: there are no
 /// options, and `help` is no subcommand. `Memory` comes only where the words name a subcommand.
-pub(crate) fn read_words<'a>(alloc: Global, words: &'a [&'a str]) -> Result<DayWords<'a>, WordsFault>
+pub(crate) fn read_words<'a>(
+    alloc: Global,
+    words: &'a [&'a str],
+) -> Result<DayWords<'a>, WordsFault>
     ensures job { IfOk result (λ job. job_of (texts words.now) ≡ Some (named job)) }
     ensures usage { (result ≡ Err WordsFault.Usage) ↔ (job_of (texts words.now) ≡ None) }
 {

@@ -1,6 +1,3 @@
-use Rattle.std.proofs.Common.{◌≡◌, ◌≢◌, ◌⊎◌, inl, inr, sym, ◌∙◌}
-use Rattle.cif_file.specs.declared.fault.FileFault.{FileFault}
-use Rattle.cif_file.specs.Reading.{IsAccepted, IsRefused, first_place, second_memory}
 use Rattle.docker_cmd.specs.Prepared.{most_records}
 use Rattle.docker_cmd.proofs.Reading.{told_as_file}
 use Rattle.docker_cmd.proofs.read_file.finished.Goals as goal

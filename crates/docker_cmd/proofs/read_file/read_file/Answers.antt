@@ -1,9 +1,9 @@
-use Rattle.std.proofs.Common.{◌≡◌, ◌<◌, ◌≤◌, ◌++◌, ℕ, List, length, take, refl, arith, rules, sym, ◌∙◌, ap, subst, true}
+use Rattle.std.proofs.Common.{◌≡◌, ◌<◌, ◌≤◌, ◌++◌, length, take, refl, arith, sym, ◌∙◌, ap, subst, true}
 use Rattle.std.specs.Prelude.{is_ok}
 use Rattle.std.proofs.lemmas.List.{length-take-le}
 use Rattle.cif_file.specs.Reading.{HasRead, first_place}
 use Rattle.std.proofs.lemmas.Result.{IfOk-weaker}
-use Rattle.cif_line.specs.Device.{IsEnd, Reads}
+use Rattle.cif_line.specs.Device.{IsEnd}
 use Rattle.docker_cmd.specs.Prepared.{most_records}
 use Rattle.docker_cmd.proofs.Reading.{at_start, next_turn, file_read, refused_at_end, refused_over, same_front, over_of}
 use Rattle.docker_cmd.proofs.read_file.read_file.Goals as goal
@@ -21,7 +21,7 @@ returns-then-n-eq0-clause-ok g c =
     let room : 0 < length c.read.new.into = omega (arith, c.loop.invariant.room, c.as_mut_slice.ensures.len, c.read.auto.into) in
     let end : IsEnd (g.S.Source.left c.loop.source) = c.in-Ok-read.ensures.end c.if-n-eq0.true room in
     IfOk-weaker c.finished.result _ _ (λ file of. file_read (g.S.Source.left c.args.source.now) (g.S.Source.left c.loop.source) c.loop.parser c.loop.counter file at end of)
-        (c.finished.ensures.ok at.text at.read)
+    (c.finished.ensures.ok at.text at.read)
 
 pub returns-then-n-eq0-clause-file : goal.returns-then-n-eq0-clause-file
 returns-then-n-eq0-clause-file g c = λ fault is.
@@ -36,24 +36,24 @@ returns-in-Err-clause-file g c = λ fault is.
     let at = c.loop.invariant.turn in
     let long : length c.read.new.into ≡ c.loop.piece.len = c.read.auto.into ∙ c.as_mut_slice.ensures.len in
     let same : take c.in-Ok-read.n c.deref.result.now ≡ take c.in-Ok-read.n c.read.new.into =
-        same_front c.in-Ok-read.n c.loop.piece.len c.deref.result.now c.read.new.into c.loop.piece.items c.deref.ensures.value long c.in-Ok-read.ensures.within in
+    same_front c.in-Ok-read.n c.loop.piece.len c.deref.result.now c.read.new.into c.loop.piece.items c.deref.ensures.value long c.in-Ok-read.ensures.within in
     let over : 410 < length (at.text ++ take c.in-Ok-read.n c.read.new.into) =
-        subst (λ piece. 410 < length (at.text ++ piece)) same (over_of c.feed.result c.in-Err.fault _ (c.feed.ensures.ok most_records at.text at.read) c.in-Err.is) in
+    subst (λ piece. 410 < length (at.text ++ piece)) same (over_of c.feed.result c.in-Err.fault _ (c.feed.ensures.ok most_records at.text at.read) c.in-Err.is) in
     let first : fault ≡ first_place = (let told : c.in-Err.fault ≡ fault = cc in sym told ∙ c.in-Err.ensures.fault) in
     refused_over (g.S.Source.left c.args.source.now) (g.S.Source.left c.loop.source) (g.S.Source.left c.read.new.self) c.loop.parser c.loop.counter fault
-        (take c.in-Ok-read.n c.read.new.into) at c.in-Ok-read.ensures.moved over first
+    (take c.in-Ok-read.n c.read.new.into) at c.in-Ok-read.ensures.moved over first
 
 pub loop-preserved : goal.loop-preserved
 loop-preserved g c =
     let at = c.loop.invariant.turn in
     let long : length c.read.new.into ≡ c.loop.piece.len = c.read.auto.into ∙ c.as_mut_slice.ensures.len in
     let same : take c.in-Ok-read.n c.deref.result.now ≡ take c.in-Ok-read.n c.read.new.into =
-        same_front c.in-Ok-read.n c.loop.piece.len c.deref.result.now c.read.new.into c.loop.piece.items c.deref.ensures.value long c.in-Ok-read.ensures.within in
+    same_front c.in-Ok-read.n c.loop.piece.len c.deref.result.now c.read.new.into c.loop.piece.items c.deref.ensures.value long c.in-Ok-read.ensures.within in
     let size : length (take c.in-Ok-read.n c.read.new.into) ≡ c.in-Ok-read.n = length-take-le c.in-Ok-read.n c.read.new.into c.in-Ok-read.ensures.within in
     let some : 0 < length (take c.in-Ok-read.n c.read.new.into) = omega (arith, size, c.if-n-eq0.false) in
     let ok : is_ok c.feed.result ≡ true = ap is_ok c.in_default-feed.is in
     let within : length (at.text ++ take c.in-Ok-read.n c.read.new.into) ≤ 410 =
-        subst (λ piece. length (at.text ++ piece) ≤ 410) same ((c.feed.ensures.ok most_records at.text at.read).0 ok) in
+    subst (λ piece. length (at.text ++ piece) ≤ 410) same ((c.feed.ensures.ok most_records at.text at.read).0 ok) in
     record {
       turn = next_turn (g.S.Source.left c.args.source.now) (g.S.Source.left c.loop.source) (g.S.Source.left c.read.new.self) c.loop.parser c.feed.new.self c.loop.counter
           (take c.in-Ok-read.n c.read.new.into) at some c.in-Ok-read.ensures.moved

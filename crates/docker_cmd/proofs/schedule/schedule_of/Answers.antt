@@ -1,9 +1,9 @@
-use Rattle.std.proofs.Common.{◌≡◌, ℕ, List, [], ◌∷◌, Some, ap, ◌∙◌, sym, subst}
+use Rattle.std.proofs.Common.{◌≡◌, ℕ, List, [], ◌∷◌, ap, ◌∙◌, sym, subst}
 use Rattle.std.specs.Prelude.{slice_index_or}
 use Rattle.docker_model.specs.Record.{Kind, basic_schedule, origin_location, terminating_location, column}
 use Rattle.cif_line.specs.View.{IsGood}
 use Rattle.cif_file.specs.OneSchedule.{IsGoodRecord}
-use Rattle.docker_cmd.proofs.FileSchedule.{HasLines, has_lines, some_lines}
+use Rattle.docker_cmd.proofs.FileSchedule.{has_lines, some_lines}
 use Rattle.docker_cmd.proofs.schedule.schedule_of.Goals as goal
 
 pub unreachable-requires : goal.unreachable-requires

@@ -2,7 +2,7 @@ use Rattle.std.proofs.Common.{◌≡◌, ◌++◌, length}
 use Rattle.std.specs.Prelude.{IsUtf8}
 use Rattle.docker_cmd.specs.JobLine.{words_in}
 use Rattle.docker_cmd.specs.Words.{texts}
-use Rattle.docker_cmd.proofs.job_line.words_in.Given as goal
+use Rattle.docker_cmd.proofs.line_of_job.words_in.Given as goal
 
 -- the words so far and those of the rest are the words of the line
 abbrev pub invariant-loop-word : goal.invariant-loop-word

@@ -2,19 +2,63 @@
 ghost use Rattle.std.specs.Prelude.{◌≡◌, ℕ, ◌+◌, ◌-◌, ◌^◌, ◌<◌, ◌≤◌, ◌↔◌, ◌≢◌, List, [], ◌∷◌, ◌++◌, length, Some, IfOk, OnOk, OnErr, Err, MatchOption, IfSome, ◌==◌, if◌then◌else◌};
 ghost use Rattle.std.specs.List.{position_or_len, before_first, after_first};
 ghost use Rattle.docker_model.specs.Record.{is_printable};
-ghost use Rattle.docker_cmd.specs.JobLine.{HasNoLine, ReadsByte, ReadsLine, words_in};
+ghost use Rattle.docker_cmd.specs.Job.{IsJobOf, NameNoJob};
+ghost use Rattle.docker_cmd.specs.JobLine.{HasNoJob, HasNoLine, IsLineText, ReadsByte, ReadsJob, ReadsLine, words_in};
 ghost use Rattle.docker_cmd.specs.Words.{texts};
 
 use crate::fault::JobFault;
+use crate::job_of_words::job;
+use crate::jobs::Job;
 use arrayvec::ArrayVec;
 use cif_line::Source;
 use std::alloc::{AllocError, Global};
+use std::str;
 
 /// The most bytes that a job line has before its line feed.
 const LONGEST: usize = 255;
 
 /// A job line without its line feed.
 type Line = ArrayVec<u8, LONGEST>;
+
+/// The job that the first line of a source names, which is left behind that line's feed. It is a usage fault where the source
+/// has no such line, or the line names no job; a source without end is read to its 256th byte at most.
+pub fn job_line<S: Source>(alloc: Global, source: &mut S) -> Result<Job, JobFault>
+    requires { S.failures source.old < 2 ^ 64 - 1 }
+    ensures job { IfOk result (λ job. ReadsJob (S.left source.old) job (S.left source.new)) }
+    ensures usage { (result ≡ Err JobFault.Usage) → HasNoJob (S.left source.old) }
+    ensures source { (result ≡ Err JobFault.Source) ↔ (S.failures source.new ≡ S.failures source.old + 1) }
+    ensures no_failure { result ≢ Err JobFault.Source → S.failures source.new ≡ S.failures source.old }
+{
+    match read_line(source) {
+        Ok(line) => job_of_line(alloc, line.as_slice()),
+        Err(fault) => Err(fault),
+    }
+}
+
+/// The job that a line names.
+fn job_of_line(alloc: Global, line: &[u8]) -> Result<Job, JobFault>
+    requires { IsLineText line.now }
+    ensures job { IfOk result (λ job. IsJobOf (words_in line.now) job) }
+    ensures usage { (result ≡ Err JobFault.Usage) → NameNoJob (words_in line.now) }
+    ensures source { result ≢ Err JobFault.Source }
+{
+    let text = text_of(line);
+    match words_in(alloc, text) {
+        Ok(words) => job(alloc, words.as_slice()),
+        Err(_) => Err(JobFault::Memory),
+    }
+}
+
+/// A line as text.
+fn text_of(line: &[u8]) -> &str
+    requires { IsLineText line.now }
+    ensures { result.now ≡ line.now }
+{
+    match str::from_utf8(line) {
+        Ok(text) => text,
+        Err(_) => unreachable!(),
+    }
+}
 
 /// Reads one byte; none at the end of the source.
 fn read_byte<S: Source>(source: &mut S) -> Result<Option<u8>, JobFault>

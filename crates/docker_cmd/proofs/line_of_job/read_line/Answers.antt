@@ -1,7 +1,7 @@
-use Rattle.std.proofs.Common.{◌≡◌, ◌≢◌, ◌<◌, length, arith, rules}
+use Rattle.std.proofs.Common.{◌≡◌, ◌≢◌, length, arith, rules}
 use Rattle.docker_cmd.proofs.JobLines.{no_line_at_end, no_line_at, no_line_full, no_line_behind}
-use Rattle.docker_cmd.proofs.job_line.read_line.Goals as goal
-use Rattle.docker_cmd.proofs.job_line.read_line.Goals.{then-is_full-via-then-is_full, then-is_full-via-else-is_full+then-not-is_printable}
+use Rattle.docker_cmd.proofs.line_of_job.read_line.Goals as goal
+use Rattle.docker_cmd.proofs.line_of_job.read_line.Goals.{then-is_full-via-then-is_full, then-is_full-via-else-is_full+then-not-is_printable}
 
 pub returns-in_default-clause-usage : goal.returns-in_default-clause-usage
 returns-in_default-clause-usage g c = λ told.
@@ -14,8 +14,8 @@ returns-then-is_full-clause-usage g c = λ told.
     let other : c.in-Some.byte ≢ 10 = search rules in
     elim c.then-is_full.branch [
       | then-is_full-via-then-is_full w ↦
-        let full : length c.loop.line.items ≡ 255 = search rules in
-        no_line_full _ _ _ c.loop.line.items c.in-Some.byte c.loop.invariant.so_far read c.loop.invariant.printable full other
+          let full : length c.loop.line.items ≡ 255 = search rules in
+          no_line_full _ _ _ c.loop.line.items c.in-Some.byte c.loop.invariant.so_far read c.loop.invariant.printable full other
       | then-is_full-via-else-is_full+then-not-is_printable w ↦ no_line_at _ _ _ c.loop.line.items c.in-Some.byte c.loop.invariant.so_far read c.loop.invariant.printable (search rules) other
     ]
 

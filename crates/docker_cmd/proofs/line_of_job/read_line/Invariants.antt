@@ -1,7 +1,7 @@
-use Rattle.std.proofs.Common.{◌≡◌, ◌≤◌, length}
+use Rattle.std.proofs.Common.{◌≡◌, length}
 use Rattle.cif_line.specs.Device.{Reads}
 use Rattle.docker_cmd.proofs.JobLines.{ArePrintable}
-use Rattle.docker_cmd.proofs.job_line.read_line.Given as goal
+use Rattle.docker_cmd.proofs.line_of_job.read_line.Given as goal
 
 -- the line so far was read, a byte a turn
 abbrev pub invariant-loop : goal.invariant-loop
