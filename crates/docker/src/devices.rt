@@ -14,14 +14,14 @@ enum From {
 
 /// A source of real bytes.
 #[derive(Drop)]
-pub struct Input {
+pub(crate) struct Input {
     from: From,
-    pub failures: u64,
+    pub(crate) failures: u64,
 }
 
 impl Input {
     /// A source over a file that was opened.
-    pub fn file(file: File) -> Input
+    pub(crate) fn file(file: File) -> Input
         ensures { result.failures ≡ 0 }
     {
         Input {
@@ -31,7 +31,7 @@ impl Input {
     }
 
     /// Standard input.
-    pub fn stdin(stdin: Stdin) -> Input
+    pub(crate) fn stdin(stdin: Stdin) -> Input
         ensures { result.failures ≡ 0 }
     {
         Input {
@@ -67,14 +67,14 @@ impl Source for Input {
 
 /// Standard output. It isn't buffered: what it takes is written.
 #[derive(Drop)]
-pub struct Output {
+pub(crate) struct Output {
     to: Stdout,
-    pub failures: u64,
+    pub(crate) failures: u64,
 }
 
 impl Output {
     /// Standard output.
-    pub fn stdout(stdout: Stdout) -> Output
+    pub(crate) fn stdout(stdout: Stdout) -> Output
         ensures { result.failures ≡ 0 }
     {
         Output {
