@@ -15,6 +15,8 @@ mod preparing;
 mod read_file;
 mod running;
 mod schedule;
+#[cfg(test)]
+mod tests;
 mod words;
 
 pub use emitting::emit;

@@ -74,30 +74,6 @@ fn printed(
 }
 
 #[test]
-fn a_departure(rt: HostRuntime) -> Result<(), Fail> {
-    let want = "\
-DOCKER ASHFELD 2024-06-10                               
-0900  D 1A10 C10001 P   1   SL      0900 ASHFELD BRAYTON
-END                                                     
-";
-    let text = printed(LEAVES, COMES, "ASHFELD", "2024-06-10")?;
-    assert_eq!(rt; text.as_slice(), want.as_bytes());
-    Ok(())
-}
-
-#[test]
-fn an_arrival(rt: HostRuntime) -> Result<(), Fail> {
-    let want = "\
-DOCKER BRAYTON 2024-06-14                               
-0930  A 1A10 C10001 P   2       FL  0932 ASHFELD BRAYTON
-END                                                     
-";
-    let text = printed(LEAVES, COMES, "BRAYTON", "2024-06-14")?;
-    assert_eq!(rt; text.as_slice(), want.as_bytes());
-    Ok(())
-}
-
-#[test]
 fn half_a_minute_and_no_public_time(rt: HostRuntime) -> Result<(), Fail> {
     let want = "\
 DOCKER ASHFELD 2024-06-10                               
@@ -106,51 +82,6 @@ END
 ";
     let text = printed(b"LOASHFELD20900H0000", COMES, "ASHFELD", "2024-06-10")?;
     assert_eq!(rt; text.as_slice(), want.as_bytes());
-    Ok(())
-}
-
-#[test]
-fn a_day_on_which_it_does_not_run(rt: HostRuntime) -> Result<(), Fail> {
-    let want = "\
-DOCKER ASHFELD 2024-06-15                               
-END                                                     
-";
-    let text = printed(LEAVES, COMES, "ASHFELD", "2024-06-15")?;
-    assert_eq!(rt; text.as_slice(), want.as_bytes());
-    let want = "\
-DOCKER BRAYTON 2024-06-15                               
-END                                                     
-";
-    let text = printed(LEAVES, COMES, "BRAYTON", "2024-06-15")?;
-    assert_eq!(rt; text.as_slice(), want.as_bytes());
-    Ok(())
-}
-
-#[test]
-fn the_day_before_the_first_arrival(rt: HostRuntime) -> Result<(), Fail> {
-    let want = "\
-DOCKER BRAYTON 2024-06-10                               
-END                                                     
-";
-    let text = printed(LEAVES_LATE, COMES_EARLY, "BRAYTON", "2024-06-10")?;
-    assert_eq!(rt; text.as_slice(), want.as_bytes());
-    Ok(())
-}
-
-#[test]
-fn arrivals_past_midnight(rt: HostRuntime) -> Result<(), Fail> {
-    let want = "0005  A 1A10 C10001 P   2       FL  0006 ASHFELD BRAYTON\n";
-    for day in [
-        "2024-06-11",
-        "2024-06-12",
-        "2024-06-13",
-        "2024-06-14",
-        "2024-06-15",
-    ] {
-        let text = printed(LEAVES_LATE, COMES_EARLY, "BRAYTON", day)?;
-        assert_eq!(rt; text.len(), 171);
-        assert_eq!(rt; &text.as_slice()[57..114], want.as_bytes());
-    }
     Ok(())
 }
 

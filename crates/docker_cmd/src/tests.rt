@@ -1,0 +1,302 @@
+//! A job from its words to its output, over devices in memory.
+ghost use Rattle.std.specs.Prelude.{◌≡◌, ◌-◌, ◌^◌, ◌<◌, None};
+
+use crate::{
+    Fault, JobFault, OfficeFault, Subcommand, emit, fault_text, job, job_line, prepare, status,
+};
+use cif_file::{FileCause, FileFault};
+use cif_line::{Bytes, Failed, Kept, Sink, Source};
+use std::alloc::{AllocError, Global};
+use std::test::Fail;
+
+/// A train from Ashfeld to Brayton on weekdays from 2024-06-10 to 2024-06-14, as its lines without the spaces behind them.
+const MORNING: [&str; 5] = [
+    "HDTPS.UDFROC1.PD2406090906242100DFROC1ADFROC1ZUA",
+    "BSNC100012406102406141111100 POO1A10                                           P",
+    "LOASHFELD 0900 09001  SL",
+    "LTBRAYTON 0930 09322  FL",
+    "ZZ",
+];
+
+/// The same train, past midnight.
+const NIGHT: [&str; 5] = [
+    "HDTPS.UDFROC1.PD2406090906242100DFROC1ADFROC1ZUA",
+    "BSNC100012406102406141111100 POO1A10                                           P",
+    "LOASHFELD 2355 23551  SL",
+    "LTBRAYTON 0005 00062  FL",
+    "ZZ",
+];
+
+const DEPARTURE: &str = "\
+DOCKER ASHFELD 2024-06-10                               
+0900  D 1A10 C10001 P   1   SL      0900 ASHFELD BRAYTON
+END                                                     
+";
+
+const USAGE: &str =
+    "docker: usage: new STATE | check FILE | day FILE TIPLOC DATE | take STATE FILE | merge STATE OTHER | print STATE TIPLOC DATE | files STATE\n";
+
+/// The text of these lines, each of 80 columns.
+fn text(alloc: Global, lines: &[&str; 5]) -> Result<Vec<u8>, AllocError> {
+    let mut text = Vec::new(alloc);
+    for line in lines {
+        text.extend_from_slice(line.as_bytes())?;
+        for _ in line.len()..80 {
+            text.push(b' ')?;
+        }
+        text.push(b'\n')?;
+    }
+    Ok(text)
+}
+
+/// What `day` prints of a file that is read by so many bytes.
+fn printed(
+    alloc: Global,
+    lines: &[&str; 5],
+    step: usize,
+    tiploc: &str,
+    date: &str,
+) -> Result<Kept, Fail>
+    requires { 0 < step }
+{
+    let text = text(alloc, lines)?;
+    let job = job(alloc, &["day", "F", tiploc, date])?;
+    let mut first = Bytes::new(text.as_slice(), step);
+    let mut second = Bytes::new(b"", 1);
+    let mut sink = Kept::new(alloc, 228)?;
+    match prepare(alloc, &job, &mut first, &mut second) {
+        Ok(prepared) => emit(&prepared, &mut sink).ok().ok_or("a sink that failed")?,
+        Err(_) => return Err("a file that is refused")?,
+    }
+    Ok(sink)
+}
+
+#[test]
+fn a_morning(rt: HostRuntime) -> Result<(), Fail> {
+    let want = DEPARTURE.as_bytes();
+    let by_seven = printed(rt.alloc(), &MORNING, 7, "ASHFELD", "2024-06-10")?;
+    assert_eq!(rt; by_seven.bytes(), want);
+    let whole = printed(rt.alloc(), &MORNING, 4096, "ASHFELD", "2024-06-10")?;
+    assert_eq!(rt; whole.bytes(), want);
+    let want = "\
+DOCKER BRAYTON 2024-06-10                               
+0930  A 1A10 C10001 P   2       FL  0932 ASHFELD BRAYTON
+END                                                     
+";
+    let arrival = printed(rt.alloc(), &MORNING, 80, "BRAYTON", "2024-06-10")?;
+    assert_eq!(rt; arrival.bytes(), want.as_bytes());
+    let want = "\
+DOCKER ASHFELD 2024-06-15                               
+END                                                     
+";
+    let saturday = printed(rt.alloc(), &MORNING, 81, "ASHFELD", "2024-06-15")?;
+    assert_eq!(rt; saturday.bytes(), want.as_bytes());
+    Ok(())
+}
+
+#[test]
+fn past_midnight(rt: HostRuntime) -> Result<(), Fail> {
+    let want = "\
+DOCKER BRAYTON 2024-06-10                               
+END                                                     
+";
+    let monday = printed(rt.alloc(), &NIGHT, 7, "BRAYTON", "2024-06-10")?;
+    assert_eq!(rt; monday.bytes(), want.as_bytes());
+    let want = "\
+DOCKER BRAYTON 2024-06-11                               
+0005  A 1A10 C10001 P   2       FL  0006 ASHFELD BRAYTON
+END                                                     
+";
+    let tuesday = printed(rt.alloc(), &NIGHT, 7, "BRAYTON", "2024-06-11")?;
+    assert_eq!(rt; tuesday.bytes(), want.as_bytes());
+    let want = "\
+DOCKER BRAYTON 2024-06-15                               
+0005  A 1A10 C10001 P   2       FL  0006 ASHFELD BRAYTON
+END                                                     
+";
+    let saturday = printed(rt.alloc(), &NIGHT, 7, "BRAYTON", "2024-06-15")?;
+    assert_eq!(rt; saturday.bytes(), want.as_bytes());
+    Ok(())
+}
+
+#[test]
+fn words_that_name_no_job(rt: HostRuntime) {
+    let rows: [&[&str]; 6] = [
+        &["day", "F", "ASHFELD", "2024-02-30"],
+        &["day", "F", "ASHFELDX", "2024-06-10"],
+        &["day", "F"],
+        &["frobnicate"],
+        &["--help"],
+        &[],
+    ];
+    for words in rows {
+        assert_eq!(rt;
+            job(rt.alloc(), words).err(),
+            Some(JobFault::Usage),
+            "{words:?}"
+        );
+    }
+}
+
+#[test]
+fn a_job_line_before_a_file(rt: HostRuntime) -> Result<(), Fail> {
+    let file = text(rt.alloc(), &MORNING)?;
+    let mut input = Vec::new(rt.alloc());
+    input.extend_from_slice(b"day stdin ASHFELD 2024-06-10\n")?;
+    input.extend_from_slice(file.as_slice())?;
+    let mut source = Bytes::new(input.as_slice(), 1);
+    let job = job_line(rt.alloc(), &mut source)?;
+    assert_eq!(rt; source.left(), file.as_slice());
+    assert_eq!(rt; job.subcommand(), Subcommand::Day);
+    let [name, tiploc, date] = job.words() else {
+        return Err("three words")?;
+    };
+    assert_eq!(rt; name.as_str(), "stdin");
+    assert_eq!(rt; tiploc.as_str(), "ASHFELD");
+    assert_eq!(rt; date.as_str(), "2024-06-10");
+    let place = job.tiploc().ok_or("a place")?;
+    assert_eq!(rt; place.bytes(), b"ASHFELD");
+    let day = job.day().ok_or("a day")?;
+    assert_eq!(rt; day.number(), 23537);
+    Ok(())
+}
+
+/// Why a line of `day` with so many spaces behind it names no job, if it names none.
+fn fault_of_line(alloc: Global, spaces: usize, end: &[u8]) -> Result<Option<JobFault>, Fail> {
+    let mut line = Vec::new(alloc);
+    line.extend_from_slice(b"day")?;
+    for _ in 0..spaces {
+        line.push(b' ')?;
+    }
+    line.extend_from_slice(b"F ASHFELD 2024-06-10")?;
+    line.extend_from_slice(end)?;
+    let mut source = Bytes::new(line.as_slice(), 9);
+    Ok(job_line(alloc, &mut source).err())
+}
+
+#[test]
+fn lengths_of_a_job_line(rt: HostRuntime) -> Result<(), Fail> {
+    let longest = fault_of_line(rt.alloc(), 232, b"\n")?;
+    assert_eq!(rt; longest, None, "255 bytes");
+    let longer = fault_of_line(rt.alloc(), 233, b"\n")?;
+    assert_eq!(rt; longer, Some(JobFault::Usage), "256 bytes");
+    let open = fault_of_line(rt.alloc(), 1, b"")?;
+    assert_eq!(rt; open, Some(JobFault::Usage), "no line feed");
+    Ok(())
+}
+
+#[test]
+fn a_sink_that_is_full(rt: HostRuntime) -> Result<(), Fail> {
+    let text = text(rt.alloc(), &MORNING)?;
+    let job = job(rt.alloc(), &["day", "F", "ASHFELD", "2024-06-10"])?;
+    let mut first = Bytes::new(text.as_slice(), 7);
+    let mut second = Bytes::new(b"", 1);
+    let mut sink = Kept::new(rt.alloc(), 100)?;
+    match prepare(rt.alloc(), &job, &mut first, &mut second) {
+        Ok(prepared) => {
+            assert_eq!(rt; emit(&prepared, &mut sink), Err(OfficeFault::Sink));
+        }
+        Err(_) => return Err("a file that is refused")?,
+    }
+    assert_eq!(rt; sink.failures(), 1);
+    assert_eq!(rt; sink.bytes(), &DEPARTURE.as_bytes()[..100]);
+    Ok(())
+}
+
+// A source that can't tell its bytes. It gives one at a read, and its read 101 fails.
+#[derive(Drop)]
+struct FailsOnce<'a> {
+    rest: &'a [u8],
+    reads: u16,
+    failures: u64,
+}
+
+impl Source for FailsOnce<'_> {
+    ghost left = { λ _. None };
+
+    ghost failures = { λ source. source.failures };
+
+    fn read(&mut self, into: &mut [u8]) -> Result<usize, Failed> {
+        self.reads = self.reads.saturating_add(1);
+        if self.reads == 101 {
+            self.failures += 1;
+            return Err(Failed);
+        }
+        let n = into.len().min(self.rest.len()).min(1);
+        into[..n].copy_from_slice(&self.rest[..n]);
+        self.rest = &self.rest[n..];
+        Ok(n)
+    }
+
+    fn failures(&self) -> u64 {
+        self.failures
+    }
+}
+
+#[test]
+fn a_source_that_fails(rt: HostRuntime) -> Result<(), Fail> {
+    let text = text(rt.alloc(), &MORNING)?;
+    let job = job(rt.alloc(), &["day", "F", "ASHFELD", "2024-06-10"])?;
+    let mut first = FailsOnce {
+        rest: text.as_slice(),
+        reads: 0,
+        failures: 0,
+    };
+    let mut second = Bytes::new(b"", 1);
+    let fault = prepare(rt.alloc(), &job, &mut first, &mut second).err();
+    assert_eq!(rt; fault, Some(OfficeFault::Source));
+    assert_eq!(rt; first.failures(), 1);
+    assert_eq!(rt; first.reads, 101);
+    Ok(())
+}
+
+#[test]
+fn a_file_of_one_short_line(rt: HostRuntime) -> Result<(), Fail> {
+    let job = job(rt.alloc(), &["day", "F", "ASHFELD", "2024-06-10"])?;
+    let mut first = Bytes::new(&[b'H'; 79], 4096);
+    let mut second = Bytes::new(b"", 1);
+    let fault = prepare(rt.alloc(), &job, &mut first, &mut second).err();
+    let place = FileFault {
+        number: 1,
+        cause: FileCause::Place,
+    };
+    assert_eq!(rt; fault, Some(OfficeFault::File(place)));
+    Ok(())
+}
+
+#[test]
+fn how_faults_are_told(rt: HostRuntime) {
+    let place = FileFault {
+        number: 1,
+        cause: FileCause::Place,
+    };
+    let rows = [
+        (
+            Fault::Office(OfficeFault::File(place)),
+            1,
+            "docker: file refused: record 1: Place\n",
+        ),
+        (Fault::Job(JobFault::Usage), 2, USAGE),
+        (Fault::Job(JobFault::Memory), 3, "docker: want of memory\n"),
+        (
+            Fault::Office(OfficeFault::Memory),
+            3,
+            "docker: want of memory\n",
+        ),
+        (Fault::Job(JobFault::Source), 4, "docker: device failed\n"),
+        (
+            Fault::Office(OfficeFault::Source),
+            4,
+            "docker: device failed\n",
+        ),
+        (
+            Fault::Office(OfficeFault::Sink),
+            4,
+            "docker: device failed\n",
+        ),
+    ];
+    for (fault, code, line) in rows {
+        assert_eq!(rt; status(&fault), code);
+        assert_eq!(rt; fault_text(&fault).as_slice(), line.as_bytes());
+    }
+}
