@@ -203,6 +203,39 @@ fn a_sink_that_is_full(rt: HostRuntime) -> Result<(), Fail> {
     Ok(())
 }
 
+// A source without end, which can't tell its bytes. It gives the letter a at each read.
+#[derive(Drop)]
+struct Endless {
+    reads: u16,
+}
+
+impl Source for Endless {
+    ghost left = { λ _. None };
+
+    ghost failures = { λ _. 0 };
+
+    fn read(&mut self, into: &mut [u8]) -> Result<usize, Failed> {
+        let Some(first) = into.first_mut() else {
+            return Ok(0);
+        };
+        *first = b'a';
+        self.reads = self.reads.saturating_add(1);
+        Ok(1)
+    }
+
+    fn failures(&self) -> u64 {
+        0
+    }
+}
+
+#[test]
+fn a_source_without_end(rt: HostRuntime) {
+    let mut source = Endless { reads: 0 };
+    let fault = job_line(rt.alloc(), &mut source).err();
+    assert_eq!(rt; fault, Some(JobFault::Usage));
+    assert_eq!(rt; source.reads, 256);
+}
+
 // A source that can't tell its bytes. It gives one at a read, and its read 101 fails.
 #[derive(Drop)]
 struct FailsOnce<'a> {
