@@ -3,3 +3,5 @@ pub mod FiveLines
 pub mod Meaning
 pub mod FileRead
 pub mod Reading
+pub mod Joined
+pub mod Acts
