@@ -1,13 +1,11 @@
-// A library with one function.
 #![tactic(auto)]
 
-ghost use Rattle.std.specs.Prelude.{◌≡◌};
-ghost use Rattle.docker_join.specs.Echo.{echo_of};
+mod entry;
+mod merge;
+mod stamp;
+mod table;
 
-// The `ensures` clause is the contract: what `echo` returns is `echo_of` of its argument, a definition
-// in `specs/Echo.antt`, which a caller's clause can cite too.
-pub fn echo(x: usize) -> usize
-    ensures { result ≡ echo_of x }
-{
-    x
-}
+pub use entry::{Entry, Op};
+pub use merge::{Merge, Pick};
+pub use stamp::{FileStamp, Stamp};
+pub use table::Table;
