@@ -1,5 +1,5 @@
 -- The rows of a table, each a key with what the table has at it.
-use Rattle.std.specs.Prelude.{◌≡◌, List, Option, Some, None, find}
+use Rattle.std.specs.Prelude.{◌≡◌, List, Option, Some, None, find, All}
 use Rattle.std.specs.Option.{option_map}
 use Rattle.std.specs.declared.cmp.Ordering.{Ordering}
 use Rattle.std.specs.Ordering.{is_eq}
@@ -31,3 +31,7 @@ picked_value picked (Some value) (Some other) = Some (picked value other)
 pub record IsJoinOfRows {E : Type 0} (picked : E → E → E) (first second joined : List (Key × E)) : Type 0 where
   pub ascends : AreAscending joined
   pub values : (key : model.Key) → value_at joined key ≡ picked_value picked (value_at first key) (value_at second key)
+
+-- the keys of the rows ascend, and what stands at each is valid
+abbrev pub AreValidRows : {E : Type 0} → (E → Type 0) → List (Key × E) → Type 0
+AreValidRows valid rows = AreAscending rows × All (λ row. valid row.1) rows

@@ -89,24 +89,23 @@ impl<E> Table<E> {
 }
 
 impl<E: Pick> Merge for Table<E> {
-    ghost use Rattle.std.specs.Prelude.{All};
-    ghost use Rattle.docker_join.specs.Rows.{AreAscending, IsJoinOfRows};
-    ghost use Rattle.docker_join.specs.RowLaws.{AreValidRows};
+    ghost use Rattle.docker_join.specs.Rows.{AreValidRows, IsJoinOfRows};
+    ghost use Rattle.docker_join.specs.RowLaws.{pick_laws, joins_closed, joins_one, joins_commute, joins_associate, joins_itself};
 
     // the keys ascend, and what is known of each is valid
     ghost is_valid = { AreValidRows E.is_valid };
 
     ghost is_join = { IsJoinOfRows E.picked };
 
-    ghost closed = { ? };
+    ghost closed = { joins_closed E.is_valid E.picked (pick_laws E.is_valid E.is_join E.picked E.closed E.one E.commutative E.associative E.idempotent E.joins) };
 
-    ghost one = { ? };
+    ghost one = { joins_one E.is_valid E.picked };
 
-    ghost commutative = { ? };
+    ghost commutative = { joins_commute E.is_valid E.picked (pick_laws E.is_valid E.is_join E.picked E.closed E.one E.commutative E.associative E.idempotent E.joins) };
 
-    ghost associative = { ? };
+    ghost associative = { joins_associate E.is_valid E.picked (pick_laws E.is_valid E.is_join E.picked E.closed E.one E.commutative E.associative E.idempotent E.joins) };
 
-    ghost idempotent = { ? };
+    ghost idempotent = { joins_itself E.is_valid E.picked (pick_laws E.is_valid E.is_join E.picked E.closed E.one E.commutative E.associative E.idempotent E.joins) };
 
     /// The table of the keys of both, each with what the one table knows of it, or the join of what both know. Want of memory, before a row was moved, hands both back as they were.
     fn join(self, alloc: Global, other: Table<E>) -> Result<Table<E>, (Table<E>, Table<E>)> {
