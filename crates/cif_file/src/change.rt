@@ -32,7 +32,7 @@ pub enum Body {
 
 impl Body {
     /// The number of the day of its end date, from 0 for 1960-01-01. 65535 where that means no end or cannot be read, and for a TIPLOC.
-    pub fn end_number(&self) -> u16
+    fn end_number(&self) -> u16
         ensures { result ≡ body_end (body_meant self.now) }
     {
         match self {
@@ -46,7 +46,7 @@ impl Body {
     }
 
     /// The tag of the keys that have such a body: 1 of a TIPLOC, 2 of an association, 3 of a schedule.
-    pub fn tag(&self) -> u8
+    fn tag(&self) -> u8
         ensures { result ≡ body_tag (body_meant self.now) }
     {
         match self {

@@ -51,7 +51,7 @@ pub struct ScheduleKey {
 
 impl Key {
     /// The tag of the key: 1 of a TIPLOC, 2 of an association, 3 of a schedule.
-    pub fn tag(&self) -> u8
+    fn tag(&self) -> u8
         ensures { result ≡ key_tag (key_meant self.now) }
     {
         match self {

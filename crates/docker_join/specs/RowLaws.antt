@@ -226,8 +226,8 @@ module _ {E : Type 0} (valid : E → Type 0) (picked : E → E → E) (laws : Ar
   joins_closed a b c good_a good_b is = (
     is.ascends,
     all_members (λ (row : Key × E). valid row.1) c (λ row among.
-    subst (IsValidValue valid) (sym (is.values (key_meant row.0)) ∙ value_of c row is.ascends among)
-    (values_closed (value_at a (key_meant row.0)) (value_at b (key_meant row.0)) (valid_at a (key_meant row.0) good_a) (valid_at b (key_meant row.0) good_b))),
+        subst (IsValidValue valid) (sym (is.values (key_meant row.0)) ∙ value_of c row is.ascends among)
+        (values_closed (value_at a (key_meant row.0)) (value_at b (key_meant row.0)) (valid_at a (key_meant row.0) good_a) (valid_at b (key_meant row.0) good_b))),
   )
 
   pub joins_commute : (a b c : List (Key × E)) → AreValidRows valid a → AreValidRows valid b → IsJoinOfRows picked a b c → IsJoinOfRows picked b a c

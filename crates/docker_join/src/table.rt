@@ -1,5 +1,5 @@
 //! Tables of what is known of keys.
-ghost use Rattle.std.specs.Prelude.{◌≡◌, ◌==◌, ◌+◌, ◌<◌, ◌≤◌, ◌++◌, [], ◌∷◌, length, vec_len, vec_capacity};
+ghost use Rattle.std.specs.Prelude.{◌≡◌, ◌==◌, ◌+◌, ◌<◌, ◌≤◌, ◌++◌, [], ◌∷◌, length, vec_len, vec_capacity, IfSome};
 ghost use Rattle.std.specs.Option.{option_copied};
 ghost use Rattle.cif_file.specs.Meaning.{key_meant};
 ghost use Rattle.docker_join.specs.Rows.{AreAscending, value_at, IsJoinOfRows};
@@ -109,18 +109,19 @@ impl<E: Pick> Merge for Table<E> {
 
     /// The table of the keys of both, each with what the one table knows of it, or the join of what both know. Want of memory, before a row was moved, hands both back as they were.
     fn join(self, alloc: Global, other: Table<E>) -> Result<Table<E>, (Table<E>, Table<E>)> {
-        let Some(room) = self.len().checked_add(other.len()) else {
-            return Err((self, other));
-        };
-        let Ok(rows) = Vec::with_capacity(alloc, room) else {
-            return Err((self, other));
-        };
-        Ok(Table::from_rows(joined(
-            self.into_rows(),
-            other.into_rows(),
-            rows,
-        )))
+        match room_for(alloc, self.len(), other.len()) {
+            Some(rows) => Ok(Table::from_rows(joined(self.into_rows(), other.into_rows(), rows))),
+            None => Err((self, other)),
+        }
     }
+}
+
+/// An empty vector with room for the rows of two tables. None where memory is wanting.
+fn room_for<E>(alloc: Global, first: usize, second: usize) -> Option<Vec<(Key, E)>>
+    ensures empty { IfSome result (λ rows. (rows.items ≡ []) × (vec_len rows ≡ 0)) }
+    ensures room { IfSome result (λ rows. first + second ≤ vec_capacity rows) }
+{
+    Vec::with_capacity(alloc, first.checked_add(second)?).ok()
 }
 
 /// The rows of the join of two tables, in a vector that has room for the rows of both.
