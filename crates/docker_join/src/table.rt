@@ -142,36 +142,31 @@ fn joined<E: Pick>(
     let mut left = first.next();
     let mut right = second.next();
     loop {
-        match (left, right) {
+        (left, right) = match (left, right) {
             (None, None) => break,
-            (Some(row), None) => {
-                put(&mut rows, row);
-                left = first.next();
-                right = None;
+            (Some(one), None) => {
+                put(&mut rows, one);
+                (first.next(), None)
             }
-            (None, Some(row)) => {
-                put(&mut rows, row);
-                left = None;
-                right = second.next();
+            (None, Some(other)) => {
+                put(&mut rows, other);
+                (None, second.next())
             }
             (Some(one), Some(other)) => match one.0.cmp(&other.0) {
                 Ordering::Less => {
                     put(&mut rows, one);
-                    left = first.next();
-                    right = Some(other);
+                    (first.next(), Some(other))
                 }
                 Ordering::Greater => {
                     put(&mut rows, other);
-                    left = Some(one);
-                    right = second.next();
+                    (Some(one), second.next())
                 }
                 Ordering::Equal => {
                     put(&mut rows, (one.0, one.1.pick(other.1)));
-                    left = first.next();
-                    right = second.next();
+                    (first.next(), second.next())
                 }
             },
-        }
+        };
     }
     first.destroy_empty();
     second.destroy_empty();
