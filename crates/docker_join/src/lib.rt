@@ -1,3 +1,4 @@
+//! Stamps, ops and entries with their order, and the join of tables of them.
 #![tactic(auto)]
 
 mod entry;
@@ -9,3 +10,6 @@ pub use entry::{Entry, Op};
 pub use merge::{Merge, Pick};
 pub use stamp::{FileStamp, Stamp};
 pub use table::Table;
+
+#[cfg(test)]
+mod tests;

@@ -60,7 +60,8 @@ impl<E> Table<E> {
         ensures rows { result.items ≡ self }
         ensures ascending { AreAscending self }
     {
-        self.rows
+        let Table { rows } = self;
+        rows
     }
 
     /// How many keys there are.
