@@ -3,16 +3,25 @@ use cif_file::{Body, Key};
 use cif_line::{Day, Line, Tiploc};
 use std::test::Fail;
 
-/// An association of C10001 and C20001 at Colwell, from 10 to 14 June 2024.
-const AA: &[u8; 80] =
-    b"AANC10001C200012406102406141111100JJSCOLWELL  TP                               P";
+/// An association of C10001 and C20001 at Colwell that ends on 1 January 1960.
+const ENDS_1960: &[u8; 80] =
+    b"AANC10001C200012406106001011111100VVSCOLWELL  TP                               P";
 
-/// The put of that association with this last day and category.
-fn put(last: &[u8; 6], category: &[u8; 2]) -> Result<Op, Fail> {
-    let mut line = *AA;
-    line[21..27].copy_from_slice(last);
-    line[34..36].copy_from_slice(category);
-    Ok(Op::Put(Body::Assoc(Line::new(&line)?)))
+/// The same, that ends on 31 December 2059.
+const ENDS_2059: &[u8; 80] =
+    b"AANC10001C200012406105912311111100VVSCOLWELL  TP                               P";
+
+/// The same without an end: the trains join.
+const JOIN: &[u8; 80] =
+    b"AANC10001C200012406109999991111100JJSCOLWELL  TP                               P";
+
+/// The same: the train divides.
+const DIVIDE: &[u8; 80] =
+    b"AANC10001C200012406109999991111100VVSCOLWELL  TP                               P";
+
+/// The put of an association.
+fn put(line: &[u8; 80]) -> Result<Op, Fail> {
+    Ok(Op::Put(Body::Assoc(Line::new(line)?)))
 }
 
 /// The file stamp of a file.
@@ -27,13 +36,13 @@ fn file(day: u16, minute: u16, reference: &[u8; 7]) -> Result<FileStamp, Fail> {
 /// One of some entries in ascending order.
 fn entry(place: u8) -> Result<Entry, Fail> {
     let (number, op) = match place {
-        0 => (2, put(b"999999", b"JJ")?),
+        0 => (2, put(JOIN)?),
         1 => (3, Op::Deleted),
-        2 => (3, put(b"600101", b"VV")?),
-        3 => (3, put(b"591231", b"VV")?),
+        2 => (3, put(ENDS_1960)?),
+        3 => (3, put(ENDS_2059)?),
         4 => (3, Op::Put(Body::Tiploc([b' '; 63]))),
-        5 => (3, put(b"999999", b"JJ")?),
-        6 => (3, put(b"999999", b"VV")?),
+        5 => (3, put(JOIN)?),
+        6 => (3, put(DIVIDE)?),
         _ => (4, Op::Deleted),
     };
     let file = file(23536, 1260, b"DFROC1A")?;
