@@ -1,0 +1,230 @@
+-- A text as it comes in: the lines whose line feed came, and the open line behind the last one.
+use Rattle.std.proofs.Common.{◌≡◌, ℕ, ◌+◌, ◌<◌, List, [], ◌∷◌, ◌++◌, map, length, refl, ap, sym, ◌∙◌, Bool, true, false, arith, All, append-nil}
+use Rattle.std.specs.Prelude.{◌==◌, nat_le, if◌then◌else◌, count_by}
+use Rattle.std.specs.List.{slice_split, onto_first}
+use Rattle.std.specs.Str.Lines.{strip_carriage_return}
+use Rattle.std.proofs.lemmas.List.{map-append, length-map}
+use Rattle.std.proofs.lemmas.List.Splits.{slice_split_none, slice_split_at, slice_split-cons_yes, slice_split-cons_no, length-slice_split}
+use Rattle.docker_model.specs.Text.{last_piece, without_empty_last, lines_of}
+use Rattle.docker_model.specs.FaultSoFar.{last_of, lines_told}
+
+abbrev Lines : Type 0
+Lines = List (List ℕ)
+
+-- the test of a line feed
+abbrev pub is_feed : ℕ → Bool
+is_feed b = b == 10
+
+-- the bytes have no line feed
+abbrev pub HasNoFeed : List ℕ → Type 0
+HasNoFeed bytes = All (λ b. (b == 10) ≡ false) bytes
+
+-- how many line feeds came
+abbrev pub feeds : List ℕ → ℕ
+feeds text = count_by (λ b. b == 10) text
+
+-- the pieces of a text, between its line feeds
+abbrev pub pieces_of : List ℕ → Lines
+pieces_of text = slice_split (λ b. b == 10) text
+
+-- the pieces but the last
+abbrev pub but_last : Lines → Lines
+but_last [] = []
+but_last (piece ∷ []) = []
+but_last (piece ∷ next ∷ pieces) = piece ∷ but_last (next ∷ pieces)
+
+-- what follows the last line feed
+abbrev pub open_line : List ℕ → List ℕ
+open_line text = last_of (pieces_of text)
+
+-- the lines whose line feed came
+abbrev pub told_lines : List ℕ → Lines
+told_lines text = map strip_carriage_return (but_last (pieces_of text))
+
+-- the line that a last piece is, if it isn't empty
+abbrev pub line_left : List ℕ → Lines
+line_left piece = map strip_carriage_return (last_piece piece)
+
+-- ---- pieces
+
+some_pieces : (p : ℕ → Bool) (text : List ℕ) → 0 < length (slice_split p text)
+some_pieces p text = let size = length-slice_split p text in omega arith
+
+without_last : (pieces : Lines) → without_empty_last pieces ≡ but_last pieces ++ last_piece (last_of pieces)
+without_last [] = refl
+without_last (piece ∷ []) = refl
+without_last (piece ∷ next ∷ pieces) = ap (λ rest. piece ∷ rest) (without_last (next ∷ pieces))
+
+length_but_last : (pieces : Lines) → 0 < length pieces → length (but_last pieces) + 1 ≡ length pieces
+length_but_last [] some = absurd (omega arith)
+length_but_last (piece ∷ []) some = refl
+length_but_last (piece ∷ next ∷ pieces) some = let rest = length_but_last (next ∷ pieces) (omega arith) in omega arith
+
+but_last_append : (front : Lines) (piece : List ℕ) (pieces : Lines) → but_last (front ++ piece ∷ pieces) ≡ front ++ but_last (piece ∷ pieces)
+but_last_append [] piece pieces = refl
+but_last_append (first ∷ []) piece pieces = refl
+but_last_append (first ∷ second ∷ front) piece pieces = ap (λ rest. first ∷ rest) (but_last_append (second ∷ front) piece pieces)
+
+last_of_append : (front : Lines) (piece : List ℕ) (pieces : Lines) → last_of (front ++ piece ∷ pieces) ≡ last_of (piece ∷ pieces)
+last_of_append [] piece pieces = refl
+last_of_append (first ∷ []) piece pieces = refl
+last_of_append (first ∷ second ∷ front) piece pieces = last_of_append (second ∷ front) piece pieces
+
+without_last_append : (front : Lines) (piece : List ℕ) (pieces : Lines) → without_empty_last (front ++ piece ∷ pieces) ≡ front ++ without_empty_last (piece ∷ pieces)
+without_last_append [] piece pieces = refl
+without_last_append (first ∷ []) piece pieces = refl
+without_last_append (first ∷ second ∷ front) piece pieces = ap (λ rest. first ∷ rest) (without_last_append (second ∷ front) piece pieces)
+
+-- pieces of which the first goes on with these bytes
+abbrev pub going_on : List ℕ → Lines → Lines
+going_on bytes [] = bytes ∷ []
+going_on bytes (piece ∷ pieces) = (bytes ++ piece) ∷ pieces
+
+at_feed : (pieces more : Lines) → 0 < length pieces → [] ∷ (but_last pieces ++ going_on (last_of pieces) more) ≡ but_last ([] ∷ pieces) ++ going_on (last_of ([] ∷ pieces)) more
+at_feed [] more some = absurd (omega arith)
+at_feed (piece ∷ pieces) more some = refl
+
+at_byte : (b : ℕ) (pieces more : Lines) → 0 < length pieces
+    → onto_first b (but_last pieces ++ going_on (last_of pieces) more) ≡ but_last (onto_first b pieces) ++ going_on (last_of (onto_first b pieces)) more
+at_byte b [] more some = absurd (omega arith)
+at_byte b (piece ∷ []) [] some = refl
+at_byte b (piece ∷ []) (first ∷ more) some = refl
+at_byte b (piece ∷ next ∷ pieces) more some = refl
+
+go_on_empty : (pieces : Lines) → 0 < length pieces → pieces ≡ going_on [] pieces
+go_on_empty [] some = absurd (omega arith)
+go_on_empty (piece ∷ pieces) some = refl
+
+-- the pieces of a text that goes on: the last piece so far goes on
+pub split_append : (p : ℕ → Bool) (text more : List ℕ) → slice_split p (text ++ more) ≡ but_last (slice_split p text) ++ going_on (last_of (slice_split p text)) (slice_split p more)
+split_append p [] more = go_on_empty (slice_split p more) (some_pieces p more)
+split_append p (b ∷ text) more = by (p b) refl (split_append p text more)
+  where
+    by : (t : Bool) → p b ≡ t → slice_split p (text ++ more) ≡ but_last (slice_split p text) ++ going_on (last_of (slice_split p text)) (slice_split p more)
+        → slice_split p ((b ∷ text) ++ more) ≡ but_last (slice_split p (b ∷ text)) ++ going_on (last_of (slice_split p (b ∷ text))) (slice_split p more)
+    by true h rest =
+        slice_split-cons_yes p b (text ++ more) h ∙ ap (λ pieces. [] ∷ pieces) rest ∙ at_feed (slice_split p text) (slice_split p more) (some_pieces p text)
+        ∙ (λ i. but_last (sym (slice_split-cons_yes p b text h) i) ++ going_on (last_of (sym (slice_split-cons_yes p b text h) i)) (slice_split p more))
+    by false h rest =
+        slice_split-cons_no p b (text ++ more) h ∙ ap (onto_first b) rest ∙ at_byte b (slice_split p text) (slice_split p more) (some_pieces p text)
+        ∙ (λ i. but_last (sym (slice_split-cons_no p b text h) i) ++ going_on (last_of (sym (slice_split-cons_no p b text h) i)) (slice_split p more))
+
+-- ---- lines
+
+-- the lines of a text are those that are told, and the open one where it isn't empty
+pub lines_of_told : (text : List ℕ) → lines_of text ≡ told_lines text ++ line_left (open_line text)
+lines_of_told text = ap (map strip_carriage_return) (without_last (pieces_of text)) ∙ map-append strip_carriage_return (but_last (pieces_of text)) (last_piece (open_line text))
+
+-- the same where the open line is empty, and where it isn't
+pub lines_of_ended : (text : List ℕ) → open_line text ≡ [] → lines_of text ≡ told_lines text
+lines_of_ended text none = lines_of_told text ∙ (λ i. told_lines text ++ line_left (none i)) ∙ append-nil (told_lines text)
+
+line_left_some : (piece : List ℕ) → 0 < length piece → line_left piece ≡ strip_carriage_return piece ∷ []
+line_left_some [] some = absurd (omega arith)
+line_left_some (b ∷ bytes) some = refl
+
+pub lines_of_open : (text : List ℕ) → 0 < length (open_line text) → lines_of text ≡ told_lines text ++ strip_carriage_return (open_line text) ∷ []
+lines_of_open text some = lines_of_told text ∙ ap (λ lines. told_lines text ++ lines) (line_left_some (open_line text) some)
+
+-- a line is told for each line feed
+pub length_told_lines : (text : List ℕ) → length (told_lines text) ≡ feeds text
+length_told_lines text =
+    let size = length-slice_split (λ b. b == 10) text in
+    let front = length_but_last (pieces_of text) (some_pieces (λ b. b == 10) text) in
+    let mapped = length-map (but_last (pieces_of text)) strip_carriage_return in
+    omega arith
+
+-- the lines that are told whatever follows: those, and an open one of more than 81 bytes
+pub lines_told_is : (text : List ℕ) → lines_told text ≡ length (told_lines text) + (if nat_le 82 (length (open_line text)) then 1 else 0)
+lines_told_is text = ap (λ n. n + (if nat_le 82 (length (open_line text)) then 1 else 0)) (sym (length_told_lines text))
+
+-- ---- a text that goes on
+
+-- bytes without a line feed tell no line
+pub told_lines_plain : (text piece : List ℕ) → HasNoFeed piece → told_lines (text ++ piece) ≡ told_lines text
+told_lines_plain text piece plain =
+    ap (λ pieces. map strip_carriage_return (but_last pieces))
+    (split_append (λ b. b == 10) text piece ∙ (λ i. but_last (pieces_of text) ++ going_on (open_line text) (slice_split_none (λ b. b == 10) piece plain i)))
+    ∙ ap (map strip_carriage_return) (but_last_append (but_last (pieces_of text)) (open_line text ++ piece) [] ∙ append-nil (but_last (pieces_of text)))
+
+-- and the open line goes on with them
+pub open_line_plain : (text piece : List ℕ) → HasNoFeed piece → open_line (text ++ piece) ≡ open_line text ++ piece
+open_line_plain text piece plain =
+    ap last_of (split_append (λ b. b == 10) text piece ∙ (λ i. but_last (pieces_of text) ++ going_on (open_line text) (slice_split_none (λ b. b == 10) piece plain i)))
+    ∙ last_of_append (but_last (pieces_of text)) (open_line text ++ piece) []
+
+pieces_cut : (text front rest : List ℕ) → HasNoFeed front → pieces_of (text ++ (front ++ 10 ∷ rest)) ≡ but_last (pieces_of text) ++ (open_line text ++ front) ∷ pieces_of rest
+pieces_cut text front rest plain =
+    split_append (λ b. b == 10) text (front ++ 10 ∷ rest) ∙ (λ i. but_last (pieces_of text) ++ going_on (open_line text) (slice_split_at (λ b. b == 10) front 10 rest plain refl i))
+
+but_first : (piece : List ℕ) (pieces : Lines) → 0 < length pieces → but_last (piece ∷ pieces) ≡ piece ∷ but_last pieces
+but_first piece [] some = absurd (omega arith)
+but_first piece (next ∷ pieces) some = refl
+
+last_rest : (piece : List ℕ) (pieces : Lines) → 0 < length pieces → last_of (piece ∷ pieces) ≡ last_of pieces
+last_rest piece [] some = absurd (omega arith)
+last_rest piece (next ∷ pieces) some = refl
+
+-- a line feed ends the open line, and what follows it is a text of its own
+pub told_lines_cut : (text front rest : List ℕ) → HasNoFeed front
+    → told_lines (text ++ (front ++ 10 ∷ rest)) ≡ told_lines text ++ strip_carriage_return (open_line text ++ front) ∷ told_lines rest
+told_lines_cut text front rest plain =
+    ap (λ pieces. map strip_carriage_return (but_last pieces)) (pieces_cut text front rest plain)
+    ∙ ap (map strip_carriage_return)
+    (but_last_append (but_last (pieces_of text)) (open_line text ++ front) (pieces_of rest)
+    ∙ ap (λ pieces. but_last (pieces_of text) ++ pieces) (but_first (open_line text ++ front) (pieces_of rest) (some_pieces (λ b. b == 10) rest)))
+    ∙ map-append strip_carriage_return (but_last (pieces_of text)) ((open_line text ++ front) ∷ but_last (pieces_of rest))
+
+pub open_line_cut : (text front rest : List ℕ) → HasNoFeed front → open_line (text ++ (front ++ 10 ∷ rest)) ≡ open_line rest
+open_line_cut text front rest plain =
+    ap last_of (pieces_cut text front rest plain)
+    ∙ last_of_append (but_last (pieces_of text)) (open_line text ++ front) (pieces_of rest)
+    ∙ last_rest (open_line text ++ front) (pieces_of rest) (some_pieces (λ b. b == 10) rest)
+
+-- the same up to the line feed
+pub told_lines_ended : (text front : List ℕ) → HasNoFeed front → told_lines (text ++ (front ++ 10 ∷ [])) ≡ told_lines text ++ strip_carriage_return (open_line text ++ front) ∷ []
+told_lines_ended text front plain = told_lines_cut text front [] plain
+
+pub open_line_ended : (text front : List ℕ) → HasNoFeed front → open_line (text ++ (front ++ 10 ∷ [])) ≡ []
+open_line_ended text front plain = open_line_cut text front [] plain
+
+-- and with the line feed alone
+pub told_lines_feed : (text : List ℕ) → told_lines (text ++ 10 ∷ []) ≡ told_lines text ++ strip_carriage_return (open_line text) ∷ []
+told_lines_feed text = told_lines_cut text [] [] (λ k d below. absurd (omega arith)) ∙ (λ i. told_lines text ++ strip_carriage_return (append-nil (open_line text) i) ∷ [])
+
+pub open_line_feed : (text : List ℕ) → open_line (text ++ 10 ∷ []) ≡ []
+open_line_feed text = open_line_cut text [] [] (λ k d below. absurd (omega arith))
+
+-- ---- what a text that goes on keeps
+
+-- the lines that a text tells begin those that a longer one tells
+pub told_lines_stay : (text more : List ℕ) → (others : Lines) × (told_lines (text ++ more) ≡ told_lines text ++ others)
+told_lines_stay text more = by (slice_split (λ b. b == 10) more) refl
+  where
+    by : (pieces : Lines) → pieces_of more ≡ pieces → (others : Lines) × (told_lines (text ++ more) ≡ told_lines text ++ others)
+    by [] h = let some = some_pieces (λ b. b == 10) more in let none = ap length h in absurd (omega arith)
+    by (first ∷ pieces) h = (
+      map strip_carriage_return (but_last ((open_line text ++ first) ∷ pieces)),
+      ap (λ whole. map strip_carriage_return (but_last whole)) (split_append (λ b. b == 10) text more ∙ (λ i. but_last (pieces_of text) ++ going_on (open_line text) (h i)))
+          ∙ ap (map strip_carriage_return) (but_last_append (but_last (pieces_of text)) (open_line text ++ first) pieces)
+          ∙ map-append strip_carriage_return (but_last (pieces_of text)) (but_last ((open_line text ++ first) ∷ pieces)),
+    )
+
+-- the lines of a longer text are those that are told, and then a line that begins with the open one, if there is one
+pub record GoesOn (text more : List ℕ) : Type 0 where
+  pub first : List ℕ
+  pub pieces : Lines
+  pub whole : lines_of (text ++ more) ≡ told_lines text ++ map strip_carriage_return (without_empty_last ((open_line text ++ first) ∷ pieces))
+
+pub lines_go_on : (text more : List ℕ) → GoesOn text more
+lines_go_on text more = by (slice_split (λ b. b == 10) more) refl
+  where
+    by : (pieces : Lines) → pieces_of more ≡ pieces → GoesOn text more
+    by [] h = let some = some_pieces (λ b. b == 10) more in let none = ap length h in absurd (omega arith)
+    by (first ∷ pieces) h = record {
+      first = first;
+      pieces = pieces;
+      whole = ap (λ whole. map strip_carriage_return (without_empty_last whole)) (split_append (λ b. b == 10) text more ∙ (λ i. but_last (pieces_of text) ++ going_on (open_line text) (h i)))
+          ∙ ap (map strip_carriage_return) (without_last_append (but_last (pieces_of text)) (open_line text ++ first) pieces)
+          ∙ map-append strip_carriage_return (but_last (pieces_of text)) (without_empty_last ((open_line text ++ first) ∷ pieces));
+    }
