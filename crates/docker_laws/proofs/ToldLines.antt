@@ -1,8 +1,9 @@
 -- A text as it comes in: the lines whose line feed came, and the open line behind the last one.
-use Rattle.std.proofs.Common.{◌≡◌, ℕ, ◌+◌, ◌<◌, List, [], ◌∷◌, ◌++◌, map, length, refl, ap, sym, ◌∙◌, Bool, true, false, arith, All, append-nil}
+use Rattle.std.proofs.Common.{◌≡◌, ℕ, ◌+◌, ◌<◌, ◌≤◌, List, [], ◌∷◌, ◌++◌, map, length, refl, ap, sym, ◌∙◌, subst, Bool, true, false, cond, arith, All, append-nil, length-append}
 use Rattle.std.specs.Prelude.{◌==◌, nat_le, if◌then◌else◌, count_by}
 use Rattle.std.specs.List.{slice_split, onto_first}
 use Rattle.std.specs.Str.Lines.{strip_carriage_return}
+use Rattle.std.proofs.lemmas.Bool.{leb-true, le-leb}
 use Rattle.std.proofs.lemmas.List.{map-append, length-map}
 use Rattle.std.proofs.lemmas.List.Splits.{slice_split_none, slice_split_at, slice_split-cons_yes, slice_split-cons_no, length-slice_split}
 use Rattle.docker_model.specs.Text.{last_piece, without_empty_last, lines_of}
@@ -197,34 +198,67 @@ open_line_feed text = open_line_cut text [] [] (λ k d below. absurd (omega arit
 
 -- ---- what a text that goes on keeps
 
--- the lines that a text tells begin those that a longer one tells
-pub told_lines_stay : (text more : List ℕ) → (others : Lines) × (told_lines (text ++ more) ≡ told_lines text ++ others)
-told_lines_stay text more = by (slice_split (λ b. b == 10) more) refl
-  where
-    by : (pieces : Lines) → pieces_of more ≡ pieces → (others : Lines) × (told_lines (text ++ more) ≡ told_lines text ++ others)
-    by [] h = let some = some_pieces (λ b. b == 10) more in let none = ap length h in absurd (omega arith)
-    by (first ∷ pieces) h = (
-      map strip_carriage_return (but_last ((open_line text ++ first) ∷ pieces)),
-      ap (λ whole. map strip_carriage_return (but_last whole)) (split_append (λ b. b == 10) text more ∙ (λ i. but_last (pieces_of text) ++ going_on (open_line text) (h i)))
-          ∙ ap (map strip_carriage_return) (but_last_append (but_last (pieces_of text)) (open_line text ++ first) pieces)
-          ∙ map-append strip_carriage_return (but_last (pieces_of text)) (but_last ((open_line text ++ first) ∷ pieces)),
-    )
-
--- the lines of a longer text are those that are told, and then a line that begins with the open one, if there is one
+-- a longer text: the first piece of what follows goes on with the open line
 pub record GoesOn (text more : List ℕ) : Type 0 where
   pub first : List ℕ
   pub pieces : Lines
-  pub whole : lines_of (text ++ more) ≡ told_lines text ++ map strip_carriage_return (without_empty_last ((open_line text ++ first) ∷ pieces))
+  pub lines : lines_of (text ++ more) ≡ told_lines text ++ map strip_carriage_return (without_empty_last ((open_line text ++ first) ∷ pieces))
+  pub told : told_lines (text ++ more) ≡ told_lines text ++ map strip_carriage_return (but_last ((open_line text ++ first) ∷ pieces))
+  pub open_is : open_line (text ++ more) ≡ last_of ((open_line text ++ first) ∷ pieces)
 
-pub lines_go_on : (text more : List ℕ) → GoesOn text more
-lines_go_on text more = by (slice_split (λ b. b == 10) more) refl
+pub goes_on : (text more : List ℕ) → GoesOn text more
+goes_on text more = by (slice_split (λ b. b == 10) more) refl
   where
     by : (pieces : Lines) → pieces_of more ≡ pieces → GoesOn text more
     by [] h = let some = some_pieces (λ b. b == 10) more in let none = ap length h in absurd (omega arith)
     by (first ∷ pieces) h = record {
       first = first;
       pieces = pieces;
-      whole = ap (λ whole. map strip_carriage_return (without_empty_last whole)) (split_append (λ b. b == 10) text more ∙ (λ i. but_last (pieces_of text) ++ going_on (open_line text) (h i)))
+      lines = ap (λ all. map strip_carriage_return (without_empty_last all)) whole
           ∙ ap (map strip_carriage_return) (without_last_append (but_last (pieces_of text)) (open_line text ++ first) pieces)
           ∙ map-append strip_carriage_return (but_last (pieces_of text)) (without_empty_last ((open_line text ++ first) ∷ pieces));
+      told = ap (λ all. map strip_carriage_return (but_last all)) whole
+          ∙ ap (map strip_carriage_return) (but_last_append (but_last (pieces_of text)) (open_line text ++ first) pieces)
+          ∙ map-append strip_carriage_return (but_last (pieces_of text)) (but_last ((open_line text ++ first) ∷ pieces));
+      open_is = ap last_of whole ∙ last_of_append (but_last (pieces_of text)) (open_line text ++ first) pieces;
     }
+      where
+        whole : pieces_of (text ++ more) ≡ but_last (pieces_of text) ++ (open_line text ++ first) ∷ pieces
+        whole = split_append (λ b. b == 10) text more ∙ (λ i. but_last (pieces_of text) ++ going_on (open_line text) (h i))
+
+-- the lines that a text tells begin those that a longer one tells
+pub told_lines_stay : (text more : List ℕ) → (others : Lines) × (told_lines (text ++ more) ≡ told_lines text ++ others)
+told_lines_stay text more = let on = goes_on text more in (map strip_carriage_return (but_last ((open_line text ++ on.first) ∷ on.pieces)), on.told)
+
+-- a longer text tells no fewer
+pub lines_told_grow : (text more : List ℕ) → lines_told text ≤ lines_told (text ++ more)
+lines_told_grow text more = by on.pieces on.told on.open_is
+  where
+    on : GoesOn text more
+    on = goes_on text more
+
+    longer : (b : Bool) → nat_le 82 (length (open_line text)) ≡ b → (if b then 1 else 0) ≤ (if nat_le 82 (length (open_line text ++ on.first)) then 1 else 0)
+    longer true h =
+        let size = length-append (open_line text) on.first in
+        let low = leb-true 82 (length (open_line text)) h in
+        subst (λ c. 1 ≤ cond c 1 0) (sym (le-leb 82 (length (open_line text ++ on.first)) (omega arith))) (omega arith)
+    longer false h = omega arith
+
+    most : (b : Bool) → cond b 1 0 ≤ 1
+    most true = omega arith
+    most false = omega arith
+
+    by : (pieces : Lines) → told_lines (text ++ more) ≡ told_lines text ++ map strip_carriage_return (but_last ((open_line text ++ on.first) ∷ pieces))
+        → open_line (text ++ more) ≡ last_of ((open_line text ++ on.first) ∷ pieces) → lines_told text ≤ lines_told (text ++ more)
+    by [] told last =
+        let before = lines_told_is text in
+        let behind = lines_told_is (text ++ more) ∙ (λ i. length (told i) + (if nat_le 82 (length (last i)) then 1 else 0)) in
+        let size = length-append (told_lines text) [] in
+        let grown = longer (nat_le 82 (length (open_line text))) refl in
+        omega arith
+    by (next ∷ pieces) told last =
+        let before = lines_told_is text in
+        let behind = lines_told_is (text ++ more) in
+        let size = ap length told ∙ length-append (told_lines text) (map strip_carriage_return (but_last ((open_line text ++ on.first) ∷ next ∷ pieces))) in
+        let grown = most (nat_le 82 (length (open_line text))) in
+        omega arith
