@@ -1,8 +1,8 @@
 -- The laws of the greater of two values, of an order that tells valid values apart.
-use Rattle.std.proofs.Common.{◌≡◌, cond, refl, sym, ◌∙◌, subst, ap, inl, inr, ◌⊎◌}
+use Rattle.std.proofs.Common.{◌≡◌, cond, refl, sym, subst, inl, inr, ◌⊎◌}
 use Rattle.std.specs.declared.cmp.Ordering.{Ordering}
 use Rattle.std.specs.declared.cmp.Ordering.TheVariants.{Less, Equal, Greater}
-use Rattle.std.specs.Ordering.{ord_max, is_lt, ordering_reverse}
+use Rattle.std.specs.Ordering.{ord_max, is_lt}
 use Rattle.std.specs.Cmp.{IsTotalOrder}
 use Rattle.docker_model.specs.Order.{IsAtMost}
 use Rattle.docker_laws.proofs.Unique.{level}

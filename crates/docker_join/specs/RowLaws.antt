@@ -1,15 +1,15 @@
 -- The laws of the join of rows.
-use Rattle.std.proofs.Common.{◌≡◌, ℕ, Bool, true, false, cond, List, [], ◌∷◌, refl, ap, sym, ◌∙◌, subst, Contains, All, inl, inr, ◌⊎◌, arith, Option, Some, None}
+use Rattle.std.proofs.Common.{◌≡◌, cond, List, [], ◌∷◌, refl, ap, sym, ◌∙◌, subst, Contains, inl, inr, ◌⊎◌, arith, Option, Some, None}
 use Rattle.std.specs.Prelude.{find, ⊤}
 use Rattle.std.specs.List.{AllByRecursion}
 use Rattle.std.specs.Option.{option_map}
 use Rattle.std.specs.declared.cmp.Ordering.{Ordering}
 use Rattle.std.specs.declared.cmp.Ordering.TheVariants.{Less, Equal, Greater}
-use Rattle.std.specs.Ordering.{is_eq, ordering_reverse}
+use Rattle.std.specs.Ordering.{is_eq}
 use Rattle.std.specs.Cmp.{IsTotalOrder, on_total, tied_itself}
 use Rattle.docker_model.specs.Change as model
 use Rattle.docker_model.specs.Op.{key_cmp}
-use Rattle.docker_model.specs.Order.{IsBelow, IsStrictlyAscending}
+use Rattle.docker_model.specs.Order.{IsBelow}
 use Rattle.docker_laws.proofs.Orders.{key_total, exact_key}
 use Rattle.docker_laws.proofs.Ascending.{Contains-cons, cons-Contains, cons-Contains-first, nil-Contains, below_by_recursion, same_list}
 use Rattle.docker_laws.proofs.JoinValid.{all_members}
