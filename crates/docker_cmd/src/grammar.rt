@@ -64,7 +64,7 @@ fn docker<'a>(alloc: Global) -> Result<Command<'a>, AllocError>
 }
 
 /// What `clap` makes of the words.
-pub fn matches<'a>(alloc: Global, words: &'a [&'a str]) -> Result<ArgMatches<'a>, Error>
+pub(crate) fn matches<'a>(alloc: Global, words: &'a [&'a str]) -> Result<ArgMatches<'a>, Error>
     ensures subcommand { IfOk result (λ m.
         subcommand_rows_of m ≡ subcommand_of docker_app (map (λ w. w.now) words.entry.now)) }
     ensures kinds { FailsBy (fault_of docker_app (map (λ w. w.now) words.entry.now)) result }
