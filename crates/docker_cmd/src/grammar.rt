@@ -59,6 +59,7 @@ fn docker<'a>(alloc: Global) -> Result<Command<'a>, AllocError>
     ensures { IfOk result (λ c. app_of c ≡ docker_app) }
 {
     let docker = top(alloc);
+    let docker = with_job(alloc, docker, "check", &["FILE"])?;
     let docker = with_job(alloc, docker, "day", &["FILE", "TIPLOC", "DATE"])?;
     Ok(docker)
 }

@@ -14,8 +14,8 @@ returns-in-Ok-clause-ok g c =
           (c.basic_of-basic.ensures.line ∙ c.schedule-schedule.ensures.basic)
           (c.origin_of-origin.ensures.line ∙ c.schedule-schedule.ensures.origin)
           (c.terminus_of-terminus.ensures.line ∙ c.schedule-schedule.ensures.terminus)
-          (ap (λ (j : JobView). j.tiploc) (sym c.job-job.ensures) ∙ c.place-place.ensures)
-          (ap (λ (j : JobView). j.day) (sym c.job-job.ensures) ∙ c.date.ensures)
+          (ap (λ (j : JobView). j.tiploc) (sym c.job-job.ensures.job) ∙ c.place-place.ensures)
+          (ap (λ (j : JobView). j.day) (sym c.job-job.ensures.job) ∙ c.date.ensures)
           c.docker_text-text.ensures.docker;
       gained = subst (λ piece. Takes (g.K.Sink.taken c.args.sink.now) piece (g.K.Sink.taken c.write_all.new.sink)) c.as_slice.ensures.value c.in-Ok.ensures.whole;
     }
@@ -30,8 +30,8 @@ returns-in-Err-clause-err g c =
           (c.basic_of-basic.ensures.line ∙ c.schedule-schedule.ensures.basic)
           (c.origin_of-origin.ensures.line ∙ c.schedule-schedule.ensures.origin)
           (c.terminus_of-terminus.ensures.line ∙ c.schedule-schedule.ensures.terminus)
-          (ap (λ (j : JobView). j.tiploc) (sym c.job-job.ensures) ∙ c.place-place.ensures)
-          (ap (λ (j : JobView). j.day) (sym c.job-job.ensures) ∙ c.date.ensures)
+          (ap (λ (j : JobView). j.tiploc) (sym c.job-job.ensures.job) ∙ c.place-place.ensures)
+          (ap (λ (j : JobView). j.day) (sym c.job-job.ensures.job) ∙ c.date.ensures)
           c.docker_text-text.ensures.docker;
       gained = subst (λ piece. TakesPart (g.K.Sink.taken c.args.sink.now) piece (g.K.Sink.taken c.write_all.new.sink)) c.as_slice.ensures.value c.in-Err.ensures.part;
     }
