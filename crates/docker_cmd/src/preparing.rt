@@ -1,6 +1,6 @@
 //! What a job reads.
 ghost use Rattle.std.specs.Prelude.{◌≡◌, ◌≢◌, ◌+◌, ◌-◌, ◌^◌, ◌<◌, ◌↔◌, IfOk, IfErr, Err};
-ghost use Rattle.docker_cmd.specs.Prepared.{IsFileRefused, ReadsFile, ReadsSchedule};
+ghost use Rattle.docker_cmd.specs.Prepared.{IsFileRefused, ReadsFile, ReadsSchedule, schedule_read};
 ghost use Rattle.docker_cmd.specs.declared.jobs.Subcommand.TheVariants.{Check as check_subcommand, Day as day_subcommand};
 
 use crate::fault::OfficeFault;
@@ -20,16 +20,14 @@ pub struct Prepared<'a> {
 
 impl<'a> Model for Prepared<'a> {
     ghost use Rattle.std.specs.Prelude.{◌≡◌};
-    ghost use Rattle.docker_cmd.specs.Prepared.{PreparedView};
+    ghost use Rattle.docker_cmd.specs.Prepared.{PreparedView, schedule_read};
     ghost use Rattle.docker_cmd.specs.declared.jobs.Subcommand.TheVariants.{Day as day_subcommand};
 
     ghost Value = { PreparedView };
 
     ghost view = { λ prepared. record {
       job = prepared.job.now;
-      basic = prepared.schedule.basic;
-      origin = prepared.schedule.origin;
-      terminus = prepared.schedule.terminus;
+      read = schedule_read prepared.schedule.basic prepared.schedule.origin prepared.schedule.terminus;
     } };
 
     ghost invariant = { λ prepared. prepared.job.now.subcommand ≡ day_subcommand };
@@ -46,9 +44,7 @@ impl<'a> Prepared<'a> {
 
     /// The schedule that was read.
     pub(crate) fn schedule(&self) -> &Schedule
-        ensures basic { result.now.basic ≡ self.now.basic }
-        ensures origin { result.now.origin ≡ self.now.origin }
-        ensures terminus { result.now.terminus ≡ self.now.terminus }
+        ensures { self.now.read ≡ schedule_read result.now.basic result.now.origin result.now.terminus }
     {
         &self.schedule
     }
