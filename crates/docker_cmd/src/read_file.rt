@@ -26,6 +26,7 @@ pub(crate) fn read_file<S: Source>(alloc: Global, source: &mut S) -> Result<CifF
     ensures source { (result ≡ Err OfficeFault.Source) ↔ (S.failures source.new ≡ S.failures source.old + 1) }
     ensures no_failure { result ≢ Err OfficeFault.Source → S.failures source.new ≡ S.failures source.old }
     ensures sink { result ≢ Err OfficeFault.Sink }
+    ensures not_yet { result ≢ Err OfficeFault.NotYet }
 {
     let Ok(mut piece) = vec![in alloc; 0u8; PIECE] else {
         return Err(OfficeFault::Memory);
@@ -52,6 +53,7 @@ fn finished(parser: FileParser) -> Result<CifFile, OfficeFault>
         → (fault ≡ first_place) × (¬ IsAccepted most_records text) }
     ensures source { result ≢ Err OfficeFault.Source }
     ensures sink { result ≢ Err OfficeFault.Sink }
+    ensures not_yet { result ≢ Err OfficeFault.NotYet }
 {
     match parser.finish() {
         Ok(file) => Ok(file),
