@@ -56,7 +56,7 @@ impl Flip {
         let new = loop {
             let new = match random.below(4) {
                 0 => random.below(256) as u8,
-                1 | 2 if column <= 2 => random.pick(&IDENTITIES)[column - 1],
+                1 | 2 if column <= 2 => other_kind(text, offset, column, random),
                 _ => *random.pick(TELLING),
             };
             if new != old {
@@ -69,6 +69,17 @@ impl Flip {
 
 fn start_of_line(before: &[u8]) -> usize {
     before.iter().rposition(|&byte| byte == b'\n').map_or(0, |at| at + 1)
+}
+
+/// The byte at column 1 or 2 of an identity that has the record's other letter, or of any where none has.
+fn other_kind(text: &[u8], offset: usize, column: usize, random: &mut Random) -> u8 {
+    let other = text.get(if column == 1 { offset + 1 } else { offset - 1 });
+    let alike: Vec<u8> =
+        IDENTITIES.iter().filter(|identity| Some(&identity[2 - column]) == other).map(|identity| identity[column - 1]).collect();
+    if alike.is_empty() {
+        return random.pick(&IDENTITIES)[column - 1];
+    }
+    *random.pick(&alike)
 }
 
 /// The start of the first such record from an offset on, or else from the text's beginning.
