@@ -9,6 +9,8 @@ use std::time::Instant;
 /// What a program took and said.
 pub struct Spent {
     pub seconds: f64,
+    /// Seconds on a processor, of the program and of the system for it.
+    pub processor: f64,
     /// Peak resident memory in bytes.
     pub memory: u64,
     /// The exit status; -1 where a signal ended it.
@@ -26,6 +28,7 @@ pub enum Input<'a> {
 
 #[repr(C)]
 struct Usage {
+    /// Seconds and millionths of the program, then of the system.
     times: [c_long; 4],
     /// In units of 1024 bytes.
     peak_resident: c_long,
@@ -36,8 +39,8 @@ extern "C" {
     fn wait4(process: c_int, status: *mut c_int, options: c_int, usage: *mut Usage) -> c_int;
 }
 
-/// Waits for a program's end; its exit status and its peak memory.
-fn wait(child: &Child) -> Result<(i32, u64)> {
+/// Waits for a program's end; its exit status, its seconds on a processor and its peak memory.
+fn wait(child: &Child) -> Result<(i32, f64, u64)> {
     let mut usage = Usage { times: [0; 4], peak_resident: 0, others: [0; 13] };
     let mut status = 0;
     // The child is ours and not yet waited for; both pointers are good for the call.
@@ -46,7 +49,9 @@ fn wait(child: &Child) -> Result<(i32, u64)> {
         return Err(Error::last_os_error());
     }
     let exit = if status & 0x7F == 0 { status >> 8 & 0xFF } else { -1 };
-    Ok((exit, usage.peak_resident as u64 * 1024))
+    let [seconds, millionths, system_seconds, system_millionths] = usage.times.map(|part| part as f64);
+    let processor = seconds + system_seconds + (millionths + system_millionths) / 1e6;
+    Ok((exit, processor, usage.peak_resident as u64 * 1024))
 }
 
 /// Runs a program to its end.
@@ -70,13 +75,13 @@ pub fn run(words: &[&str], input: Input) -> Result<Spent> {
     if let Some(mut pipe) = child.stderr.take() {
         pipe.read_to_end(&mut errors)?;
     }
-    let (status, memory) = wait(&child)?;
+    let (status, processor, memory) = wait(&child)?;
     let seconds = began.elapsed().as_secs_f64();
     if let Some(cat) = feeder {
         wait(&cat)?;
     }
     let text = |bytes: Vec<u8>| String::from_utf8_lossy(&bytes).into_owned();
-    Ok(Spent { seconds, memory, status, output: text(output), errors: text(errors) })
+    Ok(Spent { seconds, processor, memory, status, output: text(output), errors: text(errors) })
 }
 
 fn start(words: &[&str], input: Stdio, output: Stdio) -> Result<Child> {
@@ -100,6 +105,7 @@ struct Row<'a> {
     /// What it must print, where that is known.
     wanted: Option<&'a str>,
     best: f64,
+    best_processor: f64,
     memory: u64,
 }
 
@@ -139,6 +145,7 @@ fn table(program: &str, path: &str) -> Result<Growth> {
         input,
         wanted,
         best: f64::INFINITY,
+        best_processor: f64::INFINITY,
         memory: 0,
     };
     let mut rows = [
@@ -177,6 +184,7 @@ fn measure(row: &mut Row) -> Result<()> {
         return Err(Error::other(format!("{name} ended with {status}, {output:?}, {errors:?}; wanted 0, {wanted:?}")));
     }
     row.best = row.best.min(spent.seconds);
+    row.best_processor = row.best_processor.min(spent.processor);
     row.memory = row.memory.max(spent.memory);
     Ok(())
 }
@@ -184,17 +192,18 @@ fn measure(row: &mut Row) -> Result<()> {
 fn print_table(rows: &[Row], bytes: u64, line: &str) {
     let size = bytes as f64 / 1e6;
     println!("\n{size:.1} MB; {}; best time of {ROUNDS} and greatest memory of {ROUNDS}\n", line.trim_end());
-    println!("| Command | Time, s | MB/s | × `wc -l` | × `cat` | Peak memory, MB | × the file |");
-    println!("|---|---|---|---|---|---|---|");
+    println!("| Command | Time, s | MB/s | × `wc -l` | × `cat` | Processor, s | Peak memory, MB | × the file |");
+    println!("|---|---|---|---|---|---|---|---|");
     for row in rows {
         let (seconds, memory) = (row.best, row.memory as f64);
         println!(
-            "| {} | {:.3} | {:.0} | {:.2} | {:.2} | {:.1} | {:.2} |",
+            "| {} | {:.3} | {:.0} | {:.2} | {:.2} | {:.3} | {:.1} | {:.2} |",
             row.name,
             seconds,
             size / seconds,
             seconds / rows[0].best,
             seconds / rows[1].best,
+            row.best_processor,
             memory / 1e6,
             memory / bytes as f64,
         );
