@@ -3,3 +3,4 @@ pub mod CivilDays
 pub mod DateFields
 pub mod Leftmost
 pub mod DeviceLemmas
+pub mod Times

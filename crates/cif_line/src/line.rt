@@ -1,13 +1,10 @@
 //! A line of a CIF file: 80 printable bytes.
 ghost use Rattle.std.specs.Prelude.{◌≡◌, ℕ, ◌↔◌, ◌<◌, length, IsTrue, IsOk, IfOk, Ok, Err, Some, IsNone, IfSome, position, not, ◌≤◌, ◌-◌, ◌+◌, true};
 ghost use Rattle.std.specs.List.{AllPass};
-ghost use Rattle.docker_model.specs.Clock.{is_present_time, half_minutes};
-ghost use Rattle.docker_model.specs.Field.{is_tiploc};
+ghost use Rattle.docker_model.specs.Change.{as_new};
 ghost use Rattle.docker_model.specs.State.{IsTextOfLength};
 ghost use Rattle.docker_model.specs.Record.{IsRecord, leftmost_bad_byte, is_printable, columns, column};
 
-use crate::time::Time;
-use crate::tiploc::Tiploc;
 use std::marker::Model;
 use thiserror::Error;
 
@@ -74,32 +71,6 @@ impl Line {
         }
     }
 
-    /// The TIPLOC in the seven columns from one on.
-    pub(crate) fn tiploc(&self, first: usize) -> Tiploc
-        requires from { 0 < first }
-        requires within { first ≤ 74 }
-        requires good { is_tiploc (columns first (first - 1 + 7) self.now) ≡ true }
-        ensures { result ≡ columns first (first - 1 + 7) self.now }
-    {
-        match Tiploc::from_field(self.field(first)) {
-            Some(tiploc) => tiploc,
-            None => unreachable!(),
-        }
-    }
-
-    /// The scheduled time in the five columns from one on.
-    pub(crate) fn present_time(&self, first: usize) -> Time
-        requires from { 0 < first }
-        requires within { first ≤ 76 }
-        requires good { is_present_time (columns first (first - 1 + 5) self.now) ≡ true }
-        ensures { result ≡ half_minutes (columns first (first - 1 + 5) self.now) }
-    {
-        match Time::from_field(self.field(first)) {
-            Some(time) => time,
-            None => unreachable!(),
-        }
-    }
-
     /// The byte in a column, counted from 1.
     pub(crate) fn column(&self, n: usize) -> u8
         requires from { 0 < n }
@@ -108,6 +79,14 @@ impl Line {
         ensures printable { is_printable result ≡ true }
     {
         self.bytes[n - 1]
+    }
+
+    /// The line with its transaction, column 3, set to `N`: of a basic schedule (BS) or an association (AA).
+    pub fn as_new(mut self) -> Line
+        ensures { result ≡ as_new self }
+    {
+        self.bytes[2] = b'N';
+        self
     }
 
     /// The 80 bytes of the line.
