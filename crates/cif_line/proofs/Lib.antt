@@ -4,3 +4,4 @@ pub mod DateFields
 pub mod Leftmost
 pub mod DeviceLemmas
 pub mod Times
+pub mod Lanes

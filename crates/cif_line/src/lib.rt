@@ -19,6 +19,7 @@ mod letter;
 mod line;
 mod memory;
 mod origin_location;
+mod printable;
 mod read;
 mod terminating_location;
 mod time;

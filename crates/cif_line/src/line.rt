@@ -5,6 +5,7 @@ ghost use Rattle.docker_model.specs.Change.{as_new};
 ghost use Rattle.docker_model.specs.State.{IsTextOfLength};
 ghost use Rattle.docker_model.specs.Record.{IsRecord, leftmost_bad_byte, is_printable, columns, column};
 
+use crate::printable::is_printable_line;
 use std::marker::Model;
 use thiserror::Error;
 
@@ -52,7 +53,7 @@ impl Line {
         let Ok(bytes) = <[u8; 80]>::try_from(bytes) else {
             return Err(LineFault::Length);
         };
-        match first_bad_column(&bytes) {
+        match bad_column(&bytes) {
             Some(column) => Err(LineFault::Byte(column)),
             None => Ok(Line { bytes }),
         }
@@ -114,7 +115,19 @@ fn first_bad_index(bytes: &[u8]) -> Option<usize>
     bytes.iter().position(|byte| !is_printable(*byte))
 }
 
-/// The leftmost column, from 1, whose byte is not printable.
+/// The leftmost column, from 1, whose byte is not printable: looked for only once it is known that there is one.
+#[tactic(auto, using(docker_laws::proofs::RecordTests::no_bad_byte))]
+fn bad_column(bytes: &[u8; 80]) -> Option<u8>
+    ensures value { result ≡ leftmost_bad_byte bytes.now }
+    ensures none { IsNone result ↔ AllPass is_printable bytes.now }
+{
+    if is_printable_line(bytes) {
+        return None;
+    }
+    first_bad_column(bytes)
+}
+
+/// The same, column by column.
 fn first_bad_column(bytes: &[u8; 80]) -> Option<u8>
     ensures value { result ≡ leftmost_bad_byte bytes.now }
     ensures none { IsNone result ↔ AllPass is_printable bytes.now }
