@@ -1,5 +1,5 @@
 -- Times of day, read from their fields.
-use Rattle.std.proofs.Common.{◌≡◌, ℕ, ◌+◌, List, [], ◌∷◌, true, false, Bool, ◌&&◌, refl, take, length, ◌≤◌, arith}
+use Rattle.std.proofs.Common.{◌≡◌, ℕ, List, [], ◌∷◌, true, false, Bool, ◌&&◌, refl, take, length, ◌≤◌, arith}
 use Rattle.std.specs.Prelude.{codes, ◌==◌, ◌||◌, nat_lt, slice_index}
 use Rattle.std.specs.List.{list_all}
 use Rattle.std.specs.Str.{bytes_eq}
