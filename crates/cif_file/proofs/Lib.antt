@@ -1,3 +1,4 @@
+pub mod Journeys
 pub mod OneSchedule
 pub mod OneScheduleText
 pub mod Accepting

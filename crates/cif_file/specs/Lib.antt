@@ -1,3 +1,4 @@
+pub mod JourneyRead
 pub mod OneSchedule
 pub mod FiveLines
 pub mod Meaning
