@@ -1,21 +1,33 @@
--- The lines that the reader of a schedule has taken, by the stage that it keeps.
-use Rattle.std.proofs.Common.{◌≡◌, ℕ, ◌+◌, ◌≤◌, ◌<◌, inl, inr, ◌⊎◌, Bool, true, false, cond, List, [], ◌∷◌, ◌++◌, map, subst, refl, ap, sym, ◌∙◌, Some, None, arith}
-use Rattle.std.specs.Prelude.{Option, IsTrue, ◌↔◌, ◌||◌, ◌&&◌, ◌==◌, nat_le}
-use Rattle.docker_model.specs.Record.{kind_of, column}
+-- The lines that the reader of a schedule has taken, by what it keeps of them.
+use Rattle.std.proofs.Common.{◌≡◌, ℕ, ◌+◌, ◌≤◌, ◌<◌, inl, inr, ◌⊎◌, Bool, true, false, cond, List, [], ◌∷◌, ◌++◌, map, subst, refl, ap, sym, ◌∙◌, Some, None, arith, append-nil, append_assoc}
+use Rattle.std.specs.Prelude.{Option, IsTrue, ◌↔◌, ◌||◌, ◌&&◌, ◌==◌, nat_le, is_some, is_none, IsOk, IfErr, Result, Ok, Err}
+use Rattle.std.specs.List.{flat_map}
+use Rattle.std.proofs.lemmas.Bool.{le-leb}
+use Rattle.docker_model.specs.Record.{Kind, kind_of, IsRecord, column}
 use Rattle.docker_model.specs.Stamp.{first_record}
-use Rattle.docker_model.specs.Field.{is_deletion}
+use Rattle.docker_model.specs.Field.{is_deletion, HasGoodFields, leftmost_bad_field}
 use Rattle.docker_model.specs.File.{IsSchedule, BeginsSchedule}
-use Rattle.docker_model.specs.Journey.{times_along, midnights}
-use Rattle.docker_laws.proofs.RecordTests.{last_of, falls_after}
-use Rattle.docker_laws.proofs.SchedulePlace.{Stage, after_basic, after_details, in_journey, after_journey, stage_of, may_lack, may_end, schedule_iff_stage}
-use Rattle.cif_file.specs.JourneyRead.{JourneyState, HasLines, may_end_by}
+use Rattle.docker_model.specs.FileFault as fault
+use Rattle.docker_model.specs.ScheduleFault.{IsScheduleFault}
+use Rattle.docker_model.specs.Journey.{Occasion, times_of, times_along, midnights, fall_count}
+use Rattle.docker_laws.proofs.RecordTests.{is_record, has_good_fields, test_by_none, and_true, record_iff_test, last_of, falls_after, later_or, midnights_step, last_time_step}
+use Rattle.docker_laws.proofs.SchedulePlace.{Stage, after_basic, after_details, in_journey, after_journey, stage_after, stage_of, stage_of_more, may_lack, may_end, is_first_line, is_sound_next, next_stage, schedule_iff_stage, begins_iff_stage, sound_next_by_count}
+use Rattle.docker_laws.proofs.ScheduleCauses.{schedule_cause, first_line_cause, first_line_fault, begins_next_stage, schedule_fault}
+use Rattle.cif_file.specs.declared.fault.FileCause.{FileCause}
+use Rattle.cif_file.specs.Meaning.{cause_meant}
+use Rattle.cif_file.specs.JourneyRead.{JourneyState, HasLines, IsScheduleFaultTold, may_end_by, listed}
+
+abbrev Lines : Type 0
+Lines = List (List ℕ)
 
 -- what is Some is one
 some_is : {A : Type 0} (x y : A) → Some x ≡ Some y → x ≡ y
 some_is x y same = cc
 
+-- ---- the end
+
 -- lines that have a stage are a schedule exactly where it may end there
-whole_iff : (lines : List (List ℕ)) (stage : Stage) → stage_of lines ≡ Some stage → IsSchedule lines ↔ (may_end stage lines ≡ true)
+whole_iff : (lines : Lines) (stage : Stage) → stage_of lines ≡ Some stage → IsSchedule lines ↔ (may_end stage lines ≡ true)
 whole_iff lines stage at = (
   λ is.
       let told = (schedule_iff_stage lines).0 is in
@@ -24,14 +36,13 @@ whole_iff lines stage at = (
 )
 
 -- the test by what the reader keeps
-may_end_same : (stage : Stage) (lines : List (List ℕ)) (lacking : Bool) → lacking ≡ may_lack (first_record lines) → may_end_by (Some stage) lacking ≡ may_end stage lines
+may_end_same : (stage : Stage) (lines : Lines) (lacking : Bool) → lacking ≡ may_lack (first_record lines) → may_end_by (Some stage) lacking ≡ may_end stage lines
 may_end_same after_basic lines lacking same = same
 may_end_same after_details lines lacking same = same
 may_end_same in_journey lines lacking same = refl
 may_end_same after_journey lines lacking same = refl
 
--- the lines are a schedule exactly where the reader says so
-pub complete_iff : (journey : JourneyState) (lines : List (List ℕ)) → HasLines journey lines → IsTrue (may_end_by journey.stage journey.lacking) ↔ IsSchedule lines
+complete_iff : (journey : JourneyState) (lines : Lines) → HasLines journey lines → IsTrue (may_end_by journey.stage journey.lacking) ↔ IsSchedule lines
 complete_iff journey lines has = by journey.stage refl
   where
     by : (stage : Option Stage) → journey.stage ≡ stage → IsTrue (may_end_by stage journey.lacking) ↔ IsSchedule lines
@@ -40,3 +51,154 @@ complete_iff journey lines has = by journey.stage refl
         let iff = whole_iff lines stage (sym has.stage_is ∙ h) in
         let same = may_end_same stage lines journey.lacking has.lacking_is in
         (λ test. iff.1 (sym same ∙ test), λ is. same ∙ iff.0 is)
+
+-- the lines are a schedule exactly where the reader says so
+pub complete_by : (journey : JourneyState) (lines : Lines) (result : Bool) → result ≡ may_end_by journey.stage journey.lacking → HasLines journey lines → IsTrue result ↔ IsSchedule lines
+complete_by journey lines result told has =
+    let iff = complete_iff journey lines has in (λ test. iff.0 (sym told ∙ test), λ is. told ∙ iff.1 is)
+
+-- ---- one more line
+
+-- the stage behind one more line; a first line is a basic schedule
+abbrev pub next_by : Option Stage → Lines → List ℕ → Option Stage
+next_by None lines line = cond (is_first_line line) (Some after_basic) None
+next_by (Some stage) lines line = next_stage stage lines line
+
+-- why there is none
+abbrev pub cause_by : Option Stage → List ℕ → fault.FileCause
+cause_by None line = first_line_cause line
+cause_by (Some stage) line = schedule_cause stage line
+
+begins_by : (journey : JourneyState) (lines : Lines) (line : List ℕ) (next : Stage) → HasLines journey lines → next_by journey.stage lines line ≡ Some next → BeginsSchedule (lines ++ line ∷ [])
+begins_by journey lines line next has found = by journey.stage refl found
+  where
+    first : (b : Bool) → is_first_line line ≡ b → cond b (Some after_basic) None ≡ Some next → BeginsSchedule (line ∷ [])
+    first true h told = (begins_iff_stage line []).1 (after_basic, λ i. cond (h i) (Some after_basic) None)
+    first false h told = cc
+
+    by : (stage : Option Stage) → journey.stage ≡ stage → next_by stage lines line ≡ Some next → BeginsSchedule (lines ++ line ∷ [])
+    by None h told = subst (λ l. BeginsSchedule (l ++ line ∷ [])) (sym (has.fresh h)) (first (is_first_line line) refl told)
+    by (Some stage) h told = begins_next_stage lines stage line next (sym has.stage_is ∙ h) told
+
+fault_by : (journey : JourneyState) (lines : Lines) (line : List ℕ) → HasLines journey lines → IsRecord line → next_by journey.stage lines line ≡ None → IsScheduleFault lines line (cause_by journey.stage line)
+fault_by journey lines line has is nowhere = by journey.stage refl nowhere
+  where
+    first : (b : Bool) → is_first_line line ≡ b → cond b (Some after_basic) None ≡ None → IsScheduleFault [] line (first_line_cause line)
+    first true h told = cc
+    first false h told = first_line_fault line is h
+
+    by : (stage : Option Stage) → journey.stage ≡ stage → next_by stage lines line ≡ None → IsScheduleFault lines line (cause_by journey.stage line)
+    by None h told =
+        subst (λ s. IsScheduleFault lines line (cause_by s line)) (sym h)
+        (subst (λ l. IsScheduleFault l line (first_line_cause line)) (sym (has.fresh h)) (first (is_first_line line) refl told))
+    by (Some stage) h told = subst (λ s. IsScheduleFault lines line (cause_by s line)) (sym h) (schedule_fault lines stage line (sym has.stage_is ∙ h) is told)
+
+-- a line that leads nowhere is refused for its cause
+pub refused_by : (journey : JourneyState) (lines : Lines) (line : List ℕ) (cause : fault.FileCause) → HasLines journey lines → IsRecord line
+    → next_by journey.stage lines line ≡ None → cause_by journey.stage line ≡ cause → IsScheduleFault lines line cause
+refused_by journey lines line cause has is nowhere same = subst (IsScheduleFault lines line) same (fault_by journey lines line has is nowhere)
+
+-- an answer that is Ok exactly where there is a next stage, and else tells the cause
+pub judged_ok : {A : Type 0} (answer : Result A FileCause) (journey : JourneyState) (lines : Lines) (line : List ℕ) → HasLines journey lines → IsRecord line
+    → IsOk answer ↔ (is_some (next_by journey.stage lines line) ≡ true) → IsOk answer ↔ BeginsSchedule (lines ++ line ∷ [])
+judged_ok answer journey lines line has is iff = (
+  λ ok. by (next_by journey.stage lines line) refl (iff.0 ok),
+  λ begins. from (next_by journey.stage lines line) refl begins,
+)
+  where
+    by : (next : Option Stage) → next_by journey.stage lines line ≡ next → is_some (next_by journey.stage lines line) ≡ true → BeginsSchedule (lines ++ line ∷ [])
+    by None h some = let bad : false ≡ true = (λ i. is_some (sym h i)) ∙ some in cc
+    by (Some next) h some = begins_by journey lines line next has h
+
+    from : (next : Option Stage) → next_by journey.stage lines line ≡ next → BeginsSchedule (lines ++ line ∷ []) → IsOk answer
+    from None h begins = absurd ((fault_by journey lines line has is h).here begins)
+    from (Some next) h begins = iff.1 (λ i. is_some (h i))
+
+pub judged_err : {A : Type 0} (answer : Result A FileCause) (journey : JourneyState) (lines : Lines) (line : List ℕ) → HasLines journey lines → IsRecord line
+    → IsOk answer ↔ (is_some (next_by journey.stage lines line) ≡ true) → IfErr answer (λ cause. cause_meant cause ≡ Some (cause_by journey.stage line))
+    → IfErr answer (λ cause. IsScheduleFaultTold lines line (cause_meant cause))
+judged_err (Ok value) journey lines line has is iff told = told
+judged_err (Err cause) journey lines line has is iff told = subst (IsScheduleFaultTold lines line) (sym told) (by (next_by journey.stage lines line) refl)
+  where
+    by : (next : Option Stage) → next_by journey.stage lines line ≡ next → IsScheduleFault lines line (cause_by journey.stage line)
+    by None h = fault_by journey lines line has is h
+    by (Some next) h = let bad = iff.1 (λ i. is_some (h i)) in absurd cc
+
+-- ---- the times of one more line
+
+pub falls_in_turn : (last first : Option ℕ) (rest : List ℕ) → falls_after last (listed first ++ rest) ≡ falls_after last (listed first) + falls_after (later_or first last) rest
+falls_in_turn None None rest = omega arith
+falls_in_turn (Some last) None rest = omega arith
+falls_in_turn None (Some time) rest = omega arith
+falls_in_turn (Some last) (Some time) rest = omega arith
+
+pub last_in_turn : (last first second third : Option ℕ) → later_or third (later_or second (later_or first last)) ≡ later_or (last_of (listed first ++ listed second ++ listed third)) last
+last_in_turn last None None None = refl
+last_in_turn last (Some a) None None = refl
+last_in_turn last None (Some b) None = refl
+last_in_turn last (Some a) (Some b) None = refl
+last_in_turn last None None (Some c) = refl
+last_in_turn last (Some a) None (Some c) = refl
+last_in_turn last None (Some b) (Some c) = refl
+last_in_turn last (Some a) (Some b) (Some c) = refl
+
+one_line : (line : List ℕ) → times_along (line ∷ []) ≡ map (λ (time : Occasion × ℕ). time.1) (times_of line)
+one_line line = ap (map (λ (time : Occasion × ℕ). time.1)) (append-nil (times_of line))
+
+-- ---- what the reader keeps of one more line
+
+-- some lines came before
+first_stays : (lines : Lines) (stage : Stage) (line : List ℕ) → stage_of lines ≡ Some stage → first_record (lines ++ line ∷ []) ≡ first_record lines
+first_stays [] stage line at = cc
+first_stays (basic ∷ rest) stage line at = refl
+
+next_is : (lines : Lines) (line : List ℕ) (stage next : Stage) → stage_of lines ≡ Some stage → IsRecord line → is_sound_next lines line ≡ true → stage_after stage (kind_of line) ≡ Some next
+    → stage_of (lines ++ line ∷ []) ≡ Some next
+next_is lines line stage next at is sound after =
+    stage_of_more lines stage line at
+    ∙ (λ i. cond ((record_iff_test line).0 is i && is_sound_next lines line) (stage_after stage (kind_of line)) None)
+    ∙ (λ i. cond (sound i) (stage_after stage (kind_of line)) None)
+    ∙ after
+
+-- of a deletion only the stage goes on
+pub deletion_goes_on : (journey : JourneyState) (lines : Lines) (line : List ℕ) (stage next : Stage) → HasLines journey lines → IsRecord line → journey.stage ≡ Some stage → journey.deletion ≡ true
+    → stage_after stage (kind_of line) ≡ Some next → HasLines (record journey { stage = Some next }) (lines ++ line ∷ [])
+deletion_goes_on journey lines line stage next has is at deletion after =
+    let stage_is : stage_of lines ≡ Some stage = sym has.stage_is ∙ at in
+    let first = first_stays lines stage line stage_is in
+    record {
+      stage_is = sym (next_is lines line stage next stage_is is (deletion_sound (sym has.deletion_is ∙ deletion)) after);
+      fresh = λ none. absurd cc;
+      deletion_is = has.deletion_is ∙ ap is_deletion (sym first);
+      lacking_is = has.lacking_is ∙ ap may_lack (sym first);
+      falls_are = λ kept. let bad : true ≡ false = sym deletion ∙ kept in cc;
+      last_is = λ kept. let bad : true ≡ false = sym deletion ∙ kept in cc;
+    }
+  where
+    deletion_sound : is_deletion (first_record lines) ≡ true → is_sound_next lines line ≡ true
+    deletion_sound told = λ i. told i || (has_good_fields line && nat_le (midnights (lines ++ line ∷ [])) 2)
+
+-- the line is sound where the midnights with it are few
+sound_by_falls : (journey : JourneyState) (lines : Lines) (line : List ℕ) (more : ℕ) → HasLines journey lines → journey.deletion ≡ false
+    → more ≡ journey.falls + falls_after journey.last (times_along (line ∷ [])) → is_sound_next lines line ≡ (has_good_fields line && nat_le more 2)
+sound_by_falls journey lines line more has kept falls =
+    sound_next_by_count lines line
+    ∙ (λ i. (sym has.deletion_is ∙ kept) i || (has_good_fields line && nat_le (sym (has.falls_are kept) i + falls_after (sym (has.last_is kept) i) (times_along (line ∷ []))) 2))
+    ∙ (λ i. has_good_fields line && nat_le (sym falls i) 2)
+
+pub sound_goes_on : (journey : JourneyState) (lines : Lines) (line : List ℕ) (stage next : Stage) (more : ℕ) (later : Option ℕ) → HasLines journey lines → IsRecord line → journey.stage ≡ Some stage
+    → journey.deletion ≡ false → stage_after stage (kind_of line) ≡ Some next → HasGoodFields line
+    → more ≡ journey.falls + falls_after journey.last (times_along (line ∷ [])) → more ≤ 2 → later ≡ later_or (last_of (times_along (line ∷ []))) journey.last
+    → HasLines (record journey { stage = Some next; falls = more; last = later }) (lines ++ line ∷ [])
+sound_goes_on journey lines line stage next more later has is at kept after fields falls few last =
+    let stage_is : stage_of lines ≡ Some stage = sym has.stage_is ∙ at in
+    let first = first_stays lines stage line stage_is in
+    let sound = sound_by_falls journey lines line more has kept falls ∙ and_true (has_good_fields line) (nat_le more 2) (test_by_none (leftmost_bad_field line) fields) (le-leb more 2 few) in
+    record {
+      stage_is = sym (next_is lines line stage next stage_is is sound after);
+      fresh = λ none. absurd cc;
+      deletion_is = has.deletion_is ∙ ap is_deletion (sym first);
+      lacking_is = has.lacking_is ∙ ap may_lack (sym first);
+      falls_are = λ _. falls ∙ (λ i. has.falls_are kept i + falls_after (has.last_is kept i) (times_along (line ∷ []))) ∙ sym (midnights_step lines line);
+      last_is = λ _. last ∙ (λ i. later_or (last_of (times_along (line ∷ []))) (has.last_is kept i)) ∙ sym (last_time_step lines line);
+    }

@@ -1,16 +1,15 @@
 -- What the reader of a schedule's lines has read.
-use Rattle.std.specs.Prelude.{◌≡◌, ℕ, Bool, cond, true, false, List, [], Option, None, Some, ◌∷◌}
+use Rattle.std.specs.Prelude.{◌≡◌, ℕ, Bool, option_map, true, false, List, [], Option, None, Some, ◌∷◌}
 use Rattle.docker_model.specs.Stamp.{first_record}
 use Rattle.docker_model.specs.Field.{is_deletion}
 use Rattle.docker_model.specs.Journey.{times_along, midnights}
-use Rattle.docker_model.specs.Record.{Kind, kind_of}
-use Rattle.docker_model.specs.FileFault.{bad_place}
+use Rattle.docker_model.specs.Record.{Kind}
 use Rattle.docker_model.specs.FileFault as fault
-use Rattle.docker_laws.proofs.FileCauses.{field_cause}
 use Rattle.docker_model.specs.ScheduleFault.{IsScheduleFault}
 use Rattle.docker_laws.proofs.RecordTests.{last_of}
-use Rattle.docker_laws.proofs.SchedulePlace.{after_basic, after_details, in_journey, after_journey, stage_of, stage_after, is_basic_kind, may_lack}
+use Rattle.docker_laws.proofs.SchedulePlace.{after_basic, after_details, in_journey, after_journey, stage_of, stage_after, may_lack}
 use Rattle.docker_laws.proofs.SchedulePlace as place
+use Rattle.cif_file.specs.declared.progress.Progress.{Progress}
 use Rattle.cif_file.specs.declared.stage.Stage.{Stage}
 use Rattle.cif_file.specs.declared.stage.Stage.TheVariants.{AfterBasic, AfterDetails, InJourney, AfterJourney}
 
@@ -53,13 +52,19 @@ abbrev pub stage_then : Option place.Stage → Option Kind → Option place.Stag
 stage_then None kind = None
 stage_then (Some stage) kind = stage_after stage kind
 
--- why a line is no first line of a schedule: its kind, else a field
-abbrev pub first_cause : List ℕ → fault.FileCause
-first_cause line = cond (is_basic_kind (kind_of line)) (field_cause line) bad_place
-
 -- the schedule may end at a stage, where it may lack its journey or not; before its first line it may not
 abbrev pub may_end_by : Option place.Stage → Bool → Bool
 may_end_by (Some after_journey) lacking = true
 may_end_by (Some in_journey) lacking = false
 may_end_by (Some _) lacking = lacking
 may_end_by None lacking = false
+
+-- what the reader's progress keeps
+abbrev pub kept : Progress → JourneyState
+kept progress = record {
+  stage = option_map stage_meant progress.stage;
+  deletion = progress.deletion;
+  lacking = progress.lacking;
+  falls = progress.clock.falls;
+  last = progress.clock.last;
+}

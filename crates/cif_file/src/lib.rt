@@ -11,6 +11,7 @@ mod key;
 mod lines;
 mod parser;
 mod pieces;
+mod progress;
 mod reading;
 mod stage;
 mod text;

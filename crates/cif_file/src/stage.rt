@@ -1,5 +1,6 @@
 //! How far a schedule has come.
-ghost use Rattle.std.specs.Prelude.{◌≡◌, option_map, Some};
+ghost use Rattle.std.specs.Prelude.{◌≡◌, option_map, Some, IsSome, true};
+ghost use Rattle.docker_model.specs.Change.{follows_basic};
 ghost use Rattle.docker_laws.proofs.SchedulePlace.{stage_after};
 ghost use Rattle.cif_line.specs.Kind.{meaning};
 ghost use Rattle.cif_file.specs.JourneyRead.{stage_meant, may_end_by};
@@ -22,7 +23,8 @@ pub(crate) enum Stage {
 impl Stage {
     /// The stage behind one more line of this kind; none where no schedule has such a line next.
     pub(crate) fn after(self, kind: Kind) -> Option<Stage>
-        ensures { option_map stage_meant result ≡ stage_after (stage_meant self) (Some (meaning kind)) }
+        ensures stage { option_map stage_meant result ≡ stage_after (stage_meant self) (Some (meaning kind)) }
+        ensures follows { IsSome result → follows_basic (Some (meaning kind)) ≡ true }
     {
         match (self, kind) {
             (Stage::AfterBasic, Kind::ExtraDetails) => Some(Stage::AfterDetails),

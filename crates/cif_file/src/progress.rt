@@ -1,0 +1,137 @@
+//! How far a reader of a schedule's lines has come.
+ghost use Rattle.std.specs.Prelude.{◌≡◌, ℕ, ◌≤◌, ◌↔◌, IsTrue, IsOk, IfOk, IfErr, Some, true, List, [], ◌∷◌, ◌++◌};
+ghost use Rattle.docker_model.specs.Record.{HasKind, IsRecord};
+ghost use Rattle.docker_model.specs.Change.{follows_basic};
+ghost use Rattle.docker_model.specs.File.{BeginsSchedule, IsSchedule};
+ghost use Rattle.docker_laws.proofs.SchedulePlace.{is_sound_next, is_first_line};
+ghost use Rattle.docker_laws.proofs.ScheduleCauses.{first_line_cause};
+ghost use Rattle.docker_laws.proofs.FileCauses.{field_cause};
+ghost use Rattle.cif_line.specs.Kind.{meaning};
+ghost use Rattle.cif_file.specs.JourneyRead.{HasLines, IsScheduleFaultTold, stage_meant, stage_then, kept};
+ghost use Rattle.cif_file.specs.Meaning.{cause_meant};
+
+use crate::fault::FileCause;
+use crate::journey_times::{Clock, times_at};
+use crate::stage::Stage;
+use cif_line::{Basic, Kind, Line, Stp, Transaction, basic, kind};
+
+/// What a reader keeps of a schedule's lines so far.
+#[derive(Clone, Copy, PartialEq, Eq, Debug)]
+pub(crate) struct Progress {
+    stage: Option<Stage>,
+    deletion: bool,
+    lacking: bool,
+    clock: Clock,
+}
+
+impl Progress {
+    /// Before the first line.
+    pub(crate) fn new() -> Progress
+        ensures lines { HasLines (kept result) [] }
+        ensures few { result.clock.falls ≤ 2 }
+    {
+        Progress {
+            stage: None,
+            deletion: false,
+            lacking: false,
+            clock: Clock::new(),
+        }
+    }
+
+    /// Whether the lines are a schedule.
+    pub(crate) fn complete(self) -> bool
+        ensures { (lines : List (List ℕ)) → HasLines (kept self) lines → IsTrue result ↔ IsSchedule lines }
+    {
+        match self.stage {
+            Some(stage) => stage.may_end(self.lacking),
+            None => false,
+        }
+    }
+
+    /// Behind one more line, or why the schedule doesn't go on with it.
+    pub(crate) fn with(self, line: &Line) -> Result<Progress, FileCause>
+        requires { self.clock.falls ≤ 2 }
+        ensures ok { (lines : List (List ℕ)) → HasLines (kept self) lines → IsOk result ↔ BeginsSchedule (lines ++ line.now ∷ []) }
+        ensures read { (lines : List (List ℕ)) → HasLines (kept self) lines → IfOk result (λ progress. HasLines (kept progress) (lines ++ line.now ∷ [])) }
+        ensures err { (lines : List (List ℕ)) → HasLines (kept self) lines → IfErr result (λ cause. IsScheduleFaultTold lines line.now (cause_meant cause)) }
+        ensures few { IfOk result (λ progress. progress.clock.falls ≤ 2) }
+    {
+        let _record = line.bytes();
+        let Some(kind) = kind(line) else {
+            return Err(FileCause::Kind);
+        };
+        let Some(stage) = self.stage else {
+            return begun(kind, line);
+        };
+        match stage.after(kind) {
+            None => Err(FileCause::Place),
+            Some(next) => self.gone_on(next, kind, line),
+        }
+    }
+
+    /// Behind one more line that stands at its place.
+    fn gone_on(self, next: Stage, kind: Kind, line: &Line) -> Result<Progress, FileCause>
+        requires few { self.clock.falls ≤ 2 }
+        requires record { IsRecord line.now }
+        requires kind { HasKind (meaning kind) line.now }
+        requires follows { follows_basic (Some (meaning kind)) ≡ true }
+        requires stage { stage_then (kept self).stage (Some (meaning kind)) ≡ Some (stage_meant next) }
+        ensures ok { (lines : List (List ℕ)) → HasLines (kept self) lines → IsOk result ↔ (is_sound_next lines line.now ≡ true) }
+        ensures read { (lines : List (List ℕ)) → HasLines (kept self) lines → IfOk result (λ progress. HasLines (kept progress) (lines ++ line.now ∷ [])) }
+        ensures err { IfErr result (λ cause. cause_meant cause ≡ Some (field_cause line.now)) }
+        ensures few { IfOk result (λ progress. progress.clock.falls ≤ 2) }
+    {
+        if self.deletion {
+            return Ok(Progress {
+                stage: Some(next),
+                ..self
+            });
+        }
+        let clock = match times_at(kind, line) {
+            Ok(times) => self.clock.past(times),
+            Err(fault) => return Err(FileCause::Field(fault.0)),
+        };
+        if clock.falls > 2 {
+            return Err(FileCause::Midnights);
+        }
+        Ok(Progress {
+            stage: Some(next),
+            clock,
+            ..self
+        })
+    }
+}
+
+/// Behind the first line, if it is a good basic schedule.
+fn begun(kind: Kind, line: &Line) -> Result<Progress, FileCause>
+    requires record { IsRecord line.now }
+    requires kind { HasKind (meaning kind) line.now }
+    ensures ok { IsOk result ↔ (is_first_line line.now ≡ true) }
+    ensures read { IfOk result (λ progress. HasLines (kept progress) (line.now ∷ [])) }
+    ensures err { IfErr result (λ cause. cause_meant cause ≡ Some (first_line_cause line.now)) }
+    ensures few { IfOk result (λ progress. progress.clock.falls ≤ 2) }
+{
+    if kind != Kind::BasicSchedule {
+        return Err(FileCause::Place);
+    }
+    match basic(line) {
+        Ok(view) => Ok(behind_basic(&view)),
+        Err(fault) => Err(FileCause::Field(fault.0)),
+    }
+}
+
+/// Behind a basic schedule.
+fn behind_basic(view: &Basic<'_>) -> Progress
+    requires { is_first_line view.now ≡ true }
+    ensures lines { HasLines (kept result) (view.now ∷ []) }
+    ensures few { result.clock.falls ≤ 2 }
+{
+    let deletion = view.transaction() == Transaction::Delete;
+    let cancellation = view.stp() == Stp::Cancellation;
+    Progress {
+        stage: Some(Stage::AfterBasic),
+        deletion,
+        lacking: deletion || cancellation,
+        clock: Clock::new(),
+    }
+}
