@@ -1,12 +1,12 @@
 -- The checked fields of each kind of record, one by one.
-use Rattle.std.proofs.Common.{◌≡◌, ℕ, List, true, false, cond, [], ◌∷◌, ◌++◌, Bool, refl, subst, arith}
+use Rattle.std.proofs.Common.{◌≡◌, ℕ, List, true, false, cond, [], ◌∷◌, ◌++◌, Bool, Option, Some, None, refl, sym, subst, ◌∙◌, ◌⊎◌, inl, inr, arith}
 use Rattle.std.specs.List.{AllByRecursion}
-use Rattle.docker_model.specs.Record.{Kind, header, basic_schedule, origin_location, terminating_location, columns, column}
+use Rattle.docker_model.specs.Record.{Kind, header, tiploc_insert, tiploc_amend, tiploc_delete, association, basic_schedule, extra_details, origin_location, intermediate_location, terminating_location, change_en_route, trailer, HasKind, kind_of, columns, column}
 use Rattle.docker_model.specs.Date.{is_date, is_date_day_first, is_end_date, is_days}
-use Rattle.docker_model.specs.Clock.{is_clock, is_present_time, is_public_time}
-use Rattle.docker_model.specs.Field.{CheckedField, checked, checked_fields, is_tiploc, is_update_indicator, is_transaction, is_stp_indicator, is_stp_letter, is_deletion}
+use Rattle.docker_model.specs.Clock.{is_clock, is_present_time, is_scheduled_time, is_public_time}
+use Rattle.docker_model.specs.Field.{CheckedField, checked, checked_fields, HasGoodFields, is_tiploc, is_new_tiploc, is_update_indicator, is_transaction, is_stp_indicator, is_stp_letter, is_deletion}
 use Rattle.docker_laws.proofs.Columns.{good_fields, IsGoodIn, one_column}
-use Rattle.cif_line.specs.View.{IsGood}
+use Rattle.cif_line.specs.View.{IsGood, IsGoodTiploc, new_code_of}
 
 -- each checked field of a good record
 each_good : (kind : Kind) (line : List ℕ) → IsGood kind line → AllByRecursion (IsGoodIn line) (checked_fields kind line)
@@ -80,3 +80,109 @@ basic_stp line good = subst (λ b. is_stp_letter b ≡ true) (one_column line 80
 
 -- the checked fields of a basic schedule
 pub ruleset basic_fields = (basic_transaction, basic_runs_from, basic_runs_to, basic_days, basic_stp)
+
+pub assoc_transaction : (line : List ℕ) → IsGood association line → is_transaction (column 3 line ∷ []) ≡ true
+assoc_transaction line good = subst (λ b. is_transaction (b ∷ []) ≡ true) (one_column line 3 (omega arith)) (each_good association line good).0
+
+pub assoc_start : (line : List ℕ) → IsGood association line → is_date (columns 16 21 line) ≡ true
+assoc_start line good = (each_good association line good).1.0
+
+-- the fields of an association behind its first date
+assoc_fields_behind : Bool → List CheckedField
+assoc_fields_behind deletion = cond deletion [] (checked 22 27 is_end_date ∷ checked 28 34 is_days ∷ []) ++ checked 38 44 is_tiploc ∷ checked 80 80 is_stp_indicator ∷ []
+
+assoc_behind_good : (line : List ℕ) → IsGood association line → (deletion : Bool) → is_deletion line ≡ deletion → AllByRecursion (IsGoodIn line) (assoc_fields_behind deletion)
+unfolding assoc_fields_behind
+assoc_behind_good line good deletion is = subst (λ b. AllByRecursion (IsGoodIn line) (assoc_fields_behind b)) is (each_good association line good).1.1
+
+pub assoc_end : (line : List ℕ) → IsGood association line → is_deletion line ≡ false → is_end_date (columns 22 27 line) ≡ true
+unfolding assoc_fields_behind
+assoc_end line good kept = (assoc_behind_good line good false kept).0
+
+pub assoc_days : (line : List ℕ) → IsGood association line → is_deletion line ≡ false → is_days (columns 28 34 line) ≡ true
+unfolding assoc_fields_behind
+assoc_days line good kept = (assoc_behind_good line good false kept).1.0
+
+-- the two fields that count of a deletion too
+assoc_last : (line : List ℕ) → IsGood association line → (is_tiploc (columns 38 44 line) ≡ true) × (is_stp_indicator (columns 80 80 line) ≡ true)
+unfolding assoc_fields_behind
+assoc_last line good = by (is_deletion line) (assoc_behind_good line good)
+  where
+    by : (deletion : Bool) → ((b : Bool) → deletion ≡ b → AllByRecursion (IsGoodIn line) (assoc_fields_behind b)) → (is_tiploc (columns 38 44 line) ≡ true) × (is_stp_indicator (columns 80 80 line) ≡ true)
+    by true all = ((all true refl).0, (all true refl).1.0)
+    by false all = ((all false refl).1.1.0, (all false refl).1.1.1.0)
+
+pub assoc_location : (line : List ℕ) → IsGood association line → is_tiploc (columns 38 44 line) ≡ true
+assoc_location line good = (assoc_last line good).0
+
+pub assoc_stp : (line : List ℕ) → IsGood association line → is_stp_letter (column 80 line) ≡ true
+assoc_stp line good = subst (λ b. is_stp_letter b ≡ true) (one_column line 80 (omega arith)) (assoc_last line good).1
+
+-- the checked fields of an association
+pub ruleset assoc_fields = (assoc_transaction, assoc_start, assoc_end, assoc_days, assoc_location, assoc_stp)
+
+pub call_tiploc : (line : List ℕ) → IsGood intermediate_location line → is_tiploc (columns 3 9 line) ≡ true
+call_tiploc line good = (each_good intermediate_location line good).0
+
+pub call_arrival : (line : List ℕ) → IsGood intermediate_location line → is_scheduled_time (columns 11 15 line) ≡ true
+call_arrival line good = (each_good intermediate_location line good).1.0
+
+pub call_departure : (line : List ℕ) → IsGood intermediate_location line → is_scheduled_time (columns 16 20 line) ≡ true
+call_departure line good = (each_good intermediate_location line good).1.1.0
+
+pub call_pass : (line : List ℕ) → IsGood intermediate_location line → is_scheduled_time (columns 21 25 line) ≡ true
+call_pass line good = (each_good intermediate_location line good).1.1.1.0
+
+pub call_public_arrival : (line : List ℕ) → IsGood intermediate_location line → is_public_time (columns 26 29 line) ≡ true
+call_public_arrival line good = (each_good intermediate_location line good).1.1.1.1.0
+
+pub call_public_departure : (line : List ℕ) → IsGood intermediate_location line → is_public_time (columns 30 33 line) ≡ true
+call_public_departure line good = (each_good intermediate_location line good).1.1.1.1.1.0
+
+-- the checked fields of an intermediate location
+pub ruleset call_fields = (call_tiploc, call_arrival, call_departure, call_pass, call_public_arrival, call_public_departure)
+
+pub tiploc_code : (line : List ℕ) → IsGoodTiploc line → is_tiploc (columns 3 9 line) ≡ true
+tiploc_code line good = good.code
+
+pub tiploc_new_code : (line : List ℕ) → IsGoodTiploc line → HasKind tiploc_amend line → is_new_tiploc (columns 73 79 line) ≡ true
+tiploc_new_code line good amends = good.new_code amends
+
+pub no_new_code : (line : List ℕ) → ¬ HasKind tiploc_amend line → new_code_of (kind_of line) line ≡ None
+no_new_code line never = by (kind_of line) never
+  where
+    by : (kind : Option Kind) → ¬ (kind ≡ Some tiploc_amend) → new_code_of kind line ≡ None
+    by None other = refl
+    by (Some header) other = refl
+    by (Some tiploc_insert) other = refl
+    by (Some tiploc_amend) other = absurd (other refl)
+    by (Some tiploc_delete) other = refl
+    by (Some association) other = refl
+    by (Some basic_schedule) other = refl
+    by (Some extra_details) other = refl
+    by (Some origin_location) other = refl
+    by (Some intermediate_location) other = refl
+    by (Some terminating_location) other = refl
+    by (Some change_en_route) other = refl
+    by (Some trailer) other = refl
+
+-- the checked fields of a TIPLOC record
+pub ruleset tiploc_fields = (tiploc_code, tiploc_new_code, no_new_code)
+
+-- a TIPLOC record whose checked fields are good
+pub is_good_tiploc : (line : List ℕ) → HasKind tiploc_insert line ⊎ HasKind tiploc_amend line ⊎ HasKind tiploc_delete line → HasGoodFields line → IsGoodTiploc line
+is_good_tiploc line (inl inserts) good = record {
+  code = (good_fields tiploc_insert line inserts good).0;
+  new_code = λ amends. let both : Some tiploc_insert ≡ Some tiploc_amend = sym inserts ∙ amends in cc;
+}
+is_good_tiploc line (inr (inl amends)) good = record {
+  code = (good_fields tiploc_amend line amends good).0;
+  new_code = λ again. (good_fields tiploc_amend line amends good).1.0;
+}
+is_good_tiploc line (inr (inr deletes)) good = record {
+  code = (good_fields tiploc_delete line deletes good).0;
+  new_code = λ amends. let both : Some tiploc_delete ≡ Some tiploc_amend = sym deletes ∙ amends in cc;
+}
+
+-- what a view of a TIPLOC record is made by
+pub ruleset tiploc_views = (is_good_tiploc)

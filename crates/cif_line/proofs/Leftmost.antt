@@ -1,12 +1,12 @@
--- The leftmost bad field of a header and of a basic schedule, by the fields to its left.
-use Rattle.std.proofs.Common.{◌≡◌, ℕ, List, true, false, cond, [], ◌∷◌, ◌++◌, Bool, Some, ap, ◌∙◌}
+-- The leftmost bad field of a header, a TIPLOC record, an association and a basic schedule, by the fields to its left.
+use Rattle.std.proofs.Common.{◌≡◌, ℕ, List, true, false, cond, [], ◌∷◌, ◌++◌, Bool, Some, None, ap, ◌∙◌, ◌⊎◌, inl, inr}
 use Rattle.std.specs.Prelude.{not, option_map, find, Option}
 use Rattle.std.specs.List.{AllByRecursion}
-use Rattle.docker_model.specs.Record.{Kind, HasKind, header, basic_schedule, columns}
+use Rattle.docker_model.specs.Record.{Kind, HasKind, header, tiploc_insert, tiploc_amend, tiploc_delete, association, basic_schedule, kind_of, columns}
 use Rattle.docker_model.specs.Date.{is_date, is_date_day_first, is_end_date, is_days}
 use Rattle.docker_model.specs.Clock.{is_clock}
-use Rattle.docker_model.specs.Field.{CheckedField, checked, checked_fields, fields_of, leftmost_bad_field, is_update_indicator, is_transaction, is_stp_indicator, is_deletion}
-use Rattle.docker_laws.proofs.Columns.{IsGoodIn}
+use Rattle.docker_model.specs.Field.{CheckedField, checked, checked_fields, fields_of, leftmost_bad_field, is_tiploc, is_new_tiploc, is_update_indicator, is_transaction, is_stp_indicator, is_deletion}
+use Rattle.docker_laws.proofs.Columns.{IsGoodIn, fields_good}
 
 -- the first column of the first of some fields that is not good
 first_bad : List ℕ → List CheckedField → Option ℕ
@@ -76,3 +76,77 @@ basic_bad_stp_deleted line is transaction day deleted bad = of_basic line true i
 
 -- the leftmost bad field of a basic schedule
 pub ruleset basic_faults = (basic_bad_end, basic_bad_days, basic_bad_stp_kept, basic_bad_stp_deleted)
+
+-- the checked fields of an association, of a deletion or not
+assoc_checked : Bool → List CheckedField
+assoc_checked deletion =
+    checked 3 3 is_transaction ∷ checked 16 21 is_date
+    ∷ cond deletion [] (checked 22 27 is_end_date ∷ checked 28 34 is_days ∷ [])
+    ++ checked 38 44 is_tiploc ∷ checked 80 80 is_stp_indicator ∷ []
+
+of_assoc : (line : List ℕ) (deletion : Bool) → HasKind association line → is_deletion line ≡ deletion → leftmost_bad_field line ≡ first_bad line (assoc_checked deletion)
+unfolding assoc_checked
+of_assoc line deletion is deletes = by_kind association line is ∙ ap (λ b. first_bad line (assoc_checked b)) deletes
+
+pub assoc_bad_end : (line : List ℕ) → HasKind association line → is_transaction (columns 3 3 line) ≡ true → is_date (columns 16 21 line) ≡ true
+    → is_deletion line ≡ false → is_end_date (columns 22 27 line) ≡ false → leftmost_bad_field line ≡ Some 22
+unfolding assoc_checked
+assoc_bad_end line is transaction day kept bad = of_assoc line false is kept
+    ∙ behind_good line (checked 3 3 is_transaction ∷ checked 16 21 is_date ∷ []) (checked 22 27 is_end_date) (checked 28 34 is_days ∷ checked 38 44 is_tiploc ∷ checked 80 80 is_stp_indicator ∷ []) (transaction, (day, tt)) bad
+
+pub assoc_bad_days : (line : List ℕ) → HasKind association line → is_transaction (columns 3 3 line) ≡ true → is_date (columns 16 21 line) ≡ true
+    → is_deletion line ≡ false → is_end_date (columns 22 27 line) ≡ true → is_days (columns 28 34 line) ≡ false → leftmost_bad_field line ≡ Some 28
+unfolding assoc_checked
+assoc_bad_days line is transaction day kept end bad = of_assoc line false is kept
+    ∙ behind_good line (checked 3 3 is_transaction ∷ checked 16 21 is_date ∷ checked 22 27 is_end_date ∷ []) (checked 28 34 is_days) (checked 38 44 is_tiploc ∷ checked 80 80 is_stp_indicator ∷ []) (transaction, (day, (end, tt))) bad
+
+pub assoc_bad_place_kept : (line : List ℕ) → HasKind association line → is_transaction (columns 3 3 line) ≡ true → is_date (columns 16 21 line) ≡ true
+    → is_deletion line ≡ false → is_end_date (columns 22 27 line) ≡ true → is_days (columns 28 34 line) ≡ true → is_tiploc (columns 38 44 line) ≡ false → leftmost_bad_field line ≡ Some 38
+unfolding assoc_checked
+assoc_bad_place_kept line is transaction day kept end days bad = of_assoc line false is kept
+    ∙ behind_good line (checked 3 3 is_transaction ∷ checked 16 21 is_date ∷ checked 22 27 is_end_date ∷ checked 28 34 is_days ∷ []) (checked 38 44 is_tiploc) (checked 80 80 is_stp_indicator ∷ []) (transaction, (day, (end, (days, tt)))) bad
+
+pub assoc_bad_place_deleted : (line : List ℕ) → HasKind association line → is_transaction (columns 3 3 line) ≡ true → is_date (columns 16 21 line) ≡ true
+    → is_deletion line ≡ true → is_tiploc (columns 38 44 line) ≡ false → leftmost_bad_field line ≡ Some 38
+unfolding assoc_checked
+assoc_bad_place_deleted line is transaction day deleted bad = of_assoc line true is deleted
+    ∙ behind_good line (checked 3 3 is_transaction ∷ checked 16 21 is_date ∷ []) (checked 38 44 is_tiploc) (checked 80 80 is_stp_indicator ∷ []) (transaction, (day, tt)) bad
+
+pub assoc_bad_stp_kept : (line : List ℕ) → HasKind association line → is_transaction (columns 3 3 line) ≡ true → is_date (columns 16 21 line) ≡ true
+    → is_deletion line ≡ false → is_end_date (columns 22 27 line) ≡ true → is_days (columns 28 34 line) ≡ true → is_tiploc (columns 38 44 line) ≡ true
+    → is_stp_indicator (columns 80 80 line) ≡ false → leftmost_bad_field line ≡ Some 80
+unfolding assoc_checked
+assoc_bad_stp_kept line is transaction day kept end days place bad = of_assoc line false is kept
+    ∙ behind_good line (checked 3 3 is_transaction ∷ checked 16 21 is_date ∷ checked 22 27 is_end_date ∷ checked 28 34 is_days ∷ checked 38 44 is_tiploc ∷ []) (checked 80 80 is_stp_indicator) [] (transaction, (day, (end, (days, (place, tt))))) bad
+
+pub assoc_bad_stp_deleted : (line : List ℕ) → HasKind association line → is_transaction (columns 3 3 line) ≡ true → is_date (columns 16 21 line) ≡ true
+    → is_deletion line ≡ true → is_tiploc (columns 38 44 line) ≡ true → is_stp_indicator (columns 80 80 line) ≡ false → leftmost_bad_field line ≡ Some 80
+unfolding assoc_checked
+assoc_bad_stp_deleted line is transaction day deleted place bad = of_assoc line true is deleted
+    ∙ behind_good line (checked 3 3 is_transaction ∷ checked 16 21 is_date ∷ checked 38 44 is_tiploc ∷ []) (checked 80 80 is_stp_indicator) [] (transaction, (day, (place, tt))) bad
+
+-- the leftmost bad field of an association
+pub ruleset assoc_faults = (assoc_bad_end, assoc_bad_days, assoc_bad_place_kept, assoc_bad_place_deleted, assoc_bad_stp_kept, assoc_bad_stp_deleted)
+
+-- a TIPLOC insert, amend or delete
+abbrev pub IsTiplocKind : List ℕ → Type 0
+IsTiplocKind line = HasKind tiploc_insert line ⊎ HasKind tiploc_amend line ⊎ HasKind tiploc_delete line
+
+pub tiploc_bad_code : (line : List ℕ) → IsTiplocKind line → is_tiploc (columns 3 9 line) ≡ false → leftmost_bad_field line ≡ Some 3
+tiploc_bad_code line (inl inserts) bad = by_kind tiploc_insert line inserts ∙ behind_good line [] (checked 3 9 is_tiploc) [] tt bad
+tiploc_bad_code line (inr (inl amends)) bad = by_kind tiploc_amend line amends ∙ behind_good line [] (checked 3 9 is_tiploc) (checked 73 79 is_new_tiploc ∷ []) tt bad
+tiploc_bad_code line (inr (inr deletes)) bad = by_kind tiploc_delete line deletes ∙ behind_good line [] (checked 3 9 is_tiploc) [] tt bad
+
+pub tiploc_bad_new_code : (line : List ℕ) → HasKind tiploc_amend line → is_tiploc (columns 3 9 line) ≡ true → is_new_tiploc (columns 73 79 line) ≡ false → leftmost_bad_field line ≡ Some 73
+tiploc_bad_new_code line amends code bad = by_kind tiploc_amend line amends ∙ behind_good line (checked 3 9 is_tiploc ∷ []) (checked 73 79 is_new_tiploc) [] (code, tt) bad
+
+pub tiploc_amended : (line : List ℕ) → HasKind tiploc_amend line → is_tiploc (columns 3 9 line) ≡ true → is_new_tiploc (columns 73 79 line) ≡ true → leftmost_bad_field line ≡ None
+tiploc_amended line amends code new = fields_good tiploc_amend line amends (code, (new, tt))
+
+pub tiploc_not_amended : (line : List ℕ) → IsTiplocKind line → ¬ HasKind tiploc_amend line → is_tiploc (columns 3 9 line) ≡ true → leftmost_bad_field line ≡ None
+tiploc_not_amended line (inl inserts) never code = fields_good tiploc_insert line inserts (code, tt)
+tiploc_not_amended line (inr (inl amends)) never code = absurd (never amends)
+tiploc_not_amended line (inr (inr deletes)) never code = fields_good tiploc_delete line deletes (code, tt)
+
+-- the leftmost bad field of a TIPLOC record
+pub ruleset tiploc_faults = (tiploc_bad_code, tiploc_bad_new_code, tiploc_amended, tiploc_not_amended)

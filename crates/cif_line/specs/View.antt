@@ -1,7 +1,8 @@
 -- What a view of a record rests on.
-use Rattle.std.specs.Prelude.{ℕ, List, Option, option_map, find, not}
-use Rattle.docker_model.specs.Record.{Kind, HasKind, columns}
-use Rattle.docker_model.specs.Field.{CheckedField, checked_fields, HasGoodFields}
+use Rattle.std.specs.Prelude.{◌≡◌, ℕ, List, Option, Some, None, option_map, find, not, true, if◌then◌else◌}
+use Rattle.docker_model.specs.Record.{Kind, tiploc_amend, HasKind, columns}
+use Rattle.docker_model.specs.Clock.{is_blank}
+use Rattle.docker_model.specs.Field.{CheckedField, checked_fields, HasGoodFields, is_tiploc, is_new_tiploc}
 
 -- the line is a record of the kind, and each checked field of it is good
 pub record IsGood (kind : Kind) (line : List ℕ) : Type 0 where
@@ -11,3 +12,13 @@ pub record IsGood (kind : Kind) (line : List ℕ) : Type 0 where
 -- the first column of the leftmost checked field that is not good, in a record of this kind
 abbrev pub bad_field_of : Kind → List ℕ → Option ℕ
 bad_field_of kind line = option_map (λ (field : CheckedField). field.first) (find (λ field. not (field.is_good (columns field.first field.last line))) (checked_fields kind line))
+
+-- the checked fields of a TIPLOC record are good: its code, and the new one of an amendment
+pub record IsGoodTiploc (line : List ℕ) : Type 0 where
+  pub code : is_tiploc (columns 3 9 line) ≡ true
+  pub new_code : HasKind tiploc_amend line → is_new_tiploc (columns 73 79 line) ≡ true
+
+-- the new code of a TIPLOC record of a kind: only an amendment has one, where it is not blank
+abbrev pub new_code_of : Option Kind → List ℕ → Option (List ℕ)
+new_code_of (Some tiploc_amend) line = if is_blank (columns 73 79 line) then None else Some (columns 73 79 line)
+new_code_of _ line = None

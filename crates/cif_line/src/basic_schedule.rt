@@ -47,50 +47,35 @@ impl<'a> Basic<'a> {
     pub fn transaction(&self) -> Transaction
         ensures { transaction_letter result ≡ column 3 self.now }
     {
-        match Transaction::from_letter(self.line.column(3)) {
-            Some(transaction) => transaction,
-            None => unreachable!(),
-        }
+        self.line.transaction()
     }
 
     /// The train's UID: columns 4 to 9.
     pub fn uid(&self) -> Uid
         ensures { result ≡ columns 4 9 self.now }
     {
-        match Uid::from_field(self.line.field(4)) {
-            Some(uid) => uid,
-            None => unreachable!(),
-        }
+        self.line.uid(4)
     }
 
     /// The first day on which it runs: columns 10 to 15.
     pub fn runs_from(&self) -> Day
         ensures { result ≡ date_number (columns 10 15 self.now) }
     {
-        match Day::from_yymmdd(self.line.field(10)) {
-            Some(day) => day,
-            None => unreachable!(),
-        }
+        self.line.day(10)
     }
 
     /// The last day on which it runs, none on a deletion: columns 16 to 21.
     pub fn runs_to(&self) -> Option<Until>
         ensures { result ≡ (if is_deletion self.now then None else Some (end_number (columns 16 21 self.now))) }
     {
-        match self.transaction() {
-            Transaction::Delete => None,
-            _ => Until::from_field(self.line.field(16)),
-        }
+        self.line.end_unless_deleted(16)
     }
 
     /// The weekdays on which it runs, none on a deletion: columns 22 to 28.
     pub fn days(&self) -> Option<Days>
         ensures { result ≡ (if is_deletion self.now then None else Some (columns 22 28 self.now)) }
     {
-        match self.transaction() {
-            Transaction::Delete => None,
-            _ => Days::from_field(self.line.field(22)),
-        }
+        self.line.days_unless_deleted(22)
     }
 
     /// The train identity: columns 33 to 36.
@@ -105,9 +90,6 @@ impl<'a> Basic<'a> {
     pub fn stp(&self) -> Stp
         ensures { stp_letter result ≡ column 80 self.now }
     {
-        match Stp::from_letter(self.line.column(80)) {
-            Some(stp) => stp,
-            None => unreachable!(),
-        }
+        self.line.stp()
     }
 }

@@ -1,8 +1,8 @@
 //! Tests of checked fields, and the fault of the leftmost that fails.
 ghost use Rattle.std.specs.Prelude.{◌≡◌};
 ghost use Rattle.docker_model.specs.Date.{is_date, is_date_day_first, is_end_date, is_days};
-ghost use Rattle.docker_model.specs.Clock.{is_clock, is_present_time, is_public_time};
-ghost use Rattle.docker_model.specs.Field.{is_tiploc, is_update_indicator, is_transaction, is_stp_indicator};
+ghost use Rattle.docker_model.specs.Clock.{is_clock, is_present_time, is_scheduled_time, is_public_time};
+ghost use Rattle.docker_model.specs.Field.{is_tiploc, is_new_tiploc, is_update_indicator, is_transaction, is_stp_indicator};
 
 use crate::day::Day;
 use crate::days::Days;
@@ -72,6 +72,13 @@ pub(crate) fn is_tiploc(field: &[u8; 7]) -> bool
     field[0] != b' '
 }
 
+/// A new TIPLOC is blank, or its first character is not a space.
+pub(crate) fn is_new_tiploc(field: &[u8; 7]) -> bool
+    ensures { result ≡ is_new_tiploc field.now }
+{
+    is_blank(field) || is_tiploc(field)
+}
+
 /// A time of extract is HHMM.
 pub(crate) fn is_clock(field: &[u8; 4]) -> bool
     ensures { result ≡ is_clock field.now }
@@ -84,6 +91,13 @@ pub(crate) fn is_present_time(field: &[u8; 5]) -> bool
     ensures { result ≡ is_present_time field.now }
 {
     Time::from_field(field).is_some()
+}
+
+/// A scheduled time that is there, or blank.
+pub(crate) fn is_scheduled_time(field: &[u8; 5]) -> bool
+    ensures { result ≡ is_scheduled_time field.now }
+{
+    is_blank(field) || is_present_time(field)
 }
 
 /// A public time is HHMM or blank.

@@ -1,6 +1,6 @@
 //! The identity of a record, in its columns 1 and 2.
-ghost use Rattle.std.specs.Prelude.{◌≡◌, option_map};
-ghost use Rattle.docker_model.specs.Record.{kind_of};
+ghost use Rattle.std.specs.Prelude.{◌≡◌, ◌↔◌, IsTrue, option_map};
+ghost use Rattle.docker_model.specs.Record.{tiploc_amend, HasKind, kind_of};
 ghost use Rattle.cif_line.specs.Kind.{meaning};
 
 use crate::kind_of_record::Kind;
@@ -27,5 +27,15 @@ pub fn kind(line: &Line) -> Option<Kind>
         b"CR" => Some(Kind::ChangeEnRoute),
         b"ZZ" => Some(Kind::Trailer),
         _ => None,
+    }
+}
+
+/// The record is a TIPLOC amendment (TA).
+pub(crate) fn is_amendment(line: &Line) -> bool
+    ensures { IsTrue result ↔ HasKind tiploc_amend line.now }
+{
+    match kind(line) {
+        Some(Kind::TiplocAmend) => true,
+        _ => false,
     }
 }

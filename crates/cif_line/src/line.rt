@@ -1,13 +1,11 @@
 //! A line of a CIF file: 80 printable bytes.
 ghost use Rattle.std.specs.Prelude.{◌≡◌, ℕ, ◌↔◌, ◌<◌, length, IsTrue, IsOk, IfOk, Ok, Err, Some, IsNone, IfSome, position, not, ◌≤◌, ◌-◌, ◌+◌, true};
 ghost use Rattle.std.specs.List.{AllPass};
-ghost use Rattle.docker_model.specs.Clock.{is_present_time, half_minutes};
-ghost use Rattle.docker_model.specs.Field.{is_tiploc};
+ghost use Rattle.docker_model.specs.Change.{as_new};
 ghost use Rattle.docker_model.specs.State.{IsTextOfLength};
 ghost use Rattle.docker_model.specs.Record.{IsRecord, leftmost_bad_byte, is_printable, columns, column};
 
-use crate::time::Time;
-use crate::tiploc::Tiploc;
+use crate::printable::is_printable_line;
 use std::marker::Model;
 use thiserror::Error;
 
@@ -55,7 +53,7 @@ impl Line {
         let Ok(bytes) = <[u8; 80]>::try_from(bytes) else {
             return Err(LineFault::Length);
         };
-        match first_bad_column(&bytes) {
+        match bad_column(&bytes) {
             Some(column) => Err(LineFault::Byte(column)),
             None => Ok(Line { bytes }),
         }
@@ -74,32 +72,6 @@ impl Line {
         }
     }
 
-    /// The TIPLOC in the seven columns from one on.
-    pub(crate) fn tiploc(&self, first: usize) -> Tiploc
-        requires from { 0 < first }
-        requires within { first ≤ 74 }
-        requires good { is_tiploc (columns first (first - 1 + 7) self.now) ≡ true }
-        ensures { result ≡ columns first (first - 1 + 7) self.now }
-    {
-        match Tiploc::from_field(self.field(first)) {
-            Some(tiploc) => tiploc,
-            None => unreachable!(),
-        }
-    }
-
-    /// The scheduled time in the five columns from one on.
-    pub(crate) fn present_time(&self, first: usize) -> Time
-        requires from { 0 < first }
-        requires within { first ≤ 76 }
-        requires good { is_present_time (columns first (first - 1 + 5) self.now) ≡ true }
-        ensures { result ≡ half_minutes (columns first (first - 1 + 5) self.now) }
-    {
-        match Time::from_field(self.field(first)) {
-            Some(time) => time,
-            None => unreachable!(),
-        }
-    }
-
     /// The byte in a column, counted from 1.
     pub(crate) fn column(&self, n: usize) -> u8
         requires from { 0 < n }
@@ -108,6 +80,14 @@ impl Line {
         ensures printable { is_printable result ≡ true }
     {
         self.bytes[n - 1]
+    }
+
+    /// The line with its transaction, column 3, set to `N`: of a basic schedule (BS) or an association (AA).
+    pub fn as_new(mut self) -> Line
+        ensures { result ≡ as_new self }
+    {
+        self.bytes[2] = b'N';
+        self
     }
 
     /// The 80 bytes of the line.
@@ -135,7 +115,19 @@ fn first_bad_index(bytes: &[u8]) -> Option<usize>
     bytes.iter().position(|byte| !is_printable(*byte))
 }
 
-/// The leftmost column, from 1, whose byte is not printable.
+/// The leftmost column, from 1, whose byte is not printable: looked for only once it is known that there is one.
+#[tactic(auto, using(docker_laws::proofs::RecordTests::no_bad_byte))]
+fn bad_column(bytes: &[u8; 80]) -> Option<u8>
+    ensures value { result ≡ leftmost_bad_byte bytes.now }
+    ensures none { IsNone result ↔ AllPass is_printable bytes.now }
+{
+    if is_printable_line(bytes) {
+        return None;
+    }
+    first_bad_column(bytes)
+}
+
+/// The same, column by column.
 fn first_bad_column(bytes: &[u8; 80]) -> Option<u8>
     ensures value { result ≡ leftmost_bad_byte bytes.now }
     ensures none { IsNone result ↔ AllPass is_printable bytes.now }

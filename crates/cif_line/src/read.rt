@@ -1,18 +1,24 @@
 //! Views of records: each is made where the checked fields of its kind are good.
-ghost use Rattle.std.specs.Prelude.{◌≡◌, ◌↔◌, IsOk, IfOk, IfErr, Some};
-ghost use Rattle.docker_model.specs.Record.{HasKind, header, basic_schedule, origin_location, terminating_location};
+ghost use Rattle.std.specs.Prelude.{◌≡◌, ◌↔◌, ◌⊎◌, IsOk, IfOk, IfErr, Some};
+ghost use Rattle.docker_model.specs.Record.{HasKind, header, tiploc_insert, tiploc_amend, tiploc_delete, association, basic_schedule, origin_location, intermediate_location, terminating_location, change_en_route};
 ghost use Rattle.docker_model.specs.Field.{HasGoodFields, leftmost_bad_field};
 ghost use Rattle.cif_line.specs.View.{bad_field_of};
 
+use crate::association::Assoc;
 use crate::basic_schedule::Basic;
+use crate::change_en_route::ChangeEnRoute;
 use crate::check::{
-    FieldFault, is_clock, is_date, is_date_day_first, is_days, is_end_date, is_present_time,
-    is_public_time, is_stp_indicator, is_tiploc, is_transaction, is_update_indicator,
+    FieldFault, is_clock, is_date, is_date_day_first, is_days, is_end_date, is_new_tiploc,
+    is_present_time, is_public_time, is_scheduled_time, is_stp_indicator, is_tiploc,
+    is_transaction, is_update_indicator,
 };
 use crate::header_record::Header;
+use crate::identity::is_amendment;
+use crate::intermediate_location::Call;
 use crate::line::Line;
 use crate::origin_location::Origin;
 use crate::terminating_location::Terminus;
+use crate::tiploc_record::TiplocRecord;
 
 #[cfg(test)]
 mod tests;
@@ -48,6 +54,81 @@ fn header_fault(line: &Line) -> Option<u8>
     None
 }
 
+/// A view of a TIPLOC insert (TI), amend (TA) or delete (TD), or the first column of its leftmost bad field: 3 for the code, and of an amendment 73 for the
+/// new code, which may be blank.
+#[tactic(auto, using(crate::proofs::GoodFields::tiploc_views))]
+pub fn tiploc(line: &Line) -> Result<TiplocRecord<'_>, FieldFault>
+    requires kind { HasKind tiploc_insert line.now ⊎ HasKind tiploc_amend line.now ⊎ HasKind tiploc_delete line.now }
+    ensures ok { IsOk result ↔ HasGoodFields line.now }
+    ensures value { IfOk result (λ view. view ≡ line.now) }
+    ensures err { IfErr result (λ fault. leftmost_bad_field line.now ≡ Some fault.0) }
+{
+    match tiploc_fault(line) {
+        Some(column) => Err(FieldFault(column)),
+        None => Ok(TiplocRecord::of(line)),
+    }
+}
+
+/// The first column of its leftmost bad field.
+#[tactic(auto, using(crate::proofs::Leftmost::tiploc_faults))]
+fn tiploc_fault(line: &Line) -> Option<u8>
+    requires kind { HasKind tiploc_insert line.now ⊎ HasKind tiploc_amend line.now ⊎ HasKind tiploc_delete line.now }
+    ensures { result ≡ leftmost_bad_field line.now }
+{
+    if !is_tiploc(line.field(3)) {
+        return Some(3);
+    }
+    if is_amendment(line) {
+        if !is_new_tiploc(line.field(73)) {
+            return Some(73);
+        }
+    }
+    None
+}
+
+/// A view of an association (AA), or the first column of its leftmost bad field: 3 for the transaction, 16 for the first day, 22 for the end date and
+/// 28 for the weekdays where it is no deletion, 38 for the TIPLOC, 80 for the STP indicator.
+pub fn assoc(line: &Line) -> Result<Assoc<'_>, FieldFault>
+    requires kind { HasKind association line.now }
+    ensures ok { IsOk result ↔ HasGoodFields line.now }
+    ensures value { IfOk result (λ view. view ≡ line.now) }
+    ensures err { IfErr result (λ fault. leftmost_bad_field line.now ≡ Some fault.0) }
+{
+    match assoc_fault(line) {
+        Some(column) => Err(FieldFault(column)),
+        None => Ok(Assoc::of(line)),
+    }
+}
+
+/// The first column of its leftmost bad field.
+#[tactic(auto, using(crate::proofs::Leftmost::assoc_faults))]
+fn assoc_fault(line: &Line) -> Option<u8>
+    requires kind { HasKind association line.now }
+    ensures { result ≡ leftmost_bad_field line.now }
+{
+    if !is_transaction(line.field(3)) {
+        return Some(3);
+    }
+    if !is_date(line.field(16)) {
+        return Some(16);
+    }
+    if !line.is_deletion() {
+        if !is_end_date(line.field(22)) {
+            return Some(22);
+        }
+        if !is_days(line.field(28)) {
+            return Some(28);
+        }
+    }
+    if !is_tiploc(line.field(38)) {
+        return Some(38);
+    }
+    if !is_stp_indicator(line.field(80)) {
+        return Some(80);
+    }
+    None
+}
+
 /// A view of a basic schedule (BS), or the first column of its leftmost bad field: 3 for the transaction, 10 for the first day, 16 for the end date and
 /// 22 for the weekdays where it is no deletion, 80 for the STP indicator.
 pub fn basic(line: &Line) -> Result<Basic<'_>, FieldFault>
@@ -74,7 +155,7 @@ fn basic_fault(line: &Line) -> Option<u8>
     if !is_date(line.field(10)) {
         return Some(10);
     }
-    if line.column(3) != b'D' {
+    if !line.is_deletion() {
         if !is_end_date(line.field(16)) {
             return Some(16);
         }
@@ -131,4 +212,54 @@ fn end_fault(line: &Line) -> Option<u8>
         return Some(16);
     }
     None
+}
+
+/// A view of an intermediate location (LI), or the first column of its leftmost bad field: 3 for the TIPLOC, 11 for the arrival, 16 for the departure,
+/// 21 for the pass, 26 for the public arrival, 30 for the public departure. Each of the times may be blank.
+pub fn call(line: &Line) -> Result<Call<'_>, FieldFault>
+    requires kind { HasKind intermediate_location line.now }
+    ensures ok { IsOk result ↔ HasGoodFields line.now }
+    ensures value { IfOk result (λ view. view ≡ line.now) }
+    ensures err { IfErr result (λ fault. leftmost_bad_field line.now ≡ Some fault.0) }
+{
+    match call_fault(line) {
+        Some(column) => Err(FieldFault(column)),
+        None => Ok(Call::of(line)),
+    }
+}
+
+/// The first column of its leftmost bad field.
+fn call_fault(line: &Line) -> Option<u8>
+    ensures { result ≡ bad_field_of intermediate_location line.now }
+{
+    if !is_tiploc(line.field(3)) {
+        return Some(3);
+    }
+    if !is_scheduled_time(line.field(11)) {
+        return Some(11);
+    }
+    if !is_scheduled_time(line.field(16)) {
+        return Some(16);
+    }
+    if !is_scheduled_time(line.field(21)) {
+        return Some(21);
+    }
+    if !is_public_time(line.field(26)) {
+        return Some(26);
+    }
+    if !is_public_time(line.field(30)) {
+        return Some(30);
+    }
+    None
+}
+
+/// A view of a change en route (CR), which has no checked field, so there is always one.
+pub fn change(line: &Line) -> Result<ChangeEnRoute<'_>, FieldFault>
+    requires kind { HasKind change_en_route line.now }
+    ensures always { IsOk result }
+    ensures ok { IsOk result ↔ HasGoodFields line.now }
+    ensures value { IfOk result (λ view. view ≡ line.now) }
+    ensures err { IfErr result (λ fault. leftmost_bad_field line.now ≡ Some fault.0) }
+{
+    Ok(ChangeEnRoute::of(line))
 }

@@ -10,7 +10,7 @@ ghost use Rattle.cif_line.specs.View.{IsGood};
 
 use crate::line::Line;
 use crate::time::Time;
-use crate::tiploc::Tiploc;
+use crate::tiploc_code::Tiploc;
 use std::marker::Model;
 
 /// A view of a terminating location (LT) whose checked fields are good.
@@ -67,7 +67,7 @@ impl<'a> Terminus<'a> {
         ensures value { result ≡ option_map (λ minute. 2 * minute) (public_time (columns 16 19 self.now)) }
         ensures shown { shown_public (columns 16 19 self.now) ≡ option_map_or (λ time. take 4 (time_text time)) result (spaces 4) }
     {
-        Time::from_public(self.line.field(16))
+        self.line.public_time(16)
     }
 
     /// The platform: columns 20 to 22.

@@ -3,7 +3,7 @@ ghost use Rattle.std.specs.Prelude.{◌≡◌, ◌↔◌, ◌≤◌, ◌<◌, �
 ghost use Rattle.std.specs.List.{list_all};
 ghost use Rattle.std.specs.Char.{is_ascii_digit};
 ghost use Rattle.docker_model.specs.Date.{two_digits};
-ghost use Rattle.docker_model.specs.Clock.{is_blank, is_clock, minute_of, is_present_time, half_minutes, is_public_time, public_time};
+ghost use Rattle.docker_model.specs.Clock.{is_blank, is_clock, minute_of, is_present_time, half_minutes, is_scheduled_time, scheduled_time, is_public_time, public_time};
 ghost use Rattle.std.specs.Option.{option_map_or};
 ghost use Rattle.docker_model.specs.DockerLine.{shown_public, spaces};
 ghost use Rattle.docker_model.specs.DockerText.{time_text};
@@ -48,6 +48,15 @@ impl Time {
             }),
             _ => None,
         }
+    }
+
+    /// The scheduled time of a field, none where it is blank.
+    #[tactic(auto, using(crate::proofs::Times::scheduled_times))]
+    pub(crate) fn from_scheduled(field: &[u8; 5]) -> Option<Time>
+        requires good { is_scheduled_time field.now ≡ true }
+        ensures { result ≡ scheduled_time field.now }
+    {
+        Time::from_field(field)
     }
 
     /// The public time of a field HHMM, which is a whole minute; none where the field is blank or `0000`.

@@ -1,0 +1,131 @@
+//! An association of two trains, a record AA.
+ghost use Rattle.std.specs.Prelude.{◌≡◌, None, Some, if◌then◌else◌};
+ghost use Rattle.docker_model.specs.Record.{association, columns, column};
+ghost use Rattle.docker_model.specs.Date.{date_number, end_number};
+ghost use Rattle.docker_model.specs.Field.{is_deletion};
+ghost use Rattle.docker_model.specs.State.{IsTextOfLength};
+ghost use Rattle.cif_line.specs.View.{IsGood};
+ghost use Rattle.cif_line.specs.Letter.{transaction_letter, stp_letter};
+
+use crate::day::Day;
+use crate::days::Days;
+use crate::letter::{Stp, Transaction};
+use crate::line::Line;
+use crate::tiploc_code::Tiploc;
+use crate::uid::Uid;
+use crate::until::Until;
+use std::marker::Model;
+
+/// A view of an association (AA) whose checked fields are good. Of a deletion the end date and the days are not checked.
+#[derive(Debug, Drop)]
+pub struct Assoc<'a> {
+    line: &'a Line,
+}
+
+impl<'a> Model for Assoc<'a> {
+    ghost use Rattle.std.specs.Prelude.{List, ℕ};
+    ghost use Rattle.docker_model.specs.Record.{association};
+    ghost use Rattle.cif_line.specs.View.{IsGood};
+
+    ghost Value = { List ℕ };
+
+    ghost view = { λ assoc. assoc.line.now };
+
+    ghost invariant = { λ assoc. IsGood association assoc.line.now };
+}
+
+#[tactic(auto, using(crate::proofs::GoodFields::assoc_fields))]
+impl<'a> Assoc<'a> {
+    /// A view of a line whose fields were checked.
+    pub(crate) fn of(line: &'a Line) -> Assoc<'a>
+        requires good { IsGood association line.now }
+        ensures line { result ≡ line.entry.now }
+    {
+        Assoc { line }
+    }
+
+    /// The transaction: column 3.
+    pub fn transaction(&self) -> Transaction
+        ensures { transaction_letter result ≡ column 3 self.now }
+    {
+        self.line.transaction()
+    }
+
+    /// The UID of the base train: columns 4 to 9.
+    pub fn base(&self) -> Uid
+        ensures { result ≡ columns 4 9 self.now }
+    {
+        self.line.uid(4)
+    }
+
+    /// The UID of the associated train: columns 10 to 15.
+    pub fn associated(&self) -> Uid
+        ensures { result ≡ columns 10 15 self.now }
+    {
+        self.line.uid(10)
+    }
+
+    /// The first start day of the base train for which it holds: columns 16 to 21.
+    pub fn start(&self) -> Day
+        ensures { result ≡ date_number (columns 16 21 self.now) }
+    {
+        self.line.day(16)
+    }
+
+    /// The last start day of the base train for which it holds, none on a deletion: columns 22 to 27.
+    pub fn end(&self) -> Option<Until>
+        ensures { result ≡ (if is_deletion self.now then None else Some (end_number (columns 22 27 self.now))) }
+    {
+        self.line.end_unless_deleted(22)
+    }
+
+    /// The weekdays of the base train's start for which it holds, none on a deletion: columns 28 to 34.
+    pub fn days(&self) -> Option<Days>
+        ensures { result ≡ (if is_deletion self.now then None else Some (columns 28 34 self.now)) }
+    {
+        self.line.days_unless_deleted(28)
+    }
+
+    /// The association category, as `JJ`, `VV` or `NP`: columns 35 and 36.
+    pub fn category(&self) -> &'a [u8; 2]
+        ensures value { result.now ≡ columns 35 36 self.now }
+        ensures text { IsTextOfLength 2 result.now }
+    {
+        self.line.field(35)
+    }
+
+    /// The date indicator, as `S`, `N` or `P`: column 37.
+    pub fn date_indicator(&self) -> u8
+        ensures { result ≡ column 37 self.now }
+    {
+        self.line.column(37)
+    }
+
+    /// The TIPLOC of the timing point at which it is: columns 38 to 44.
+    pub fn location(&self) -> Tiploc
+        ensures { result ≡ columns 38 44 self.now }
+    {
+        self.line.tiploc(38)
+    }
+
+    /// The suffix of the base train's call there: column 45.
+    pub fn base_suffix(&self) -> u8
+        ensures { result ≡ column 45 self.now }
+    {
+        self.line.column(45)
+    }
+
+    /// The suffix of the associated train's call there: column 46.
+    pub fn associated_suffix(&self) -> u8
+        ensures { result ≡ column 46 self.now }
+    {
+        self.line.column(46)
+    }
+
+    /// The STP indicator: column 80.
+    pub fn stp(&self) -> Stp
+        ensures { stp_letter result ≡ column 80 self.now }
+    {
+        self.line.stp()
+    }
+}

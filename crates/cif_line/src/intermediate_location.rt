@@ -1,0 +1,118 @@
+//! An intermediate location of a schedule, a record LI.
+ghost use Rattle.std.specs.Prelude.{◌≡◌, option_map, ◌*◌, take};
+ghost use Rattle.std.specs.Option.{option_map_or};
+ghost use Rattle.docker_model.specs.Record.{intermediate_location, columns, column};
+ghost use Rattle.docker_model.specs.Clock.{scheduled_time, public_time};
+ghost use Rattle.docker_model.specs.DockerLine.{shown_public, spaces};
+ghost use Rattle.docker_model.specs.DockerText.{time_text};
+ghost use Rattle.docker_model.specs.State.{IsTextOfLength};
+ghost use Rattle.cif_line.specs.View.{IsGood};
+
+use crate::line::Line;
+use crate::time::Time;
+use crate::tiploc_code::Tiploc;
+use std::marker::Model;
+
+/// A view of an intermediate location (LI) whose checked fields are good.
+#[derive(Debug, Drop)]
+pub struct Call<'a> {
+    line: &'a Line,
+}
+
+impl<'a> Model for Call<'a> {
+    ghost use Rattle.std.specs.Prelude.{List, ℕ};
+    ghost use Rattle.docker_model.specs.Record.{intermediate_location};
+    ghost use Rattle.cif_line.specs.View.{IsGood};
+
+    ghost Value = { List ℕ };
+
+    ghost view = { λ call. call.line.now };
+
+    ghost invariant = { λ call. IsGood intermediate_location call.line.now };
+}
+
+#[tactic(auto, using(crate::proofs::GoodFields::call_fields))]
+impl<'a> Call<'a> {
+    /// A view of a line whose fields were checked.
+    pub(crate) fn of(line: &'a Line) -> Call<'a>
+        requires good { IsGood intermediate_location line.now }
+        ensures line { result ≡ line.entry.now }
+    {
+        Call { line }
+    }
+
+    /// The TIPLOC of the timing point: columns 3 to 9.
+    pub fn tiploc(&self) -> Tiploc
+        ensures { result ≡ columns 3 9 self.now }
+    {
+        self.line.tiploc(3)
+    }
+
+    /// The suffix that tells apart several calls at one timing point: column 10.
+    pub fn suffix(&self) -> u8
+        ensures { result ≡ column 10 self.now }
+    {
+        self.line.column(10)
+    }
+
+    /// The scheduled arrival, in half minutes, none where it is blank: columns 11 to 15.
+    pub fn arrival(&self) -> Option<Time>
+        ensures { result ≡ scheduled_time (columns 11 15 self.now) }
+    {
+        self.line.scheduled_time(11)
+    }
+
+    /// The scheduled departure, in half minutes, none where it is blank: columns 16 to 20.
+    pub fn departure(&self) -> Option<Time>
+        ensures { result ≡ scheduled_time (columns 16 20 self.now) }
+    {
+        self.line.scheduled_time(16)
+    }
+
+    /// The scheduled pass, in half minutes, none where it is blank: columns 21 to 25.
+    pub fn pass(&self) -> Option<Time>
+        ensures { result ≡ scheduled_time (columns 21 25 self.now) }
+    {
+        self.line.scheduled_time(21)
+    }
+
+    /// The public arrival, a whole minute, none where it is blank or `0000`: columns 26 to 29.
+    pub fn public_arrival(&self) -> Option<Time>
+        ensures value { result ≡ option_map (λ minute. 2 * minute) (public_time (columns 26 29 self.now)) }
+        ensures shown { shown_public (columns 26 29 self.now) ≡ option_map_or (λ time. take 4 (time_text time)) result (spaces 4) }
+    {
+        self.line.public_time(26)
+    }
+
+    /// The public departure, a whole minute, none where it is blank or `0000`: columns 30 to 33.
+    pub fn public_departure(&self) -> Option<Time>
+        ensures value { result ≡ option_map (λ minute. 2 * minute) (public_time (columns 30 33 self.now)) }
+        ensures shown { shown_public (columns 30 33 self.now) ≡ option_map_or (λ time. take 4 (time_text time)) result (spaces 4) }
+    {
+        self.line.public_time(30)
+    }
+
+    /// The platform: columns 34 to 36.
+    pub fn platform(&self) -> &'a [u8; 3]
+        ensures value { result.now ≡ columns 34 36 self.now }
+        ensures text { IsTextOfLength 3 result.now }
+    {
+        self.line.field(34)
+    }
+
+    /// The line on which the train departs: columns 37 to 39.
+    pub fn track(&self) -> &'a [u8; 3]
+        ensures value { result.now ≡ columns 37 39 self.now }
+        ensures text { IsTextOfLength 3 result.now }
+    {
+        self.line.field(37)
+    }
+
+    /// The path by which the train arrives: columns 40 to 42.
+    pub fn path(&self) -> &'a [u8; 3]
+        ensures value { result.now ≡ columns 40 42 self.now }
+        ensures text { IsTextOfLength 3 result.now }
+    {
+        self.line.field(40)
+    }
+}
