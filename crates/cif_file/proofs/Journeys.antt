@@ -3,13 +3,16 @@ use Rattle.std.proofs.Common.{◌≡◌, ℕ, ◌+◌, ◌≤◌, ◌<◌, inl, 
 use Rattle.std.specs.Prelude.{Option, IsTrue, ◌↔◌, ◌||◌, ◌&&◌, ◌==◌, nat_le, is_some, is_none, IsOk, IfErr, Result, Ok, Err}
 use Rattle.std.specs.List.{flat_map}
 use Rattle.std.proofs.lemmas.Bool.{le-leb}
-use Rattle.docker_model.specs.Record.{Kind, kind_of, IsRecord, column}
+use Rattle.docker_model.specs.Record.{Kind, kind_of, IsRecord, HasKind, origin_location, intermediate_location, terminating_location, column, columns}
+use Rattle.docker_model.specs.Clock.{half_minutes, scheduled_time}
 use Rattle.docker_model.specs.Stamp.{first_record}
 use Rattle.docker_model.specs.Field.{is_deletion, HasGoodFields, leftmost_bad_field}
 use Rattle.docker_model.specs.File.{IsSchedule, BeginsSchedule}
 use Rattle.docker_model.specs.FileFault as fault
 use Rattle.docker_model.specs.ScheduleFault.{IsScheduleFault}
-use Rattle.docker_model.specs.Journey.{Occasion, times_of, times_along, midnights, fall_count}
+use Rattle.docker_model.specs.Journey.{Occasion, arrival, pass, departure, timed, times_of, times_by_kind, times_along, midnights, fall_count}
+use Rattle.docker_laws.proofs.Columns.{good_fields}
+use Rattle.docker_laws.proofs.OneTrain.{time_there}
 use Rattle.docker_laws.proofs.RecordTests.{is_record, has_good_fields, test_by_none, and_true, record_iff_test, last_of, falls_after, later_or, midnights_step, last_time_step}
 use Rattle.docker_laws.proofs.SchedulePlace.{Stage, after_basic, after_details, in_journey, after_journey, stage_after, stage_of, stage_of_more, may_lack, may_end, is_first_line, is_sound_next, next_stage, schedule_iff_stage, begins_iff_stage, sound_next_by_count}
 use Rattle.docker_laws.proofs.ScheduleCauses.{schedule_cause, first_line_cause, first_line_fault, begins_next_stage, schedule_fault}
@@ -202,3 +205,42 @@ sound_goes_on journey lines line stage next more later has is at kept after fiel
       falls_are = λ _. falls ∙ (λ i. has.falls_are kept i + falls_after (has.last_is kept i) (times_along (line ∷ []))) ∙ sym (midnights_step lines line);
       last_is = λ _. last ∙ (λ i. later_or (last_of (times_along (line ∷ []))) (has.last_is kept i)) ∙ sym (last_time_step lines line);
     }
+
+-- the falls of three times in turn
+pub falls_of_three : (falls : ℕ) (last first second third : Option ℕ)
+    → ((falls + falls_after last (listed first)) + falls_after (later_or first last) (listed second)) + falls_after (later_or second (later_or first last)) (listed third)
+    ≡ falls + falls_after last (listed first ++ listed second ++ listed third)
+falls_of_three falls last first second third =
+    let one = ap (falls_after last) (append_assoc (listed first) (listed second) (listed third)) ∙ falls_in_turn last first (listed second ++ listed third) in
+    let two = falls_in_turn (later_or first last) second (listed third) in
+    omega arith
+
+-- ---- the times of a line of a kind
+
+pub origin_time : (line : List ℕ) → HasKind origin_location line → HasGoodFields line → map (λ (time : Occasion × ℕ). time.1) (times_of line) ≡ half_minutes (columns 11 15 line) ∷ []
+origin_time line is good =
+    (λ i. map (λ (time : Occasion × ℕ). time.1) (times_by_kind (is i) line))
+    ∙ ap (λ time. map (λ (t : Occasion × ℕ). t.1) (timed departure time)) (time_there (columns 11 15 line) (good_fields origin_location line is good).1.0)
+
+pub terminus_time : (line : List ℕ) → HasKind terminating_location line → HasGoodFields line → map (λ (time : Occasion × ℕ). time.1) (times_of line) ≡ half_minutes (columns 11 15 line) ∷ []
+terminus_time line is good =
+    (λ i. map (λ (time : Occasion × ℕ). time.1) (times_by_kind (is i) line))
+    ∙ ap (λ time. map (λ (t : Occasion × ℕ). t.1) (timed arrival time)) (time_there (columns 11 15 line) (good_fields terminating_location line is good).1.0)
+
+pub call_times : (line : List ℕ) (first second third : Option ℕ) → HasKind intermediate_location line
+    → first ≡ scheduled_time (columns 11 15 line) → second ≡ scheduled_time (columns 21 25 line) → third ≡ scheduled_time (columns 16 20 line)
+    → map (λ (time : Occasion × ℕ). time.1) (times_of line) ≡ listed first ++ listed second ++ listed third
+call_times line first second third is one two three =
+    (λ i. map (λ (time : Occasion × ℕ). time.1) (times_by_kind (is i) line))
+    ∙ (λ i. map (λ (time : Occasion × ℕ). time.1) (timed arrival (sym one i) ++ timed pass (sym two i) ++ timed departure (sym three i)))
+    ∙ by first second third
+  where
+    by : (a b c : Option ℕ) → map (λ (time : Occasion × ℕ). time.1) (timed arrival a ++ timed pass b ++ timed departure c) ≡ listed a ++ listed b ++ listed c
+    by None None None = refl
+    by (Some a) None None = refl
+    by None (Some b) None = refl
+    by (Some a) (Some b) None = refl
+    by None None (Some c) = refl
+    by (Some a) None (Some c) = refl
+    by None (Some b) (Some c) = refl
+    by (Some a) (Some b) (Some c) = refl

@@ -8,7 +8,7 @@ ghost use Rattle.docker_laws.proofs.RecordTests.{falls_after, later_or};
 ghost use Rattle.cif_line.specs.Kind.{meaning};
 ghost use Rattle.cif_file.specs.JourneyRead.{listed};
 
-use cif_line::{FieldFault, Kind, Line, Time, origin, terminus};
+use cif_line::{FieldFault, Kind, Line, Time, call, origin, terminus};
 
 /// How often a journey has passed midnight, and its last time so far.
 #[derive(Clone, Copy, PartialEq, Eq, Debug)]
@@ -110,7 +110,14 @@ fn call_times(line: &Line) -> Result<Times, FieldFault>
     ensures value { IfOk result (λ times. map (λ time. time.1) (times_of line.now) ≡ listed times.first ++ listed times.second ++ listed times.third) }
     ensures err { IfErr result (λ fault. leftmost_bad_field line.now ≡ Some fault.0) }
 {
-    Err(FieldFault(3))
+    match call(line) {
+        Ok(view) => Ok(Times {
+            first: view.arrival(),
+            second: view.pass(),
+            third: view.departure(),
+        }),
+        Err(fault) => Err(fault),
+    }
 }
 
 /// The arrival at a terminating location.

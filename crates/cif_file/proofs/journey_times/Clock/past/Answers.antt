@@ -1,13 +1,13 @@
-use Rattle.std.proofs.Common.{rules, ◌≡◌, ℕ, ◌+◌, ◌≤◌, ◌<◌, ◌↔◌, ◌++◌, map, IsOk, IfOk, IfErr, Some, None, true, ◌-◌, ◌*◌, length, ◌/◌, ◌%◌, Bool, false, nat_eq, nat_lt, List, [], ◌∷◌, slice_index_or, slice_set, bit_and, bit_or, Fits, w8, w32, w64, Bor, MutBor}
-use Rattle.docker_model.specs.Record.{HasKind, origin_location, intermediate_location, terminating_location}
-use Rattle.docker_model.specs.Field.{HasGoodFields, leftmost_bad_field}
-use Rattle.docker_model.specs.Journey.{times_of}
-use Rattle.docker_model.specs.Change.{follows_basic}
+-- Three times in turn.
+use Rattle.std.proofs.Common.{◌≡◌, ◌+◌, ◌++◌, sym, ap, ◌∙◌, add_assoc, append_assoc}
 use Rattle.docker_laws.proofs.RecordTests.{falls_after, later_or}
-use Rattle.cif_line.specs.Kind.{meaning}
 use Rattle.cif_file.specs.JourneyRead.{listed}
+use Rattle.cif_file.proofs.Journeys.{falls_of_three}
 use Rattle.cif_file.proofs.journey_times.Clock.past.Goals as goal
 
--- src/journey_times.rt:60:5
 pub returns-clause-falls : goal.returns-clause-falls
-returns-clause-falls c = ?
+returns-clause-falls c =
+    c.then-3.ensures.falls
+    ∙ (λ i. c.then-2.ensures.falls i + falls_after (c.then-2.ensures.last i) (listed c.args.times.third))
+    ∙ (λ i. (c.then.ensures.falls i + falls_after (c.then.ensures.last i) (listed c.args.times.second)) + falls_after (later_or c.args.times.second (c.then.ensures.last i)) (listed c.args.times.third))
+    ∙ falls_of_three c.args.self.falls c.args.self.last c.args.times.first c.args.times.second c.args.times.third
