@@ -2,26 +2,31 @@
 use Rattle.std.proofs.Common.{◌≡◌, ℕ, ◌+◌, ◌≤◌, ◌<◌, inl, inr, ◌⊎◌, Bool, true, false, cond, List, [], ◌∷◌, ◌++◌, map, subst, refl, ap, sym, ◌∙◌, Some, None, arith, append-nil, append_assoc}
 use Rattle.std.specs.Prelude.{Option, IsTrue, ◌↔◌, ◌||◌, ◌&&◌, ◌==◌, nat_le, is_some, is_none, IsOk, IfErr, Result, Ok, Err}
 use Rattle.std.specs.List.{flat_map}
-use Rattle.std.proofs.lemmas.Bool.{le-leb}
-use Rattle.docker_model.specs.Record.{Kind, kind_of, IsRecord, HasKind, origin_location, intermediate_location, terminating_location, column, columns}
+use Rattle.std.proofs.lemmas.Bool.{le-leb, leb-true}
+use Rattle.docker_model.specs.Record.{Kind, kind_of, IsRecord, HasKind, basic_schedule, origin_location, intermediate_location, terminating_location, column, columns}
 use Rattle.docker_model.specs.Clock.{half_minutes, scheduled_time}
 use Rattle.docker_model.specs.Stamp.{first_record}
 use Rattle.docker_model.specs.Field.{is_deletion, HasGoodFields, leftmost_bad_field}
 use Rattle.docker_model.specs.File.{IsSchedule, BeginsSchedule}
 use Rattle.docker_model.specs.FileFault as fault
+use Rattle.docker_model.specs.FileFault.{bad_kind, bad_place}
+use Rattle.docker_laws.proofs.FileCauses.{field_cause}
 use Rattle.docker_model.specs.ScheduleFault.{IsScheduleFault}
 use Rattle.docker_model.specs.Journey.{Occasion, arrival, pass, departure, timed, times_of, times_by_kind, times_along, midnights, fall_count}
 use Rattle.docker_laws.proofs.Columns.{good_fields}
 use Rattle.docker_laws.proofs.OneTrain.{time_there}
-use Rattle.docker_laws.proofs.RecordTests.{is_record, has_good_fields, test_by_none, and_true, record_iff_test, last_of, falls_after, later_or, midnights_step, last_time_step}
-use Rattle.docker_laws.proofs.SchedulePlace.{Stage, after_basic, after_details, in_journey, after_journey, stage_after, stage_of, stage_of_more, may_lack, may_end, is_first_line, is_sound_next, next_stage, schedule_iff_stage, begins_iff_stage, sound_next_by_count}
+use Rattle.docker_laws.proofs.RecordTests.{is_record, has_good_fields, test_by_none, and_true, record_iff_test, last_of, falls_after, later_or, midnights_step, last_time_step, no_times, no_times_before}
+use Rattle.docker_laws.proofs.SchedulePlace.{Stage, after_basic, after_details, in_journey, after_journey, stage_after, no_stage_of_none, is_basic_kind, stage_of, stage_of_more, may_lack, may_end, is_first_line, first_line_iff_test, is_sound_next, next_stage, schedule_iff_stage, begins_iff_stage, sound_next_by_count}
 use Rattle.docker_laws.proofs.ScheduleCauses.{schedule_cause, first_line_cause, first_line_fault, begins_next_stage, schedule_fault}
 use Rattle.cif_file.specs.declared.fault.FileCause.{FileCause}
 use Rattle.cif_file.specs.Meaning.{cause_meant}
-use Rattle.cif_file.specs.JourneyRead.{JourneyState, HasLines, IsScheduleFaultTold, may_end_by, listed}
+use Rattle.cif_file.specs.JourneyRead.{JourneyState, stage_then, HasLines, IsScheduleFaultTold, may_end_by, listed}
 
 abbrev Lines : Type 0
 Lines = List (List ℕ)
+
+abbrev no_stage : Option Stage
+no_stage = None
 
 -- what is Some is one
 some_is : {A : Type 0} (x y : A) → Some x ≡ Some y → x ≡ y
@@ -117,15 +122,93 @@ judged_ok answer journey lines line has is iff = (
     from None h begins = absurd ((fault_by journey lines line has is h).here begins)
     from (Some next) h begins = iff.1 (λ i. is_some (h i))
 
-pub judged_err : {A : Type 0} (answer : Result A FileCause) (journey : JourneyState) (lines : Lines) (line : List ℕ) → HasLines journey lines → IsRecord line
-    → IsOk answer ↔ (is_some (next_by journey.stage lines line) ≡ true) → IfErr answer (λ cause. cause_meant cause ≡ Some (cause_by journey.stage line))
+pub judged_err : {A : Type 0} (answer : Result A FileCause) (journey : JourneyState) (lines : Lines) (line : List ℕ) (told : fault.FileCause) → HasLines journey lines → IsRecord line
+    → IsOk answer ↔ (is_some (next_by journey.stage lines line) ≡ true) → told ≡ cause_by journey.stage line → IfErr answer (λ cause. cause_meant cause ≡ Some told)
     → IfErr answer (λ cause. IsScheduleFaultTold lines line (cause_meant cause))
-judged_err (Ok value) journey lines line has is iff told = told
-judged_err (Err cause) journey lines line has is iff told = subst (IsScheduleFaultTold lines line) (sym told) (by (next_by journey.stage lines line) refl)
+judged_err (Ok value) journey lines line told has is iff same err = err
+judged_err (Err cause) journey lines line told has is iff same err = subst (IsScheduleFaultTold lines line) (sym err) (subst (IsScheduleFault lines line) (sym same) (by (next_by journey.stage lines line) refl))
   where
     by : (next : Option Stage) → next_by journey.stage lines line ≡ next → IsScheduleFault lines line (cause_by journey.stage line)
     by None h = fault_by journey lines line has is h
     by (Some next) h = let bad = iff.1 (λ i. is_some (h i)) in absurd cc
+
+-- the tests of a first line, and of a later one that stands at its place
+pub first_test : (journey : JourneyState) (lines : Lines) (line : List ℕ) → journey.stage ≡ None → is_some (next_by journey.stage lines line) ≡ is_first_line line
+first_test journey lines line at = (λ i. is_some (next_by (at i) lines line)) ∙ by (is_first_line line)
+  where
+    by : (b : Bool) → is_some (cond b (Some after_basic) None) ≡ b
+    by true = refl
+    by false = refl
+
+-- a stage that leads on by this kind
+pub record LeadsOn (stage : Option Stage) (kind : Option Kind) (next : Stage) : Type 0 where
+  pub here : Stage
+  pub at : stage ≡ Some here
+  pub after : stage_after here kind ≡ Some next
+
+pub leads_on : (stage : Option Stage) (kind : Option Kind) (next : Stage) → stage_then stage kind ≡ Some next → LeadsOn stage kind next
+leads_on None kind next led = absurd cc
+leads_on (Some here) kind next led = record { here = here; at = refl; after = led }
+
+pub next_test : (journey : JourneyState) (lines : Lines) (line : List ℕ) (next : Stage) → IsRecord line → stage_then journey.stage (kind_of line) ≡ Some next
+    → is_some (next_by journey.stage lines line) ≡ is_sound_next lines line
+next_test journey lines line next is led =
+    let on = leads_on journey.stage (kind_of line) next led in
+    (λ i. is_some (next_by (on.at i) lines line))
+    ∙ (λ i. is_some (cond ((record_iff_test line).0 is i && is_sound_next lines line) (on.after i) None))
+    ∙ by (is_sound_next lines line)
+  where
+    by : (b : Bool) → is_some (cond b (Some next) None) ≡ b
+    by true = refl
+    by false = refl
+
+pub next_cause : (journey : JourneyState) (line : List ℕ) (next : Stage) → stage_then journey.stage (kind_of line) ≡ Some next → field_cause line ≡ cause_by journey.stage line
+next_cause journey line next led =
+    let on = leads_on journey.stage (kind_of line) next led in
+    sym ((λ i. cause_by (on.at i) line) ∙ known on.here (kind_of line) refl on.after)
+  where
+    known : (here : Stage) (kind : Option Kind) → kind_of line ≡ kind → stage_after here (kind_of line) ≡ Some next → schedule_cause here line ≡ field_cause line
+    known here None h after = let bad : None ≡ Some next = sym (no_stage_of_none here) ∙ ap (stage_after here) (sym h) ∙ after in cc
+    known here (Some kind) h after =
+        (λ i. cond (is_none (h i)) bad_kind (cond (is_none (stage_after here (kind_of line))) bad_place (field_cause line)))
+        ∙ (λ i. cond (is_none (after i)) bad_place (field_cause line))
+
+pub iff_along : (P : Type 0) (a b : Bool) → a ≡ b → P ↔ (b ≡ true) → P ↔ (a ≡ true)
+iff_along P a b same iff = (λ p. same ∙ iff.0 p, λ test. iff.1 (sym same ∙ test))
+
+-- a record of no kind, and one that has no place behind the lines so far
+pub unknown_kind : (journey : JourneyState) (lines : Lines) (line : List ℕ) → HasLines journey lines → IsRecord line → kind_of line ≡ None → IsScheduleFault lines line fault.bad_kind
+unknown_kind journey lines line has is none = refused_by journey lines line fault.bad_kind has is (nowhere journey.stage) (cause journey.stage)
+  where
+    nowhere : (stage : Option Stage) → next_by stage lines line ≡ None
+    nowhere None = (λ i. cond (is_record line && is_basic_kind (none i) && has_good_fields line) (Some after_basic) None) ∙ by (is_record line)
+      where
+        by : (b : Bool) → cond (b && false && has_good_fields line) (Some after_basic) None ≡ None
+        by true = refl
+        by false = refl
+    nowhere (Some stage) = (λ i. cond (is_record line && is_sound_next lines line) (stage_after stage (none i)) None) ∙ by (is_record line && is_sound_next lines line) ∙ no_stage_of_none stage
+      where
+        by : (b : Bool) → cond b (stage_after stage None) None ≡ stage_after stage None
+        by true = refl
+        by false = sym (no_stage_of_none stage)
+
+    cause : (stage : Option Stage) → cause_by stage line ≡ fault.bad_kind
+    cause None = λ i. cond (is_none (none i)) bad_kind (cond (is_basic_kind (kind_of line)) (field_cause line) bad_place)
+    cause (Some stage) = λ i. cond (is_none (none i)) bad_kind (cond (is_none (stage_after stage (kind_of line))) bad_place (field_cause line))
+
+pub out_of_place : (journey : JourneyState) (lines : Lines) (line : List ℕ) (stage : Stage) (kind : Kind) → HasLines journey lines → IsRecord line → journey.stage ≡ Some stage → kind_of line ≡ Some kind
+    → stage_after stage (Some kind) ≡ None → IsScheduleFault lines line fault.bad_place
+out_of_place journey lines line stage kind has is at known none =
+    refused_by journey lines line fault.bad_place has is
+    ((λ i. next_by (at i) lines line) ∙ (λ i. cond (is_record line && is_sound_next lines line) (nowhere i) None) ∙ by (is_record line && is_sound_next lines line))
+    ((λ i. cause_by (at i) line) ∙ (λ i. cond (is_none (known i)) bad_kind (cond (is_none (stage_after stage (known i))) bad_place (field_cause line))) ∙ (λ i. cond (is_none (none i)) bad_place (field_cause line)))
+  where
+    nowhere : stage_after stage (kind_of line) ≡ None
+    nowhere = ap (stage_after stage) known ∙ none
+
+    by : (b : Bool) → cond b no_stage no_stage ≡ no_stage
+    by true = refl
+    by false = refl
 
 -- ---- the times of one more line
 
@@ -244,3 +327,63 @@ call_times line first second third is one two three =
     by (Some a) None (Some c) = refl
     by None (Some b) (Some c) = refl
     by (Some a) (Some b) (Some c) = refl
+
+-- ---- the first line
+
+pub first_line_is : (line : List ℕ) → IsRecord line → HasKind basic_schedule line → HasGoodFields line → is_first_line line ≡ true
+first_line_is line is kind fields = (first_line_iff_test line).0 (record { is = is; kind = kind; fields = fields })
+
+-- what the reader keeps of it
+pub basic_read : (line : List ℕ) (journey : JourneyState) → is_first_line line ≡ true → journey.stage ≡ Some after_basic → journey.deletion ≡ is_deletion line → journey.lacking ≡ may_lack line
+    → journey.falls ≡ 0 → journey.last ≡ None → HasLines journey (line ∷ [])
+basic_read line journey first at deletion lacking falls last =
+    let none = no_times basic_schedule line ((first_line_iff_test line).1 first).kind refl in
+    let times = no_times_before line [] none in
+    record {
+      stage_is = at ∙ (λ i. cond (sym first i) (Some after_basic) None);
+      fresh = λ no_stage. let bad : Some after_basic ≡ None = sym at ∙ no_stage in cc;
+      deletion_is = deletion;
+      lacking_is = lacking;
+      falls_are = λ _. falls ∙ ap fall_count (sym times);
+      last_is = λ _. last ∙ ap last_of (sym times);
+    }
+
+-- ---- one more line that stands at its place
+
+pub deletion_read : (journey : JourneyState) (lines : Lines) (line : List ℕ) (next : Stage) → HasLines journey lines → IsRecord line → stage_then journey.stage (kind_of line) ≡ Some next
+    → journey.deletion ≡ true → HasLines (record journey { stage = Some next }) (lines ++ line ∷ [])
+deletion_read journey lines line next has is led deletion =
+    let on = leads_on journey.stage (kind_of line) next led in deletion_goes_on journey lines line on.here next has is on.at deletion on.after
+
+-- what is told of the times of the line, and what is kept with them
+pub record IsTimed (journey : JourneyState) (line : List ℕ) (first second third : Option ℕ) (more : ℕ) (later : Option ℕ) : Type 0 where
+  pub times : map (λ (time : Occasion × ℕ). time.1) (times_of line) ≡ listed first ++ listed second ++ listed third
+  pub falls : more ≡ journey.falls + falls_after journey.last (listed first ++ listed second ++ listed third)
+  pub last : later ≡ later_or third (later_or second (later_or first journey.last))
+
+timed_falls : (journey : JourneyState) (line : List ℕ) (first second third : Option ℕ) (more : ℕ) (later : Option ℕ) → IsTimed journey line first second third more later
+    → more ≡ journey.falls + falls_after journey.last (times_along (line ∷ []))
+timed_falls journey line first second third more later told = told.falls ∙ (λ i. journey.falls + falls_after journey.last (sym (one_line line ∙ told.times) i))
+
+pub sound_test : (journey : JourneyState) (lines : Lines) (line : List ℕ) (first second third : Option ℕ) (more : ℕ) (later : Option ℕ) → HasLines journey lines → journey.deletion ≡ false
+    → HasGoodFields line → IsTimed journey line first second third more later → is_sound_next lines line ≡ nat_le more 2
+sound_test journey lines line first second third more later has kept fields told =
+    sound_by_falls journey lines line more has kept (timed_falls journey line first second third more later told)
+    ∙ (λ i. test_by_none (leftmost_bad_field line) fields i && nat_le more 2)
+
+pub sound_by_few : (journey : JourneyState) (lines : Lines) (line : List ℕ) (first second third : Option ℕ) (more : ℕ) (later : Option ℕ) → HasLines journey lines → journey.deletion ≡ false
+    → HasGoodFields line → IsTimed journey line first second third more later → more ≤ 2 → is_sound_next lines line ≡ true
+sound_by_few journey lines line first second third more later has kept fields told few = sound_test journey lines line first second third more later has kept fields told ∙ le-leb more 2 few
+
+pub unsound_by_many : (journey : JourneyState) (lines : Lines) (line : List ℕ) (first second third : Option ℕ) (more : ℕ) (later : Option ℕ) → HasLines journey lines → journey.deletion ≡ false
+    → HasGoodFields line → IsTimed journey line first second third more later → 2 < more → ¬ (is_sound_next lines line ≡ true)
+unsound_by_many journey lines line first second third more later has kept fields told many sound =
+    let few = leb-true more 2 (sym (sound_test journey lines line first second third more later has kept fields told) ∙ sound) in omega arith
+
+pub sound_read : (journey : JourneyState) (lines : Lines) (line : List ℕ) (next : Stage) (first second third : Option ℕ) (more : ℕ) (later : Option ℕ) → HasLines journey lines → IsRecord line
+    → stage_then journey.stage (kind_of line) ≡ Some next → journey.deletion ≡ false → HasGoodFields line → IsTimed journey line first second third more later → more ≤ 2
+    → HasLines (record journey { stage = Some next; falls = more; last = later }) (lines ++ line ∷ [])
+sound_read journey lines line next first second third more later has is led kept fields told few =
+    let on = leads_on journey.stage (kind_of line) next led in
+    sound_goes_on journey lines line on.here next more later has is on.at kept on.after fields (timed_falls journey line first second third more later told) few
+    (told.last ∙ last_in_turn journey.last first second third ∙ (λ i. later_or (last_of (sym (one_line line ∙ told.times) i)) journey.last))

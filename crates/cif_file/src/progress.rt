@@ -1,6 +1,7 @@
 //! How far a reader of a schedule's lines has come.
-ghost use Rattle.std.specs.Prelude.{◌≡◌, ℕ, ◌≤◌, ◌↔◌, IsTrue, IsOk, IfOk, IfErr, Some, true, List, [], ◌∷◌, ◌++◌};
-ghost use Rattle.docker_model.specs.Record.{HasKind, IsRecord};
+ghost use Rattle.std.specs.Prelude.{◌≡◌, ◌==◌, ℕ, ◌≤◌, ◌↔◌, IsTrue, IsOk, IfOk, IfErr, Some, true, List, [], ◌∷◌, ◌++◌};
+ghost use Rattle.docker_model.specs.Record.{HasKind, IsRecord, basic_schedule, column};
+ghost use Rattle.docker_model.specs.Field.{is_deletion};
 ghost use Rattle.docker_model.specs.Change.{follows_basic};
 ghost use Rattle.docker_model.specs.File.{BeginsSchedule, IsSchedule};
 ghost use Rattle.docker_laws.proofs.SchedulePlace.{is_sound_next, is_first_line};
@@ -111,9 +112,21 @@ fn begun(kind: Kind, line: &Line) -> Result<Progress, FileCause>
     ensures err { IfErr result (λ cause. cause_meant cause ≡ Some (first_line_cause line.now)) }
     ensures few { IfOk result (λ progress. progress.clock.falls ≤ 2) }
 {
-    if kind != Kind::BasicSchedule {
-        return Err(FileCause::Place);
+    match kind {
+        Kind::BasicSchedule => begun_by_basic(line),
+        _ => Err(FileCause::Place),
     }
+}
+
+/// Behind a basic schedule, if its fields are good.
+fn begun_by_basic(line: &Line) -> Result<Progress, FileCause>
+    requires record { IsRecord line.now }
+    requires kind { HasKind basic_schedule line.now }
+    ensures ok { IsOk result ↔ (is_first_line line.now ≡ true) }
+    ensures read { IfOk result (λ progress. HasLines (kept progress) (line.now ∷ [])) }
+    ensures err { IfErr result (λ cause. cause_meant cause ≡ Some (first_line_cause line.now)) }
+    ensures few { IfOk result (λ progress. progress.clock.falls ≤ 2) }
+{
     match basic(line) {
         Ok(view) => Ok(behind_basic(&view)),
         Err(fault) => Err(FileCause::Field(fault.0)),
@@ -126,12 +139,35 @@ fn behind_basic(view: &Basic<'_>) -> Progress
     ensures lines { HasLines (kept result) (view.now ∷ []) }
     ensures few { result.clock.falls ≤ 2 }
 {
-    let deletion = view.transaction() == Transaction::Delete;
-    let cancellation = view.stp() == Stp::Cancellation;
+    let deletion = is_deletion(view);
+    let cancellation = is_cancellation(view);
     Progress {
         stage: Some(Stage::AfterBasic),
         deletion,
         lacking: deletion || cancellation,
         clock: Clock::new(),
+    }
+}
+
+/// Whether a schedule is deleted.
+fn is_deletion(view: &Basic<'_>) -> bool
+    ensures { result ≡ is_deletion view.now }
+{
+    match view.transaction() {
+        Transaction::Delete => true,
+        Transaction::New => false,
+        Transaction::Revise => false,
+    }
+}
+
+/// Whether a schedule cancels a train on its days.
+fn is_cancellation(view: &Basic<'_>) -> bool
+    ensures { result ≡ (column 80 view.now == 67) }
+{
+    match view.stp() {
+        Stp::Cancellation => true,
+        Stp::New => false,
+        Stp::Overlay => false,
+        Stp::Permanent => false,
     }
 }
