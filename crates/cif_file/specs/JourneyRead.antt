@@ -68,3 +68,8 @@ kept progress = record {
   falls = progress.clock.falls;
   last = progress.clock.last;
 }
+
+-- the journey is whole
+abbrev pub is_over_by : Option place.Stage → Bool
+is_over_by (Some after_journey) = true
+is_over_by _ = false

@@ -8,7 +8,7 @@ ghost use Rattle.docker_laws.proofs.SchedulePlace.{is_sound_next, is_first_line}
 ghost use Rattle.docker_laws.proofs.ScheduleCauses.{first_line_cause};
 ghost use Rattle.docker_laws.proofs.FileCauses.{field_cause};
 ghost use Rattle.cif_line.specs.Kind.{meaning};
-ghost use Rattle.cif_file.specs.JourneyRead.{HasLines, IsScheduleFaultTold, stage_meant, stage_then, kept};
+ghost use Rattle.cif_file.specs.JourneyRead.{HasLines, IsScheduleFaultTold, stage_meant, stage_then, is_over_by, kept};
 ghost use Rattle.cif_file.specs.Meaning.{cause_meant};
 
 use crate::fault::FileCause;
@@ -45,6 +45,23 @@ impl Progress {
     {
         match self.stage {
             Some(stage) => stage.may_end(self.lacking),
+            None => false,
+        }
+    }
+
+    /// Whether the schedule is a deletion.
+    pub(crate) fn is_deletion(self) -> bool
+        ensures { result ≡ self.deletion }
+    {
+        self.deletion
+    }
+
+    /// Whether its journey is whole, so that no schedule goes on behind the lines.
+    pub(crate) fn is_over(self) -> bool
+        ensures { result ≡ is_over_by (kept self).stage }
+    {
+        match self.stage {
+            Some(stage) => stage.is_over(),
             None => false,
         }
     }

@@ -3,7 +3,7 @@ ghost use Rattle.std.specs.Prelude.{◌≡◌, option_map, Some, IsSome, true};
 ghost use Rattle.docker_model.specs.Change.{follows_basic};
 ghost use Rattle.docker_laws.proofs.SchedulePlace.{stage_after};
 ghost use Rattle.cif_line.specs.Kind.{meaning};
-ghost use Rattle.cif_file.specs.JourneyRead.{stage_meant, may_end_by};
+ghost use Rattle.cif_file.specs.JourneyRead.{stage_meant, may_end_by, is_over_by};
 
 use cif_line::Kind;
 
@@ -46,6 +46,18 @@ impl Stage {
         match self {
             Stage::AfterBasic => lacking,
             Stage::AfterDetails => lacking,
+            Stage::InJourney => false,
+            Stage::AfterJourney => true,
+        }
+    }
+
+    /// Whether the journey is whole.
+    pub(crate) fn is_over(self) -> bool
+        ensures { result ≡ is_over_by (Some (stage_meant self)) }
+    {
+        match self {
+            Stage::AfterBasic => false,
+            Stage::AfterDetails => false,
             Stage::InJourney => false,
             Stage::AfterJourney => true,
         }
