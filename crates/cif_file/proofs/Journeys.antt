@@ -35,7 +35,7 @@ some_is x y same = cc
 -- ---- the end
 
 -- lines that have a stage are a schedule exactly where it may end there
-whole_iff : (lines : Lines) (stage : Stage) → stage_of lines ≡ Some stage → IsSchedule lines ↔ (may_end stage lines ≡ true)
+pub whole_iff : (lines : Lines) (stage : Stage) → stage_of lines ≡ Some stage → IsSchedule lines ↔ (may_end stage lines ≡ true)
 whole_iff lines stage at = (
   λ is.
       let told = (schedule_iff_stage lines).0 is in

@@ -1,3 +1,4 @@
+pub mod Records
 pub mod Journeys
 pub mod OneSchedule
 pub mod OneScheduleText

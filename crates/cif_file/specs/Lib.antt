@@ -4,3 +4,4 @@ pub mod FiveLines
 pub mod Meaning
 pub mod FileRead
 pub mod Reading
+pub mod RecordsRead

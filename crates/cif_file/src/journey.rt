@@ -17,14 +17,11 @@ pub struct Journey {
 }
 
 impl Model for Journey {
-    ghost use Rattle.std.specs.Prelude.{◌≤◌};
     ghost use Rattle.cif_file.specs.JourneyRead.{JourneyState, kept};
 
     ghost Value = { JourneyState };
 
     ghost view = { λ journey. kept journey.progress };
-
-    ghost invariant = { λ journey. journey.progress.clock.falls ≤ 2 };
 }
 
 impl Journey {

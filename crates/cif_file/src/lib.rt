@@ -4,6 +4,7 @@
 mod change;
 mod fault;
 mod file;
+mod front;
 mod good_line;
 mod header_line;
 mod journey;
@@ -16,6 +17,7 @@ mod pieces;
 mod progress;
 mod reading;
 mod stage;
+mod steps;
 mod text;
 mod unit;
 

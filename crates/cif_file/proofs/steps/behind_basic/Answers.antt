@@ -5,14 +5,14 @@ use Rattle.docker_model.specs.Record.{column}
 use Rattle.docker_model.specs.Field.{is_deletion}
 use Rattle.docker_laws.proofs.SchedulePlace.{after_basic}
 use Rattle.cif_file.proofs.Journeys.{basic_read}
-use Rattle.cif_file.proofs.progress.behind_basic.Goals as goal
-use Rattle.cif_file.proofs.progress.behind_basic.Goals.{then-deletion, else-deletion}
+use Rattle.cif_file.proofs.steps.behind_basic.Goals as goal
+use Rattle.cif_file.proofs.steps.behind_basic.Goals.{then-deletion, else-deletion}
 
 either_of : (deletion cancellation lacking : Bool) (one two : Bool) → deletion ≡ one → cancellation ≡ two → lacking ≡ (deletion || cancellation) → lacking ≡ (one || two)
 either_of deletion cancellation lacking one two first second told = told ∙ (λ i. first i || second i)
 
-pub returns-clause-lines : goal.returns-clause-lines
-returns-clause-lines c =
+pub returns : goal.returns
+returns c =
     basic_read c.args.view.now (record {
       stage = Some after_basic;
       deletion = c.is_deletion-deletion.result;
