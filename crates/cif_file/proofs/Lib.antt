@@ -1,8 +1,4 @@
-pub mod Records
+pub mod RecordsTaken
 pub mod Journeys
-pub mod OneSchedule
-pub mod OneScheduleText
-pub mod Accepting
-pub mod Joined
-pub mod FirstLine
-pub mod OneScheduleExample
+pub mod Parsing
+pub mod Joining

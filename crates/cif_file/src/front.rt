@@ -1,5 +1,5 @@
 //! The records of a file so far.
-ghost use Rattle.std.specs.Prelude.{◌≡◌, ℕ, ◌+◌, ◌↔◌, List, [], ◌∷◌, ◌++◌, length, map, IsOk, IfErr, IsErr, OnOk, Some, true, is_some, IsTrue};
+ghost use Rattle.std.specs.Prelude.{◌≡◌, ℕ, ◌+◌, ◌↔◌, List, [], ◌∷◌, ◌++◌, length, map, IsOk, IfErr, IsErr, OnOk, MatchOption, Some, true, is_some, IsTrue};
 ghost use Rattle.docker_model.specs.Record.{HasKind, IsRecord, kind_of, basic_schedule};
 ghost use Rattle.docker_model.specs.Field.{HasGoodFields};
 ghost use Rattle.docker_model.specs.Change.{follows_basic, changes};
@@ -7,6 +7,7 @@ ghost use Rattle.docker_model.specs.File.{IsFile};
 ghost use Rattle.docker_laws.proofs.FilePlace.{unit_by_kind};
 ghost use Rattle.cif_line.specs.Kind.{meaning};
 ghost use Rattle.cif_file.specs.Meaning.{cause_meant, change_meant};
+ghost use Rattle.cif_file.specs.FileRead.{IsOfRecords};
 ghost use Rattle.cif_file.specs.RecordsRead.{HasRecords, IsOver, IsNoNextTold, StandsBefore, IsWholeBy, change_opened};
 
 use crate::change::Change;
@@ -79,6 +80,27 @@ impl Front {
             Place::BetweenUnits => false,
             Place::InSchedule(_) => false,
             Place::AfterEnd => true,
+        }
+    }
+
+    /// The file that the records are, if the trailer was read; `count` is how many there are.
+    pub(crate) fn into_file(self, count: u32) -> Option<CifFile>
+        ensures { (records : List (List ℕ)) → HasRecords self records → count ≡ length records → MatchOption result (¬ IsFile records) (λ file. IsFile records × IsOfRecords file records) }
+    {
+        let Front {
+            header,
+            place,
+            changes,
+            ..
+        } = self;
+        match place {
+            Place::AfterEnd => match header {
+                Some(header) => Some(CifFile::of(header.into_line(), count, changes)),
+                None => None,
+            },
+            Place::BeforeHeader => None,
+            Place::BetweenUnits => None,
+            Place::InSchedule(_) => None,
         }
     }
 

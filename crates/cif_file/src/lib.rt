@@ -1,21 +1,21 @@
-//! The first reader of CIF files: texts of a file of five records, one schedule from its origin to its terminus.
+//! The reader of CIF files: the whole grammar, in any pieces, with the exact fault of every other text.
 #![tactic(auto)]
 
 mod change;
 mod fault;
 mod file;
 mod front;
-mod good_line;
 mod header_line;
 mod journey;
 mod journey_times;
 mod key;
 mod lines;
+mod next_record;
 mod opened;
 mod parser;
 mod pieces;
 mod progress;
-mod reading;
+mod records;
 mod stage;
 mod steps;
 mod text;
@@ -30,5 +30,3 @@ pub use lines::Lines;
 pub use parser::FileParser;
 pub use pieces::read_pieces;
 
-#[cfg(test)]
-mod tests;

@@ -2,7 +2,7 @@
 ghost use Rattle.std.specs.Prelude.{◌≤◌, map, IfOk, IfErr};
 ghost use Rattle.std.specs.List.{concat};
 ghost use Rattle.cif_file.specs.FileRead.{IsOfText};
-ghost use Rattle.cif_file.specs.Reading.{IsRefused};
+ghost use Rattle.cif_file.specs.ParserRead.{IsRefused};
 
 use crate::fault::FileFault;
 use crate::file::CifFile;

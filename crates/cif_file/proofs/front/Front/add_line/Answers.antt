@@ -2,7 +2,7 @@
 use Rattle.std.proofs.Common.{◌≡◌, ap, sym, ◌∙◌, refl, ◌++◌, ◌∷◌, [], map}
 use Rattle.cif_file.specs.Meaning.{change_meant}
 use Rattle.cif_file.specs.RecordsRead.{change_opened}
-use Rattle.cif_file.proofs.Records.{line_added, line_closed, on_ok}
+use Rattle.cif_file.proofs.RecordsTaken.{line_added, line_closed, on_ok}
 use Rattle.cif_file.proofs.front.Front.add_line.Goals as goal
 
 pub returns-then-is_over : goal.returns-then-is_over

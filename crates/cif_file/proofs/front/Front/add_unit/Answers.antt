@@ -1,7 +1,7 @@
 -- The trailer ends the file, and a single record makes its changes.
 use Rattle.std.proofs.Common.{◌∙◌, ap, refl, Some}
 use Rattle.cif_line.specs.Kind.{meaning}
-use Rattle.cif_file.proofs.Records.{trailer_added, single_added, single_kind, on_ok_one}
+use Rattle.cif_file.proofs.RecordsTaken.{trailer_added, single_added, single_kind, on_ok_one}
 use Rattle.cif_file.proofs.front.Front.add_unit.Goals as goal
 
 pub returns-in-Trailer : goal.returns-in-Trailer

@@ -1,6 +1,6 @@
 -- The schedule's cause is the file's.
 use Rattle.cif_file.specs.Meaning.{cause_meant}
-use Rattle.cif_file.proofs.Records.{bad_line}
+use Rattle.cif_file.proofs.RecordsTaken.{bad_line}
 use Rattle.cif_file.proofs.front.Front.follow.Goals as goal
 
 pub returns-in-Err-clause-err : goal.returns-in-Err-clause-err

@@ -1,6 +1,6 @@
 -- Records are a file exactly behind the trailer.
 use Rattle.std.proofs.Common.{true, false}
-use Rattle.cif_file.proofs.Records.{ended_iff, tells_before, tells_between, tells_inside, tells_ended}
+use Rattle.cif_file.proofs.RecordsTaken.{ended_iff, tells_before, tells_between, tells_inside, tells_ended}
 use Rattle.cif_file.proofs.front.Front.is_ended.Goals as goal
 
 pub returns-in-BeforeHeader : goal.returns-in-BeforeHeader

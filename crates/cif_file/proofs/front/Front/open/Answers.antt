@@ -1,6 +1,6 @@
 -- A basic schedule begins its schedule.
 use Rattle.std.proofs.Common.{◌∙◌, ◌++◌, ◌∷◌, [], ap, refl}
-use Rattle.cif_file.proofs.Records.{basic_added}
+use Rattle.cif_file.proofs.RecordsTaken.{basic_added}
 use Rattle.cif_file.proofs.front.Front.open.Goals as goal
 
 pub returns : goal.returns

@@ -2,7 +2,7 @@
 use Rattle.std.proofs.Common.{◌∙◌, ap, sym}
 use Rattle.std.specs.Prelude.{option_map}
 use Rattle.cif_line.specs.Kind.{meaning}
-use Rattle.cif_file.proofs.Records.{no_kind, file_at_end}
+use Rattle.cif_file.proofs.RecordsTaken.{no_kind, file_at_end}
 use Rattle.cif_file.proofs.front.Front.take.Goals as goal
 
 pub returns-in_default-clause-err : goal.returns-in_default-clause-err

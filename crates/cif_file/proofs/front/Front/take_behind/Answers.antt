@@ -5,7 +5,7 @@ use Rattle.docker_model.specs.Change.{follows_basic}
 use Rattle.cif_line.specs.Kind.{meaning}
 use Rattle.cif_file.specs.Meaning.{cause_meant}
 use Rattle.cif_file.specs.RecordsRead.{IsNoNextTold}
-use Rattle.cif_file.proofs.Records.{bad_behind, not_whole}
+use Rattle.cif_file.proofs.RecordsTaken.{bad_behind, not_whole}
 use Rattle.cif_file.proofs.front.Front.take_behind.Goals as goal
 
 pub returns-then-not-complete-clause-err : goal.returns-then-not-complete-clause-err

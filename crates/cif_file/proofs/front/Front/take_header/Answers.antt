@@ -1,7 +1,7 @@
 -- The first record is a header with good fields.
 use Rattle.std.proofs.Common.{◌∙◌, ap, refl, Some}
 use Rattle.cif_line.specs.Kind.{meaning}
-use Rattle.cif_file.proofs.Records.{no_header, bad_header, header_added, other_kind}
+use Rattle.cif_file.proofs.RecordsTaken.{no_header, bad_header, header_added, other_kind}
 use Rattle.cif_file.proofs.front.Front.take_header.Goals as goal
 
 pub returns-in_default-clause-err : goal.returns-in_default-clause-err

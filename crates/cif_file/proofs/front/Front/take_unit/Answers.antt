@@ -4,7 +4,7 @@ use Rattle.std.proofs.lemmas.Bool.{false≢true}
 use Rattle.cif_line.specs.Kind.{meaning}
 use Rattle.cif_file.specs.Meaning.{cause_meant}
 use Rattle.cif_file.specs.RecordsRead.{IsNoNextTold}
-use Rattle.cif_file.proofs.Records.{bad_between}
+use Rattle.cif_file.proofs.RecordsTaken.{bad_between}
 use Rattle.cif_file.proofs.front.Front.take_unit.Goals as goal
 
 pub returns-in-Some-clause-err : goal.returns-in-Some-clause-err

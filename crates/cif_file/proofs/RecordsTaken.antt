@@ -1,6 +1,6 @@
 -- The records that the reader of a file has taken, by what it keeps of them.
 use Rattle.std.proofs.Common.{◌≡◌, ℕ, ◌+◌, ◌≤◌, ◌<◌, inl, inr, ◌⊎◌, Bool, true, false, cond, List, [], ◌∷◌, ◌++◌, length, map, subst, refl, ap, sym, ◌∙◌, Some, None, arith, append-nil, append_assoc, length-append, take}
-use Rattle.std.specs.Prelude.{Option, IsTrue, ◌↔◌, ◌&&◌, is_some, is_none, option_map, OnOk, Result, Ok, Err}
+use Rattle.std.specs.Prelude.{Option, IsTrue, ◌↔◌, ◌&&◌, is_some, is_none, option_map, slice_index_or, OnOk, Result, Ok, Err}
 use Rattle.std.specs.List.{prefix_len}
 use Rattle.std.proofs.lemmas.List.{take-append-le}
 use Rattle.std.proofs.lemmas.List.Sums.{prefix_len-le-length}
@@ -26,6 +26,7 @@ use Rattle.cif_file.specs.declared.opened.Opened.{Opened}
 use Rattle.cif_file.specs.declared.front.Front.{Front}
 use Rattle.cif_file.specs.declared.front.Place.TheVariants.{BeforeHeader, BetweenUnits, InSchedule, AfterEnd}
 use Rattle.cif_file.specs.Meaning.{key_meant, change_meant}
+use Rattle.cif_file.specs.FileRead.{FileRead, IsOfRecords}
 use Rattle.cif_file.specs.JourneyRead.{JourneyState, kept, HasLines, IsScheduleFaultTold, is_over_by}
 use Rattle.cif_file.specs.RecordsRead.{with_new_first, header_of, IsOpen, IsKept, HasRecords, IsOver, IsNoNext, IsNoNextTold, change_opened, IsWholeBy, StandsBefore}
 use Rattle.cif_file.proofs.Journeys.{whole_iff, first_line_is}
@@ -550,3 +551,17 @@ single_kind kind line known begins no_basic no_trailer =
 -- no file goes on behind its trailer
 pub file_at_end : (front : Front) (records : Lines) → HasRecords front records → front.place ≡ AfterEnd → IsFile records
 file_at_end front records has at = (file_iff_place records).1 (has.at ∙ ap Some (subst (λ p. IsKept p front.lines.items (map change_meant front.changes.items) has.place records) at has.kept_are).0)
+
+-- ---- the file
+
+pub file_made : (front : Front) (records : Lines) (count : ℕ) (told line : List ℕ) (file : FileRead) → HasRecords front records → front.place ≡ AfterEnd → front.header ≡ Some told → line ≡ told
+    → count ≡ length records → file ≡ record { header_line = line; record_count = count; changes_made = map change_meant front.changes.items } → IsFile records × IsOfRecords file records
+file_made front records count told line file has at head same counted made = (file_at_end front records has at, subst (λ f. IsOfRecords f records) (sym made) (record {
+  header_is = same ∙ first records (sym head ∙ has.header_is);
+  count_is = counted;
+  changes_are = (subst (λ p. IsKept p front.lines.items (map change_meant front.changes.items) has.place records) at has.kept_are).1;
+}))
+  where
+    first : (some : Lines) → Some told ≡ header_of some → told ≡ slice_index_or some 0 []
+    first [] none = absurd cc
+    first (line_first ∷ rest) same_first = cc
