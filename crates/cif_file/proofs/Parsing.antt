@@ -29,9 +29,9 @@ use Rattle.cif_file.specs.declared.records.Records.{Records}
 use Rattle.cif_file.specs.declared.parser.Reading.{Reading}
 use Rattle.cif_file.specs.Cut.{IsCut}
 use Rattle.cif_file.specs.Meaning.{cause_meant}
-use Rattle.cif_file.specs.FileRead.{FileRead, IsOfRecords, IsOfText}
+use Rattle.cif_file.specs.FileRead.{FileRead, IsOfRecords}
 use Rattle.cif_file.specs.RecordsRead.{HasRecords, IsNoNext, IsNoNextTold}
-use Rattle.cif_file.specs.ParserRead.{ParserState, HasRead, IsReadingOrFault, HasCounted, IsCauseNext, IsCauseTold, IsFaultNext, IsLongNext, IsReading, IsToldSoFar, IsFaultTold, IsToldOf, IsRefused}
+use Rattle.cif_file.specs.ParserRead.{IsOfFileText, ParserState, HasRead, IsReadingOrFault, HasCounted, IsCauseNext, IsCauseTold, IsFaultNext, IsLongNext, IsReading, IsToldSoFar, IsFaultTold, IsToldOf, IsRefused}
 
 abbrev Lines : Type 0
 Lines = List (List ℕ)
@@ -203,7 +203,7 @@ end_fault reading limit text fault is some next = by (cause_meant fault.cause) n
         subst (λ f. IsFileFault limit text f) (λ i. record { number = sym next.number i; cause = told.is i }) (fault_at_end limit text told.place told.at is.counted.within some told.here)
 
 pub finish_ok : (answer : Result FileRead FileFault) (records : Records) (limit : ℕ) (text : List ℕ) → HasCounted records limit (lines_of text)
-    → IfOk answer (λ file. IsFile (lines_of text) × IsOfRecords file (lines_of text)) → IfOk answer (λ file. IsOfText file limit text)
+    → IfOk answer (λ file. IsFile (lines_of text) × IsOfRecords file (lines_of text)) → IfOk answer (λ file. IsOfFileText file limit text)
 finish_ok (Ok file) records limit text counted told = record { records = lines_of text; is_text = record { lines = refl; is = told.0; within = counted.within }; of_records = told.1 }
 finish_ok (Err fault) records limit text counted told = told
 
@@ -346,7 +346,7 @@ pub cut_more : (piece rest front behind : List ℕ) → before_rest piece rest +
 cut_more piece rest front behind whole cut =
     let done = before_rest piece rest ++ (front ++ 10 ∷ []) in
     let all : done ++ behind ≡ piece =
-        append_assoc (before_rest piece rest) (front ++ 10 ∷ []) behind ∙ ap (λ l. before_rest piece rest ++ l) (append_assoc front (10 ∷ []) behind ∙ sym cut.whole) ∙ whole in
+    append_assoc (before_rest piece rest) (front ++ 10 ∷ []) behind ∙ ap (λ l. before_rest piece rest ++ l) (append_assoc front (10 ∷ []) behind ∙ sym cut.whole) ∙ whole in
     let size = ap (λ (l : List ℕ). length l) (sym all) ∙ length-append done behind in
     let count : length piece - length behind ≡ length done = omega arith in
     let same : before_rest piece behind ≡ done = (λ i. take (count i) (sym all i)) ∙ take-append_seam done behind in

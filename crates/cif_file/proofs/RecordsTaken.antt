@@ -107,12 +107,12 @@ changes_closed opened [] before has number named is = absurd (let size = ap (λ 
 changes_closed opened (basic ∷ others) before has number named is =
     changes_append 1 before basic others (ap follows_basic kind)
     ∙ ap (λ later. changes before ++ later) (
-      ap (changes_from (1 + length before)) (sym (append-nil (basic ∷ others)))
-      ∙ unit_then (1 + length before) (basic ∷ others) [] (inr is) tt
-      ∙ append-nil _
-      ∙ schedule_change (1 + length before) basic others is
-      ∙ ap (λ change. change ∷ []) (same_change (1 + length before) opened.number (schedule_named basic) (key_meant (key.Schedule opened.key)) (is_deletion basic) opened.progress.deletion
-      (schedule_body (as_new basic ∷ others)) (omega arith) (sym named) (sym has.deletion_is))
+    ap (changes_from (1 + length before)) (sym (append-nil (basic ∷ others)))
+    ∙ unit_then (1 + length before) (basic ∷ others) [] (inr is) tt
+    ∙ append-nil _
+    ∙ schedule_change (1 + length before) basic others is
+    ∙ ap (λ change. change ∷ []) (same_change (1 + length before) opened.number (schedule_named basic) (key_meant (key.Schedule opened.key)) (is_deletion basic) opened.progress.deletion
+    (schedule_body (as_new basic ∷ others)) (omega arith) (sym named) (sym has.deletion_is))
     )
   where
     kind : HasKind basic_schedule basic
@@ -146,8 +146,8 @@ trailer_added old new records line over is kind fields same_header place made = 
   kept_are = subst (λ p. IsKept p new.lines.items (map change_meant new.changes.items) after_end (records ++ line ∷ [])) (sym place) (
     refl,
     ap (map change_meant) made ∙ over.made_are ∙ sym (append-nil (changes records))
-    ∙ ap (λ acts. changes records ++ map (as_change (length records + 1)) acts) (sym (ap (λ k. acts_by_kind k line []) kind))
-    ∙ sym (changes_anew records line (ap follows_basic kind)),
+        ∙ ap (λ acts. changes records ++ map (as_change (length records + 1)) acts) (sym (ap (λ k. acts_by_kind k line []) kind))
+        ∙ sym (changes_anew records line (ap follows_basic kind)),
   );
 }
 
@@ -161,7 +161,7 @@ single_added old new records line number over is fields begins counted same_head
   kept_are = subst (λ p. IsKept p new.lines.items (map change_meant new.changes.items) between_units (records ++ line ∷ [])) (sym place) (
     refl,
     made ∙ (λ i. over.made_are i ++ changes_of_record (counted i) line [])
-    ∙ sym (changes_anew records line (anew_by_unit line (λ i. is_some (begins i)))),
+        ∙ sym (changes_anew records line (anew_by_unit line (λ i. is_some (begins i)))),
   );
 }
 
@@ -323,9 +323,9 @@ line_closed old new opened line records before outside same_header place made =
       kept_are = subst (λ p. IsKept p new.lines.items (map change_meant new.changes.items) between_units (records ++ line ∷ [])) (sym place) (
         refl,
         made
-        ∙ (λ i. before.made_are i ++ change_opened opened ((ap (λ l. l ++ line ∷ []) before.lines_are ∙ new_first_stays before.lines line some) i) ∷ [])
-        ∙ sym (changes_closed opened (before.lines ++ line ∷ []) before.before before.progress_is before.number_is (before.key_is ∙ ap schedule_named (sym (first_stays before.lines line some))) is)
-        ∙ ap changes (sym ((λ i. before.whole i ++ line ∷ []) ∙ append_assoc before.before before.lines (line ∷ []))),
+            ∙ (λ i. before.made_are i ++ change_opened opened ((ap (λ l. l ++ line ∷ []) before.lines_are ∙ new_first_stays before.lines line some) i) ∷ [])
+            ∙ sym (changes_closed opened (before.lines ++ line ∷ []) before.before before.progress_is before.number_is (before.key_is ∙ ap schedule_named (sym (first_stays before.lines line some))) is)
+            ∙ ap changes (sym ((λ i. before.whole i ++ line ∷ []) ∙ append_assoc before.before before.lines (line ∷ []))),
       );
     }
 
@@ -412,9 +412,9 @@ bad_header front records line column has at is known bad =
       at = has.at ∙ ap Some here;
       nowhere = λ i. cond (both_false (is_record line) (has_good_fields line) (unsound line column bad) i) (place_by_kind before_header (kind_of line) line) None;
       is = told_cause records line before_header (bad_field column) is refl (
-        (λ i. cond (is_none (known i)) bad_kind (cond (is_none (cond (is_header_kind (known i)) (Some between_units) None)) bad_place (field_cause line)))
-        ∙ (λ i. with_column bad_field (bad i) fault.third_midnight)
-      );
+          (λ i. cond (is_none (known i)) bad_kind (cond (is_none (cond (is_header_kind (known i)) (Some between_units) None)) bad_place (field_cause line)))
+          ∙ (λ i. with_column bad_field (bad i) fault.third_midnight)
+          );
     }
 
 pub header_added : (old new : Front) (records : Lines) (line : List ℕ) → HasRecords old records → old.place ≡ BeforeHeader → IsRecord line → HasKind header line → HasGoodFields line
@@ -430,8 +430,8 @@ header_added old new records line has at is kind fields same_header place made =
       kept_are = subst (λ p. IsKept p new.lines.items (map change_meant new.changes.items) between_units (records ++ line ∷ [])) (sym place) (
         refl,
         ap (map change_meant) made ∙ told.1 ∙ sym (append-nil (changes records))
-        ∙ ap (λ acts. changes records ++ map (as_change (length records + 1)) acts) (sym (ap (λ k. acts_by_kind k line []) kind))
-        ∙ sym (changes_anew records line (ap follows_basic kind)),
+            ∙ ap (λ acts. changes records ++ map (as_change (length records + 1)) acts) (sym (ap (λ k. acts_by_kind k line []) kind))
+            ∙ sym (changes_anew records line (ap follows_basic kind)),
       );
     }
 
@@ -556,11 +556,14 @@ file_at_end front records has at = (file_iff_place records).1 (has.at ∙ ap Som
 
 pub file_made : (front : Front) (records : Lines) (count : ℕ) (told line : List ℕ) (file : FileRead) → HasRecords front records → front.place ≡ AfterEnd → front.header ≡ Some told → line ≡ told
     → count ≡ length records → file ≡ record { header_line = line; record_count = count; changes_made = map change_meant front.changes.items } → IsFile records × IsOfRecords file records
-file_made front records count told line file has at head same counted made = (file_at_end front records has at, subst (λ f. IsOfRecords f records) (sym made) (record {
-  header_is = same ∙ first records (sym head ∙ has.header_is);
-  count_is = counted;
-  changes_are = (subst (λ p. IsKept p front.lines.items (map change_meant front.changes.items) has.place records) at has.kept_are).1;
-}))
+file_made front records count told line file has at head same counted made = (
+  file_at_end front records has at,
+  subst (λ f. IsOfRecords f records) (sym made) (record {
+    header_is = same ∙ first records (sym head ∙ has.header_is);
+    count_is = counted;
+    changes_are = (subst (λ p. IsKept p front.lines.items (map change_meant front.changes.items) has.place records) at has.kept_are).1;
+  }),
+)
   where
     first : (some : Lines) → Some told ≡ header_of some → told ≡ slice_index_or some 0 []
     first [] none = absurd cc

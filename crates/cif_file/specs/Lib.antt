@@ -1,6 +1,11 @@
-pub mod JourneyRead
+pub mod OneSchedule
+pub mod FiveLines
 pub mod Meaning
 pub mod FileRead
+pub mod Reading
+pub mod Joined
+pub mod Acts
+pub mod JourneyRead
 pub mod RecordsRead
 pub mod ParserRead
 pub mod Cut

@@ -2,7 +2,7 @@
 use Rattle.std.specs.Prelude.{◌≡◌, ℕ, ◌+◌, ◌<◌, ◌≤◌, ◌⊎◌, List, length, Option, Some, None}
 use Rattle.docker_model.specs.Text.{lines_of}
 use Rattle.docker_model.specs.FaultSoFar.{lines_told, IsFaultSoFar}
-use Rattle.docker_model.specs.FileFault.{IsFileFault}
+use Rattle.docker_model.specs.FileFault.{IsFileFault, IsFileText}
 use Rattle.docker_model.specs.FileFault as model
 use Rattle.docker_laws.proofs.FilePlace.{next_place, IsPlaceOf}
 use Rattle.docker_laws.proofs.FilePlace as law
@@ -13,6 +13,7 @@ use Rattle.cif_file.specs.declared.fault.FileFault.{FileFault}
 use Rattle.cif_file.specs.declared.records.Records.{Records}
 use Rattle.cif_file.specs.declared.parser.Reading.{Reading}
 use Rattle.cif_file.specs.Meaning.{cause_meant}
+use Rattle.cif_file.specs.FileRead.{FileRead, IsOfRecords}
 use Rattle.cif_file.specs.RecordsRead.{HasRecords}
 
 abbrev Lines : Type 0
@@ -83,6 +84,12 @@ IsReadingOrFault reading limit text (Some fault) = IsFaultTold limit text fault
 -- the parser was fed this text, under this limit on records
 abbrev pub HasRead : ParserState → ℕ → List ℕ → Type 0
 HasRead parser limit text = IsReadingOrFault parser.reading limit text parser.fault
+
+-- the text is one of a file of at most so many records, and what was read tells of those
+pub record IsOfFileText (file : FileRead) (limit : ℕ) (text : List ℕ) : Type 0 where
+  pub records : List (List ℕ)
+  pub is_text : IsFileText limit text records
+  pub of_records : IsOfRecords file records
 
 -- the parser told this fault
 abbrev pub HasFailed : ParserState → FileFault → Type 0

@@ -1,9 +1,17 @@
-//! What changes are known by.
+//! What changes are known by, and the order of keys.
+ghost use Rattle.std.specs.Prelude.{◌≡◌};
+ghost use Rattle.std.specs.Ordering.{on, as_partial_cmp, eq_by_cmp};
+ghost use Rattle.std.specs.Cmp.{partial_equiv_from_equiv, on_equiv, on_total, eq_by_cmp_equiv, partial_order_from_total};
+ghost use Rattle.docker_model.specs.Op.{key_cmp, key_tag};
+ghost use Rattle.docker_laws.proofs.Orders.{key_total};
+ghost use Rattle.std.proofs.Common.{refl};
+ghost use Rattle.cif_file.specs.Meaning.{key_meant};
 
 use cif_line::{Day, Stp, Tiploc, Uid};
+use std::cmp::Ordering;
 
 /// A key that a change puts or deletes. Keys of TIPLOCs come first, then those of associations, then those of schedules.
-#[derive(Clone, Copy, PartialEq, Eq, PartialOrd, Ord, Debug)]
+#[derive(Clone, Copy, Debug)]
 pub enum Key {
     /// The code of a timing point.
     Tiploc(Tiploc),
@@ -39,4 +47,60 @@ pub struct ScheduleKey {
     pub runs_from: Day,
     /// The STP indicator.
     pub stp: Stp,
+}
+
+impl Key {
+    /// The tag of the key: 1 of a TIPLOC, 2 of an association, 3 of a schedule.
+    fn tag(&self) -> u8
+        ensures { result ≡ key_tag (key_meant self.now) }
+    {
+        match self {
+            Key::Tiploc(_) => 1,
+            Key::Assoc(_) => 2,
+            Key::Schedule(_) => 3,
+        }
+    }
+}
+
+impl PartialEq for Key {
+    ghost eq = { on key_meant (eq_by_cmp key_cmp) };
+
+    ghost laws = { partial_equiv_from_equiv (on_equiv key_meant (eq_by_cmp_equiv key_total)) };
+
+    fn eq(&self, other: &Key) -> bool {
+        self.cmp(other).is_eq()
+    }
+}
+
+impl Eq for Key {
+    ghost laws = { on_equiv key_meant (eq_by_cmp_equiv key_total) };
+}
+
+impl PartialOrd for Key {
+    ghost partial_cmp = { as_partial_cmp (on key_meant key_cmp) };
+
+    ghost laws = { partial_order_from_total (on_total key_meant key_total) };
+
+    fn partial_cmp(&self, other: &Key) -> Option<Ordering> {
+        Some(self.cmp(other))
+    }
+}
+
+impl Ord for Key {
+    ghost cmp = { on key_meant key_cmp };
+
+    ghost total = { on_total key_meant key_total };
+
+    ghost matches_partial_cmp = { λ a b. refl };
+
+    ghost matches_eq = { λ a b. refl };
+
+    fn cmp(&self, other: &Key) -> Ordering {
+        match (self, other) {
+            (Key::Tiploc(a), Key::Tiploc(b)) => a.cmp(b),
+            (Key::Assoc(a), Key::Assoc(b)) => a.cmp(b),
+            (Key::Schedule(a), Key::Schedule(b)) => a.cmp(b),
+            _ => self.tag().cmp(&other.tag()),
+        }
+    }
 }

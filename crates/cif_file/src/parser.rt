@@ -3,8 +3,7 @@ ghost use Rattle.std.specs.Prelude.{◌≡◌, ℕ, ◌+◌, ◌≤◌, ◌↔�
 ghost use Rattle.docker_model.specs.FaultSoFar.{IsFaultSoFar};
 ghost use Rattle.docker_model.specs.FileFault as model;
 ghost use Rattle.docker_laws.proofs.ToldLines.{HasNoFeed};
-ghost use Rattle.cif_file.specs.FileRead.{IsOfText};
-ghost use Rattle.cif_file.specs.ParserRead.{HasRead, HasFailed, IsReading, IsFaultTold, IsRefused};
+ghost use Rattle.cif_file.specs.ParserRead.{IsOfFileText, HasRead, HasFailed, IsReading, IsFaultTold, IsRefused};
 
 use crate::fault::FileFault;
 use crate::file::CifFile;
@@ -79,7 +78,7 @@ impl Reading {
 
     /// The file that the bytes are.
     fn end(self) -> Result<CifFile, FileFault>
-        ensures ok { (limit : ℕ) (text : List ℕ) → IsReading self limit text → IfOk result (λ file. IsOfText file limit text) }
+        ensures ok { (limit : ℕ) (text : List ℕ) → IsReading self limit text → IfOk result (λ file. IsOfFileText file limit text) }
         ensures err { (limit : ℕ) (text : List ℕ) → IsReading self limit text → IfErr result (λ fault. IsRefused limit text fault) }
     {
         let Reading {
@@ -149,7 +148,7 @@ impl FileParser {
 
     /// The file that the bytes are, or their fault. After a fault of `feed` it is that fault.
     pub fn finish(self) -> Result<CifFile, FileFault>
-        ensures ok { (limit : ℕ) (text : List ℕ) → HasRead self limit text → IfOk result (λ file. IsOfText file limit text) }
+        ensures ok { (limit : ℕ) (text : List ℕ) → HasRead self limit text → IfOk result (λ file. IsOfFileText file limit text) }
         ensures err { (limit : ℕ) (text : List ℕ) → HasRead self limit text → IfErr result (λ fault. IsRefused limit text fault) }
         ensures again { (fault : _) → HasFailed self fault → result ≡ Err fault }
     {

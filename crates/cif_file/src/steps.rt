@@ -17,6 +17,9 @@ use crate::progress::Progress;
 use crate::stage::Stage;
 use cif_line::{Basic, Kind, Line, Stp, Transaction, basic, kind};
 
+/// How often a journey may pass midnight.
+const MOST_MIDNIGHTS: u8 = 2;
+
 impl Progress {
     /// Before the first line.
     pub(crate) fn new() -> Progress
@@ -98,7 +101,7 @@ impl Progress {
             Ok(times) => self.clock.past(times),
             Err(fault) => return Err(FileCause::Field(fault.0)),
         };
-        if clock.falls > 2 {
+        if clock.falls > MOST_MIDNIGHTS {
             return Err(FileCause::Midnights);
         }
         Ok(Progress {

@@ -15,7 +15,7 @@ pub(crate) fn without_return(piece: &[u8]) -> &[u8]
 }
 
 /// Where the first line feed stands.
-fn line_feed(text: &[u8]) -> Option<usize>
+pub(crate) fn line_feed(text: &[u8]) -> Option<usize>
     ensures place { result ≡ position (λ byte. byte == 10) text.now }
 {
     text.iter().position(|byte| *byte == b'\n')

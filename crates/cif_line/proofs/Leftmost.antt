@@ -2,7 +2,7 @@
 use Rattle.std.proofs.Common.{◌≡◌, ℕ, List, true, false, cond, [], ◌∷◌, ◌++◌, Bool, Some, None, ap, ◌∙◌, ◌⊎◌, inl, inr}
 use Rattle.std.specs.Prelude.{not, option_map, find, Option}
 use Rattle.std.specs.List.{AllByRecursion}
-use Rattle.docker_model.specs.Record.{Kind, HasKind, header, tiploc_insert, tiploc_amend, tiploc_delete, association, basic_schedule, kind_of, columns}
+use Rattle.docker_model.specs.Record.{Kind, HasKind, header, tiploc_insert, tiploc_amend, tiploc_delete, association, basic_schedule, columns}
 use Rattle.docker_model.specs.Date.{is_date, is_date_day_first, is_end_date, is_days}
 use Rattle.docker_model.specs.Clock.{is_clock}
 use Rattle.docker_model.specs.Field.{CheckedField, checked, checked_fields, fields_of, leftmost_bad_field, is_tiploc, is_new_tiploc, is_update_indicator, is_transaction, is_stp_indicator, is_deletion}

@@ -1,7 +1,8 @@
 -- Times of day, read from their fields.
-use Rattle.std.proofs.Common.{◌≡◌, ℕ, ◌+◌, List, [], ◌∷◌, true, false, Bool, ◌&&◌, refl, take, arith}
-use Rattle.std.specs.Prelude.{◌==◌, ◌||◌, nat_lt, slice_index}
+use Rattle.std.proofs.Common.{◌≡◌, ℕ, List, [], ◌∷◌, true, false, Bool, ◌&&◌, refl, take, length, ◌≤◌, arith}
+use Rattle.std.specs.Prelude.{codes, ◌==◌, ◌||◌, nat_lt, slice_index}
 use Rattle.std.specs.List.{list_all}
+use Rattle.std.specs.Str.{bytes_eq}
 use Rattle.std.proofs.lemmas.Bool.Decides.{nat_tests}
 use Rattle.std.specs.Char.{is_ascii_digit}
 use Rattle.docker_model.specs.Date.{two_digits}
@@ -21,6 +22,40 @@ first_digit b field clock =
     first_holds (is_ascii_digit b) (list_all is_ascii_digit (take 3 field))
     (first_holds (list_all is_ascii_digit (take 4 (b ∷ field))) (nat_lt (two_digits (b ∷ field) 0) 24)
     (first_holds (list_all is_ascii_digit (take 4 (b ∷ field)) && nat_lt (two_digits (b ∷ field) 0) 24) (nat_lt (two_digits (b ∷ field) 2) 60) clock))
+
+-- four digits, one by one
+pub four_digits : (field : List ℕ) → 4 ≤ length field →
+    list_all is_ascii_digit (take 4 field) ≡ (((is_ascii_digit (slice_index field 0) && is_ascii_digit (slice_index field 1)) && is_ascii_digit (slice_index field 2)) && is_ascii_digit (slice_index field 3))
+four_digits [] long = absurd (omega arith)
+four_digits (a ∷ []) long = absurd (omega arith)
+four_digits (a ∷ b ∷ []) long = absurd (omega arith)
+four_digits (a ∷ b ∷ c ∷ []) long = absurd (omega arith)
+four_digits (a ∷ b ∷ c ∷ d ∷ field) long = regroup (is_ascii_digit a) (is_ascii_digit b) (is_ascii_digit c) (is_ascii_digit d)
+  where
+    regroup : (a b c d : Bool) → (a && (b && (c && (d && true)))) ≡ (((a && b) && c) && d)
+    regroup true true true true = refl
+    regroup true true true false = refl
+    regroup true true false d = refl
+    regroup true false c d = refl
+    regroup false b c d = refl
+
+-- the spaces of a blank field, compared with it
+pub four_spaces : (field : List ℕ) → length field ≡ 4 → bytes_eq field (codes "    ") ≡ is_blank field
+four_spaces [] size = absurd (omega arith)
+four_spaces (a ∷ []) size = absurd (omega arith)
+four_spaces (a ∷ b ∷ []) size = absurd (omega arith)
+four_spaces (a ∷ b ∷ c ∷ []) size = absurd (omega arith)
+four_spaces (a ∷ b ∷ c ∷ d ∷ []) size = refl
+four_spaces (a ∷ b ∷ c ∷ d ∷ e ∷ field) size = absurd (omega arith)
+
+pub five_spaces : (field : List ℕ) → length field ≡ 5 → bytes_eq field (codes "     ") ≡ is_blank field
+five_spaces [] size = absurd (omega arith)
+five_spaces (a ∷ []) size = absurd (omega arith)
+five_spaces (a ∷ b ∷ []) size = absurd (omega arith)
+five_spaces (a ∷ b ∷ c ∷ []) size = absurd (omega arith)
+five_spaces (a ∷ b ∷ c ∷ d ∷ []) size = absurd (omega arith)
+five_spaces (a ∷ b ∷ c ∷ d ∷ e ∷ []) size = refl
+five_spaces (a ∷ b ∷ c ∷ d ∷ e ∷ f ∷ field) size = absurd (omega arith)
 
 -- a time that is there is not blank
 pub present_not_blank : (field : List ℕ) → is_present_time field ≡ true → is_blank field ≡ false

@@ -7,7 +7,7 @@ ghost use Rattle.docker_model.specs.Field.{is_tiploc, is_new_tiploc, is_update_i
 use crate::day::Day;
 use crate::days::Days;
 use crate::letter::{Extract, Stp, Transaction};
-use crate::time::{Time, clock, is_blank};
+use crate::time::{Time, clock, is_blank, is_blank_public_time, is_blank_time};
 use crate::until::Until;
 use thiserror::Error;
 
@@ -97,12 +97,12 @@ pub(crate) fn is_present_time(field: &[u8; 5]) -> bool
 pub(crate) fn is_scheduled_time(field: &[u8; 5]) -> bool
     ensures { result ≡ is_scheduled_time field.now }
 {
-    is_blank(field) || is_present_time(field)
+    is_blank_time(field) || is_present_time(field)
 }
 
 /// A public time is HHMM or blank.
 pub(crate) fn is_public_time(field: &[u8; 4]) -> bool
     ensures { result ≡ is_public_time field.now }
 {
-    is_blank(field) || is_clock(field)
+    is_blank_public_time(field) || is_clock(field)
 }

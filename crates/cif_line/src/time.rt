@@ -8,7 +8,7 @@ ghost use Rattle.std.specs.Option.{option_map_or};
 ghost use Rattle.docker_model.specs.DockerLine.{shown_public, spaces};
 ghost use Rattle.docker_model.specs.DockerText.{time_text};
 
-use crate::digits::{are_digits, two_digits};
+use crate::digits::two_digits;
 use std::marker::Model;
 
 #[cfg(test)]
@@ -65,7 +65,7 @@ impl Time {
         ensures value { result ≡ option_map (λ minute. 2 * minute) (public_time field.now) }
         ensures shown { shown_public field.now ≡ option_map_or (λ time. take 4 (time_text time)) result (spaces 4) }
     {
-        if is_blank(field) || field == b"0000" {
+        if is_blank_public_time(field) || field == b"0000" {
             return None;
         }
         match clock(field) {
@@ -113,16 +113,41 @@ pub(crate) fn clock(field: &[u8]) -> Option<u16>
     ensures value { IfSome result (λ minute. minute ≡ minute_of field.now) }
     ensures bound { IfSome result (λ minute. minute < 1440) }
 {
-    if !are_digits(&field[..4]) {
-        return None;
-    }
     let hour = two_digits(field, 0);
     let minute = two_digits(field, 2);
-    if hour < 24 && minute < 60 {
+    if are_four_digits(field) & (hour < 24) & (minute < 60) {
         Some(60 * hour + minute)
     } else {
         None
     }
+}
+
+/// The first four bytes of the field are digits. No byte has a branch of its own.
+#[tactic(auto, using(crate::proofs::Times::four_digits))]
+fn are_four_digits(field: &[u8]) -> bool
+    requires { 4 ≤ length field.now }
+    ensures { result ≡ list_all is_ascii_digit (take 4 field.now) }
+{
+    field[0].is_ascii_digit()
+        & field[1].is_ascii_digit()
+        & field[2].is_ascii_digit()
+        & field[3].is_ascii_digit()
+}
+
+/// The field of a public time is all spaces.
+#[tactic(auto, using(crate::proofs::Times::four_spaces))]
+pub(crate) fn is_blank_public_time(field: &[u8; 4]) -> bool
+    ensures { result ≡ is_blank field.now }
+{
+    field == b"    "
+}
+
+/// The field of a scheduled time is all spaces.
+#[tactic(auto, using(crate::proofs::Times::five_spaces))]
+pub(crate) fn is_blank_time(field: &[u8; 5]) -> bool
+    ensures { result ≡ is_blank field.now }
+{
+    field == b"     "
 }
 
 /// The field is all spaces.

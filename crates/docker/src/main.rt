@@ -87,6 +87,7 @@ fn work(rt: &HostRuntime, job: &Job, stdin: Input) -> Result<(), OfficeFault>
     match job.words().first() {
         Some(name) if name.as_str() != STDIN => match File::open(rt, name.as_str()) {
             Ok(file) => done(rt, job, Input::file(file)),
+            Err(error) if error.kind() == ErrorKind::OutOfMemory => Err(OfficeFault::Memory),
             Err(_) => Err(OfficeFault::Source),
         },
         _ => done(rt, job, stdin),

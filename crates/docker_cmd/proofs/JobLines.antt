@@ -9,7 +9,7 @@ use Rattle.std.proofs.lemmas.List.Elements.{recursion_from_All, All-from_recursi
 use Rattle.docker_model.specs.Record.{is_printable}
 use Rattle.cif_line.specs.Device.{Reads, IsEnd}
 use Rattle.docker_cmd.specs.Job.{NameNoJob}
-use Rattle.docker_cmd.specs.JobLine.{IsLineText, ReadsLine, HasNoLine, HasNoJob, words_in}
+use Rattle.docker_cmd.specs.JobLine.{IsLineText, ReadsLine, HasNoLine, HasNoJob, HasJob, ReadsAtMost, words_in}
 
 -- each byte is printable
 abbrev pub ArePrintable : List ℕ → Type 0
@@ -157,3 +157,17 @@ printable_small b good = by (leb_tells b 126) good
 -- a line is ASCII
 pub line_ascii : (line : List ℕ) → AllPass is_printable line → IsAscii line
 line_ascii line good = IsAscii-from_all line (λ k d within. printable_small (get_or line k d) (good k d within))
+
+-- a line that names a job
+pub job_on_line : (old new : Option (List ℕ)) (line : List ℕ) → ReadsLine old line new → ¬ NameNoJob (words_in line) → HasJob old
+job_on_line None new line read some = tt
+job_on_line (Some text) new line read some = (line, (read.0, (read.1, some)))
+
+-- few bytes were read
+pub reads_few : (old now new : Option (List ℕ)) (line : List ℕ) → Reads old line now → new ≡ now → length line ≤ 256 → ReadsAtMost 256 old new
+reads_few old now new line read same few = record { lost = line; few = few; read = subst (Reads old line) (sym same) read }
+
+-- and one more
+pub reads_one_more : (old now new : Option (List ℕ)) (line : List ℕ) (b : ℕ) → Reads old line now → Reads now (b ∷ []) new → length line ≤ 255 → ReadsAtMost 256 old new
+reads_one_more old now new line b first then_one few =
+    record { lost = line ++ b ∷ []; few = omega (arith, length-append line (b ∷ [])); read = reads_on old now new line b first then_one }

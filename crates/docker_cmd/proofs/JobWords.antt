@@ -10,8 +10,8 @@ use Rattle.clap.specs.Faults.{fault_of}
 use Rattle.clap.specs.Kinds.{Kinds}
 use Rattle.clap.proofs.WalkLemmas.{both}
 use Rattle.clap.specs.declared.error.ErrorKind.{ErrorKind}
-use Rattle.docker_cmd.specs.Words.{NamedJob, day_job, is_plain_word, job_named, job_of_words, of_three}
-use Rattle.docker_cmd.specs.Grammar.{day_ids, docker_app, job_found, job_in}
+use Rattle.docker_cmd.specs.Words.{NamedJob, check_job, day_job, is_plain_word, job_named, job_of_words, of_one, of_three}
+use Rattle.docker_cmd.specs.Grammar.{check_ids, day_ids, docker_app, job_found, job_in}
 use Rattle.docker_cmd.proofs.FirstWord.{built_with, named_fault, named_rows, no_word, unnamed_fault}
 use Rattle.docker_cmd.proofs.RequiredWords.{Fits, Fresh, count_fault, leaf, leaf_fault, paired, rows_found}
 
@@ -37,7 +37,7 @@ refused is none = inr (record { fault = λ empty. cc; names_none = none })
 
 -- the program's subcommands once they are built
 abbrev leaves : List Shape
-leaves = leaf (codes "day") day_ids ∷ []
+leaves = leaf (codes "check") check_ids ∷ leaf (codes "day") day_ids ∷ []
 
 -- the program has a subcommand of this name, which requires words at these ids
 record IsSubcommand (name : Text) (ids : List Text) : Type 0 where
@@ -71,6 +71,16 @@ module _ {name : Text} {ids : List Text} (sub : IsSubcommand name ids) (words : 
     names = ap is_some names;
   })
 
+-- a subcommand that requires one word
+module _ {name a : Text} (sub : IsSubcommand name (a ∷ [])) (job : Text → NamedJob)
+    (names : (words : List Text) → job_named name words ≡ of_one job words)
+    (found : (x : Text) → job_found name (paired (a ∷ []) (x ∷ [])) ≡ Some (job x)) where
+  -- it is judged by the number of words
+  one_judged : (words : List Text) → list_all is_plain_word words ≡ true → Judged (name ∷ words)
+  one_judged [] plain = miscounted sub [] plain refl (names [])
+  one_judged (x ∷ []) plain = counted sub (x ∷ []) plain refl (names (x ∷ [])) (found x)
+  one_judged (x ∷ y ∷ rest) plain = miscounted sub (x ∷ y ∷ rest) plain refl (names (x ∷ y ∷ rest))
+
 -- a subcommand that requires three words
 module _ {name a b c : Text} (sub : IsSubcommand name (a ∷ b ∷ c ∷ [])) (job : Text → Text → Text → NamedJob)
     (names : (words : List Text) → job_named name words ≡ of_three job words)
@@ -82,6 +92,10 @@ module _ {name a b c : Text} (sub : IsSubcommand name (a ∷ b ∷ c ∷ [])) (j
   three_judged (x ∷ y ∷ []) plain = miscounted sub (x ∷ y ∷ []) plain refl (names (x ∷ y ∷ []))
   three_judged (x ∷ y ∷ z ∷ []) plain = counted sub (x ∷ y ∷ z ∷ []) plain refl (names (x ∷ y ∷ z ∷ [])) (found x y z)
   three_judged (x ∷ y ∷ z ∷ w ∷ rest) plain = miscounted sub (x ∷ y ∷ z ∷ w ∷ rest) plain refl (names (x ∷ y ∷ z ∷ w ∷ rest))
+
+-- `check` and the word behind it
+check_judged : (words : List Text) → list_all is_plain_word words ≡ true → Judged (codes "check" ∷ words)
+check_judged = one_judged (record { fits = (refl, refl, refl); fresh = (refl, λ a. tt); met = refl; under = refl }) check_job (λ words. refl) (λ x. refl)
 
 -- `day` and the words behind it
 day_judged : (words : List Text) → list_all is_plain_word words ≡ true → Judged (codes "day" ∷ words)
@@ -108,15 +122,16 @@ passed_over : (name word : Text) (names : Names) → bytes_eq word name ≡ fals
 passed_over name word names differ = ap (λ b. cond (b || false) (Some (name, [])) (find (answers_to word) names)) (swapped word name differ)
 
 -- a word that names no subcommand
-unnamed_judged : (word : Text) (words : List Text) → list_all is_plain_word (word ∷ words) ≡ true → bytes_eq word (codes "day") ≡ false → Judged (word ∷ words)
-unnamed_judged word words plain not_day =
-    let none = passed_over (codes "day") word [] not_day in
+unnamed_judged : (word : Text) (words : List Text) → list_all is_plain_word (word ∷ words) ≡ true → bytes_eq word (codes "check") ≡ false → bytes_eq word (codes "day") ≡ false → Judged (word ∷ words)
+unnamed_judged word words plain not_check not_day =
+    let none = passed_over (codes "check") word ((codes "day", []) ∷ []) not_check ∙ passed_over (codes "day") word [] not_day in
     refused (unnamed_fault leaves word words (both _ _ plain).0 (ap (option_map (λ (s : Text × List Text). s.0)) none))
-    (rw not_day refl)
+    (rw (not_check, not_day) refl)
 
 -- each list of plain words is taken or refused
 pub judged : (words : List Text) → list_all is_plain_word words ≡ true → Judged words
 judged [] plain = refused (no_word leaves) refl
 judged (word ∷ words) plain =
+    by_name (codes "check") word words (check_judged words (both _ _ plain).1) (λ not_check.
     by_name (codes "day") word words (day_judged words (both _ _ plain).1) (λ not_day.
-    unnamed_judged word words plain not_day)
+    unnamed_judged word words plain not_check not_day))

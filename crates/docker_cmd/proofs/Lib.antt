@@ -5,7 +5,7 @@ pub mod RequiredWords
 pub mod FirstWord
 pub mod JobWords
 pub mod Outcomes
-pub mod DayWords
+pub mod NamedWords
 pub mod JobFaults
 pub mod Listed
 pub mod Outside

@@ -10,7 +10,7 @@ use Rattle.clap.specs.Faults.{fault_of}
 use Rattle.clap.specs.Kinds.{IsAmong}
 use Rattle.clap.specs.declared.error.ErrorKind.{ErrorKind}
 use Rattle.clap.specs.declared.error.ErrorKind.TheVariants.{OutOfMemory}
-use Rattle.docker_cmd.specs.declared.words.DayWords.{DayWords}
+use Rattle.docker_cmd.specs.declared.words.JobWords.{JobWords}
 use Rattle.docker_cmd.specs.declared.words.WordsFault.{WordsFault}
 use Rattle.docker_cmd.specs.declared.words.WordsFault.TheVariants.{Usage, Memory}
 use Rattle.docker_cmd.specs.Words.{is_plain_word, job_of, job_of_words, named, texts}
@@ -30,18 +30,18 @@ plain : (words : List Text) → list_all is_plain_word words ≡ true → job_of
 plain words all = ap (λ b. cond b (job_of_words words) None) all
 
 -- what `read_words` promises
-abbrev pub IsRead : List Text → Result DayWords WordsFault → Type 0
+abbrev pub IsRead : List Text → Result JobWords WordsFault → Type 0
 IsRead words result = IfOk result (λ job. job_of words ≡ Some (named job)) × ((result ≡ Err Usage) ↔ (job_of words ≡ None))
 
 -- where `clap` takes the words
-pub read_found : (words : List Text) (found : Option DayWords) → list_all is_plain_word words ≡ true → fault_of docker_app words ≡ []
+pub read_found : (words : List Text) (found : Option JobWords) → list_all is_plain_word words ≡ true → fault_of docker_app words ≡ []
     → option_map named found ≡ job_in (subcommand_of docker_app words) → IsRead words (ok_or found Usage)
 read_found words found all none is = elim (judged words all) [
   | inr refuses ↦ absurd (refuses.fault none)
   | inl takes ↦ by found (is ∙ takes.found ∙ sym (plain words all)) (ap is_some (plain words all) ∙ takes.names)
 ]
   where
-    by : (found : Option DayWords) → option_map named found ≡ job_of words → is_some (job_of words) ≡ true → IsRead words (ok_or found Usage)
+    by : (found : Option JobWords) → option_map named found ≡ job_of words → is_some (job_of words) ≡ true → IsRead words (ok_or found Usage)
     by (Some job) is names = (sym is, ((λ usage. cc), (λ none. absurd (true≢false (sym names ∙ ap is_some none)))))
     by None is names = (tt, ((λ usage. sym is), (λ none. refl)))
 
@@ -52,7 +52,7 @@ MayFailBy words kind = (kind ≡ OutOfMemory) ⊎ IsAmong kind (fault_of docker_
 -- where it doesn't, or has too little memory
 pub read_refused : (words : List Text) (kind : ErrorKind) (fault : WordsFault) → list_all is_plain_word words ≡ true
     → MayFailBy words kind → ((fault ≡ Memory) ↔ ((kind ≡ OutOfMemory) × (is_some (job_of_words words) ≡ true)))
-    → (◌≡◌ {A = Result DayWords WordsFault} (Err fault) (Err Usage)) ↔ (job_of words ≡ None)
+    → (◌≡◌ {A = Result JobWords WordsFault} (Err fault) (Err Usage)) ↔ (job_of words ≡ None)
 read_refused words kind Memory all has is =
     ((λ usage. cc), (λ none. absurd (true≢false (sym (is.0 refl).1 ∙ ap is_some (sym (plain words all) ∙ none)))))
 read_refused words kind Usage all has is = ((λ usage. plain words all ∙ by (judged words all)), (λ none. refl))

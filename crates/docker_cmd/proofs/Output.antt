@@ -1,28 +1,13 @@
 -- The output of a job is the docker text of the plain table of its one file.
-use Rattle.std.proofs.Common.{◌≡◌, ℕ, List, [], ◌∷◌, Some, subst}
+use Rattle.std.proofs.Common.{◌≡◌, ℕ, List, [], ◌∷◌, Some, subst, sym}
 use Rattle.docker_model.specs.Table.{Table, IsPlainTable}
 use Rattle.docker_model.specs.DockerText.{IsDockerText}
 use Rattle.docker_laws.proofs.OneTable as law
 use Rattle.cif_file.specs.OneSchedule.{IsOneSchedule}
 use Rattle.cif_file.proofs.OneSchedule.{as_law}
-use Rattle.docker_cmd.specs.Prepared.{PreparedView, IsPreparedOf, IsOutput}
-
--- what is the docker text of each plain table of such a file is the output
-is_output : (prepared : PreparedView) (place : List ℕ) (day : ℕ) (text : List ℕ) → prepared.job.tiploc ≡ Some place → prepared.job.day ≡ Some day
-    → ((hd zz : List ℕ) (live : Table) → law.IsOneSchedule hd prepared.basic prepared.origin prepared.terminus zz
-    → IsPlainTable ((hd ∷ prepared.basic ∷ prepared.origin ∷ prepared.terminus ∷ zz ∷ []) ∷ []) live → IsDockerText live place day text)
-    → (file : List (List ℕ)) → IsPreparedOf prepared file → IsOutput prepared file text
-is_output prepared place day text place_is day_is docker file of = record {
-  live = law.one_table file;
-  plain = law.plain_of_one file;
-  place = place;
-  place_is = place_is;
-  day = day;
-  day_is = day_is;
-  docker = docker of.header of.trailer (law.one_table file)
-      (as_law of.header prepared.basic prepared.origin prepared.terminus of.trailer (subst IsOneSchedule of.whole of.is))
-      (subst (λ (f : List (List ℕ)). IsPlainTable (f ∷ []) (law.one_table file)) of.whole (law.plain_of_one file));
-}
+use Rattle.docker_cmd.specs.Job.{JobView}
+use Rattle.docker_cmd.specs.Prepared.{PreparedView, ReadView, schedule_read, IsReadOf, IsPreparedOf, IsDockerOutput, IsOutputOf, IsOutput}
+use Rattle.docker_cmd.specs.Schedule.{AreRecordsOf}
 
 -- a text is the docker text of these three records in each plain table of a file that has them
 abbrev pub IsDockerOf : List ℕ → List ℕ → List ℕ → List ℕ → ℕ → List ℕ → Type 0
@@ -30,13 +15,27 @@ IsDockerOf basic origin terminus place day text =
     (hd zz : List ℕ) (live : Table) → law.IsOneSchedule hd basic origin terminus zz
     → IsPlainTable ((hd ∷ basic ∷ origin ∷ terminus ∷ zz ∷ []) ∷ []) live → IsDockerText live place day text
 
--- the same of records that are the prepared ones
+-- such a text is the docker output of each file with these records
+docker_output : (job : JobView) (basic origin terminus place : List ℕ) (day : ℕ) (text : List ℕ) → job.tiploc ≡ Some place → job.day ≡ Some day
+    → IsDockerOf basic origin terminus place day text → (file : List (List ℕ)) → AreRecordsOf basic origin terminus file → IsDockerOutput job file text
+docker_output job basic origin terminus place day text place_is day_is docker file of = record {
+  live = law.one_table file;
+  plain = law.plain_of_one file;
+  place = place;
+  place_is = place_is;
+  day = day;
+  day_is = day_is;
+  docker = docker of.header of.trailer (law.one_table file)
+      (as_law of.header basic origin terminus of.trailer (subst IsOneSchedule of.whole of.is))
+      (subst (λ (f : List (List ℕ)). IsPlainTable (f ∷ []) (law.one_table file)) of.whole (law.plain_of_one file));
+}
+
+-- the same where the records are those that were read
 pub output_of : (prepared : PreparedView) (basic origin terminus place : List ℕ) (day : ℕ) (text : List ℕ)
-    → basic ≡ prepared.basic → origin ≡ prepared.origin → terminus ≡ prepared.terminus
+    → prepared.read ≡ schedule_read basic origin terminus
     → prepared.job.tiploc ≡ Some place → prepared.job.day ≡ Some day → IsDockerOf basic origin terminus place day text
     → (file : List (List ℕ)) → IsPreparedOf prepared file → IsOutput prepared file text
-output_of prepared basic origin terminus place day text basic_is origin_is terminus_is place_is day_is docker =
-    is_output prepared place day text place_is day_is
-    (subst (λ b. IsDockerOf b prepared.origin prepared.terminus place day text) basic_is
-    (subst (λ o. IsDockerOf basic o prepared.terminus place day text) origin_is
-    (subst (λ t. IsDockerOf basic origin t place day text) terminus_is docker)))
+output_of prepared basic origin terminus place day text read_is place_is day_is docker file of =
+    subst (λ (r : ReadView). IsOutputOf r prepared.job file text) (sym read_is)
+    (docker_output prepared.job basic origin terminus place day text place_is day_is docker file
+    (subst (λ (r : ReadView). IsReadOf r file) read_is of))

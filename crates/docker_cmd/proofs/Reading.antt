@@ -14,8 +14,8 @@ use Rattle.cif_file.specs.declared.file.CifFile.{CifFile}
 use Rattle.cif_file.specs.Reading.{IsRefused}
 use Rattle.docker_cmd.specs.declared.fault.OfficeFault.{OfficeFault}
 use Rattle.docker_cmd.specs.declared.fault.OfficeFault.TheVariants as office
-use Rattle.docker_cmd.specs.Prepared.{Held, ReadsFile, ReadsSchedule, IsFileRefused, PreparedView, most_records}
-use Rattle.docker_cmd.specs.Schedule.{IsOfSomeText, AreRecordsOf}
+use Rattle.docker_cmd.specs.Prepared.{Held, ReadsFile, ReadsSchedule, IsFileRefused, IsPreparedOf, PreparedView, most_records}
+use Rattle.docker_cmd.specs.Schedule.{IsOfSomeText}
 
 -- after so many turns the parser was fed a text, which is what the source lost
 pub record IsAtTurn (initial : Option (List ℕ)) (parser : ParserState) (now : Option (List ℕ)) (turn : ℕ) : Type 0 where
@@ -104,7 +104,7 @@ told_as_file text fault told result (inr wanting) memory file is =
 
 -- the schedule of a file that was read
 pub reads_schedule : (left : Option (List ℕ)) (file : FileRead) (prepared : PreparedView) → ReadsFile left file
-    → ((records : List (List ℕ)) → IsOneSchedule records → IsOfRecords file records → AreRecordsOf prepared.basic prepared.origin prepared.terminus records)
+    → ((records : List (List ℕ)) → IsOneSchedule records → IsOfRecords file records → IsPreparedOf prepared records)
     → ReadsSchedule left prepared
 reads_schedule left file prepared read of = record {
   text = read.text;

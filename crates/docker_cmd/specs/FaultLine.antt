@@ -9,7 +9,7 @@ use Rattle.docker_cmd.specs.declared.fault.Fault.TheVariants.{Job, Office}
 use Rattle.docker_cmd.specs.declared.fault.JobFault.TheVariants as job
 use Rattle.docker_cmd.specs.declared.fault.OfficeFault.TheVariants as office
 
--- 1 refused input, 2 usage, 3 want of memory, 4 a device
+-- 1 refused input or not yet, 2 usage, 3 want of memory, 4 a device
 abbrev pub status_of : Fault → ℕ
 status_of (Job job.Usage) = 2
 status_of (Job job.Memory) = 3
@@ -18,6 +18,7 @@ status_of (Office (office.File fault)) = 1
 status_of (Office office.Source) = 4
 status_of (Office office.Sink) = 4
 status_of (Office office.Memory) = 3
+status_of (Office office.NotYet) = 1
 
 -- the name of a cause, and the column behind it where it has one
 abbrev pub cause_text : FileCause → List ℕ
@@ -44,6 +45,10 @@ memory_line = codes "docker: want of memory\n"
 abbrev pub device_line : List ℕ
 device_line = codes "docker: device failed\n"
 
+-- the line of what isn't built yet
+abbrev pub not_yet_line : List ℕ
+not_yet_line = codes "docker: not yet\n"
+
 -- the one usage line
 abbrev pub usage_line : List ℕ
 usage_line = codes "docker: usage: new STATE | check FILE | day FILE TIPLOC DATE | take STATE FILE | merge STATE OTHER | print STATE TIPLOC DATE | files STATE\n"
@@ -57,3 +62,4 @@ fault_line (Office (office.File fault)) = file_line fault
 fault_line (Office office.Source) = device_line
 fault_line (Office office.Sink) = device_line
 fault_line (Office office.Memory) = memory_line
+fault_line (Office office.NotYet) = not_yet_line

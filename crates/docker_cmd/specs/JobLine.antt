@@ -42,3 +42,14 @@ ReadsJob old job new = (line : List ℕ) × ReadsLine old line new × IsJobOf (w
 abbrev pub HasNoJob : Option (List ℕ) → Type 0
 HasNoJob None = ⊤
 HasNoJob (Some text) = (line rest : List ℕ) → IsJobLine text line rest → NameNoJob (words_in line)
+
+-- where the bytes are told, they begin with a job line that names a job
+abbrev pub HasJob : Option (List ℕ) → Type 0
+HasJob None = ⊤
+HasJob (Some text) = (line : List ℕ) × ((rest : List ℕ) × (IsJobLine text line rest × (¬ NameNoJob (words_in line))))
+
+-- at most so many bytes were read
+pub record ReadsAtMost (most : ℕ) (old new : Option (List ℕ)) : Type 0 where
+  pub lost : List ℕ
+  pub few : length lost ≤ most
+  pub read : Reads old lost new

@@ -1,3 +1,4 @@
+pub mod CheckLine
 pub mod Docker
 pub mod FaultLine
 pub mod Grammar

@@ -1,12 +1,14 @@
 -- What a job has read, and what it writes.
-use Rattle.std.specs.Prelude.{◌≡◌, ℕ, List, [], ◌∷◌, Option, Some, None, ⊤}
+use Rattle.std.specs.Prelude.{◌≡◌, ℕ, List, [], ◌∷◌, length, Option, Some, None, ⊤}
+use Rattle.docker_model.specs.Change.{changes}
 use Rattle.docker_model.specs.Table.{Table, IsPlainTable}
 use Rattle.docker_model.specs.DockerText.{IsDockerText}
 use Rattle.cif_file.specs.OneSchedule.{IsOneScheduleText}
 use Rattle.cif_file.specs.Reading.{IsAccepted, first_place}
-use Rattle.cif_file.specs.FileRead.{FileRead, IsOfText}
+use Rattle.cif_file.specs.FileRead.{FileRead, IsOfRecords, IsOfText}
 use Rattle.cif_file.specs.declared.fault.FileFault.{FileFault}
 use Rattle.cif_line.specs.Device.{Takes, TakesPart}
+use Rattle.docker_cmd.specs.CheckLine.{check_line}
 use Rattle.docker_cmd.specs.Job.{JobView}
 use Rattle.docker_cmd.specs.Schedule.{AreRecordsOf}
 
@@ -14,16 +16,24 @@ use Rattle.docker_cmd.specs.Schedule.{AreRecordsOf}
 abbrev pub most_records : ℕ
 most_records = 4294967294
 
--- a job, and the records of the schedule that it has read: its basic schedule, its origin and its terminus
+-- what a job has read: a file, or the records of a schedule, which are its basic schedule, its origin and its terminus
+pub data ReadView : Type 0 where
+  file_read : (file : FileRead) → ReadView
+  schedule_read : (basic origin terminus : List ℕ) → ReadView
+
+-- a job, and what it has read
 pub record PreparedView : Type 0 where
   pub job : JobView
-  pub basic : List ℕ
-  pub origin : List ℕ
-  pub terminus : List ℕ
+  pub read : ReadView
 
--- the schedule is that of this file
+-- it is the file of these records, or the schedule of that file
+abbrev pub IsReadOf : ReadView → List (List ℕ) → Type 0
+IsReadOf (file_read file) records = IsOfRecords file records
+IsReadOf (schedule_read basic origin terminus) records = AreRecordsOf basic origin terminus records
+
+-- what was read is of this file
 abbrev pub IsPreparedOf : PreparedView → List (List ℕ) → Type 0
-IsPreparedOf prepared file = AreRecordsOf prepared.basic prepared.origin prepared.terminus file
+IsPreparedOf prepared file = IsReadOf prepared.read file
 
 -- a source that tells its bytes held this text
 abbrev pub Held : Option (List ℕ) → List ℕ → Type 0
@@ -50,16 +60,25 @@ IsFileRefused None fault = fault ≡ first_place
 IsFileRefused (Some told) fault = (fault ≡ first_place) × (¬ IsAccepted most_records told)
 
 -- the docker text of the plain table of this one file, at the job's timing point and on its day
-pub record IsOutput (prepared : PreparedView) (file : List (List ℕ)) (text : List ℕ) : Type 0 where
+pub record IsDockerOutput (job : JobView) (file : List (List ℕ)) (text : List ℕ) : Type 0 where
   pub live : Table
   pub plain : IsPlainTable (file ∷ []) live
   pub place : List ℕ
-  pub place_is : prepared.job.tiploc ≡ Some place
+  pub place_is : job.tiploc ≡ Some place
   pub day : ℕ
-  pub day_is : prepared.job.day ≡ Some day
+  pub day_is : job.day ≡ Some day
   pub docker : IsDockerText live place day text
 
--- the sink gained the output, whichever file the schedule is of
+-- of a file the line of `check`, and of a schedule the docker
+abbrev pub IsOutputOf : ReadView → JobView → List (List ℕ) → List ℕ → Type 0
+IsOutputOf (file_read read) job file text = text ≡ check_line (length file) (changes file)
+IsOutputOf (schedule_read basic origin terminus) job file text = IsDockerOutput job file text
+
+-- the output of a job, where what it has read is of this file
+abbrev pub IsOutput : PreparedView → List (List ℕ) → List ℕ → Type 0
+IsOutput prepared file text = IsOutputOf prepared.read prepared.job file text
+
+-- the sink gained the output, whichever file was read
 pub record GainsOutput (prepared : PreparedView) (old new : Option (List ℕ)) : Type 0 where
   pub text : List ℕ
   pub output : (file : List (List ℕ)) → IsPreparedOf prepared file → IsOutput prepared file text

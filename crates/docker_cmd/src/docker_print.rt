@@ -10,6 +10,7 @@ ghost use Rattle.docker_laws.proofs.OneTable.{IsOneSchedule};
 ghost use Rattle.docker_laws.proofs.OneResult.{one_docker_text};
 ghost use Rattle.docker_cmd.specs.Docker.{line_meant};
 
+use crate::buffer::put;
 use crate::docker_line::DockerLine;
 use crate::docker_list::{Docker, docker_lines};
 use arrayvec::ArrayVec;
@@ -146,18 +147,6 @@ fn public_time_text(time: Option<Time>) -> [u8; 4]
             [a, b, c, d]
         }
         None => *b"    ",
-    }
-}
-
-/// Appends bytes that there is room for.
-fn put<const N: usize>(text: &mut ArrayVec<u8, N>, bytes: &[u8])
-    requires room { array_vec_len text.old + length bytes.now ≤ N }
-    ensures items { text.new.items ≡ text.old.items ++ bytes.now }
-    ensures len { array_vec_len text.new ≡ array_vec_len text.old + length bytes.now }
-{
-    match text.try_extend_from_slice(bytes) {
-        Ok(()) => {}
-        Err(_) => unreachable!(),
     }
 }
 

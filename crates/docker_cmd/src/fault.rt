@@ -27,6 +27,8 @@ pub enum OfficeFault {
     Sink,
     /// A growth was refused.
     Memory,
+    /// What the job asks for isn't built yet.
+    NotYet,
 }
 
 /// Whatever ends the program before it is done.

@@ -13,12 +13,12 @@ pub type FaultText = ArrayVec<u8, 160>;
 const USAGE: &[u8] =
     b"docker: usage: new STATE | check FILE | day FILE TIPLOC DATE | take STATE FILE | merge STATE OTHER | print STATE TIPLOC DATE | files STATE\n";
 
-/// The exit status of a fault: 1 refused input, 2 usage, 3 want of memory, 4 a device.
+/// The exit status of a fault: 1 refused input or not yet, 2 usage, 3 want of memory, 4 a device.
 pub fn status(fault: &Fault) -> u8
     ensures { result ≡ status_of fault.now }
 {
     match fault {
-        Fault::Office(OfficeFault::File(_)) => 1,
+        Fault::Office(OfficeFault::File(_) | OfficeFault::NotYet) => 1,
         Fault::Job(JobFault::Usage) => 2,
         Fault::Job(JobFault::Memory) | Fault::Office(OfficeFault::Memory) => 3,
         Fault::Job(JobFault::Source) | Fault::Office(OfficeFault::Source | OfficeFault::Sink) => 4,
@@ -39,6 +39,7 @@ pub fn fault_text(fault: &Fault) -> FaultText
         Fault::Job(JobFault::Source) | Fault::Office(OfficeFault::Source | OfficeFault::Sink) => {
             push(&mut text, b"docker: device failed\n")
         }
+        Fault::Office(OfficeFault::NotYet) => push(&mut text, b"docker: not yet\n"),
     }
     text
 }

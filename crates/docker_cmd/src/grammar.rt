@@ -59,12 +59,13 @@ fn docker<'a>(alloc: Global) -> Result<Command<'a>, AllocError>
     ensures { IfOk result (λ c. app_of c ≡ docker_app) }
 {
     let docker = top(alloc);
+    let docker = with_job(alloc, docker, "check", &["FILE"])?;
     let docker = with_job(alloc, docker, "day", &["FILE", "TIPLOC", "DATE"])?;
     Ok(docker)
 }
 
 /// What `clap` makes of the words.
-pub fn matches<'a>(alloc: Global, words: &'a [&'a str]) -> Result<ArgMatches<'a>, Error>
+pub(crate) fn matches<'a>(alloc: Global, words: &'a [&'a str]) -> Result<ArgMatches<'a>, Error>
     ensures subcommand { IfOk result (λ m.
         subcommand_rows_of m ≡ subcommand_of docker_app (map (λ w. w.now) words.entry.now)) }
     ensures kinds { FailsBy (fault_of docker_app (map (λ w. w.now) words.entry.now)) result }

@@ -1,15 +1,16 @@
 //! The job that words name.
-ghost use Rattle.std.specs.Prelude.{◌≡◌, ◌≢◌, ◌↔◌, ◌≤◌, ◌-◌, ◌++◌, ℕ, List, length, IfOk, IfSome, IsSome, IsTrue, Some, Err, map, string_bytes};
+ghost use Rattle.std.specs.Prelude.{OnErr, ◌≡◌, ◌≢◌, ◌↔◌, ◌≤◌, ◌-◌, ◌++◌, ℕ, List, length, IfOk, IfSome, IsSome, IsTrue, Some, Err, map, string_bytes};
 ghost use Rattle.docker_model.specs.Date.{last_day};
 ghost use Rattle.docker_model.specs.DockerLine.{spaces};
 ghost use Rattle.docker_model.specs.DockerText.{day_text};
 ghost use Rattle.cif_line.specs.Tiploc.{IsTiplocText};
-ghost use Rattle.docker_cmd.specs.Words.{texts, job_of, day_job};
-ghost use Rattle.docker_cmd.specs.Job.{AreReadable, IsDayJob, IsJobOf, NameNoJob};
+ghost use Rattle.docker_cmd.specs.Words.{NamedJob, texts, job_of, named};
+ghost use Rattle.docker_cmd.specs.declared.jobs.Subcommand.TheVariants.{Day as day_subcommand};
+ghost use Rattle.docker_cmd.specs.Job.{AreReadable, IsDayJob, IsFilesJob, IsJobOf, IsNamedJob, IsReadable, NameNoJob};
 
 use crate::fault::JobFault;
-use crate::jobs::Job;
-use crate::words::{WordsFault, read_words};
+use crate::jobs::{Job, Subcommand};
+use crate::words::{JobWords, WordsFault, read_words};
 use cif_line::{Day, Tiploc};
 use std::alloc::{AllocError, Global};
 
@@ -20,7 +21,7 @@ pub fn job(alloc: Global, words: &[&str]) -> Result<Job, JobFault>
     ensures source { result ≢ Err JobFault.Source }
 {
     match read_words(alloc, words) {
-        Ok(day) => day_job(alloc, day.file, day.tiploc, day.date),
+        Ok(words) => named_job(alloc, words),
         Err(WordsFault::Usage) => Err(JobFault::Usage),
         Err(WordsFault::Memory) => {
             if are_readable(words) {
@@ -47,14 +48,37 @@ fn place_and_day(tiploc: &str, date: &str) -> Option<(Tiploc, Day)>
     Some((place, day))
 }
 
-/// The words behind `day` name a timing point and a day.
+/// The words of a subcommand are what it requires: of three the last two name a timing point and a day.
 fn are_readable(words: &[&str]) -> bool
-    ensures { (file tiploc date : List ℕ) → job_of (texts words.now) ≡ Some (day_job file tiploc date)
-        → IsTrue result ↔ AreReadable tiploc date }
+    ensures { (named : NamedJob) → job_of (texts words.now) ≡ Some named → IsTrue result ↔ IsReadable named }
 {
     match words {
         [_, _, tiploc, date] => place_and_day(tiploc, date).is_some(),
-        _ => false,
+        _ => true,
+    }
+}
+
+/// The job of a subcommand with its words.
+fn named_job(alloc: Global, words: JobWords<'_>) -> Result<Job, JobFault>
+    ensures job { IfOk result (λ job. IsNamedJob (Some (named words.entry)) job) }
+    ensures usage { (result ≡ Err JobFault.Usage) ↔ (¬ IsReadable (named words.entry)) }
+    ensures source { result ≢ Err JobFault.Source }
+{
+    match words {
+        JobWords::Check { file } => files_job(alloc, Subcommand::Check, &[file]),
+        JobWords::Day { file, tiploc, date } => day_job(alloc, file, tiploc, date),
+    }
+}
+
+/// The job of a subcommand with its words, none of which is a TIPLOC or a date.
+fn files_job(alloc: Global, subcommand: Subcommand, words: &[&str]) -> Result<Job, JobFault>
+    requires { subcommand ≢ day_subcommand }
+    ensures job { IfOk result (λ job. IsFilesJob subcommand (texts words.now) job) }
+    ensures memory { OnErr result (result ≡ Err JobFault.Memory) }
+{
+    match owned(alloc, words) {
+        Ok(words) => Ok(Job::of_files(subcommand, words)),
+        Err(_) => Err(JobFault::Memory),
     }
 }
 

@@ -1,5 +1,5 @@
 //! Jobs.
-ghost use Rattle.std.specs.Prelude.{◌≡◌, Some, map, string_bytes};
+ghost use Rattle.std.specs.Prelude.{◌≡◌, ◌≢◌, Some, None, map, string_bytes};
 ghost use Rattle.docker_cmd.specs.declared.jobs.Subcommand.TheVariants.{Day as day_subcommand};
 
 use cif_line::{Day, Tiploc};
@@ -8,6 +8,8 @@ use std::marker::Model;
 /// The subcommands.
 #[derive(Clone, Copy, PartialEq, Eq, Debug)]
 pub enum Subcommand {
+    /// `check FILE`: whether a file is whole, and how many records and changes it has.
+    Check,
     /// `day FILE TIPLOC DATE`: the docker of a timing point on a day, of an office that took one file.
     Day,
 }
@@ -22,7 +24,8 @@ pub struct Job {
 }
 
 impl Model for Job {
-    ghost use Rattle.std.specs.Prelude.{map, string_bytes, IsSome};
+    ghost use Rattle.std.specs.Prelude.{◌≡◌, map, string_bytes, IsSome};
+    ghost use Rattle.docker_cmd.specs.declared.jobs.Subcommand.TheVariants.{Day as day_subcommand};
     ghost use Rattle.docker_cmd.specs.Job.{JobView};
 
     ghost Value = { JobView };
@@ -34,10 +37,26 @@ impl Model for Job {
       day = job.day;
     } };
 
-    ghost invariant = { λ job. IsSome job.tiploc × IsSome job.day };
+    ghost invariant = { λ job. (job.subcommand ≡ day_subcommand) → IsSome job.tiploc × IsSome job.day };
 }
 
 impl Job {
+    /// The job of a subcommand with these words, none of which names a timing point or a day.
+    pub(crate) fn of_files(subcommand: Subcommand, words: Vec<String>) -> Job
+        requires { subcommand ≢ day_subcommand }
+        ensures subcommand { result.subcommand ≡ subcommand }
+        ensures words { result.words ≡ map (λ word. string_bytes word) words.items }
+        ensures tiploc { result.tiploc ≡ None }
+        ensures day { result.day ≡ None }
+    {
+        Job {
+            subcommand,
+            words,
+            tiploc: None,
+            day: None,
+        }
+    }
+
     /// The job of `day` with these words.
     pub(crate) fn of_day(words: Vec<String>, tiploc: Tiploc, day: Day) -> Job
         ensures subcommand { result.subcommand ≡ day_subcommand }
@@ -83,6 +102,7 @@ impl Job {
 
     /// The timing point of `day`.
     pub(crate) fn place(&self) -> Tiploc
+        requires { self.now.subcommand ≡ day_subcommand }
         ensures { self.now.tiploc ≡ Some result }
     {
         match self.tiploc {
@@ -93,6 +113,7 @@ impl Job {
 
     /// The day of `day`.
     pub(crate) fn date(&self) -> Day
+        requires { self.now.subcommand ≡ day_subcommand }
         ensures { self.now.day ≡ Some result }
     {
         match self.day {

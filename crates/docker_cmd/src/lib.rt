@@ -1,6 +1,8 @@
 //! The program's commands: jobs from words, what a job reads and writes, and the texts of faults.
 #![tactic(auto)]
 
+mod buffer;
+mod check_line;
 mod docker_line;
 mod docker_list;
 mod docker_print;

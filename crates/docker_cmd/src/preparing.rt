@@ -1,6 +1,7 @@
 //! What a job reads.
 ghost use Rattle.std.specs.Prelude.{◌≡◌, ◌≢◌, ◌+◌, ◌-◌, ◌^◌, ◌<◌, ◌↔◌, IfOk, IfErr, Err};
-ghost use Rattle.docker_cmd.specs.Prepared.{IsFileRefused, ReadsFile, ReadsSchedule};
+ghost use Rattle.docker_cmd.specs.Prepared.{IsFileRefused, ReadsFile, ReadsSchedule, schedule_read};
+ghost use Rattle.docker_cmd.specs.declared.jobs.Subcommand.TheVariants.{Check as check_subcommand, Day as day_subcommand};
 
 use crate::fault::OfficeFault;
 use crate::jobs::{Job, Subcommand};
@@ -18,38 +19,39 @@ pub struct Prepared<'a> {
 }
 
 impl<'a> Model for Prepared<'a> {
-    ghost use Rattle.docker_cmd.specs.Prepared.{PreparedView};
+    ghost use Rattle.std.specs.Prelude.{◌≡◌};
+    ghost use Rattle.docker_cmd.specs.Prepared.{PreparedView, schedule_read};
+    ghost use Rattle.docker_cmd.specs.declared.jobs.Subcommand.TheVariants.{Day as day_subcommand};
 
     ghost Value = { PreparedView };
 
     ghost view = { λ prepared. record {
       job = prepared.job.now;
-      basic = prepared.schedule.basic;
-      origin = prepared.schedule.origin;
-      terminus = prepared.schedule.terminus;
+      read = schedule_read prepared.schedule.basic prepared.schedule.origin prepared.schedule.terminus;
     } };
+
+    ghost invariant = { λ prepared. prepared.job.now.subcommand ≡ day_subcommand };
 }
 
 impl<'a> Prepared<'a> {
     /// The job.
     pub(crate) fn job(&self) -> &'a Job
-        ensures { result.now ≡ self.now.job }
+        ensures job { result.now ≡ self.now.job }
+        ensures day { self.now.job.subcommand ≡ day_subcommand }
     {
         self.job
     }
 
     /// The schedule that was read.
     pub(crate) fn schedule(&self) -> &Schedule
-        ensures basic { result.now.basic ≡ self.now.basic }
-        ensures origin { result.now.origin ≡ self.now.origin }
-        ensures terminus { result.now.terminus ≡ self.now.terminus }
+        ensures { self.now.read ≡ schedule_read result.now.basic result.now.origin result.now.terminus }
     {
         &self.schedule
     }
 }
 
-/// Reads what the job reads: `day` reads the file that its first word names, from the first source to its end. No job reads a
-/// second source yet.
+/// Reads what the job reads: `day` reads the file that its first word names, from the first source to its end. `check` is refused
+/// as not yet, and reads nothing. No job reads a second source yet.
 pub fn prepare<'a, S: Source, T: Source>(
     alloc: Global,
     job: &'a Job,
@@ -63,9 +65,12 @@ pub fn prepare<'a, S: Source, T: Source>(
     ensures source { (result ≡ Err OfficeFault.Source) ↔ (S.failures first.new ≡ S.failures first.old + 1) }
     ensures no_failure { result ≢ Err OfficeFault.Source → S.failures first.new ≡ S.failures first.old }
     ensures sink { result ≢ Err OfficeFault.Sink }
+    ensures not_yet { (result ≡ Err OfficeFault.NotYet) ↔ (job.now.subcommand ≡ check_subcommand) }
+    ensures unread { (job.now.subcommand ≡ check_subcommand) → first.new ≡ first.old }
     ensures second { _second.new ≡ _second.old }
 {
     match job.subcommand() {
+        Subcommand::Check => Err(OfficeFault::NotYet),
         Subcommand::Day => {
             let file = read_file(alloc, first)?;
             Ok(Prepared {

@@ -121,7 +121,12 @@ END
 
 #[test]
 fn words_that_name_no_job(rt: HostRuntime) {
-    let rows: [&[&str]; 6] = [
+    let rows: [&[&str]; 11] = [
+        &["check"],
+        &["check", "F", "G"],
+        &["check", ""],
+        &["check", "-"],
+        &["check", "F", "ASHFELD", "2024-06-10"],
         &["day", "F", "ASHFELD", "2024-02-30"],
         &["day", "F", "ASHFELDX", "2024-06-10"],
         &["day", "F"],
@@ -158,6 +163,32 @@ fn a_job_line_before_a_file(rt: HostRuntime) -> Result<(), Fail> {
     assert_eq!(rt; place.bytes(), b"ASHFELD");
     let day = job.day().ok_or("a day")?;
     assert_eq!(rt; day.number(), 23537);
+    Ok(())
+}
+
+#[test]
+fn a_job_line_of_check(rt: HostRuntime) -> Result<(), Fail> {
+    let mut source = Bytes::new(b"check stdin\nHD", 5);
+    let job = job_line(rt.alloc(), &mut source)?;
+    assert_eq!(rt; source.left(), b"HD".as_slice());
+    assert_eq!(rt; job.subcommand(), Subcommand::Check);
+    let [name] = job.words() else {
+        return Err("one word")?;
+    };
+    assert_eq!(rt; name.as_str(), "stdin");
+    assert!(rt; job.tiploc().is_none());
+    assert!(rt; job.day().is_none());
+    Ok(())
+}
+
+#[test]
+fn a_check_that_is_not_built_yet(rt: HostRuntime) -> Result<(), Fail> {
+    let job = job(rt.alloc(), &["check", "F"])?;
+    let mut first = Bytes::new(b"HD", 1);
+    let mut second = Bytes::new(b"", 1);
+    let fault = prepare(rt.alloc(), &job, &mut first, &mut second).err();
+    assert_eq!(rt; fault, Some(OfficeFault::NotYet));
+    assert_eq!(rt; first.left(), b"HD".as_slice());
     Ok(())
 }
 
@@ -309,6 +340,7 @@ fn how_faults_are_told(rt: HostRuntime) {
             1,
             "docker: file refused: record 1: Place\n",
         ),
+        (Fault::Office(OfficeFault::NotYet), 1, "docker: not yet\n"),
         (Fault::Job(JobFault::Usage), 2, USAGE),
         (Fault::Job(JobFault::Memory), 3, "docker: want of memory\n"),
         (

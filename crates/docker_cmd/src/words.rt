@@ -2,7 +2,7 @@
 ghost use Rattle.std.specs.Prelude.{◌≡◌, ◌↔◌, IfOk, Some, None, Err, true, is_some, option_map};
 ghost use Rattle.std.specs.List.{list_all};
 ghost use Rattle.clap.specs.Words.{first_of, found_of, rows_of, subcommand_rows_of};
-ghost use Rattle.docker_cmd.specs.Grammar.{day_in, job_in};
+ghost use Rattle.docker_cmd.specs.Grammar.{check_in, day_in, job_in};
 ghost use Rattle.docker_cmd.specs.Words.{is_plain_word, job_of, job_of_words, named, texts};
 
 use crate::grammar::matches;
@@ -14,12 +14,19 @@ use thiserror::Error;
 #[cfg(test)]
 mod tests;
 
-/// The words behind `day`: `day FILE TIPLOC DATE`.
+/// A subcommand and the words behind it.
 #[derive(Clone, Copy, Debug, PartialEq, Eq)]
-pub(crate) struct DayWords<'a> {
-    pub(crate) file: &'a str,
-    pub(crate) tiploc: &'a str,
-    pub(crate) date: &'a str,
+pub(crate) enum JobWords<'a> {
+    /// `check FILE`.
+    Check {
+        file: &'a str,
+    },
+    /// `day FILE TIPLOC DATE`.
+    Day {
+        file: &'a str,
+        tiploc: &'a str,
+        date: &'a str,
+    },
 }
 
 /// Why words give no subcommand.
@@ -53,6 +60,7 @@ fn names_job(words: &[&str]) -> bool
     match words {
         [] => false,
         [name, behind @ ..] => match *name {
+            "check" => behind.len() == 1,
             "day" => behind.len() == 3,
             _ => false,
         },
@@ -77,11 +85,20 @@ fn word_at<'a>(words: &ArgMatches<'a>, id: &str) -> Option<&'a str>
     words.get_str(id)
 }
 
+/// `check`, by what `clap` found for its word.
+fn found_check<'a>(words: &ArgMatches<'a>) -> Option<JobWords<'a>>
+    ensures { option_map named result ≡ check_in (rows_of (found_of words.now)) }
+{
+    Some(JobWords::Check {
+        file: word_at(words, "FILE")?,
+    })
+}
+
 /// `day`, by what `clap` found for its words.
-fn found_day<'a>(words: &ArgMatches<'a>) -> Option<DayWords<'a>>
+fn found_day<'a>(words: &ArgMatches<'a>) -> Option<JobWords<'a>>
     ensures { option_map named result ≡ day_in (rows_of (found_of words.now)) }
 {
-    Some(DayWords {
+    Some(JobWords::Day {
         file: word_at(words, "FILE")?,
         tiploc: word_at(words, "TIPLOC")?,
         date: word_at(words, "DATE")?,
@@ -89,11 +106,12 @@ fn found_day<'a>(words: &ArgMatches<'a>) -> Option<DayWords<'a>>
 }
 
 /// The subcommand that `clap` found.
-fn found_job<'a>(found: &ArgMatches<'a>) -> Option<DayWords<'a>>
+fn found_job<'a>(found: &ArgMatches<'a>) -> Option<JobWords<'a>>
     ensures { option_map named result ≡ job_in (subcommand_rows_of found.now) }
 {
     let (name, words) = found.subcommand()?;
     match name {
+        "check" => found_check(words),
         "day" => found_day(words),
         _ => None,
     }
@@ -104,7 +122,7 @@ fn found_job<'a>(found: &ArgMatches<'a>) -> Option<DayWords<'a>>
 pub(crate) fn read_words<'a>(
     alloc: Global,
     words: &'a [&'a str],
-) -> Result<DayWords<'a>, WordsFault>
+) -> Result<JobWords<'a>, WordsFault>
     ensures job { IfOk result (λ job. job_of (texts words.now) ≡ Some (named job)) }
     ensures usage { (result ≡ Err WordsFault.Usage) ↔ (job_of (texts words.now) ≡ None) }
 {

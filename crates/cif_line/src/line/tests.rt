@@ -1,3 +1,5 @@
+use super::{are_printable, bad_column, first_bad_column};
+use crate::printable::is_printable_line;
 use crate::{Line, LineFault};
 use std::test::Fail;
 
@@ -30,4 +32,17 @@ fn faults_in_words(rt: HostRuntime) -> Result<(), Fail> {
     assert_eq!(rt; length.as_str(), "Length");
     assert_eq!(rt; byte.as_str(), "Byte 20");
     Ok(())
+}
+
+// By blocks a line is judged as it is byte by byte.
+#[test]
+fn lines_by_blocks(rt: HostRuntime) {
+    for column in 0..80usize {
+        for byte in [0x00, 0x1F, 0x20, 0x7E, 0x7F, 0x80, 0xFF] {
+            let mut bytes = [b'A'; 80];
+            bytes[column] = byte;
+            assert_eq!(rt; is_printable_line(&bytes), are_printable(&bytes));
+            assert_eq!(rt; bad_column(&bytes), first_bad_column(&bytes));
+        }
+    }
 }

@@ -1,7 +1,8 @@
 //! Records of each kind that has a view, and their leftmost bad fields.
 use crate::{
-    Basic, Days, Extract, FieldFault, Header, Kind, Line, Origin, Stp, Terminus, Time, Transaction,
-    Until, basic, header, kind, origin, terminus,
+    Assoc, Basic, Call, ChangeEnRoute, Days, Extract, FieldFault, Header, Kind, Line, Origin, Stp,
+    Terminus, Time, Tiploc, TiplocRecord, Transaction, Until, assoc, basic, call, change, header,
+    kind, origin, terminus, tiploc,
 };
 use std::test::Fail;
 
@@ -19,6 +20,36 @@ fn header_of(line: &Line) -> Result<Header<'_>, Fail> {
     match kind(line) {
         Some(Kind::Header) => Ok(header(line)?),
         _ => Err("no header")?,
+    }
+}
+
+fn tiploc_of(line: &Line) -> Result<TiplocRecord<'_>, Fail> {
+    match kind(line) {
+        Some(Kind::TiplocInsert) => Ok(tiploc(line)?),
+        Some(Kind::TiplocAmend) => Ok(tiploc(line)?),
+        Some(Kind::TiplocDelete) => Ok(tiploc(line)?),
+        _ => Err("no TIPLOC record")?,
+    }
+}
+
+fn assoc_of(line: &Line) -> Result<Assoc<'_>, Fail> {
+    match kind(line) {
+        Some(Kind::Association) => Ok(assoc(line)?),
+        _ => Err("no association")?,
+    }
+}
+
+fn call_of(line: &Line) -> Result<Call<'_>, Fail> {
+    match kind(line) {
+        Some(Kind::IntermediateLocation) => Ok(call(line)?),
+        _ => Err("no intermediate location")?,
+    }
+}
+
+fn change_of(line: &Line) -> Result<ChangeEnRoute<'_>, Fail> {
+    match kind(line) {
+        Some(Kind::ChangeEnRoute) => Ok(change(line)?),
+        _ => Err("no change en route")?,
     }
 }
 
@@ -48,9 +79,15 @@ fn fault(text: &[u8], last: u8) -> Result<Option<FieldFault>, Fail> {
     let line = record(text, last)?;
     Ok(match kind(&line) {
         Some(Kind::Header) => header(&line).err(),
+        Some(Kind::TiplocInsert) => tiploc(&line).err(),
+        Some(Kind::TiplocAmend) => tiploc(&line).err(),
+        Some(Kind::TiplocDelete) => tiploc(&line).err(),
+        Some(Kind::Association) => assoc(&line).err(),
         Some(Kind::BasicSchedule) => basic(&line).err(),
         Some(Kind::OriginLocation) => origin(&line).err(),
+        Some(Kind::IntermediateLocation) => call(&line).err(),
         Some(Kind::TerminatingLocation) => terminus(&line).err(),
+        Some(Kind::ChangeEnRoute) => change(&line).err(),
         _ => None,
     })
 }
@@ -135,6 +172,251 @@ fn a_terminus(rt: HostRuntime) -> Result<(), Fail> {
     assert_eq!(rt; half_minutes(to.public_arrival()), Some(1144));
     assert_eq!(rt; to.platform(), b"2  ");
     assert_eq!(rt; to.path(), b"FL ");
+    Ok(())
+}
+
+#[test]
+fn a_timing_point(rt: HostRuntime) -> Result<(), Fail> {
+    let line = record(b"TIASHFELD         ASHFIELD CENTRAL", b' ')?;
+    let point = tiploc_of(&line)?;
+    assert_eq!(rt; point.code().bytes(), b"ASHFELD");
+    assert_eq!(rt; point.description(), b"ASHFIELD CENTRAL          ");
+    assert_eq!(rt;
+        point.details(),
+        b"         ASHFIELD CENTRAL                                      "
+    );
+    assert_eq!(rt; point.new_code(), None);
+    Ok(())
+}
+
+#[test]
+fn a_timing_point_renamed(rt: HostRuntime) -> Result<(), Fail> {
+    let line = record(
+        b"TAASHFELD         ASHFIELD NEW                                          ASHFLDN",
+        b' ',
+    )?;
+    let point = tiploc_of(&line)?;
+    assert_eq!(rt; point.code().bytes(), b"ASHFELD");
+    assert_eq!(rt; point.new_code(), Tiploc::from_text("ASHFLDN"));
+    let line = record(b"TAASHFELD         ASHFIELD NEW", b' ')?;
+    assert_eq!(rt; tiploc_of(&line)?.new_code(), None);
+    let line = record(
+        b"TIASHFELD         ASHFIELD NEW                                          ASHFLDN",
+        b' ',
+    )?;
+    assert_eq!(rt; tiploc_of(&line)?.new_code(), None);
+    Ok(())
+}
+
+#[test]
+fn an_association(rt: HostRuntime) -> Result<(), Fail> {
+    let line = record(b"AANC30001C300022406102406141000000VVSCOLWELL23TP", b'P')?;
+    let joined = assoc_of(&line)?;
+    assert_eq!(rt; joined.transaction(), Transaction::New);
+    assert_eq!(rt; joined.base().bytes(), b"C30001");
+    assert_eq!(rt; joined.associated().bytes(), b"C30002");
+    assert_eq!(rt; joined.start().number(), 23537);
+    assert_eq!(rt; joined.end().ok_or("an end")?.number(), 23541);
+    assert_eq!(rt; joined.days(), Days::from_field(b"1000000"));
+    assert_eq!(rt; joined.category(), b"VV");
+    assert_eq!(rt; joined.date_indicator(), b'S');
+    assert_eq!(rt; joined.location().bytes(), b"COLWELL");
+    assert_eq!(rt; joined.base_suffix(), b'2');
+    assert_eq!(rt; joined.associated_suffix(), b'3');
+    assert_eq!(rt; joined.stp(), Stp::Permanent);
+    Ok(())
+}
+
+#[test]
+fn a_deletion_of_an_association(rt: HostRuntime) -> Result<(), Fail> {
+    let line = record(b"AADC30001C30002240610                COLWELL2 TP", b'C')?;
+    let joined = assoc_of(&line)?;
+    assert_eq!(rt; joined.transaction(), Transaction::Delete);
+    assert_eq!(rt; joined.end(), None);
+    assert_eq!(rt; joined.days(), None);
+    assert_eq!(rt; joined.stp(), Stp::Cancellation);
+    let kept = line.as_new();
+    assert_eq!(rt; kept.bytes()[2], b'N');
+    assert_eq!(rt; kept.bytes()[3], b'C');
+    Ok(())
+}
+
+#[test]
+fn a_call(rt: HostRuntime) -> Result<(), Fail> {
+    let line = record(b"LICOLWELL 0000H0000H     000000012  SL FL", b' ')?;
+    let at = call_of(&line)?;
+    assert_eq!(rt; at.tiploc().bytes(), b"COLWELL");
+    assert_eq!(rt; at.suffix(), b' ');
+    assert_eq!(rt; half_minutes(at.arrival()), Some(1));
+    assert_eq!(rt; half_minutes(at.departure()), Some(1));
+    assert_eq!(rt; at.pass(), None);
+    assert_eq!(rt; at.public_arrival(), None);
+    assert_eq!(rt; half_minutes(at.public_departure()), Some(2));
+    assert_eq!(rt; at.platform(), b"2  ");
+    assert_eq!(rt; at.track(), b"SL ");
+    assert_eq!(rt; at.path(), b"FL ");
+    Ok(())
+}
+
+#[test]
+fn calls_of_which_parts_are_blank(rt: HostRuntime) -> Result<(), Fail> {
+    let line = record(b"LIDUNMERE           0010", b' ')?;
+    let passed = call_of(&line)?;
+    assert_eq!(rt; passed.arrival(), None);
+    assert_eq!(rt; passed.departure(), None);
+    assert_eq!(rt; half_minutes(passed.pass()), Some(20));
+    assert_eq!(rt; passed.public_arrival(), None);
+    assert_eq!(rt; passed.public_departure(), None);
+    let line = record(b"LICOLWELL21040 1042      1041    4", b' ')?;
+    let second = call_of(&line)?;
+    assert_eq!(rt; second.suffix(), b'2');
+    assert_eq!(rt; half_minutes(second.arrival()), Some(1280));
+    assert_eq!(rt; half_minutes(second.departure()), Some(1284));
+    assert_eq!(rt; half_minutes(second.public_arrival()), Some(1282));
+    assert_eq!(rt; second.public_departure(), None);
+    assert_eq!(rt; second.platform(), b"4  ");
+    assert_eq!(rt; second.track(), b"   ");
+    Ok(())
+}
+
+#[test]
+fn a_change_en_route(rt: HostRuntime) -> Result<(), Fail> {
+    let line = record(b"CRCOLWELL OO5E51", b' ')?;
+    assert_eq!(rt; change_of(&line)?.identity(), b"5E51");
+    let line = record(b"CR        ", b' ')?;
+    assert_eq!(rt; change_of(&line)?.identity(), b"    ");
+    Ok(())
+}
+
+#[test]
+fn leftmost_bad_fields_of_timing_points(rt: HostRuntime) -> Result<(), Fail> {
+    assert_eq!(rt; fault(b"TI SHFELD         A", b' ')?, Some(FieldFault(3)));
+    assert_eq!(rt;
+        fault(
+            b"TA SHFELD         A                                                      SHFLDN",
+            b' '
+        )?,
+        Some(FieldFault(3))
+    );
+    assert_eq!(rt;
+        fault(
+            b"TAASHFELD         A                                                      SHFLDN",
+            b' '
+        )?,
+        Some(FieldFault(73))
+    );
+    assert_eq!(rt;
+        fault(
+            b"TAASHFELD         A                                                           N",
+            b' '
+        )?,
+        Some(FieldFault(73))
+    );
+    assert_eq!(rt;
+        fault(
+            b"TIASHFELD         A                                                      SHFLDN",
+            b' '
+        )?,
+        None
+    );
+    assert_eq!(rt; fault(b"TD SHFELD", b' ')?, Some(FieldFault(3)));
+    assert_eq!(rt; fault(b"TDASHFELD", b' ')?, None);
+    Ok(())
+}
+
+#[test]
+fn leftmost_bad_fields_of_associations(rt: HostRuntime) -> Result<(), Fail> {
+    assert_eq!(rt;
+        fault(b"AAXC30001C300022302299999981000002VVS OLWELL2 TP", b'X')?,
+        Some(FieldFault(3))
+    );
+    assert_eq!(rt;
+        fault(b"AANC30001C300022302299999981000002VVS OLWELL2 TP", b'X')?,
+        Some(FieldFault(16))
+    );
+    assert_eq!(rt;
+        fault(b"AANC30001C300022406109999981000002VVS OLWELL2 TP", b'X')?,
+        Some(FieldFault(22))
+    );
+    assert_eq!(rt;
+        fault(b"AANC30001C300022406102406101000002VVS OLWELL2 TP", b'X')?,
+        Some(FieldFault(28))
+    );
+    assert_eq!(rt;
+        fault(b"AANC30001C300022406102406101000000VVS OLWELL2 TP", b'X')?,
+        Some(FieldFault(38))
+    );
+    assert_eq!(rt;
+        fault(b"AANC30001C300022406102406101000000VVSCOLWELL2 TP", b'X')?,
+        Some(FieldFault(80))
+    );
+    assert_eq!(rt;
+        fault(b"AANC30001C300022406102406101000000VVSCOLWELL2 TP", b'N')?,
+        None
+    );
+    assert_eq!(rt;
+        fault(b"AANC30001C300022406109999991000000VVSCOLWELL2 TP", b'P')?,
+        None
+    );
+    assert_eq!(rt;
+        fault(b"AADC30001C300022302292406101000000VVS OLWELL2 TP", b'X')?,
+        Some(FieldFault(16))
+    );
+    assert_eq!(rt;
+        fault(b"AADC30001C30002240610             VVS OLWELL2 TP", b'X')?,
+        Some(FieldFault(38))
+    );
+    assert_eq!(rt;
+        fault(b"AADC30001C30002240610             VVSCOLWELL2 TP", b'X')?,
+        Some(FieldFault(80))
+    );
+    assert_eq!(rt;
+        fault(b"AADC30001C300022406109999981000002VVSCOLWELL2 TP", b'O')?,
+        None
+    );
+    assert_eq!(rt;
+        fault(b"AARC30001C300022406109999981000000VVSCOLWELL2 TP", b'X')?,
+        Some(FieldFault(22))
+    );
+    Ok(())
+}
+
+#[test]
+fn leftmost_bad_fields_of_calls(rt: HostRuntime) -> Result<(), Fail> {
+    assert_eq!(rt;
+        fault(b"LI OLWELL 2400 1060 1010h240010 23", b' ')?,
+        Some(FieldFault(3))
+    );
+    assert_eq!(rt;
+        fault(b"LICOLWELL 2400 1060 1010h240010 23", b' ')?,
+        Some(FieldFault(11))
+    );
+    assert_eq!(rt;
+        fault(b"LICOLWELL 1010 1060 1010h240010 23", b' ')?,
+        Some(FieldFault(16))
+    );
+    assert_eq!(rt;
+        fault(b"LICOLWELL 1010 1012 1010h240010 23", b' ')?,
+        Some(FieldFault(21))
+    );
+    assert_eq!(rt;
+        fault(b"LICOLWELL 1010 1012      240010 23", b' ')?,
+        Some(FieldFault(26))
+    );
+    assert_eq!(rt;
+        fault(b"LICOLWELL 1010 1012      101010 23", b' ')?,
+        Some(FieldFault(30))
+    );
+    assert_eq!(rt; fault(b"LICOLWELL 1010 1012      101010123", b' ')?, None);
+    assert_eq!(rt; fault(b"LICOLWELL                        3", b' ')?, None);
+    assert_eq!(rt;
+        fault(b"LICOLWELL     H1012      101010123", b' ')?,
+        Some(FieldFault(11))
+    );
+    assert_eq!(rt;
+        fault(b"LICOLWELL 1010 1012       01010123", b' ')?,
+        Some(FieldFault(26))
+    );
     Ok(())
 }
 

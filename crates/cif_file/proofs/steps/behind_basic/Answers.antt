@@ -22,7 +22,7 @@ returns c =
     }) c.requires refl c.is_deletion-deletion.ensures
     (either_of c.is_deletion-deletion.result c.is_cancellation-cancellation.result c.if-deletion.result (is_deletion c.args.view.now) (column 80 c.args.view.now == 67)
     c.is_deletion-deletion.ensures c.is_cancellation-cancellation.ensures (elim c.if-deletion.branch [
-      then-deletion w ↦ w.result-is ∙ w.if-deletion.true ∙ (λ i. sym w.if-deletion.true i || c.is_cancellation-cancellation.result)
-    | else-deletion w ↦ w.result-is ∙ (λ i. sym w.if-deletion.false i || c.is_cancellation-cancellation.result)
+      | then-deletion w ↦ w.result-is ∙ w.if-deletion.true ∙ (λ i. sym w.if-deletion.true i || c.is_cancellation-cancellation.result)
+      | else-deletion w ↦ w.result-is ∙ (λ i. sym w.if-deletion.false i || c.is_cancellation-cancellation.result)
     ]))
     (ap (λ clock. clock.falls) c.new.ensures) (ap (λ clock. clock.last) c.new.ensures)

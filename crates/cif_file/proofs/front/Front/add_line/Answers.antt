@@ -9,8 +9,8 @@ pub returns-then-is_over : goal.returns-then-is_over
 returns-then-is_over c = λ records before.
     on_ok c.close.result c.close.ensures.changes c.close.ensures.place
     (λ made place.
-        line_closed c.args.self.now c.close.new.self c.args.opened c.args.line records before (sym c.if-is_over.ensures) c.close.ensures.header place
-        (made ∙ (λ i. map change_meant c.args.self.now.changes.items ++ change_opened c.args.opened (c.in_ok-push.ensures.items i) ∷ [])))
+    line_closed c.args.self.now c.close.new.self c.args.opened c.args.line records before (sym c.if-is_over.ensures) c.close.ensures.header place
+    (made ∙ (λ i. map change_meant c.args.self.now.changes.items ++ change_opened c.args.opened (c.in_ok-push.ensures.items i) ∷ [])))
 
 pub returns : goal.returns
 returns c = λ records before.

@@ -12,5 +12,5 @@ pub returns-in_default : goal.returns-in_default
 returns-in_default c = λ records over counted.
     on_ok_one c.push_changes.result c.push_changes.ensures
     (λ made.
-        single_added c.args.self.now _ records c.args.line c.args.number over c.requires.«record» c.requires.fields
-        (single_kind c.args.kind c.args.line c.requires.kind c.requires.begins c.in_default.not-BasicSchedule c.in_default.not-Trailer) counted refl refl made)
+    single_added c.args.self.now _ records c.args.line c.args.number over c.requires.«record» c.requires.fields
+    (single_kind c.args.kind c.args.line c.requires.kind c.requires.begins c.in_default.not-BasicSchedule c.in_default.not-Trailer) counted refl refl made)

@@ -10,9 +10,9 @@ use Rattle.cif_file.proofs.records.Records.too_long.Goals.{then-self, else-self+
 pub returns : goal.returns
 returns c = λ limit records counted.
     elim c.if-self.branch [
-      then-self w ↦ long_over c.args.self.now limit records _ counted refl w.if-self.true (ap cause_meant w.cause-is)
-    | else-self+then-is_ended w ↦
+      | then-self w ↦ long_over c.args.self.now limit records _ counted refl w.if-self.true (ap cause_meant w.cause-is)
+      | else-self+then-is_ended w ↦
           long_within c.args.self.now limit records _ true counted refl w.if-self.false (subst (λ b. (b ≡ true) ↔ IsFile records) w.if-is_ended.true (w.is_ended.ensures records counted.has)) (ap cause_meant w.cause-is)
-    | else-self+else-is_ended w ↦
+      | else-self+else-is_ended w ↦
           long_within c.args.self.now limit records _ false counted refl w.if-self.false (subst (λ b. (b ≡ true) ↔ IsFile records) w.if-is_ended.false (w.is_ended.ensures records counted.has)) (ap cause_meant w.cause-is)
     ]

@@ -1,0 +1,72 @@
+//! Makes extracts, judges them by a plain reader, flips bytes of them, and measures the program on them.
+
+mod flip;
+mod judge;
+mod make;
+mod measure;
+mod network;
+mod plan;
+mod random;
+mod records;
+#[cfg(test)]
+mod tests;
+
+use std::fs::File;
+use std::io::Result;
+use std::process::ExitCode;
+
+const USAGE: &str = "usage: extract full SCHEDULES SEED FILE | extract update SCHEDULES BASE_SEED SEED DAY FILE | \
+extract judge FILE | extract flip FILE SEED | extract compare DOCKER FILE SEED FLIPS | extract measure DOCKER FILE..";
+
+fn main() -> ExitCode {
+    let words: Vec<String> = std::env::args().skip(1).collect();
+    let words: Vec<&str> = words.iter().map(String::as_str).collect();
+    match job(&words) {
+        Some(Ok(status)) => ExitCode::from(status),
+        Some(Err(error)) => {
+            eprintln!("extract: {error}");
+            ExitCode::from(4)
+        }
+        None => {
+            eprintln!("{USAGE}");
+            ExitCode::from(2)
+        }
+    }
+}
+
+/// The exit status of the job that the words name, if they name one.
+fn job(words: &[&str]) -> Option<Result<u8>> {
+    let number = |word: &str| word.parse::<u64>().ok();
+    let count = |word: &str| number(word).filter(|&count| (1..=10_000_000).contains(&count)).map(|count| count as usize);
+    Some(match words {
+        ["full", schedules, seed, out] => make::full(count(schedules)?, number(seed)?, out).map(|()| 0),
+        ["update", schedules, base, seed, day, out] => {
+            let day = number(day).filter(|day| (1..10_000).contains(day))? as i32;
+            make::update(count(schedules)?, number(base)?, number(seed)?, day, out).map(|()| 0)
+        }
+        ["judge", path] => judge_file(path),
+        ["flip", path, seed] => flip::flip_file(path, number(seed)?).map(|flip| {
+            println!("{flip}");
+            0
+        }),
+        ["compare", program, path, seed, flips] => {
+            flip::compare(program, path, number(seed)?, count(flips)?).map(|same| u8::from(!same))
+        }
+        ["measure", program, paths @ ..] if !paths.is_empty() => measure::tables(program, paths).map(|()| 0),
+        _ => return None,
+    })
+}
+
+/// Prints what `docker check` would.
+fn judge_file(path: &str) -> Result<u8> {
+    let answer = match path {
+        "stdin" => judge::judge_stream(&mut std::io::stdin().lock(), judge::LIMIT)?,
+        path => judge::judge_stream(&mut File::open(path)?, judge::LIMIT)?,
+    };
+    let line = judge::line_of(&answer);
+    match answer {
+        Ok(_) => print!("{line}"),
+        Err(_) => eprint!("{line}"),
+    }
+    Ok(u8::from(answer.is_err()))
+}

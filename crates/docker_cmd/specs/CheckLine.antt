@@ -1,0 +1,11 @@
+-- What `check` writes.
+use Rattle.std.specs.Prelude.{ℕ, List, ◌++◌, length, codes, decimal}
+use Rattle.docker_model.specs.Change.{Change}
+
+-- the line of a file with so many records and so many changes
+abbrev pub count_line : ℕ → ℕ → List ℕ
+count_line records changes = codes "accepted: " ++ decimal records ++ codes " records, " ++ decimal changes ++ codes " changes\n"
+
+-- the line of a file with so many records and these changes
+abbrev pub check_line : ℕ → List Change → List ℕ
+check_line records changes = count_line records (length changes)

@@ -1,0 +1,26 @@
+//! The line that `check` writes of a file that is accepted.
+ghost use Rattle.std.specs.Prelude.{◌≡◌};
+ghost use Rattle.docker_cmd.specs.CheckLine.{count_line};
+
+use crate::buffer::put;
+use arrayvec::ArrayVec;
+use itoa::Buffer;
+
+#[cfg(test)]
+mod tests;
+
+/// The line, with its line feed. It has room for any two counts.
+pub(crate) type CheckText = ArrayVec<u8, 64>;
+
+/// The line of a file with so many records, its header and trailer among them, and so many changes.
+pub(crate) fn check_line(records: u32, changes: usize) -> CheckText
+    ensures { result.items ≡ count_line records changes }
+{
+    let mut text = ArrayVec::new();
+    put(&mut text, b"accepted: ");
+    put(&mut text, Buffer::new().format(records).as_bytes());
+    put(&mut text, b" records, ");
+    put(&mut text, Buffer::new().format(changes).as_bytes());
+    put(&mut text, b" changes\n");
+    text
+}

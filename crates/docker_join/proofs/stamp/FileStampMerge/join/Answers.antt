@@ -1,0 +1,10 @@
+use Rattle.std.specs.Prelude.{⊤}
+use Rattle.std.specs.Cmp.{on_total}
+use Rattle.docker_laws.proofs.Orders.{file_stamp_total}
+use Rattle.docker_join.specs.Meaning.{file_stamp_meant}
+use Rattle.docker_join.specs.GreaterLaws.{greater_max}
+use Rattle.docker_join.proofs.stamp.FileStampMerge.join.Goals as goal
+
+pub returns-clause-ok : goal.returns-clause-ok
+returns-clause-ok c =
+    rw c.pick.ensures (greater_max (λ _. ⊤) (on_total file_stamp_meant file_stamp_total) c.args.self c.args.other)

@@ -1,0 +1,86 @@
+-- Stamps and entries that tie are equal: stamps always, entries where their bodies are of records.
+use Rattle.std.proofs.Common.{◌≡◌, ℕ, List, [], ◌∷◌, length, All, refl, ap, sym, ◌∙◌, arith, length-append}
+use Rattle.std.specs.Prelude.{⊤}
+use Rattle.std.specs.List.{concat}
+use Rattle.std.specs.declared.cmp.Ordering.TheVariants.{Equal}
+use Rattle.std.specs.Ordering.{on, nat_cmp}
+use Rattle.std.proofs.lemmas.Map.Lookups.{exact_unsigned, exact_bytes}
+use Rattle.docker_model.specs.Record.{IsRecord}
+use Rattle.docker_model.specs.Order.{bytes_cmp}
+use Rattle.docker_model.specs.Stamp.{file_stamp_cmp, stamp_cmp}
+use Rattle.docker_model.specs.Op.{op_cmp, entry_cmp, body_cmp, body_end, body_bytes, body_tag}
+use Rattle.docker_laws.proofs.Orders as laws
+use Rattle.docker_laws.proofs.StateRun.{same_front}
+use Rattle.std.proofs.lemmas.List.Elements.{All-head, All-tail}
+use Rattle.cif_file.specs.declared.change.Body.{Body}
+use Rattle.cif_file.specs.declared.change.Body.TheVariants as body
+use Rattle.cif_file.specs.Meaning.{body_meant}
+use Rattle.docker_join.specs.declared.stamp.FileStamp.{FileStamp}
+use Rattle.docker_join.specs.declared.stamp.Stamp.{Stamp}
+use Rattle.docker_join.specs.declared.entry.Op.{Op}
+use Rattle.docker_join.specs.declared.entry.Op.TheVariants as op
+use Rattle.docker_join.specs.declared.entry.Entry.{Entry}
+use Rattle.docker_join.specs.Meaning.{file_stamp_meant, stamp_meant, op_meant, entry_meant}
+use Rattle.docker_join.specs.Records.{IsOfRecords, HasRecords}
+
+-- file stamps that mean one thing are equal
+pub same_file_stamp : (a b : FileStamp) → file_stamp_meant a ≡ file_stamp_meant b → a ≡ b
+same_file_stamp a b same = λ i. record { day = (same i).moment.day; minute = (same i).moment.minute; reference = (same i).reference }
+
+-- stamps that mean one thing are equal
+pub same_stamp : (a b : Stamp) → stamp_meant a ≡ stamp_meant b → a ≡ b
+same_stamp a b same = λ i. record { file = same_file_stamp a.file b.file (λ j. (same j).file) i; number = (same i).number }
+
+pub exact_file_stamp : (a b : FileStamp) → ⊤ → ⊤ → on file_stamp_meant file_stamp_cmp a b ≡ Equal → a ≡ b
+exact_file_stamp a b _ _ tied = same_file_stamp a b (laws.exact_file_stamp (file_stamp_meant a) (file_stamp_meant b) tied)
+
+pub exact_stamp : (a b : Stamp) → ⊤ → ⊤ → on stamp_meant stamp_cmp a b ≡ Equal → a ≡ b
+exact_stamp a b _ _ tied = same_stamp a b (laws.exact_stamp (stamp_meant a) (stamp_meant b) tied)
+
+-- lists of records that join to the same bytes are equal
+same_lines : (xs ys : List (List ℕ)) → All IsRecord xs → All IsRecord ys → concat xs ≡ concat ys → xs ≡ ys
+same_lines [] [] good_x good_y same = refl
+same_lines [] (y ∷ ys) good_x good_y same =
+    let eighty : length y ≡ 80 = (All-head IsRecord y ys good_y).0 in
+    absurd (omega (arith, eighty, simp length-append at (ap length same)))
+same_lines (x ∷ xs) [] good_x good_y same =
+    let eighty : length x ≡ 80 = (All-head IsRecord x xs good_x).0 in
+    absurd (omega (arith, eighty, simp length-append at (ap length same)))
+same_lines (x ∷ xs) (y ∷ ys) good_x good_y same =
+    let parts = same_front x y (concat xs) (concat ys) ((All-head IsRecord x xs good_x).0 ∙ sym (All-head IsRecord y ys good_y).0) same in
+    let rest = same_lines xs ys (All-tail IsRecord x xs good_x) (All-tail IsRecord y ys good_y) parts.1 in
+    λ i. parts.0 i ∷ rest i
+
+-- bodies of records that tie are equal
+exact_body : (a b : Body) → IsOfRecords (body_meant a) → IsOfRecords (body_meant b) → body_cmp (body_meant a) (body_meant b) ≡ Equal → a ≡ b
+exact_body a b good_a good_b tied =
+    let after_end = laws.then_equal (nat_cmp (body_end (body_meant a)) (body_end (body_meant b))) _ tied in
+    let parts = laws.then_equal (bytes_cmp (body_bytes (body_meant a)) (body_bytes (body_meant b))) (nat_cmp (body_tag (body_meant a)) (body_tag (body_meant b))) after_end.1 in
+    by a b good_a good_b (exact_bytes (body_bytes (body_meant a)) (body_bytes (body_meant b)) parts.0) (exact_unsigned (body_tag (body_meant a)) (body_tag (body_meant b)) parts.1)
+  where
+    by : (x y : Body) → IsOfRecords (body_meant x) → IsOfRecords (body_meant y) → body_bytes (body_meant x) ≡ body_bytes (body_meant y)
+        → body_tag (body_meant x) ≡ body_tag (body_meant y) → x ≡ y
+    by (body.Tiploc x) (body.Tiploc y) good_x good_y same tag = ap body.Tiploc same
+    by (body.Tiploc x) (body.Assoc y) good_x good_y same tag = absurd (omega arith)
+    by (body.Tiploc x) (body.Schedule y) good_x good_y same tag = absurd (omega arith)
+    by (body.Assoc x) (body.Tiploc y) good_x good_y same tag = absurd (omega arith)
+    by (body.Assoc x) (body.Assoc y) good_x good_y same tag = ap body.Assoc same
+    by (body.Assoc x) (body.Schedule y) good_x good_y same tag = absurd (omega arith)
+    by (body.Schedule x) (body.Tiploc y) good_x good_y same tag = absurd (omega arith)
+    by (body.Schedule x) (body.Assoc y) good_x good_y same tag = absurd (omega arith)
+    by (body.Schedule x) (body.Schedule y) good_x good_y same tag = ap body.Schedule (same_lines x y good_x good_y same)
+
+-- ops of records that tie are equal
+exact_op : (a b : Op) → HasRecords (op_meant a) → HasRecords (op_meant b) → op_cmp (op_meant a) (op_meant b) ≡ Equal → a ≡ b
+exact_op op.Deleted op.Deleted good_a good_b tied = refl
+exact_op op.Deleted (op.Put b) good_a good_b tied = cc
+exact_op (op.Put a) op.Deleted good_a good_b tied = cc
+exact_op (op.Put a) (op.Put b) good_a good_b tied = ap op.Put (exact_body a b good_a good_b tied)
+
+-- entries of records that tie are equal
+pub exact_entry : (a b : Entry) → HasRecords (op_meant a.op) → HasRecords (op_meant b.op) → on entry_meant entry_cmp a b ≡ Equal → a ≡ b
+exact_entry a b good_a good_b tied =
+    let parts = laws.then_equal (stamp_cmp (stamp_meant a.stamp) (stamp_meant b.stamp)) (op_cmp (op_meant a.op) (op_meant b.op)) tied in
+    let stamp = exact_stamp a.stamp b.stamp tt tt parts.0 in
+    let act = exact_op a.op b.op good_a good_b parts.1 in
+    λ i. record { stamp = stamp i; op = act i }

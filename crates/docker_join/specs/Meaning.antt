@@ -1,0 +1,30 @@
+-- What stamps, ops and entries of the code mean, as the definitions name them.
+use Rattle.docker_model.specs.Stamp as model
+use Rattle.docker_model.specs.Op as ops
+use Rattle.docker_model.specs.Op.{deleted, put_with}
+use Rattle.cif_file.specs.Meaning.{body_meant}
+use Rattle.docker_join.specs.declared.stamp.FileStamp.{FileStamp}
+use Rattle.docker_join.specs.declared.stamp.Stamp.{Stamp}
+use Rattle.docker_join.specs.declared.entry.Op.{Op}
+use Rattle.docker_join.specs.declared.entry.Op.TheVariants as op
+use Rattle.docker_join.specs.declared.entry.Entry.{Entry}
+
+-- a file stamp
+abbrev pub file_stamp_meant : FileStamp → model.FileStamp
+file_stamp_meant stamp = record {
+  moment = record { day = stamp.day; minute = stamp.minute };
+  reference = stamp.reference;
+}
+
+-- a stamp
+abbrev pub stamp_meant : Stamp → model.Stamp
+stamp_meant stamp = record { file = file_stamp_meant stamp.file; number = stamp.number }
+
+-- an op
+abbrev pub op_meant : Op → ops.Op
+op_meant op.Deleted = deleted
+op_meant (op.Put body) = put_with (body_meant body)
+
+-- an entry
+abbrev pub entry_meant : Entry → ops.Entry
+entry_meant entry = record { stamp = stamp_meant entry.stamp; op = op_meant entry.op }

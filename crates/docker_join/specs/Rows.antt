@@ -1,0 +1,37 @@
+-- The rows of a table, each a key with what the table has at it.
+use Rattle.std.specs.Prelude.{◌≡◌, List, Option, Some, None, find, All}
+use Rattle.std.specs.Option.{option_map}
+use Rattle.std.specs.declared.cmp.Ordering.{Ordering}
+use Rattle.std.specs.Ordering.{is_eq}
+use Rattle.docker_model.specs.Change as model
+use Rattle.docker_model.specs.Op.{key_cmp}
+use Rattle.docker_model.specs.Order.{IsStrictlyAscending}
+use Rattle.cif_file.specs.declared.key.Key.{Key}
+use Rattle.cif_file.specs.Meaning.{key_meant}
+
+-- rows, by their keys
+abbrev pub row_cmp : {E : Type 0} → Key × E → Key × E → Ordering
+row_cmp a b = key_cmp (key_meant a.0) (key_meant b.0)
+
+-- the keys of the rows ascend
+abbrev pub AreAscending : {E : Type 0} → List (Key × E) → Type 0
+AreAscending rows = IsStrictlyAscending row_cmp rows
+
+-- what the rows have at a key, if they have the key
+abbrev pub value_at : {E : Type 0} → List (Key × E) → model.Key → Option E
+value_at rows key = option_map (λ row. row.1) (find (λ row. is_eq (key_cmp (key_meant row.0) key)) rows)
+
+-- what two tables have at a key, joined: the pick where both have something, and else what the one has
+abbrev pub picked_value : {E : Type 0} → (E → E → E) → Option E → Option E → Option E
+picked_value picked None other = other
+picked_value picked (Some value) None = Some value
+picked_value picked (Some value) (Some other) = Some (picked value other)
+
+-- the ascending rows that have at each key what two tables have there, joined
+pub record IsJoinOfRows {E : Type 0} (picked : E → E → E) (first second joined : List (Key × E)) : Type 0 where
+  pub ascends : AreAscending joined
+  pub values : (key : model.Key) → value_at joined key ≡ picked_value picked (value_at first key) (value_at second key)
+
+-- the keys of the rows ascend, and what stands at each is valid
+abbrev pub AreValidRows : {E : Type 0} → (E → Type 0) → List (Key × E) → Type 0
+AreValidRows valid rows = AreAscending rows × All (λ row. valid row.1) rows

@@ -1,0 +1,155 @@
+//! What is known of a key, and since when.
+ghost use Rattle.std.specs.Prelude.{IfOk, IsOk};
+ghost use Rattle.std.specs.Ordering.{on, as_partial_cmp, eq_by_cmp, ord_max};
+ghost use Rattle.std.specs.Cmp.{partial_equiv_from_equiv, on_equiv, on_total, eq_by_cmp_equiv, partial_order_from_total};
+ghost use Rattle.std.proofs.Common.{refl};
+ghost use Rattle.docker_model.specs.Op.{op_cmp, entry_cmp};
+ghost use Rattle.docker_laws.proofs.Orders.{op_total, entry_total};
+ghost use Rattle.docker_join.specs.Meaning.{op_meant, entry_meant};
+ghost use Rattle.docker_join.specs.Greater.{IsGreater};
+ghost use Rattle.docker_join.specs.GreaterLaws.{greater_closed, greater_one, greater_commutes, greater_associates, greater_itself, greater_max};
+ghost use Rattle.docker_join.specs.Records.{HasRecords};
+ghost use Rattle.docker_join.specs.Exact.{exact_entry};
+
+use crate::merge::{Merge, Pick};
+use crate::stamp::Stamp;
+use cif_file::Body;
+use std::alloc::Global;
+use std::cmp::Ordering;
+
+/// What is known of a key. A deletion is below each put; of two puts the order is that of their bodies.
+#[derive(Debug, Drop)]
+pub enum Op {
+    /// The key is deleted.
+    Deleted,
+    /// The key is there with this body.
+    Put(Body),
+}
+
+impl PartialEq for Op {
+    ghost eq = { on op_meant (eq_by_cmp op_cmp) };
+
+    ghost laws = { partial_equiv_from_equiv (on_equiv op_meant (eq_by_cmp_equiv op_total)) };
+
+    fn eq(&self, other: &Op) -> bool {
+        self.cmp(other).is_eq()
+    }
+}
+
+impl Eq for Op {
+    ghost laws = { on_equiv op_meant (eq_by_cmp_equiv op_total) };
+}
+
+impl PartialOrd for Op {
+    ghost partial_cmp = { as_partial_cmp (on op_meant op_cmp) };
+
+    ghost laws = { partial_order_from_total (on_total op_meant op_total) };
+
+    fn partial_cmp(&self, other: &Op) -> Option<Ordering> {
+        Some(self.cmp(other))
+    }
+}
+
+impl Ord for Op {
+    ghost cmp = { on op_meant op_cmp };
+
+    ghost total = { on_total op_meant op_total };
+
+    ghost matches_partial_cmp = { λ a b. refl };
+
+    ghost matches_eq = { λ a b. refl };
+
+    fn cmp(&self, other: &Op) -> Ordering {
+        match (self, other) {
+            (Op::Deleted, Op::Deleted) => Ordering::Equal,
+            (Op::Deleted, Op::Put(_)) => Ordering::Less,
+            (Op::Put(_), Op::Deleted) => Ordering::Greater,
+            (Op::Put(a), Op::Put(b)) => a.cmp(b),
+        }
+    }
+}
+
+/// What is known of a key, with the stamp of the change that said so. Ordered by stamp, then by op: of two entries of a key the greater wins.
+#[derive(Debug, Drop)]
+pub struct Entry {
+    /// The stamp of the change.
+    pub stamp: Stamp,
+    /// What it said.
+    pub op: Op,
+}
+
+impl PartialEq for Entry {
+    ghost eq = { on entry_meant (eq_by_cmp entry_cmp) };
+
+    ghost laws = { partial_equiv_from_equiv (on_equiv entry_meant (eq_by_cmp_equiv entry_total)) };
+
+    fn eq(&self, other: &Entry) -> bool {
+        self.cmp(other).is_eq()
+    }
+}
+
+impl Eq for Entry {
+    ghost laws = { on_equiv entry_meant (eq_by_cmp_equiv entry_total) };
+}
+
+impl PartialOrd for Entry {
+    ghost partial_cmp = { as_partial_cmp (on entry_meant entry_cmp) };
+
+    ghost laws = { partial_order_from_total (on_total entry_meant entry_total) };
+
+    fn partial_cmp(&self, other: &Entry) -> Option<Ordering> {
+        Some(self.cmp(other))
+    }
+}
+
+impl Ord for Entry {
+    ghost cmp = { on entry_meant entry_cmp };
+
+    ghost total = { on_total entry_meant entry_total };
+
+    ghost matches_partial_cmp = { λ a b. refl };
+
+    ghost matches_eq = { λ a b. refl };
+
+    fn cmp(&self, other: &Entry) -> Ordering {
+        self.stamp
+            .cmp(&other.stamp)
+            .then_with(|| self.op.cmp(&other.op))
+    }
+}
+
+impl Merge for Entry {
+    // the lines of its body are records
+    ghost is_valid = { λ entry. HasRecords (op_meant entry.op) };
+
+    ghost is_join = { IsGreater (on entry_meant entry_cmp) };
+
+    ghost closed = { greater_closed (λ entry. HasRecords (op_meant entry.op)) (on_total entry_meant entry_total) };
+
+    ghost one = { greater_one (λ entry. HasRecords (op_meant entry.op)) (on_total entry_meant entry_total) exact_entry };
+
+    ghost commutative = { greater_commutes (λ entry. HasRecords (op_meant entry.op)) (on_total entry_meant entry_total) };
+
+    ghost associative = { greater_associates (λ entry. HasRecords (op_meant entry.op)) (on_total entry_meant entry_total) exact_entry };
+
+    ghost idempotent = { greater_itself (λ entry. HasRecords (op_meant entry.op)) (on_total entry_meant entry_total) };
+
+    /// The greater of two, which takes no memory.
+    fn join(self, _alloc: Global, other: Entry) -> Result<Entry, (Entry, Entry)>
+        ensures always { IsOk result }
+        ensures ok { IfOk result (IsGreater (on entry_meant entry_cmp) self other) }
+    {
+        Ok(self.pick(other))
+    }
+}
+
+impl Pick for Entry {
+    ghost picked = { ord_max (on entry_meant entry_cmp) };
+
+    ghost joins = { greater_max (λ entry. HasRecords (op_meant entry.op)) (on_total entry_meant entry_total) };
+
+    /// The greater of two.
+    fn pick(self, other: Entry) -> Entry {
+        self.max(other)
+    }
+}

@@ -1,0 +1,15 @@
+//! Stamps, ops and entries with their order, and the join of tables of them.
+#![tactic(auto)]
+
+mod entry;
+mod merge;
+mod stamp;
+mod table;
+
+pub use entry::{Entry, Op};
+pub use merge::{Merge, Pick};
+pub use stamp::{FileStamp, Stamp};
+pub use table::Table;
+
+#[cfg(test)]
+mod tests;

@@ -1,0 +1,188 @@
+//! Tables of what is known of keys.
+ghost use Rattle.std.specs.Prelude.{◌≡◌, ◌==◌, ◌+◌, ◌<◌, ◌≤◌, ◌++◌, [], ◌∷◌, length, vec_len, vec_capacity, IfSome};
+ghost use Rattle.std.specs.Option.{option_copied};
+ghost use Rattle.cif_file.specs.Meaning.{key_meant};
+ghost use Rattle.docker_join.specs.Rows.{AreAscending, value_at, IsJoinOfRows};
+
+use crate::merge::{Merge, Pick};
+use cif_file::Key;
+use std::alloc::Global;
+use std::cmp::Ordering;
+use std::marker::Model;
+
+/// What is known of each of some keys.
+#[derive(Debug, Drop)]
+pub struct Table<E> {
+    /// The rows, each a key with what is known of it. Their keys ascend.
+    pub rows: Vec<(Key, E)>,
+}
+
+impl<E> Model for Table<E> {
+    ghost use Rattle.std.specs.Prelude.{List};
+    ghost use Rattle.cif_file.specs.declared.key.Key.{Key};
+    ghost use Rattle.docker_join.specs.Rows.{AreAscending};
+
+    ghost Value = { List (Key × E) };
+
+    ghost view = { λ table. table.rows.items };
+
+    ghost invariant = { λ table. AreAscending table.rows.items };
+}
+
+impl<E> Table<E> {
+    /// The table of no key.
+    pub fn new(alloc: Global) -> Table<E>
+        ensures { result ≡ [] }
+    {
+        Table {
+            rows: Vec::new(alloc),
+        }
+    }
+
+    /// The table of rows whose keys ascend.
+    pub fn from_rows(rows: Vec<(Key, E)>) -> Table<E>
+        requires { AreAscending rows.items }
+        ensures { result ≡ rows.items }
+    {
+        Table { rows }
+    }
+
+    /// The rows, in the order of their keys.
+    pub fn as_slice(&self) -> &[(Key, E)]
+        ensures rows { result.now ≡ self.now }
+        ensures ascending { AreAscending self.now }
+    {
+        self.rows.as_slice()
+    }
+
+    /// The rows, in the order of their keys.
+    pub fn into_rows(self) -> Vec<(Key, E)>
+        ensures rows { result.items ≡ self }
+        ensures ascending { AreAscending self }
+    {
+        let Table { rows } = self;
+        rows
+    }
+
+    /// How many keys there are.
+    pub fn len(&self) -> usize
+        ensures { result ≡ length self.now }
+    {
+        self.rows.len()
+    }
+
+    /// Whether there is no key.
+    pub fn is_empty(&self) -> bool
+        ensures { result ≡ (length self.now == 0) }
+    {
+        self.rows.is_empty()
+    }
+
+    /// What is known of a key. None where the table does not have it.
+    pub fn get(&self, key: &Key) -> Option<&E>
+        ensures { option_copied result ≡ value_at self.now (key_meant key.now) }
+    {
+        match self.rows.binary_search_by(|row| row.0.cmp(key)) {
+            Ok(at) => Some(&self.rows[at].1),
+            Err(_) => None,
+        }
+    }
+}
+
+impl<E: Pick> Merge for Table<E> {
+    ghost use Rattle.docker_join.specs.Rows.{AreValidRows, IsJoinOfRows};
+    ghost use Rattle.docker_join.specs.RowLaws.{pick_laws, joins_closed, joins_one, joins_commute, joins_associate, joins_itself};
+
+    // the keys ascend, and what is known of each is valid
+    ghost is_valid = { AreValidRows E.is_valid };
+
+    ghost is_join = { IsJoinOfRows E.picked };
+
+    ghost closed = { joins_closed E.is_valid E.picked (pick_laws E.is_valid E.is_join E.picked E.closed E.one E.commutative E.associative E.idempotent E.joins) };
+
+    ghost one = { joins_one E.is_valid E.picked };
+
+    ghost commutative = { joins_commute E.is_valid E.picked (pick_laws E.is_valid E.is_join E.picked E.closed E.one E.commutative E.associative E.idempotent E.joins) };
+
+    ghost associative = { joins_associate E.is_valid E.picked (pick_laws E.is_valid E.is_join E.picked E.closed E.one E.commutative E.associative E.idempotent E.joins) };
+
+    ghost idempotent = { joins_itself E.is_valid E.picked (pick_laws E.is_valid E.is_join E.picked E.closed E.one E.commutative E.associative E.idempotent E.joins) };
+
+    /// The table of the keys of both, each with what the one table knows of it, or the join of what both know. Want of memory, before a row was moved, hands both back as they were.
+    fn join(self, alloc: Global, other: Table<E>) -> Result<Table<E>, (Table<E>, Table<E>)> {
+        match room_for(alloc, self.len(), other.len()) {
+            Some(rows) => Ok(Table::from_rows(joined(self.into_rows(), other.into_rows(), rows))),
+            None => Err((self, other)),
+        }
+    }
+}
+
+/// An empty vector with room for the rows of two tables. None where memory is wanting.
+fn room_for<E>(alloc: Global, first: usize, second: usize) -> Option<Vec<(Key, E)>>
+    ensures empty { IfSome result (λ rows. (rows.items ≡ []) × (vec_len rows ≡ 0)) }
+    ensures room { IfSome result (λ rows. first + second ≤ vec_capacity rows) }
+{
+    Vec::with_capacity(alloc, first.checked_add(second)?).ok()
+}
+
+/// The rows of the join of two tables, in a vector that has room for the rows of both.
+fn joined<E: Pick>(
+    first: Vec<(Key, E)>,
+    second: Vec<(Key, E)>,
+    mut rows: Vec<(Key, E)>,
+) -> Vec<(Key, E)>
+    requires first { AreAscending first.items }
+    requires second { AreAscending second.items }
+    requires empty { rows.items ≡ [] }
+    requires none { vec_len rows ≡ 0 }
+    requires room { vec_len first + vec_len second ≤ vec_capacity rows }
+    ensures { IsJoinOfRows E.picked first.items second.items result.items }
+{
+    let mut first = first.into_iter();
+    let mut second = second.into_iter();
+    let mut left = first.next();
+    let mut right = second.next();
+    loop {
+        (left, right) = match (left, right) {
+            (None, None) => break,
+            (Some(one), None) => {
+                put(&mut rows, one);
+                (first.next(), None)
+            }
+            (None, Some(other)) => {
+                put(&mut rows, other);
+                (None, second.next())
+            }
+            (Some(one), Some(other)) => match one.0.cmp(&other.0) {
+                Ordering::Less => {
+                    put(&mut rows, one);
+                    (first.next(), Some(other))
+                }
+                Ordering::Greater => {
+                    put(&mut rows, other);
+                    (Some(one), second.next())
+                }
+                Ordering::Equal => {
+                    put(&mut rows, (one.0, one.1.pick(other.1)));
+                    (first.next(), second.next())
+                }
+            },
+        };
+    }
+    first.destroy_empty();
+    second.destroy_empty();
+    rows
+}
+
+/// Appends a row, for which there is room.
+fn put<E>(rows: &mut Vec<(Key, E)>, row: (Key, E))
+    requires { vec_len rows.old < vec_capacity rows.old }
+    ensures items { rows.new.items ≡ rows.old.items ++ row ∷ [] }
+    ensures len { vec_len rows.new ≡ vec_len rows.old + 1 }
+    ensures capacity { vec_capacity rows.old ≤ vec_capacity rows.new }
+{
+    match rows.push(row) {
+        Ok(()) => {}
+        Err(_) => unreachable!(),
+    }
+}
