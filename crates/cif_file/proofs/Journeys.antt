@@ -1,9 +1,8 @@
 -- The lines that the reader of a schedule has taken, by what it keeps of them.
-use Rattle.std.proofs.Common.{◌≡◌, ℕ, ◌+◌, ◌≤◌, ◌<◌, inl, inr, ◌⊎◌, Bool, true, false, cond, List, [], ◌∷◌, ◌++◌, map, subst, refl, ap, sym, ◌∙◌, Some, None, arith, append-nil, append_assoc}
-use Rattle.std.specs.Prelude.{Option, IsTrue, ◌↔◌, ◌||◌, ◌&&◌, ◌==◌, nat_le, is_some, is_none, IsOk, IfErr, Result, Ok, Err}
-use Rattle.std.specs.List.{flat_map}
+use Rattle.std.proofs.Common.{◌≡◌, ℕ, ◌+◌, ◌≤◌, ◌<◌, Bool, true, false, cond, List, [], ◌∷◌, ◌++◌, map, subst, refl, ap, sym, ◌∙◌, Some, None, arith, append-nil, append_assoc}
+use Rattle.std.specs.Prelude.{Option, IsTrue, ◌↔◌, ◌||◌, ◌&&◌, nat_le, is_some, is_none, IsOk, IfErr, Result, Ok, Err}
 use Rattle.std.proofs.lemmas.Bool.{le-leb, leb-true}
-use Rattle.docker_model.specs.Record.{Kind, kind_of, IsRecord, HasKind, basic_schedule, origin_location, intermediate_location, terminating_location, column, columns}
+use Rattle.docker_model.specs.Record.{Kind, kind_of, IsRecord, HasKind, basic_schedule, origin_location, intermediate_location, terminating_location, columns}
 use Rattle.docker_model.specs.Clock.{half_minutes, scheduled_time}
 use Rattle.docker_model.specs.Stamp.{first_record}
 use Rattle.docker_model.specs.Field.{is_deletion, HasGoodFields, leftmost_bad_field}

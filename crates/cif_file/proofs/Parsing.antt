@@ -1,6 +1,6 @@
 -- The lines that a parser has taken, and the faults that it tells.
-use Rattle.std.proofs.Common.{◌≡◌, ℕ, ◌+◌, ◌-◌, ◌≤◌, ◌<◌, inl, inr, ◌⊎◌, Bool, true, false, cond, List, [], ◌∷◌, ◌++◌, length, map, subst, refl, ap, sym, ◌∙◌, Some, None, arith, append-nil, append_assoc, length-append, eqb-true, take, drop, get_or, suc, drop-cons}
-use Rattle.std.specs.Prelude.{Option, ◌↔◌, ◌==◌, ◌&&◌, is_none, IsOk, IfOk, IfErr, Result, Ok, Err, nat_le}
+use Rattle.std.proofs.Common.{◌≡◌, ℕ, ◌+◌, ◌-◌, ◌≤◌, ◌<◌, inl, inr, Bool, true, false, cond, List, [], ◌∷◌, ◌++◌, length, subst, refl, ap, sym, ◌∙◌, Some, None, arith, append_assoc, length-append, eqb-true, take, drop, get_or, suc, drop-cons}
+use Rattle.std.specs.Prelude.{Option, ◌↔◌, ◌==◌, ◌&&◌, IfOk, IfErr, Result, Ok, Err, nat_le}
 use Rattle.std.specs.Str.Lines.{strip_carriage_return}
 use Rattle.std.specs.Prelude.{position}
 use Rattle.std.proofs.Math.Seq.{take-append_seam}
@@ -11,16 +11,16 @@ use Rattle.std.proofs.lemmas.List.Sums.{position_or_len_is, fails_before_first}
 use Rattle.std.proofs.lemmas.List.{take-append-drop, get_or-take, length-take-le}
 use Rattle.std.proofs.lemmas.List.Quantifiers.{position-Some}
 use Rattle.std.proofs.lemmas.Bool.{leb-true, leb-false, lt-leb, le-leb, eqb-false}
-use Rattle.docker_model.specs.Record.{IsRecord, leftmost_bad_byte}
+use Rattle.docker_model.specs.Record.{IsRecord}
 use Rattle.docker_model.specs.Text.{lines_of}
 use Rattle.docker_model.specs.File.{IsFile}
 use Rattle.docker_model.specs.FaultSoFar.{lines_told, IsFaultSoFar}
 use Rattle.docker_model.specs.FileFault.{IsFileFault, IsUnended, too_many, after_trailer, bad_byte, bad_length, no_end}
 use Rattle.docker_model.specs.FileFault as model
 use Rattle.docker_laws.proofs.RecordTests.{is_record, has_good_fields}
-use Rattle.docker_laws.proofs.FilePlace.{Place, after_end, place_at, next_by_test, next_place, IsPlaceOf, file_iff_place, begins_iff_place}
-use Rattle.docker_laws.proofs.FileCauses.{cause_of, end_cause, length_cause, kind_cause, with_column, is_after_end}
-use Rattle.docker_laws.proofs.ToldLines.{HasNoFeed, told_lines, open_line, line_left, lines_of_told, lines_of_ended, lines_of_open, told_lines_plain, open_line_plain, told_lines_ended, open_line_ended, lines_told_is, lines_told_grow}
+use Rattle.docker_laws.proofs.FilePlace.{Place, after_end, place_at, next_by_test, next_place, file_iff_place, begins_iff_place}
+use Rattle.docker_laws.proofs.FileCauses.{end_cause, length_cause, is_after_end}
+use Rattle.docker_laws.proofs.ToldLines.{HasNoFeed, told_lines, open_line, line_left, lines_of_told, lines_of_ended, lines_of_open, told_lines_plain, open_line_plain, told_lines_ended, open_line_ended, lines_told_grow}
 use Rattle.docker_laws.proofs.ToldFaults.{cause_of_long, cause_of_length, not_80, no_next_place, lines_told_short, lines_told_long, fault_at_feed, fault_at_long, fault_at_end, fault_stays, length_at_end, no_fault_told}
 use Rattle.cif_file.specs.declared.fault.FileCause.{FileCause}
 use Rattle.cif_file.specs.declared.fault.FileFault.{FileFault}
@@ -30,7 +30,7 @@ use Rattle.cif_file.specs.declared.parser.Reading.{Reading}
 use Rattle.cif_file.specs.Cut.{IsCut}
 use Rattle.cif_file.specs.Meaning.{cause_meant}
 use Rattle.cif_file.specs.FileRead.{FileRead, IsOfRecords}
-use Rattle.cif_file.specs.RecordsRead.{HasRecords, IsNoNext, IsNoNextTold}
+use Rattle.cif_file.specs.RecordsRead.{HasRecords, IsNoNextTold}
 use Rattle.cif_file.specs.ParserRead.{IsOfFileText, ParserState, HasRead, IsReadingOrFault, HasCounted, IsCauseNext, IsCauseTold, IsFaultNext, IsLongNext, IsReading, IsToldSoFar, IsFaultTold, IsToldOf, IsRefused}
 
 abbrev Lines : Type 0

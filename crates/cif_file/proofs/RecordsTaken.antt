@@ -1,5 +1,5 @@
 -- The records that the reader of a file has taken, by what it keeps of them.
-use Rattle.std.proofs.Common.{◌≡◌, ℕ, ◌+◌, ◌≤◌, ◌<◌, inl, inr, ◌⊎◌, Bool, true, false, cond, List, [], ◌∷◌, ◌++◌, length, map, subst, refl, ap, sym, ◌∙◌, Some, None, arith, append-nil, append_assoc, length-append, take}
+use Rattle.std.proofs.Common.{◌≡◌, ℕ, ◌+◌, ◌<◌, inl, inr, Bool, true, false, cond, List, [], ◌∷◌, ◌++◌, length, map, subst, refl, ap, sym, ◌∙◌, Some, None, arith, append-nil, append_assoc, length-append, take}
 use Rattle.std.specs.Prelude.{Option, IsTrue, ◌↔◌, ◌&&◌, is_some, is_none, option_map, slice_index_or, OnOk, Result, Ok, Err}
 use Rattle.std.specs.List.{prefix_len}
 use Rattle.std.proofs.lemmas.List.{take-append-le}
@@ -8,16 +8,15 @@ use Rattle.docker_model.specs.Record.{Kind, header, basic_schedule, trailer, kin
 use Rattle.docker_model.specs.Stamp.{first_record}
 use Rattle.docker_model.specs.Field.{HasGoodFields, leftmost_bad_field, is_deletion}
 use Rattle.docker_model.specs.Change.{Change, Key, Act, Body, follows_basic, schedule_rest, acts_by_kind, changes_of_record, changes_from, changes, schedule_named, schedule_body, as_new, delete, put}
-use Rattle.docker_model.specs.UnitChange.{change_of_schedule}
 use Rattle.docker_model.specs.File.{IsFile, IsSchedule, BeginsSchedule}
 use Rattle.docker_model.specs.FileFault as fault
 use Rattle.docker_model.specs.FileFault.{bad_place, bad_kind, bad_field}
 use Rattle.docker_laws.proofs.UnitChanges.{unit_then, schedule_change}
 use Rattle.docker_laws.proofs.RecordTests.{is_record, has_good_fields, test_by_none, none_by_test}
 use Rattle.docker_laws.proofs.SchedulePlace.{Stage, after_basic, after_details, in_journey, after_journey, stage_after, stage_of, stage_of_more, stage_of_first, may_end, is_sound_next, next_stage, begins_iff_stage, no_stage_of_none}
-use Rattle.docker_laws.proofs.FilePlace.{Place, before_header, between_units, in_schedule, after_end, unit_by_kind, place_in, carried, is_header_kind, place_by_kind, is_sound_at, next_place, IsPlaceOf, test_by_next, next_by_test, next_behind, stage_stops, file_iff_place, one_place, place_of_more, tracked_place, at_of_place}
+use Rattle.docker_laws.proofs.FilePlace.{Place, before_header, between_units, in_schedule, after_end, unit_by_kind, place_in, carried, is_header_kind, place_by_kind, is_sound_at, next_place, IsPlaceOf, test_by_next, next_by_test, next_behind, stage_stops, file_iff_place, one_place, place_of_more, at_of_place}
 use Rattle.docker_laws.proofs.FileCauses.{cause_of, kind_cause, place_cause, field_cause, with_column, is_after_end}
-use Rattle.docker_laws.proofs.ScheduleCauses.{no_unit_by_kind, next_place_of_stage, cause_of_record, cause_in_schedule, cause_behind_schedule, fault_of_schedule, schedule_cause}
+use Rattle.docker_laws.proofs.ScheduleCauses.{no_unit_by_kind, next_place_of_stage, cause_of_record, cause_in_schedule, cause_behind_schedule, fault_of_schedule}
 use Rattle.cif_line.specs.declared.kind_of_record.Kind as code
 use Rattle.cif_line.specs.declared.kind_of_record.Kind.TheVariants.{Header, BasicSchedule, Trailer, TiplocInsert, TiplocAmend, TiplocDelete, Association}
 use Rattle.cif_line.specs.Kind.{meaning}
@@ -27,7 +26,7 @@ use Rattle.cif_file.specs.declared.front.Front.{Front}
 use Rattle.cif_file.specs.declared.front.Place.TheVariants.{BeforeHeader, BetweenUnits, InSchedule, AfterEnd}
 use Rattle.cif_file.specs.Meaning.{key_meant, change_meant}
 use Rattle.cif_file.specs.FileRead.{FileRead, IsOfRecords}
-use Rattle.cif_file.specs.JourneyRead.{JourneyState, kept, HasLines, IsScheduleFaultTold, is_over_by}
+use Rattle.cif_file.specs.JourneyRead.{kept, HasLines, IsScheduleFaultTold, is_over_by}
 use Rattle.cif_file.specs.RecordsRead.{with_new_first, header_of, IsOpen, IsKept, HasRecords, IsOver, IsNoNext, IsNoNextTold, change_opened, IsWholeBy, StandsBefore}
 use Rattle.cif_file.proofs.Journeys.{whole_iff, first_line_is}
 

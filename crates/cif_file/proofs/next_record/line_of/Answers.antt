@@ -1,7 +1,6 @@
 -- A bad byte is told where there are 80 bytes.
-use Rattle.std.proofs.Common.{◌≡◌, ◌∙◌, ap, sym, cond, Some, Err, length}
+use Rattle.std.proofs.Common.{◌∙◌, ap, sym, cond, Some, Err}
 use Rattle.std.specs.Prelude.{◌==◌}
-use Rattle.docker_model.specs.Record.{leftmost_bad_byte}
 use Rattle.docker_model.specs.FileFault.{bad_byte, bad_length}
 use Rattle.docker_laws.proofs.FileCauses.{byte_cause, kind_cause, with_column}
 use Rattle.cif_file.proofs.next_record.line_of.Goals as goal

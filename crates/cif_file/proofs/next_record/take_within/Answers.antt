@@ -1,9 +1,8 @@
 -- Behind the trailer, else of its bytes, else of its place and fields.
-use Rattle.std.proofs.Common.{◌≡◌, ◌∙◌, ap, sym, true, subst, refl}
+use Rattle.std.proofs.Common.{◌∙◌, sym, subst, refl}
 use Rattle.std.specs.Prelude.{IfErr}
 use Rattle.std.proofs.lemmas.Bool.{false≢true}
 use Rattle.cif_file.specs.Meaning.{cause_meant}
-use Rattle.cif_file.specs.ParserRead.{IsCauseTold}
 use Rattle.cif_file.specs.RecordsRead.{IsNoNextTold}
 use Rattle.cif_file.proofs.Parsing.{after_cause, line_cause, front_cause}
 use Rattle.cif_file.proofs.next_record.take_within.Goals as goal

@@ -1,5 +1,5 @@
 -- What is kept of a basic schedule.
-use Rattle.std.proofs.Common.{◌≡◌, refl, ap, sym, ◌∙◌, Bool, true, false, Some}
+use Rattle.std.proofs.Common.{◌≡◌, refl, ap, sym, ◌∙◌, Bool, Some}
 use Rattle.std.specs.Prelude.{◌||◌, ◌==◌}
 use Rattle.docker_model.specs.Record.{column}
 use Rattle.docker_model.specs.Field.{is_deletion}

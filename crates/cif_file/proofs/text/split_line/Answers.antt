@@ -1,5 +1,5 @@
 -- The text is cut at its first line feed.
-use Rattle.std.proofs.Common.{◌≡◌, ◌+◌, ◌-◌, length, take, drop, sym, subst, arith, length-drop}
+use Rattle.std.proofs.Common.{◌+◌, ◌-◌, length, take, drop, sym, subst, arith, length-drop}
 use Rattle.std.proofs.lemmas.List.{take_all}
 use Rattle.cif_file.specs.Cut.{IsCut}
 use Rattle.cif_file.proofs.Parsing.{cut_at, no_feed_by}

@@ -1,5 +1,5 @@
 -- The line stands behind those before it, and where it ends the journey the schedule makes its change.
-use Rattle.std.proofs.Common.{◌≡◌, ap, sym, ◌∙◌, refl, ◌++◌, ◌∷◌, [], map}
+use Rattle.std.proofs.Common.{sym, ◌∙◌, refl, ◌++◌, ◌∷◌, [], map}
 use Rattle.cif_file.specs.Meaning.{change_meant}
 use Rattle.cif_file.specs.RecordsRead.{change_opened}
 use Rattle.cif_file.proofs.RecordsTaken.{line_added, line_closed, on_ok}

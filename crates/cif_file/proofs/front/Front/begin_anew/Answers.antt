@@ -1,5 +1,4 @@
 -- The schedule makes its change, and then the record begins anew.
-use Rattle.std.proofs.Common.{refl}
 use Rattle.cif_file.proofs.RecordsTaken.{over_of_closed}
 use Rattle.cif_file.proofs.front.Front.begin_anew.Goals as goal
 

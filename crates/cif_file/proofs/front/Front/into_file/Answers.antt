@@ -1,7 +1,7 @@
 -- The records are a file exactly behind the trailer, and then this one.
-use Rattle.std.proofs.Common.{false, sym, ◌∙◌}
+use Rattle.std.proofs.Common.{false}
 use Rattle.std.proofs.lemmas.Bool.{false≢true}
-use Rattle.cif_file.proofs.RecordsTaken.{ended_iff, tells_before, tells_between, tells_inside, file_at_end, file_made}
+use Rattle.cif_file.proofs.RecordsTaken.{ended_iff, tells_before, tells_between, tells_inside, file_made}
 use Rattle.cif_file.proofs.front.Front.into_file.Goals as goal
 
 pub returns-in-BeforeHeader : goal.returns-in-BeforeHeader

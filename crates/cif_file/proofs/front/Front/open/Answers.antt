@@ -1,5 +1,5 @@
 -- A basic schedule begins its schedule.
-use Rattle.std.proofs.Common.{◌∙◌, ◌++◌, ◌∷◌, [], ap, refl}
+use Rattle.std.proofs.Common.{◌∙◌, ◌++◌, ◌∷◌, [], refl}
 use Rattle.cif_file.proofs.RecordsTaken.{basic_added}
 use Rattle.cif_file.proofs.front.Front.open.Goals as goal
 

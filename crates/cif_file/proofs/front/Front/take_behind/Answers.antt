@@ -1,9 +1,8 @@
 -- Behind lines of a schedule: a line that stands there goes on with it; what begins anew needs them to be whole.
-use Rattle.std.proofs.Common.{◌≡◌, ◌∙◌, ap, sym, subst, refl, false, true, Some}
+use Rattle.std.proofs.Common.{◌∙◌, ap, sym, subst}
 use Rattle.std.proofs.lemmas.Bool.{false≢true}
 use Rattle.docker_model.specs.Change.{follows_basic}
 use Rattle.cif_line.specs.Kind.{meaning}
-use Rattle.cif_file.specs.Meaning.{cause_meant}
 use Rattle.cif_file.specs.RecordsRead.{IsNoNextTold}
 use Rattle.cif_file.proofs.RecordsTaken.{bad_behind, not_whole}
 use Rattle.cif_file.proofs.front.Front.take_behind.Goals as goal

@@ -1,8 +1,7 @@
 -- A record that begins no unit, or whose fields are not good, does not go on.
-use Rattle.std.proofs.Common.{◌∙◌, ap, sym, subst, refl, false, true}
+use Rattle.std.proofs.Common.{sym, subst}
 use Rattle.std.proofs.lemmas.Bool.{false≢true}
 use Rattle.cif_line.specs.Kind.{meaning}
-use Rattle.cif_file.specs.Meaning.{cause_meant}
 use Rattle.cif_file.specs.RecordsRead.{IsNoNextTold}
 use Rattle.cif_file.proofs.RecordsTaken.{bad_between}
 use Rattle.cif_file.proofs.front.Front.take_unit.Goals as goal

@@ -1,5 +1,5 @@
 -- Three times in turn.
-use Rattle.std.proofs.Common.{◌≡◌, ◌+◌, ◌++◌, sym, ap, ◌∙◌, add_assoc, append_assoc}
+use Rattle.std.proofs.Common.{◌+◌, ◌∙◌}
 use Rattle.docker_laws.proofs.RecordTests.{falls_after, later_or}
 use Rattle.cif_file.specs.JourneyRead.{listed}
 use Rattle.cif_file.proofs.Journeys.{falls_of_three}

@@ -1,6 +1,6 @@
 -- A fault stays, and else the piece is read.
-use Rattle.std.proofs.Common.{◌≡◌, ◌++◌, sym, ap, subst, ◌∙◌, refl}
-use Rattle.cif_file.specs.ParserRead.{ParserState, HasRead, IsReading, IsFaultTold}
+use Rattle.std.proofs.Common.{◌++◌, sym, ap, subst, ◌∙◌, refl}
+use Rattle.cif_file.specs.ParserRead.{ParserState, IsReading}
 use Rattle.cif_file.proofs.Parsing.{told_stays, reading_tells_none, read_at_fault, fault_at_read, reading_at_none, none_at_reading}
 use Rattle.cif_file.proofs.parser.FileParser.feed.Goals as goal
 

@@ -1,5 +1,5 @@
 -- A fault that was told is the text's.
-use Rattle.std.proofs.Common.{◌≡◌, sym, ap, subst, ◌∙◌}
+use Rattle.std.proofs.Common.{sym, ap, subst, ◌∙◌}
 use Rattle.cif_file.specs.ParserRead.{ParserState, IsReadingOrFault}
 use Rattle.cif_file.proofs.Parsing.{told_refused}
 use Rattle.cif_file.proofs.parser.FileParser.finish.Goals as goal

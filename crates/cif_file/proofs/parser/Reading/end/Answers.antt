@@ -1,7 +1,7 @@
 -- The last line, if one is open, and then the end.
-use Rattle.std.proofs.Common.{◌≡◌, ◌++◌, ◌∷◌, [], refl, sym, ap, subst, ◌∙◌}
+use Rattle.std.proofs.Common.{◌++◌, ◌∷◌, [], refl, ap, subst, ◌∙◌}
 use Rattle.std.specs.Str.Lines.{strip_carriage_return}
-use Rattle.docker_laws.proofs.ToldLines.{told_lines, open_line}
+use Rattle.docker_laws.proofs.ToldLines.{told_lines}
 use Rattle.docker_model.specs.Text.{lines_of}
 use Rattle.cif_file.specs.ParserRead.{HasCounted, IsFaultNext}
 use Rattle.cif_file.proofs.Parsing.{counted_open, counted_ended, end_fault, finish_ok, finish_err, empty_is, some_is_open}

@@ -1,5 +1,5 @@
 -- A line that ends, with the bytes of it that came before.
-use Rattle.std.proofs.Common.{◌≡◌, ◌++◌, refl, sym, ap, ◌∙◌, true}
+use Rattle.std.proofs.Common.{◌++◌, sym, ap, ◌∙◌}
 use Rattle.std.proofs.lemmas.Bool.{false≢true}
 use Rattle.docker_laws.proofs.ToldLines.{told_lines}
 use Rattle.cif_file.proofs.Parsing.{ended_ok, ended_err, ended_long, ended_many, taken_is, empty_is}

@@ -1,5 +1,5 @@
 -- More bytes of a line, within 81 or not.
-use Rattle.std.proofs.Common.{refl, sym, ◌∙◌, true}
+use Rattle.std.proofs.Common.{refl, sym, ◌∙◌}
 use Rattle.std.proofs.lemmas.Bool.{false≢true}
 use Rattle.cif_file.proofs.Parsing.{kept_read, kept_long}
 use Rattle.docker_laws.proofs.ToldLines.{told_lines}

@@ -1,8 +1,8 @@
 -- Line by line.
-use Rattle.std.proofs.Common.{◌≡◌, ◌++◌, ◌∷◌, [], refl, sym, ap, subst, ◌∙◌, append-nil}
+use Rattle.std.proofs.Common.{◌++◌, refl, sym, subst, append-nil}
 use Rattle.std.specs.Prelude.{IfErr}
 use Rattle.cif_file.specs.ParserRead.{IsReading, IsFaultTold}
-use Rattle.cif_file.proofs.Parsing.{before_rest, cut_first, cut_more, told_of_piece, read_on, whole_read, cut_shorter}
+use Rattle.cif_file.proofs.Parsing.{before_rest, cut_first, cut_more, told_of_piece, read_on, whole_read}
 use Rattle.cif_file.proofs.parser.Reading.read.Goals as goal
 
 pub loop-front-init : goal.loop-front-init

@@ -1,10 +1,8 @@
 -- One more line that stands at its place, of a deletion or not.
-use Rattle.std.proofs.Common.{◌≡◌, ap, ◌∙◌, refl, Some, true}
-use Rattle.std.specs.Prelude.{List, ℕ}
+use Rattle.std.proofs.Common.{ap, ◌∙◌, refl}
 use Rattle.std.proofs.lemmas.Bool.{false≢true}
-use Rattle.cif_line.specs.Kind.{meaning}
 use Rattle.cif_file.specs.JourneyRead.{kept, stage_then, stage_meant}
-use Rattle.cif_file.proofs.Journeys.{IsTimed, deletion_read, sound_by_few, unsound_by_many, sound_read}
+use Rattle.cif_file.proofs.Journeys.{deletion_read, sound_by_few, unsound_by_many, sound_read}
 use Rattle.cif_file.proofs.progress.Progress.gone_on.Goals as goal
 
 pub returns-then-self-clause-read : goal.returns-then-self-clause-read

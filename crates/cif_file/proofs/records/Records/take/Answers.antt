@@ -1,5 +1,5 @@
 -- The cause is told of the next record.
-use Rattle.std.proofs.Common.{◌+◌, ◌<◌, length, arith}
+use Rattle.std.proofs.Common.{arith}
 use Rattle.cif_file.proofs.records.Records.take.Goals as goal
 
 pub returns-in-Err-clause-err : goal.returns-in-Err-clause-err
