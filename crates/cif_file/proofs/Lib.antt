@@ -1,6 +1,9 @@
+pub mod RecordsTaken
+pub mod Journeys
+pub mod Parsing
+pub mod Joining
 pub mod OneSchedule
 pub mod OneScheduleText
 pub mod Accepting
-pub mod Joined
 pub mod FirstLine
 pub mod OneScheduleExample

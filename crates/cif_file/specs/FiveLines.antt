@@ -1,6 +1,6 @@
 -- The five lines of a text, and the records that they are, as lists.
 use Rattle.std.specs.Prelude.{ℕ, List, [], ◌∷◌}
-use Rattle.cif_file.specs.declared.text.FiveLines.{FiveLines}
+use Rattle.cif_file.specs.declared.five_lines.FiveLines.{FiveLines}
 use Rattle.cif_file.specs.declared.reading.OneSchedule.{OneSchedule}
 
 -- the lines in their order

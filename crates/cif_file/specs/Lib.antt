@@ -5,3 +5,7 @@ pub mod FileRead
 pub mod Reading
 pub mod Joined
 pub mod Acts
+pub mod JourneyRead
+pub mod RecordsRead
+pub mod ParserRead
+pub mod Cut

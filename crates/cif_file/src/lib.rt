@@ -1,24 +1,36 @@
-//! The first reader of CIF files: texts of a file of five records, one schedule from its origin to its terminus.
+//! The reader of CIF files: the whole grammar, in any pieces, with the exact fault of every other text.
 #![tactic(auto)]
 
 mod change;
 mod fault;
 mod file;
+mod five_lines;
+mod front;
 mod good_line;
+mod header_line;
+mod journey;
+mod journey_times;
 mod key;
 mod lines;
+mod next_record;
+mod one_schedule;
+mod opened;
 mod parser;
 mod pieces;
+mod progress;
 mod reading;
+mod records;
+mod stage;
+mod steps;
 mod text;
+mod unit;
 
 pub use change::{Act, Body, Change};
 pub use fault::{FileCause, FileFault};
 pub use file::CifFile;
+pub use journey::Journey;
 pub use key::{AssocKey, Key, ScheduleKey};
 pub use lines::Lines;
+pub use one_schedule::OneScheduleParser;
 pub use parser::FileParser;
 pub use pieces::read_pieces;
-
-#[cfg(test)]
-mod tests;

@@ -1,37 +1,113 @@
 //! A parser that is fed a file piece by piece.
-ghost use Rattle.std.specs.Prelude.{◌≡◌, ℕ, ◌≤◌, ◌↔◌, List, [], ◌++◌, length, IsOk, IfOk, IfErr};
-ghost use Rattle.cif_file.specs.FileRead.{IsOfText};
-ghost use Rattle.cif_file.specs.Reading.{HasRead, IsRefused, first_place, most_bytes};
+ghost use Rattle.std.specs.Prelude.{◌≡◌, ℕ, ◌+◌, ◌≤◌, ◌↔◌, length, IsTrue, List, [], ◌∷◌, ◌++◌, IsOk, IfOk, IfErr, Err};
+ghost use Rattle.docker_model.specs.FaultSoFar.{IsFaultSoFar};
+ghost use Rattle.docker_model.specs.FileFault as model;
+ghost use Rattle.docker_laws.proofs.ToldLines.{HasNoFeed};
+ghost use Rattle.cif_file.specs.ParserRead.{IsOfFileText, HasRead, HasFailed, IsReading, IsFaultTold, IsRefused};
 
-use crate::fault::{FileFault, first_place};
+use crate::fault::FileFault;
 use crate::file::CifFile;
-use crate::reading::file_of_text;
+use crate::records::Records;
+use crate::text::{split_line, without_return};
 use arrayvec::ArrayVec;
 use std::alloc::Global;
 use std::marker::Model;
 
-/// The most bytes that a text of a file of one schedule has.
-const MOST_BYTES: usize = 410;
+/// The most bytes that an open line is kept with: those of a record and a carriage return.
+const MOST_PARTIAL: usize = 81;
 
-/// A parser of one file, which comes in pieces of any length.
+/// The records of a file so far, and the bytes of a line whose end didn't come yet.
+#[derive(Debug, Drop)]
+pub(crate) struct Reading {
+    records: Records,
+    partial: ArrayVec<u8, MOST_PARTIAL>,
+}
+
+/// Appends bytes to an open line, if it stays within what is kept.
+fn extend(partial: &mut ArrayVec<u8, MOST_PARTIAL>, more: &[u8]) -> bool
+    ensures fits { IsTrue result ↔ (length partial.old.items + length more.now ≤ 81) }
+    ensures items { IsTrue result → partial.new.items ≡ partial.old.items ++ more.now }
+{
+    partial.try_extend_from_slice(more).is_ok()
+}
+
+impl Reading {
+    /// Takes the bytes of a line up to its line feed.
+    fn end_line(&mut self, front: &[u8]) -> Result<(), FileFault>
+        requires { HasNoFeed front.now }
+        ensures read { (limit : ℕ) (text : List ℕ) → IsReading self.old limit text → IsOk result → IsReading self.new limit (text ++ (front.now ++ 10 ∷ [])) }
+        ensures err { (limit : ℕ) (text : List ℕ) → IsReading self.old limit text → IfErr result (λ fault. IsFaultTold limit (text ++ (front.now ++ 10 ∷ [])) fault) }
+    {
+        if self.partial.is_empty() {
+            return self.records.take(without_return(front));
+        }
+        if !extend(&mut self.partial, front) {
+            return Err(self.records.too_long());
+        }
+        let taken = self.records.take(without_return(self.partial.as_slice()));
+        self.partial.clear();
+        taken
+    }
+
+    /// Takes more bytes of a line.
+    fn keep(&mut self, more: &[u8]) -> Result<(), FileFault>
+        requires { HasNoFeed more.now }
+        ensures read { (limit : ℕ) (text : List ℕ) → IsReading self.old limit text → IsOk result → IsReading self.new limit (text ++ more.now) }
+        ensures err { (limit : ℕ) (text : List ℕ) → IsReading self.old limit text → IfErr result (λ fault. IsFaultTold limit (text ++ more.now) fault) }
+    {
+        if !extend(&mut self.partial, more) {
+            return Err(self.records.too_long());
+        }
+        Ok(())
+    }
+
+    /// Takes the next bytes of the file.
+    fn read(&mut self, piece: &[u8]) -> Result<(), FileFault>
+        ensures read { (limit : ℕ) (text : List ℕ) → IsReading self.old limit text → IsOk result → IsReading self.new limit (text ++ piece.now) }
+        ensures err { (limit : ℕ) (text : List ℕ) → IsReading self.old limit text → IfErr result (λ fault. IsFaultTold limit (text ++ piece.now) fault) }
+    {
+        let mut rest = piece;
+        while let Some((front, behind)) = split_line(rest) {
+            if let Err(fault) = self.end_line(front) {
+                return Err(fault);
+            }
+            rest = behind;
+        }
+        self.keep(rest)
+    }
+
+    /// The file that the bytes are.
+    fn end(self) -> Result<CifFile, FileFault>
+        ensures ok { (limit : ℕ) (text : List ℕ) → IsReading self limit text → IfOk result (λ file. IsOfFileText file limit text) }
+        ensures err { (limit : ℕ) (text : List ℕ) → IsReading self limit text → IfErr result (λ fault. IsRefused limit text fault) }
+    {
+        let Reading {
+            mut records,
+            partial,
+        } = self;
+        if partial.is_empty() {
+            return records.finish();
+        }
+        match records.take(without_return(partial.as_slice())) {
+            Ok(()) => records.finish(),
+            Err(fault) => Err(fault),
+        }
+    }
+}
+
+/// A parser of one file, which comes in pieces of any length. It keeps the changes of the records so far, and a line whose end didn't come yet.
 #[derive(Debug, Drop)]
 pub struct FileParser {
-    alloc: Global,
-    limit: u32,
-    text: ArrayVec<u8, MOST_BYTES>,
-    over: bool,
+    reading: Reading,
+    fault: Option<FileFault>,
 }
 
 impl Model for FileParser {
-    ghost use Rattle.std.specs.Prelude.{if◌then◌else◌, None, Some};
-    ghost use Rattle.cif_file.specs.FileRead.{ParserState};
+    ghost use Rattle.cif_file.specs.ParserRead.{ParserState};
 
     ghost Value = { ParserState };
 
-    ghost view = { λ parser. record {
-      limit = parser.limit;
-      bytes = if parser.over then None else Some parser.text.items;
-    } };
+    ghost view = { λ parser. record { reading = parser.reading; fault = parser.fault } };
 }
 
 impl FileParser {
@@ -41,34 +117,44 @@ impl FileParser {
         ensures { HasRead result limit [] }
     {
         FileParser {
-            alloc,
-            limit,
-            text: ArrayVec::new(),
-            over: false,
+            reading: Reading {
+                records: Records::new(alloc, limit),
+                partial: ArrayVec::new(),
+            },
+            fault: None,
         }
     }
 
-    /// Takes the next bytes of the file. It is refused once the bytes are too many for such a file, and then each later call answers the same fault.
+    /// Takes the next bytes of the file. It is refused once they have a record at fault whose line feed or 82nd byte came, and it tells that fault; or where
+    /// memory is wanting, at that record. Each later call answers the same fault.
     pub fn feed(&mut self, piece: &[u8]) -> Result<(), FileFault>
         ensures read { (limit : ℕ) (text : List ℕ) → HasRead self.old limit text → HasRead self.new limit (text ++ piece.now) }
-        ensures ok { (limit : ℕ) (text : List ℕ) → HasRead self.old limit text → IsOk result ↔ (length (text ++ piece.now) ≤ most_bytes) }
-        ensures fault { IfErr result (λ fault. fault ≡ first_place) }
+        ensures ok { (limit : ℕ) (text : List ℕ) → HasRead self.old limit text → IsOk result → (fault : model.FileFault) → ¬ IsFaultSoFar limit (text ++ piece.now) fault }
+        ensures err { (limit : ℕ) (text : List ℕ) → HasRead self.old limit text → IfErr result (λ fault. IsFaultTold limit (text ++ piece.now) fault) }
+        ensures failed { IfErr result (λ fault. HasFailed self.new fault) }
+        ensures again { (fault : _) → HasFailed self.old fault → result ≡ Err fault }
     {
-        if !self.over && self.text.try_extend_from_slice(piece).is_ok() {
-            return Ok(());
+        if let Some(fault) = self.fault {
+            return Err(fault);
         }
-        self.over = true;
-        Err(first_place())
+        match self.reading.read(piece) {
+            Ok(()) => Ok(()),
+            Err(fault) => {
+                self.fault = Some(fault);
+                Err(fault)
+            }
+        }
     }
 
-    /// The file that the bytes are.
+    /// The file that the bytes are, or their fault. After a fault of `feed` it is that fault.
     pub fn finish(self) -> Result<CifFile, FileFault>
-        ensures ok { (limit : ℕ) (text : List ℕ) → HasRead self limit text → IfOk result (λ file. IsOfText file limit text) }
+        ensures ok { (limit : ℕ) (text : List ℕ) → HasRead self limit text → IfOk result (λ file. IsOfFileText file limit text) }
         ensures err { (limit : ℕ) (text : List ℕ) → HasRead self limit text → IfErr result (λ fault. IsRefused limit text fault) }
+        ensures again { (fault : _) → HasFailed self fault → result ≡ Err fault }
     {
-        if self.over {
-            return Err(first_place());
+        match self.fault {
+            Some(fault) => Err(fault),
+            None => self.reading.end(),
         }
-        file_of_text(self.alloc, self.limit, self.text.as_slice())
     }
 }

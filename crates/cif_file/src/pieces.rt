@@ -1,8 +1,7 @@
 //! A file in pieces.
 ghost use Rattle.std.specs.Prelude.{◌≤◌, map, IfOk, IfErr};
 ghost use Rattle.std.specs.List.{concat};
-ghost use Rattle.cif_file.specs.FileRead.{IsOfText};
-ghost use Rattle.cif_file.specs.Reading.{IsRefused};
+ghost use Rattle.cif_file.specs.ParserRead.{IsOfFileText, IsRefused};
 
 use crate::fault::FileFault;
 use crate::file::CifFile;
@@ -12,7 +11,7 @@ use std::alloc::Global;
 /// The file of at most `limit` records that the pieces are, joined.
 pub fn read_pieces(alloc: Global, pieces: &[&[u8]], limit: u32) -> Result<CifFile, FileFault>
     requires { limit ≤ 4294967294 }
-    ensures ok { IfOk result (λ file. IsOfText file limit (concat (map (λ piece. piece.now) pieces.now))) }
+    ensures ok { IfOk result (λ file. IsOfFileText file limit (concat (map (λ piece. piece.now) pieces.now))) }
     ensures err { IfErr result (λ fault. IsRefused limit (concat (map (λ piece. piece.now) pieces.now)) fault) }
 {
     let mut parser = FileParser::new(alloc, limit);

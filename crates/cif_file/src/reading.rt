@@ -13,12 +13,12 @@ ghost use Rattle.cif_file.specs.Reading.{IsAccepted, IsRefused};
 use crate::change::{Act, Body, Change};
 use crate::fault::{FileFault, first_place, second_memory};
 use crate::file::CifFile;
+use crate::five_lines::{FiveLines, five_lines};
 use crate::good_line::{
     basic_line, header_line, is_new_and_permanent, origin_line, terminus_line, trailer_line,
 };
 use crate::key::{Key, ScheduleKey};
 use crate::lines::Lines;
-use crate::text::{FiveLines, five_lines};
 use cif_line::{Line, basic};
 use std::alloc::{AllocError, Global};
 

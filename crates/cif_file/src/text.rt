@@ -1,25 +1,11 @@
-//! Texts of five lines.
-ghost use Rattle.std.specs.Prelude.{◌≡◌, ◌==◌, ◌∷◌, [], length, MatchOption, IfSome, position};
-ghost use Rattle.std.specs.List.{after_first};
+//! Line ends.
+ghost use Rattle.std.specs.Prelude.{◌≡◌, ◌==◌, position, MatchOption};
+ghost use Rattle.docker_laws.proofs.ToldLines.{HasNoFeed};
+ghost use Rattle.cif_file.specs.Cut.{IsCut};
 ghost use Rattle.std.specs.Str.Lines.{strip_carriage_return};
-ghost use Rattle.docker_model.specs.Text.{lines_of};
-ghost use Rattle.cif_file.specs.FiveLines.{listed};
-
-#[cfg(test)]
-mod tests;
-
-/// The lines of a text of five lines, each without its line end, by what stands there in a file of one schedule.
-#[derive(Clone, Copy, Debug, PartialEq, Eq)]
-pub(crate) struct FiveLines<'a> {
-    pub header: &'a [u8],
-    pub basic: &'a [u8],
-    pub origin: &'a [u8],
-    pub terminus: &'a [u8],
-    pub trailer: &'a [u8],
-}
 
 /// The piece without the one carriage return at its end, if it has one.
-fn without_return(piece: &[u8]) -> &[u8]
+pub(crate) fn without_return(piece: &[u8]) -> &[u8]
     ensures line { result.now ≡ strip_carriage_return piece.now }
 {
     match piece {
@@ -29,44 +15,18 @@ fn without_return(piece: &[u8]) -> &[u8]
 }
 
 /// Where the first line feed stands.
-fn line_feed(text: &[u8]) -> Option<usize>
+pub(crate) fn line_feed(text: &[u8]) -> Option<usize>
     ensures place { result ≡ position (λ byte. byte == 10) text.now }
 {
     text.iter().position(|byte| *byte == b'\n')
 }
 
-/// The first line of a text, without its line end, and the text behind that; `None` of an empty text, which has no lines.
-fn first_line(text: &[u8]) -> Option<(&[u8], &[u8])>
-    ensures lines { MatchOption result (lines_of text.now ≡ []) (λ parts. lines_of text.now ≡ parts.0.now ∷ lines_of parts.1.now) }
-    ensures rest { IfSome result (λ parts. parts.1.now ≡ after_first (λ byte. byte == 10) text.now) }
+/// What stands before the first line feed, and behind it; none where there is no line feed.
+pub(crate) fn split_line(text: &[u8]) -> Option<(&[u8], &[u8])>
+    ensures { MatchOption result (HasNoFeed text.now) (λ parts. IsCut text.now parts.0.now parts.1.now) }
 {
-    if text.is_empty() {
-        return None;
-    }
     match line_feed(text) {
-        Some(end) => Some((without_return(&text[..end]), &text[end + 1..])),
-        None => Some((without_return(text), &[])),
-    }
-}
-
-/// The five lines of a text that has exactly five.
-pub(crate) fn five_lines(text: &[u8]) -> Option<FiveLines<'_>>
-    ensures lines { MatchOption result (¬ (length (lines_of text.now) ≡ 5)) (λ five. listed five ≡ lines_of text.now) }
-{
-    let (header, text) = first_line(text)?;
-    let (basic, text) = first_line(text)?;
-    let (origin, text) = first_line(text)?;
-    let (terminus, text) = first_line(text)?;
-    let (trailer, rest) = first_line(text)?;
-    if rest.is_empty() {
-        Some(FiveLines {
-            header,
-            basic,
-            origin,
-            terminus,
-            trailer,
-        })
-    } else {
-        None
+        Some(end) => Some((&text[..end], &text[end + 1..])),
+        None => None,
     }
 }

@@ -5,7 +5,7 @@ ghost use Rattle.cif_file.specs.Reading.{HasRead, IsAccepted, first_place};
 ghost use Rattle.docker_cmd.specs.Prepared.{IsFileRefused, ReadsFile, most_records};
 
 use crate::fault::OfficeFault;
-use cif_file::{CifFile, FileCause, FileFault, FileParser};
+use cif_file::{CifFile, FileCause, FileFault, OneScheduleParser};
 use cif_line::Source;
 use std::alloc::Global;
 
@@ -31,7 +31,7 @@ pub(crate) fn read_file<S: Source>(alloc: Global, source: &mut S) -> Result<CifF
     let Ok(mut piece) = vec![in alloc; 0u8; PIECE] else {
         return Err(OfficeFault::Memory);
     };
-    let mut parser = FileParser::new(alloc, MOST_RECORDS);
+    let mut parser = OneScheduleParser::new(alloc, MOST_RECORDS);
     for _ in 0..=MOST_BYTES {
         let Ok(n) = source.read(piece.as_mut_slice()) else {
             return Err(OfficeFault::Source);
@@ -47,7 +47,7 @@ pub(crate) fn read_file<S: Source>(alloc: Global, source: &mut S) -> Result<CifF
 }
 
 /// The file that a parser was fed.
-fn finished(parser: FileParser) -> Result<CifFile, OfficeFault>
+fn finished(parser: OneScheduleParser) -> Result<CifFile, OfficeFault>
     ensures ok { (text : List ℕ) → HasRead parser most_records text → IfOk result (λ file. IsOfText file most_records text) }
     ensures file { (text : List ℕ) → HasRead parser most_records text → (fault : _) → result ≡ Err (OfficeFault.File fault)
         → (fault ≡ first_place) × (¬ IsAccepted most_records text) }

@@ -1,7 +1,7 @@
 -- The parser has read the pieces so far.
 use Rattle.std.proofs.Common.{map, take}
 use Rattle.std.specs.List.{concat}
-use Rattle.cif_file.specs.Reading.{HasRead}
+use Rattle.cif_file.specs.ParserRead.{HasRead}
 use Rattle.cif_file.proofs.pieces.read_pieces.Given as goal
 
 abbrev pub invariant-loop-piece : goal.invariant-loop-piece

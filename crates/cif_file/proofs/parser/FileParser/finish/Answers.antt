@@ -1,10 +1,9 @@
--- A parser that keeps nothing was fed more bytes than such a file has.
-use Rattle.std.proofs.Common.{◌≡◌, ap, sym, ◌∙◌, None, Some, if◌then◌else◌}
-use Rattle.cif_file.proofs.Accepting.{over_by_kept, refused_over}
+-- A fault that was told is the text's.
+use Rattle.std.proofs.Common.{sym, ap, subst, ◌∙◌}
+use Rattle.cif_file.specs.ParserRead.{ParserState, IsReadingOrFault}
+use Rattle.cif_file.proofs.Parsing.{told_refused}
 use Rattle.cif_file.proofs.parser.FileParser.finish.Goals as goal
 
-pub returns-then-self-clause-err : goal.returns-then-self-clause-err
-returns-then-self-clause-err c = λ limit text read.
-    let none : c.args.self.bytes ≡ None =
-    sym (ap (λ kept. kept.bytes) c.self.view_is) ∙ ap (λ over. if over then None else Some c.self.inside.text.items) c.if-self.true in
-    rw c.first_place.ensures (refused_over limit text (over_by_kept c.args.self limit text none read))
+pub returns-in-Some-clause-err : goal.returns-in-Some-clause-err
+returns-in-Some-clause-err c = λ limit text has.
+    told_refused limit text c.in-Some.fault (subst (λ fault. IsReadingOrFault c.args.self.reading limit text fault) (ap (λ (p : ParserState). p.fault) (sym c.self.view_is) ∙ c.in-Some.is) has)

@@ -3,7 +3,7 @@ use Rattle.std.proofs.Common.{◌≡◌, ◌+◌, ◌-◌, [], ◌∷◌, length
 use Rattle.std.proofs.lemmas.List.{take_all}
 use Rattle.docker_model.specs.Text.{lines_of}
 use Rattle.cif_file.proofs.FirstLine.{lines_at_feed, lines_without_feed, above_zero, feed_place, nothing_behind}
-use Rattle.cif_file.proofs.text.first_line.Goals as goal
+use Rattle.cif_file.proofs.five_lines.first_line.Goals as goal
 
 pub returns-in-Some : goal.returns-in-Some
 returns-in-Some c =

@@ -1,7 +1,7 @@
 -- More text behind the fifth line is a sixth line.
 use Rattle.std.proofs.Common.{length, arith}
 use Rattle.cif_file.proofs.FirstLine.{lines_some, above_zero, one_line_more}
-use Rattle.cif_file.proofs.text.five_lines.Goals as goal
+use Rattle.cif_file.proofs.five_lines.five_lines.Goals as goal
 
 pub returns-else-is_empty : goal.returns-else-is_empty
 returns-else-is_empty c =

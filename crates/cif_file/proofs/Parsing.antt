@@ -1,0 +1,398 @@
+-- The lines that a parser has taken, and the faults that it tells.
+use Rattle.std.proofs.Common.{◌≡◌, ℕ, ◌+◌, ◌-◌, ◌≤◌, ◌<◌, inl, inr, Bool, true, false, cond, List, [], ◌∷◌, ◌++◌, length, subst, refl, ap, sym, ◌∙◌, Some, None, arith, append_assoc, length-append, eqb-true, take, drop, get_or, suc, drop-cons}
+use Rattle.std.specs.Prelude.{Option, ◌↔◌, ◌==◌, ◌&&◌, IfOk, IfErr, Result, Ok, Err, nat_le}
+use Rattle.std.specs.Str.Lines.{strip_carriage_return}
+use Rattle.std.specs.Prelude.{position}
+use Rattle.std.proofs.Math.Seq.{take-append_seam}
+use Rattle.std.specs.Prelude.{nat_lt}
+use Rattle.std.specs.List.{position_or_len}
+use Rattle.std.proofs.lemmas.Bool.{ltb-false}
+use Rattle.std.proofs.lemmas.List.Sums.{position_or_len_is, fails_before_first}
+use Rattle.std.proofs.lemmas.List.{take-append-drop, get_or-take, length-take-le}
+use Rattle.std.proofs.lemmas.List.Quantifiers.{position-Some}
+use Rattle.std.proofs.lemmas.Bool.{leb-true, leb-false, lt-leb, le-leb, eqb-false}
+use Rattle.docker_model.specs.Record.{IsRecord}
+use Rattle.docker_model.specs.Text.{lines_of}
+use Rattle.docker_model.specs.File.{IsFile}
+use Rattle.docker_model.specs.FaultSoFar.{lines_told, IsFaultSoFar}
+use Rattle.docker_model.specs.FileFault.{IsFileFault, IsUnended, too_many, after_trailer, bad_byte, bad_length, no_end}
+use Rattle.docker_model.specs.FileFault as model
+use Rattle.docker_laws.proofs.RecordTests.{is_record, has_good_fields}
+use Rattle.docker_laws.proofs.FilePlace.{Place, after_end, place_at, next_by_test, next_place, file_iff_place, begins_iff_place}
+use Rattle.docker_laws.proofs.FileCauses.{end_cause, length_cause, is_after_end}
+use Rattle.docker_laws.proofs.ToldLines.{HasNoFeed, told_lines, open_line, line_left, lines_of_told, lines_of_ended, lines_of_open, told_lines_plain, open_line_plain, told_lines_ended, open_line_ended, lines_told_grow}
+use Rattle.docker_laws.proofs.ToldFaults.{cause_of_long, cause_of_length, not_80, no_next_place, lines_told_short, lines_told_long, fault_at_feed, fault_at_long, fault_at_end, fault_stays, length_at_end, no_fault_told}
+use Rattle.cif_file.specs.declared.fault.FileCause.{FileCause}
+use Rattle.cif_file.specs.declared.fault.FileFault.{FileFault}
+use Rattle.cif_file.specs.declared.front.Front.{Front}
+use Rattle.cif_file.specs.declared.records.Records.{Records}
+use Rattle.cif_file.specs.declared.parser.Reading.{Reading}
+use Rattle.cif_file.specs.Cut.{IsCut}
+use Rattle.cif_file.specs.Meaning.{cause_meant}
+use Rattle.cif_file.specs.FileRead.{FileRead, IsOfRecords}
+use Rattle.cif_file.specs.RecordsRead.{HasRecords, IsNoNextTold}
+use Rattle.cif_file.specs.ParserRead.{IsOfFileText, ParserState, HasRead, IsReadingOrFault, HasCounted, IsCauseNext, IsCauseTold, IsFaultNext, IsLongNext, IsReading, IsToldSoFar, IsFaultTold, IsToldOf, IsRefused}
+
+abbrev Lines : Type 0
+Lines = List (List ℕ)
+
+abbrev nowhere : Option Place
+nowhere = None
+
+some_is : {A : Type 0} (x y : A) → Some x ≡ Some y → x ≡ y
+some_is x y same = cc
+
+above : (most n : ℕ) → ¬ (n ≤ most) → most + 1 ≤ n
+above most n many = by (nat_le n most) refl
+  where
+    by : (b : Bool) → nat_le n most ≡ b → most + 1 ≤ n
+    by true h = absurd (many (leb-true n most h))
+    by false h = let over = leb-false n most h in omega arith
+
+-- the lines that ended are among those of the text
+told_within : (text : List ℕ) → length (told_lines text) ≤ length (lines_of text)
+told_within text = let size = ap (λ (l : Lines). length l) (lines_of_told text) ∙ length-append (told_lines text) (line_left (open_line text)) in omega arith
+
+-- the lines that are told are among those of the text, an open one of more than 81 bytes too
+lines_told_within : (text : List ℕ) → lines_told text ≤ length (lines_of text)
+lines_told_within text = by (nat_le 82 (length (open_line text))) refl
+  where
+    by : (b : Bool) → nat_le 82 (length (open_line text)) ≡ b → lines_told text ≤ length (lines_of text)
+    by true h =
+        let many = leb-true 82 (length (open_line text)) h in
+        let size = length_at_end text (omega arith) in
+        let told = lines_told_long text many in omega arith
+    by false h =
+        let few = leb-false 82 (length (open_line text)) h in
+        let told = lines_told_short text (omega arith) in
+        let most = told_within text in omega arith
+
+end_by_test : (place : Place) → is_after_end place ≡ true → place ≡ after_end
+end_by_test after_end h = refl
+end_by_test _ h = absurd cc
+
+-- ---- the next record
+
+-- behind the trailer
+pub after_cause : (limit : ℕ) (front : Front) (records : Lines) (line : List ℕ) → HasRecords front records → IsFile records → length records < limit → IsCauseNext limit records line after_trailer
+after_cause limit front records line has is under = record {
+  place = after_end;
+  at = (file_iff_place records).0 is;
+  here = inr (none (is_record line && has_good_fields line));
+  is = λ i. cond (lt-leb limit (length records) under i) too_many (end_cause after_end line);
+}
+  where
+    none : (b : Bool) → cond b nowhere nowhere ≡ nowhere
+    none true = refl
+    none false = refl
+
+-- a line that is no record
+pub line_cause : (limit : ℕ) (front : Front) (records : Lines) (line : List ℕ) (cause : Option model.FileCause) → HasRecords front records → ¬ IsFile records → length records < limit → ¬ IsRecord line
+    → ((place : Place) → cause ≡ Some (length_cause place line)) → IsCauseTold limit records line cause
+line_cause limit front records line None has unended under bad told = under
+line_cause limit front records line (Some cause) has unended under bad told = record {
+  place = has.place;
+  at = has.at;
+  here = inr (by (next_place has.place line) refl);
+  is = (λ i. cond (lt-leb limit (length records) under i) too_many (end_cause has.place line)) ∙ (λ i. cond (open_end i) after_trailer (length_cause has.place line)) ∙ some_is (length_cause has.place line) cause (sym (told has.place));
+}
+  where
+    by : (next : Option Place) → next_place has.place line ≡ next → next_place has.place line ≡ None
+    by None h = h
+    by (Some next) h = absurd (bad (next_by_test has.place line next h).is)
+
+    open_end : is_after_end has.place ≡ false
+    open_end = test (is_after_end has.place) refl
+      where
+        test : (b : Bool) → is_after_end has.place ≡ b → is_after_end has.place ≡ false
+        test false h = h
+        test true h = absurd (unended ((file_iff_place records).1 (has.at ∙ ap Some (end_by_test has.place h))))
+
+-- a record that the front refuses
+pub front_cause : {A : Type 0} (answer : Result A FileCause) (limit : ℕ) (records : Lines) (line : List ℕ) → length records < limit → IfErr answer (λ cause. IsNoNextTold records line (cause_meant cause))
+    → IfErr answer (λ cause. IsCauseTold limit records line (cause_meant cause))
+front_cause (Ok value) limit records line under told = told
+front_cause (Err cause) limit records line under told = by (cause_meant cause) told
+  where
+    by : (meant : Option model.FileCause) → IsNoNextTold records line meant → IsCauseTold limit records line meant
+    by None told_no = under
+    by (Some c) told_no = record { place = told_no.place; at = told_no.at; here = inr told_no.nowhere; is = told_no.is limit under }
+
+-- ---- a line that ends
+
+pub ended_read : (old new : Reading) (limit : ℕ) (text front : List ℕ) → IsReading old limit text → HasNoFeed front
+    → HasCounted new.records limit (told_lines text ++ strip_carriage_return (open_line text ++ front) ∷ []) → new.partial.items ≡ [] → IsReading new limit (text ++ (front ++ 10 ∷ []))
+ended_read old new limit text front reading plain counted none = record {
+  counted = subst (HasCounted new.records limit) (sym (told_lines_ended text front plain)) counted;
+  partial_is = none ∙ sym (open_line_ended text front plain);
+  short = let size = ap (λ (l : List ℕ). length l) (open_line_ended text front plain) in omega arith;
+}
+
+pub ended_fault : (old : Reading) (limit : ℕ) (text front : List ℕ) (fault : FileFault) → IsReading old limit text → HasNoFeed front
+    → IsFaultNext limit (told_lines text) (strip_carriage_return (open_line text ++ front)) fault → IsFaultTold limit (text ++ (front ++ 10 ∷ [])) fault
+ended_fault old limit text front fault reading plain next = by (cause_meant fault.cause) next.cause
+  where
+    size : lines_told (text ++ (front ++ 10 ∷ [])) ≡ length (told_lines text) + 1
+    size =
+        let none = ap (λ (l : List ℕ). length l) (open_line_ended text front plain) in
+        lines_told_short (text ++ (front ++ 10 ∷ [])) (omega arith)
+        ∙ ap (λ (l : Lines). length l) (told_lines_ended text front plain) ∙ length-append (told_lines text) (strip_carriage_return (open_line text ++ front) ∷ [])
+
+    by : (meant : Option model.FileCause) → IsCauseTold limit (told_lines text) (strip_carriage_return (open_line text ++ front)) meant → IsToldSoFar limit (text ++ (front ++ 10 ∷ [])) fault.number meant
+    by None under = let number = next.number in let most = size in (omega arith, omega arith)
+    by (Some cause) told =
+        subst (λ f. IsFaultSoFar limit (text ++ (front ++ 10 ∷ [])) f) (λ i. record { number = sym next.number i; cause = told.is i })
+        (fault_at_feed limit text front [] told.place plain told.at reading.counted.within told.here)
+
+pub ended_long : (old : Reading) (limit : ℕ) (text front : List ℕ) (fault : FileFault) → IsReading old limit text → HasNoFeed front → 82 ≤ length (open_line text ++ front)
+    → IsLongNext limit (told_lines text) fault → IsFaultTold limit (text ++ (front ++ 10 ∷ [])) fault
+ended_long old limit text front fault reading plain many next =
+    let bad = not_80 (open_line text ++ front) many in
+    subst (IsToldSoFar limit (text ++ (front ++ 10 ∷ [])) fault.number) (sym next.cause)
+    (subst (λ f. IsFaultSoFar limit (text ++ (front ++ 10 ∷ [])) f) (λ i. record { number = sym next.number i; cause = cause_of_length limit (length (told_lines text)) next.place (strip_carriage_return (open_line text ++ front)) bad i })
+    (fault_at_feed limit text front [] next.place plain next.at reading.counted.within (inr (no_next_place next.place (strip_carriage_return (open_line text ++ front)) bad))))
+
+-- ---- more of a line
+
+pub kept_read : (old new : Reading) (limit : ℕ) (text more : List ℕ) → IsReading old limit text → HasNoFeed more → length old.partial.items + length more ≤ 81 → new.records ≡ old.records
+    → new.partial.items ≡ old.partial.items ++ more → IsReading new limit (text ++ more)
+kept_read old new limit text more reading plain few records kept = record {
+  counted = subst (λ r. HasCounted r limit (told_lines (text ++ more))) (sym records) (subst (HasCounted old.records limit) (sym (told_lines_plain text more plain)) reading.counted);
+  partial_is = kept ∙ (λ i. reading.partial_is i ++ more) ∙ sym (open_line_plain text more plain);
+  short =
+      let size = ap (λ (l : List ℕ). length l) (open_line_plain text more plain) ∙ length-append (open_line text) more in
+      let same = ap (λ (l : List ℕ). length l) reading.partial_is in omega arith;
+}
+
+pub kept_long : (old : Reading) (limit : ℕ) (text more : List ℕ) (fault : FileFault) → IsReading old limit text → HasNoFeed more → ¬ (length old.partial.items + length more ≤ 81)
+    → IsLongNext limit (told_lines text) fault → IsFaultTold limit (text ++ more) fault
+kept_long old limit text more fault reading plain many next =
+    let size = ap (λ (l : List ℕ). length l) (open_line_plain text more plain) ∙ length-append (open_line text) more in
+    let same = ap (λ (l : List ℕ). length l) reading.partial_is in
+    let told = told_lines_plain text more plain in
+    let count = ap (λ (l : Lines). length l) told in
+    let within = reading.counted.within in
+    subst (IsToldSoFar limit (text ++ more) fault.number) (sym next.cause)
+    (subst (λ f. IsFaultSoFar limit (text ++ more) f) (λ i. record { number = (ap (λ n. n + 1) count ∙ sym next.number) i; cause = cause_of_long limit (count i) next.place })
+    (fault_at_long limit (text ++ more) next.place (ap place_at told ∙ next.at) (omega arith) (above 81 (length (open_line (text ++ more))) (λ few. many (omega arith)))))
+
+-- ---- what is told stays told
+
+pub told_stays : (limit : ℕ) (text more : List ℕ) (fault : FileFault) → IsFaultTold limit text fault → IsFaultTold limit (text ++ more) fault
+told_stays limit text more fault told = by (cause_meant fault.cause) told
+  where
+    by : (meant : Option model.FileCause) → IsToldSoFar limit text fault.number meant → IsToldSoFar limit (text ++ more) fault.number meant
+    by None here = let first = here.0 in let most = here.1 in let grow = lines_told_grow text more in (omega arith, omega arith)
+    by (Some cause) here = fault_stays limit text more (record { number = fault.number; cause = cause }) here
+
+-- ---- the end
+
+pub counted_open : (records : Records) (limit : ℕ) (text : List ℕ) → 0 < length (open_line text) → HasCounted records limit (told_lines text ++ strip_carriage_return (open_line text) ∷ []) → HasCounted records limit (lines_of text)
+counted_open records limit text some counted = subst (HasCounted records limit) (sym (lines_of_open text some)) counted
+
+pub counted_ended : (reading : Reading) (limit : ℕ) (text : List ℕ) → IsReading reading limit text → reading.partial.items ≡ [] → HasCounted reading.records limit (lines_of text)
+counted_ended reading limit text is none = subst (HasCounted reading.records limit) (sym (lines_of_ended text (sym is.partial_is ∙ none))) is.counted
+
+pub end_fault : (reading : Reading) (limit : ℕ) (text : List ℕ) (fault : FileFault) → IsReading reading limit text → 0 < length (open_line text)
+    → IsFaultNext limit (told_lines text) (strip_carriage_return (open_line text)) fault → IsRefused limit text fault
+end_fault reading limit text fault is some next = by (cause_meant fault.cause) next.cause
+  where
+    by : (meant : Option model.FileCause) → IsCauseTold limit (told_lines text) (strip_carriage_return (open_line text)) meant → IsToldOf limit text fault.number meant
+    by None under = let number = next.number in let size = length_at_end text some in (omega arith, omega arith)
+    by (Some cause) told =
+        subst (λ f. IsFileFault limit text f) (λ i. record { number = sym next.number i; cause = told.is i }) (fault_at_end limit text told.place told.at is.counted.within some told.here)
+
+pub finish_ok : (answer : Result FileRead FileFault) (records : Records) (limit : ℕ) (text : List ℕ) → HasCounted records limit (lines_of text)
+    → IfOk answer (λ file. IsFile (lines_of text) × IsOfRecords file (lines_of text)) → IfOk answer (λ file. IsOfFileText file limit text)
+finish_ok (Ok file) records limit text counted told = record { records = lines_of text; is_text = record { lines = refl; is = told.0; within = counted.within }; of_records = told.1 }
+finish_ok (Err fault) records limit text counted told = told
+
+pub finish_err : (answer : Result FileRead FileFault) (records : Records) (limit : ℕ) (text : List ℕ) → HasCounted records limit (lines_of text)
+    → IfErr answer (λ fault. (fault.number ≡ length (lines_of text) + 1) × (cause_meant fault.cause ≡ Some no_end) × (¬ IsFile (lines_of text))) → IfErr answer (λ fault. IsRefused limit text fault)
+finish_err (Ok file) records limit text counted told = told
+finish_err (Err fault) records limit text counted told = subst (IsToldOf limit text fault.number) (sym told.1) (inr (record {
+  within = counted.within;
+  begin = (begins_iff_place (lines_of text)).1 (counted.has.place, counted.has.at);
+  unended = told.2;
+  number = told.0;
+  cause = refl;
+}))
+
+-- no record that is told is at fault
+pub reading_tells_none : (reading : Reading) (limit : ℕ) (text : List ℕ) → IsReading reading limit text → (fault : model.FileFault) → ¬ IsFaultSoFar limit text fault
+reading_tells_none reading limit text is = no_fault_told limit text is.counted.has.place is.counted.has.at is.counted.within is.short
+
+-- a fault that is told is the text's in the end
+pub told_refused : (limit : ℕ) (text : List ℕ) (fault : FileFault) → IsFaultTold limit text fault → IsRefused limit text fault
+told_refused limit text fault told = by (cause_meant fault.cause) told
+  where
+    by : (meant : Option model.FileCause) → IsToldSoFar limit text fault.number meant → IsToldOf limit text fault.number meant
+    by None here = let most = lines_told_within text in let last = here.1 in (here.0, omega arith)
+    by (Some cause) here = inl here.is
+
+-- ---- a line that is too long
+
+pub long_over : (records : Records) (limit : ℕ) (taken : Lines) (fault : FileFault) → HasCounted records limit taken → fault.number ≡ records.next → records.limit < records.next → cause_meant fault.cause ≡ Some too_many
+    → IsLongNext limit taken fault
+long_over records limit taken fault counted number over told = record {
+  number = number ∙ counted.next_is;
+  place = counted.has.place;
+  at = counted.has.at;
+  cause = told ∙ (let next = counted.next_is in let same = counted.limit_is in let most : limit ≤ length taken = omega arith in λ i. Some (cond (sym (le-leb limit (length taken) most) i) too_many (cond (is_after_end counted.has.place) after_trailer bad_length)));
+}
+
+pub long_within : (records : Records) (limit : ℕ) (taken : Lines) (fault : FileFault) (ended : Bool) → HasCounted records limit taken → fault.number ≡ records.next → records.next ≤ records.limit
+    → (ended ≡ true) ↔ IsFile taken → cause_meant fault.cause ≡ Some (cond ended after_trailer bad_length) → IsLongNext limit taken fault
+long_within records limit taken fault ended counted number within iff told = record {
+  number = number ∙ counted.next_is;
+  place = counted.has.place;
+  at = counted.has.at;
+  cause =
+      told ∙ (λ i. Some (cond (same i) after_trailer bad_length))
+      ∙ (let next = counted.next_is in let limits = counted.limit_is in let under : length taken < limit = omega arith in λ i. Some (cond (sym (lt-leb limit (length taken) under) i) too_many (cond (is_after_end counted.has.place) after_trailer bad_length)));
+}
+  where
+    same : ended ≡ is_after_end counted.has.place
+    same = by ended (is_after_end counted.has.place) refl refl
+      where
+        by : (b d : Bool) → ended ≡ b → is_after_end counted.has.place ≡ d → ended ≡ is_after_end counted.has.place
+        by true true h k = h ∙ sym k
+        by false false h k = h ∙ sym k
+        by true false h k =
+            let at = some_is after_end counted.has.place (sym ((file_iff_place taken).0 (iff.0 h)) ∙ counted.has.at) in
+            let bad : true ≡ false = ap is_after_end at ∙ k in absurd cc
+        by false true h k =
+            let is = (file_iff_place taken).1 (counted.has.at ∙ ap Some (end_by_test counted.has.place k)) in
+            let bad : true ≡ false = sym (iff.1 is) ∙ h in absurd cc
+
+-- ---- a line that ends, by what was taken of it
+
+pub ended_many : (old : Reading) (limit : ℕ) (text front : List ℕ) → IsReading old limit text → ¬ (length old.partial.items + length front ≤ 81) → 82 ≤ length (open_line text ++ front)
+ended_many old limit text front reading many =
+    let same = ap (λ (l : List ℕ). length l) reading.partial_is in
+    let size = length-append (open_line text) front in
+    above 81 (length (open_line text ++ front)) (λ few. many (omega arith))
+
+-- the line that was taken is that of the text
+pub taken_is : (old : Reading) (limit : ℕ) (text front raw line : List ℕ) → IsReading old limit text → raw ≡ old.partial.items ++ front → line ≡ strip_carriage_return raw
+    → line ≡ strip_carriage_return (open_line text ++ front)
+taken_is old limit text front raw line reading whole strip = strip ∙ ap strip_carriage_return (whole ∙ ap (λ l. l ++ front) reading.partial_is)
+
+pub ended_ok : (old new : Reading) (limit : ℕ) (text front line : List ℕ) → IsReading old limit text → HasNoFeed front → line ≡ strip_carriage_return (open_line text ++ front)
+    → HasCounted new.records limit (told_lines text ++ line ∷ []) → new.partial.items ≡ [] → IsReading new limit (text ++ (front ++ 10 ∷ []))
+ended_ok old new limit text front line reading plain same counted none =
+    ended_read old new limit text front reading plain (subst (λ l. HasCounted new.records limit (told_lines text ++ l ∷ [])) same counted) none
+
+pub ended_err : {A : Type 0} (answer : Result A FileFault) (old : Reading) (limit : ℕ) (text front line : List ℕ) → IsReading old limit text → HasNoFeed front → line ≡ strip_carriage_return (open_line text ++ front)
+    → IfErr answer (λ fault. IsFaultNext limit (told_lines text) line fault) → IfErr answer (λ fault. IsFaultTold limit (text ++ (front ++ 10 ∷ [])) fault)
+ended_err (Ok value) old limit text front line reading plain same told = told
+ended_err (Err fault) old limit text front line reading plain same told =
+    ended_fault old limit text front fault reading plain (subst (λ l. IsFaultNext limit (told_lines text) l fault) same told)
+
+-- no bytes of the line came before
+pub empty_is : (old : Reading) → true ≡ (length old.partial.items == 0) → old.partial.items ≡ []
+empty_is old none = by old.partial.items (eqb-true (length old.partial.items) 0 (sym none))
+  where
+    by : (bytes : List ℕ) → length bytes ≡ 0 → bytes ≡ []
+    by [] h = refl
+    by (byte ∷ bytes) h = absurd (omega arith)
+
+pub some_is_open : (old : Reading) (limit : ℕ) (text : List ℕ) → IsReading old limit text → false ≡ (length old.partial.items == 0) → 0 < length (open_line text)
+some_is_open old limit text reading some =
+    let size = ap (λ (l : List ℕ). length l) reading.partial_is in
+    let not_none = eqb-false (length old.partial.items) 0 (sym some) in
+    above 0 (length (open_line text)) (λ none. not_none (omega (arith, size)))
+
+-- ---- bytes cut at a line feed
+
+-- the first line feed is the first place that passes
+feed_place : (text : List ℕ) (end : ℕ) → position (λ b. b == 10) text ≡ Some end → position_or_len (λ b. b == 10) text ≡ end
+feed_place text end found =
+    let at = position-Some (λ b. b == 10) text end 0 found in
+    position_or_len_is (λ b. b == 10) text end 0 (omega (arith, at.0)) at.2 (λ _. at.1)
+
+no_place : (place size : ℕ) (b : Bool) → nat_lt place size ≡ b → cond b (Some place) None ≡ None → size ≤ place
+no_place place size true h none = absurd cc
+no_place place size false h none = ltb-false place size h
+
+plain_front : (text : List ℕ) (end : ℕ) → end < length text → position (λ b. b == 10) text ≡ Some end → HasNoFeed (take end text)
+plain_front text end within found = λ k d below.
+    let place = feed_place text end found in
+    let size = length-take-le end text (omega arith) in
+    let before : k < end = omega arith in
+    ap (λ b. b == 10) (get_or-take end text k d before) ∙ fails_before_first (λ b. b == 10) text k d (omega arith)
+
+pub cut_at : (text : List ℕ) (end : ℕ) → position (λ b. b == 10) text ≡ Some end → IsCut text (take end text) (drop (end + 1) text)
+cut_at text end found =
+    let at = position-Some (λ b. b == 10) text end 0 found in
+    let feed = eqb-true (get_or text end 0) 10 at.1 in
+    let after : suc end ≡ end + 1 = omega arith in
+    record {
+      whole = sym (take-append-drop end text) ∙ ap (λ rest. take end text ++ rest) (drop-cons text end 0 at.0 ∙ (λ i. feed i ∷ drop (after i) text));
+      plain = plain_front text end at.0 found;
+    }
+
+pub no_feed_by : (text : List ℕ) → position (λ b. b == 10) text ≡ None → HasNoFeed text
+no_feed_by text none = λ k d below.
+    let past = no_place (position_or_len (λ b. b == 10) text) (length text) _ refl none in
+    fails_before_first (λ b. b == 10) text k d (omega arith)
+
+-- the bytes before what is left of a piece
+abbrev pub before_rest : List ℕ → List ℕ → List ℕ
+before_rest piece rest = take (length piece - length rest) piece
+
+pub cut_more : (piece rest front behind : List ℕ) → before_rest piece rest ++ rest ≡ piece → IsCut rest front behind
+    → (before_rest piece behind ≡ before_rest piece rest ++ (front ++ 10 ∷ [])) × (before_rest piece behind ++ behind ≡ piece)
+cut_more piece rest front behind whole cut =
+    let done = before_rest piece rest ++ (front ++ 10 ∷ []) in
+    let all : done ++ behind ≡ piece =
+    append_assoc (before_rest piece rest) (front ++ 10 ∷ []) behind ∙ ap (λ l. before_rest piece rest ++ l) (append_assoc front (10 ∷ []) behind ∙ sym cut.whole) ∙ whole in
+    let size = ap (λ (l : List ℕ). length l) (sym all) ∙ length-append done behind in
+    let count : length piece - length behind ≡ length done = omega arith in
+    let same : before_rest piece behind ≡ done = (λ i. take (count i) (sym all i)) ∙ take-append_seam done behind in
+    (same, ap (λ l. l ++ behind) same ∙ all)
+
+pub cut_shorter : (rest front behind : List ℕ) → IsCut rest front behind → length behind < length rest
+cut_shorter rest front behind cut = let size = ap (λ (l : List ℕ). length l) cut.whole ∙ length-append front (10 ∷ behind) in omega arith
+
+pub cut_first : (piece : List ℕ) → (before_rest piece piece ≡ []) × (before_rest piece piece ++ piece ≡ piece)
+cut_first piece =
+    let none : length piece - length piece ≡ 0 = omega arith in
+    let same : before_rest piece piece ≡ [] = ap (λ n. take n piece) none ∙ take_none piece in
+    (same, ap (λ l. l ++ piece) same)
+  where
+    take_none : (l : List ℕ) → take 0 l ≡ []
+    take_none [] = refl
+    take_none (b ∷ l) = refl
+
+-- what was told of a piece's front is told of the piece
+pub told_of_piece : (limit : ℕ) (text piece rest front behind : List ℕ) (fault : FileFault) → before_rest piece rest ++ rest ≡ piece → IsCut rest front behind
+    → IsFaultTold limit ((text ++ before_rest piece rest) ++ (front ++ 10 ∷ [])) fault → IsFaultTold limit (text ++ piece) fault
+told_of_piece limit text piece rest front behind fault whole cut told =
+    let more = cut_more piece rest front behind whole cut in
+    let here = append_assoc text (before_rest piece rest) (front ++ 10 ∷ []) ∙ ap (λ l. text ++ l) (sym more.0) in
+    let all = append_assoc text (before_rest piece behind) behind ∙ ap (λ l. text ++ l) more.1 in
+    subst (λ t. IsFaultTold limit t fault) all (told_stays limit (text ++ before_rest piece behind) behind fault (subst (λ t. IsFaultTold limit t fault) here told))
+
+pub read_on : (reading : Reading) (limit : ℕ) (text piece rest front behind : List ℕ) → before_rest piece rest ++ rest ≡ piece → IsCut rest front behind
+    → IsReading reading limit ((text ++ before_rest piece rest) ++ (front ++ 10 ∷ [])) → IsReading reading limit (text ++ before_rest piece behind)
+read_on reading limit text piece rest front behind whole cut is =
+    let more = cut_more piece rest front behind whole cut in
+    subst (IsReading reading limit) (append_assoc text (before_rest piece rest) (front ++ 10 ∷ []) ∙ ap (λ l. text ++ l) (sym more.0)) is
+
+pub whole_read : (text piece rest : List ℕ) → before_rest piece rest ++ rest ≡ piece → (text ++ before_rest piece rest) ++ rest ≡ text ++ piece
+whole_read text piece rest whole = append_assoc text (before_rest piece rest) rest ∙ ap (λ l. text ++ l) whole
+
+-- ---- a parser with a fault, and without one
+
+pub read_at_fault : (parser : ParserState) (limit : ℕ) (text : List ℕ) (fault : FileFault) → parser.fault ≡ Some fault → IsFaultTold limit text fault → HasRead parser limit text
+read_at_fault parser limit text fault at told = subst (IsReadingOrFault parser.reading limit text) (sym at) told
+
+pub fault_at_read : (parser : ParserState) (limit : ℕ) (text : List ℕ) (fault : FileFault) → parser.fault ≡ Some fault → HasRead parser limit text → IsFaultTold limit text fault
+fault_at_read parser limit text fault at has = subst (IsReadingOrFault parser.reading limit text) at has
+
+pub reading_at_none : (parser : ParserState) (limit : ℕ) (text : List ℕ) → parser.fault ≡ None → HasRead parser limit text → IsReading parser.reading limit text
+reading_at_none parser limit text at has = subst (IsReadingOrFault parser.reading limit text) at has
+
+pub none_at_reading : (parser : ParserState) (limit : ℕ) (text : List ℕ) → parser.fault ≡ None → IsReading parser.reading limit text → HasRead parser limit text
+none_at_reading parser limit text at is = subst (IsReadingOrFault parser.reading limit text) (sym at) is

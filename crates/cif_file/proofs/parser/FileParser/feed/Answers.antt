@@ -1,0 +1,31 @@
+-- A fault stays, and else the piece is read.
+use Rattle.std.proofs.Common.{◌++◌, sym, ap, subst, ◌∙◌, refl}
+use Rattle.cif_file.specs.ParserRead.{ParserState, IsReading}
+use Rattle.cif_file.proofs.Parsing.{told_stays, reading_tells_none, read_at_fault, fault_at_read, reading_at_none, none_at_reading}
+use Rattle.cif_file.proofs.parser.FileParser.feed.Goals as goal
+
+pub returns-in-Some-clause-read : goal.returns-in-Some-clause-read
+returns-in-Some-clause-read c = λ limit text has.
+    let told = ap (λ (p : ParserState). p.fault) (sym c.self.view_is) ∙ c.in-Some.is in
+    read_at_fault c.args.self.now limit (text ++ c.args.piece.now) c.in-Some.fault told (told_stays limit text c.args.piece.now c.in-Some.fault (fault_at_read c.args.self.now limit text c.in-Some.fault told has))
+
+pub returns-in-Some-clause-err : goal.returns-in-Some-clause-err
+returns-in-Some-clause-err c = λ limit text has.
+    told_stays limit text c.args.piece.now c.in-Some.fault (fault_at_read c.args.self.now limit text c.in-Some.fault (ap (λ (p : ParserState). p.fault) (sym c.self.view_is) ∙ c.in-Some.is) has)
+
+pub returns-in-Ok-clause-read : goal.returns-in-Ok-clause-read
+returns-in-Ok-clause-read c = λ limit text has.
+    none_at_reading _ limit (text ++ c.args.piece.now) c.in_default.is
+    (c.in-Ok.ensures.read limit text
+    (subst (λ r. IsReading r limit text) (ap (λ (p : ParserState). p.reading) (sym c.self.view_is)) (reading_at_none c.args.self.now limit text (ap (λ (p : ParserState). p.fault) (sym c.self.view_is) ∙ c.in_default.is) has)) refl)
+
+pub returns-in-Ok-clause-ok : goal.returns-in-Ok-clause-ok
+returns-in-Ok-clause-ok c = λ limit text has _.
+    reading_tells_none c.read.new.self limit (text ++ c.args.piece.now)
+    (c.in-Ok.ensures.read limit text
+    (subst (λ r. IsReading r limit text) (ap (λ (p : ParserState). p.reading) (sym c.self.view_is)) (reading_at_none c.args.self.now limit text (ap (λ (p : ParserState). p.fault) (sym c.self.view_is) ∙ c.in_default.is) has)) refl)
+
+pub returns-in-Err-clause-read : goal.returns-in-Err-clause-read
+returns-in-Err-clause-read c = λ limit text has.
+    c.in-Err.ensures.err limit text
+    (subst (λ r. IsReading r limit text) (ap (λ (p : ParserState). p.reading) (sym c.self.view_is)) (reading_at_none c.args.self.now limit text (ap (λ (p : ParserState). p.fault) (sym c.self.view_is) ∙ c.in_default.is) has))

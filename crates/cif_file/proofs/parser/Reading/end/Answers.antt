@@ -1,0 +1,40 @@
+-- The last line, if one is open, and then the end.
+use Rattle.std.proofs.Common.{◌++◌, ◌∷◌, [], refl, ap, subst, ◌∙◌}
+use Rattle.std.specs.Str.Lines.{strip_carriage_return}
+use Rattle.docker_laws.proofs.ToldLines.{told_lines}
+use Rattle.docker_model.specs.Text.{lines_of}
+use Rattle.cif_file.specs.ParserRead.{HasCounted, IsFaultNext}
+use Rattle.cif_file.proofs.Parsing.{counted_open, counted_ended, end_fault, finish_ok, finish_err, empty_is, some_is_open}
+use Rattle.cif_file.proofs.parser.Reading.end.Goals as goal
+
+pub returns-then-is_empty-clause-ok : goal.returns-then-is_empty-clause-ok
+returns-then-is_empty-clause-ok c = λ limit text reading.
+    let counted = counted_ended c.args.self limit text reading (empty_is c.args.self c.if-is_empty.ensures) in
+    finish_ok c.finish.result c.args.self.records limit text counted (c.finish.ensures.ok limit (lines_of text) counted)
+
+pub returns-then-is_empty-clause-err : goal.returns-then-is_empty-clause-err
+returns-then-is_empty-clause-err c = λ limit text reading.
+    let counted = counted_ended c.args.self limit text reading (empty_is c.args.self c.if-is_empty.ensures) in
+    finish_err c.finish.result c.args.self.records limit text counted (c.finish.ensures.err limit (lines_of text) counted)
+
+pub returns-in-Err-clause-err : goal.returns-in-Err-clause-err
+returns-in-Err-clause-err c = λ limit text reading.
+    end_fault c.args.self limit text c.in-Err.fault reading (some_is_open c.args.self limit text reading c.if-is_empty.ensures)
+    (subst (λ line. IsFaultNext limit (told_lines text) line c.in-Err.fault) (c.without_return.ensures.line ∙ ap strip_carriage_return (c.as_slice.ensures.value ∙ reading.partial_is))
+    (c.in-Err.ensures.err limit (told_lines text) reading.counted))
+
+pub returns-in-Ok-clause-ok : goal.returns-in-Ok-clause-ok
+returns-in-Ok-clause-ok c = λ limit text reading.
+    let counted =
+    counted_open c.take.new.self limit text (some_is_open c.args.self limit text reading c.if-is_empty.ensures)
+    (subst (λ line. HasCounted c.take.new.self limit (told_lines text ++ line ∷ [])) (c.without_return.ensures.line ∙ ap strip_carriage_return (c.as_slice.ensures.value ∙ reading.partial_is))
+    (c.in-Ok.ensures.read limit (told_lines text) reading.counted refl)) in
+    finish_ok c.finish-in-Ok.result c.take.new.self limit text counted (c.finish-in-Ok.ensures.ok limit (lines_of text) counted)
+
+pub returns-in-Ok-clause-err : goal.returns-in-Ok-clause-err
+returns-in-Ok-clause-err c = λ limit text reading.
+    let counted =
+    counted_open c.take.new.self limit text (some_is_open c.args.self limit text reading c.if-is_empty.ensures)
+    (subst (λ line. HasCounted c.take.new.self limit (told_lines text ++ line ∷ [])) (c.without_return.ensures.line ∙ ap strip_carriage_return (c.as_slice.ensures.value ∙ reading.partial_is))
+    (c.in-Ok.ensures.read limit (told_lines text) reading.counted refl)) in
+    finish_err c.finish-in-Ok.result c.take.new.self limit text counted (c.finish-in-Ok.ensures.err limit (lines_of text) counted)

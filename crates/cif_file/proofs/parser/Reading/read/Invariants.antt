@@ -1,0 +1,17 @@
+-- The lines so far were taken.
+use Rattle.std.proofs.Common.{◌≡◌, ℕ, List, ◌++◌, length}
+use Rattle.cif_file.specs.declared.parser.Reading.{Reading}
+use Rattle.cif_file.specs.ParserRead.{IsReading}
+use Rattle.cif_file.proofs.Parsing.{before_rest}
+use Rattle.cif_file.proofs.parser.Reading.read.Given as goal
+
+-- what stands before the rest was read
+pub record AreRead (reading initial : Reading) (piece rest : List ℕ) : Type 0 where
+  pub whole : before_rest piece rest ++ rest ≡ piece
+  pub are : (limit : ℕ) (text : List ℕ) → IsReading initial limit text → IsReading reading limit (text ++ before_rest piece rest)
+
+abbrev pub invariant-loop-front : goal.invariant-loop-front
+invariant-loop-front l = AreRead l.self l.fn.self l.piece l.rest
+
+abbrev pub decreases-loop-front : goal.decreases-loop-front
+decreases-loop-front l = length l.rest

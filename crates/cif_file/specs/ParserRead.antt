@@ -1,0 +1,96 @@
+-- What a parser of files was fed.
+use Rattle.std.specs.Prelude.{◌≡◌, ℕ, ◌+◌, ◌<◌, ◌≤◌, ◌⊎◌, List, length, Option, Some, None}
+use Rattle.docker_model.specs.Text.{lines_of}
+use Rattle.docker_model.specs.FaultSoFar.{lines_told, IsFaultSoFar}
+use Rattle.docker_model.specs.FileFault.{IsFileFault, IsFileText}
+use Rattle.docker_model.specs.FileFault as model
+use Rattle.docker_laws.proofs.FilePlace.{next_place, IsPlaceOf}
+use Rattle.docker_laws.proofs.FilePlace as law
+use Rattle.docker_laws.proofs.FileCauses.{cause_of}
+use Rattle.docker_laws.proofs.ToldLines.{told_lines, open_line}
+use Rattle.docker_laws.proofs.ToldFaults.{cause_of_long}
+use Rattle.cif_file.specs.declared.fault.FileFault.{FileFault}
+use Rattle.cif_file.specs.declared.records.Records.{Records}
+use Rattle.cif_file.specs.declared.parser.Reading.{Reading}
+use Rattle.cif_file.specs.Meaning.{cause_meant}
+use Rattle.cif_file.specs.FileRead.{FileRead, IsOfRecords}
+use Rattle.cif_file.specs.RecordsRead.{HasRecords}
+
+abbrev Lines : Type 0
+Lines = List (List ℕ)
+
+-- these records were taken, within the limit
+pub record HasCounted (state : Records) (limit : ℕ) (records : Lines) : Type 0 where
+  pub limit_is : state.limit ≡ limit
+  pub next_is : state.next ≡ length records + 1
+  pub within : length records ≤ limit
+  pub has : HasRecords state.front records
+
+-- a record is at fault behind these, for this cause
+pub record IsCauseNext (limit : ℕ) (records : Lines) (line : List ℕ) (cause : model.FileCause) : Type 0 where
+  pub place : law.Place
+  pub at : IsPlaceOf records place
+  pub here : (limit ≤ length records) ⊎ (next_place place line ≡ None)
+  pub is : cause_of limit (length records) place line ≡ cause
+
+-- a cause that was told of a record; want of memory comes within the limit
+abbrev pub IsCauseTold : ℕ → Lines → List ℕ → Option model.FileCause → Type 0
+IsCauseTold limit records line None = length records < limit
+IsCauseTold limit records line (Some cause) = IsCauseNext limit records line cause
+
+-- a fault that was told of the record behind these
+pub record IsFaultNext (limit : ℕ) (records : Lines) (line : List ℕ) (fault : FileFault) : Type 0 where
+  pub number : fault.number ≡ length records + 1
+  pub cause : IsCauseTold limit records line (cause_meant fault.cause)
+
+-- a fault that was told of a record of more than 81 bytes behind these
+pub record IsLongNext (limit : ℕ) (records : Lines) (fault : FileFault) : Type 0 where
+  pub number : fault.number ≡ length records + 1
+  pub place : law.Place
+  pub at : IsPlaceOf records place
+  pub cause : cause_meant fault.cause ≡ Some (cause_of_long limit (length records) place)
+
+-- no fault was told: the lines that are told were taken, and the line behind them is open
+pub record IsReading (reading : Reading) (limit : ℕ) (text : List ℕ) : Type 0 where
+  pub counted : HasCounted reading.records limit (told_lines text)
+  pub partial_is : reading.partial.items ≡ open_line text
+  pub short : length (open_line text) ≤ 81
+
+-- the cause that a fault tells is that of the first record at fault which is told; or memory was wanting at a record that is told
+abbrev pub IsToldSoFar : ℕ → List ℕ → ℕ → Option model.FileCause → Type 0
+IsToldSoFar limit text number None = (0 < number) × (number ≤ lines_told text)
+IsToldSoFar limit text number (Some cause) = IsFaultSoFar limit text (record { number = number; cause = cause })
+
+abbrev pub IsFaultTold : ℕ → List ℕ → FileFault → Type 0
+IsFaultTold limit text fault = IsToldSoFar limit text fault.number (cause_meant fault.cause)
+
+-- the fault is the text's; or memory was wanting at one of its records
+abbrev pub IsToldOf : ℕ → List ℕ → ℕ → Option model.FileCause → Type 0
+IsToldOf limit text number None = (0 < number) × (number ≤ length (lines_of text))
+IsToldOf limit text number (Some cause) = IsFileFault limit text (record { number = number; cause = cause })
+
+abbrev pub IsRefused : ℕ → List ℕ → FileFault → Type 0
+IsRefused limit text fault = IsToldOf limit text fault.number (cause_meant fault.cause)
+
+-- what a parser keeps
+pub record ParserState : Type 0 where
+  pub reading : Reading
+  pub fault : Option FileFault
+
+abbrev pub IsReadingOrFault : Reading → ℕ → List ℕ → Option FileFault → Type 0
+IsReadingOrFault reading limit text None = IsReading reading limit text
+IsReadingOrFault reading limit text (Some fault) = IsFaultTold limit text fault
+
+-- the parser was fed this text, under this limit on records
+abbrev pub HasRead : ParserState → ℕ → List ℕ → Type 0
+HasRead parser limit text = IsReadingOrFault parser.reading limit text parser.fault
+
+-- the text is one of a file of at most so many records, and what was read tells of those
+pub record IsOfFileText (file : FileRead) (limit : ℕ) (text : List ℕ) : Type 0 where
+  pub records : List (List ℕ)
+  pub is_text : IsFileText limit text records
+  pub of_records : IsOfRecords file records
+
+-- the parser told this fault
+abbrev pub HasFailed : ParserState → FileFault → Type 0
+HasFailed parser fault = parser.fault ≡ Some fault

@@ -1,0 +1,293 @@
+//! The records of a file so far.
+ghost use Rattle.std.specs.Prelude.{◌≡◌, ℕ, ◌+◌, ◌↔◌, List, [], ◌∷◌, ◌++◌, length, map, IsOk, IfErr, IsErr, OnOk, MatchOption, Some, true, is_some, IsTrue};
+ghost use Rattle.docker_model.specs.Record.{HasKind, IsRecord, kind_of, basic_schedule};
+ghost use Rattle.docker_model.specs.Field.{HasGoodFields};
+ghost use Rattle.docker_model.specs.Change.{follows_basic, changes};
+ghost use Rattle.docker_model.specs.File.{IsFile};
+ghost use Rattle.docker_laws.proofs.FilePlace.{unit_by_kind};
+ghost use Rattle.cif_line.specs.Kind.{meaning};
+ghost use Rattle.cif_file.specs.Meaning.{cause_meant, change_meant};
+ghost use Rattle.cif_file.specs.FileRead.{IsOfRecords};
+ghost use Rattle.cif_file.specs.RecordsRead.{HasRecords, IsOver, IsNoNextTold, StandsBefore, IsWholeBy, change_opened};
+
+use crate::change::Change;
+use crate::fault::FileCause;
+use crate::file::CifFile;
+use crate::header_line::HeaderLine;
+use crate::opened::{Opened, schedule_key};
+use crate::steps::begun_by;
+use crate::unit::{push, push_changes, unit_cause};
+use cif_line::{Kind, Line, header, kind};
+use std::alloc::{AllocError, Global};
+
+/// Where a file is behind its records so far.
+#[derive(Clone, Copy, PartialEq, Eq, Debug)]
+pub(crate) enum Place {
+    /// Before its header.
+    BeforeHeader,
+    /// Behind its header, or behind a whole unit.
+    BetweenUnits,
+    /// Behind these lines of a schedule.
+    InSchedule(Opened),
+    /// Behind its trailer.
+    AfterEnd,
+}
+
+/// What a reader keeps of a file's records so far.
+#[derive(Debug, Drop)]
+pub(crate) struct Front {
+    alloc: Global,
+    header: Option<HeaderLine>,
+    place: Place,
+    lines: Vec<Line>,
+    changes: Vec<Change>,
+}
+
+/// Whether a record of this kind stands in a schedule, behind its basic schedule.
+fn follows_basic(kind: Kind) -> bool
+    ensures { result ≡ follows_basic (Some (meaning kind)) }
+{
+    match kind {
+        Kind::ExtraDetails => true,
+        Kind::OriginLocation => true,
+        Kind::IntermediateLocation => true,
+        Kind::TerminatingLocation => true,
+        Kind::ChangeEnRoute => true,
+        _ => false,
+    }
+}
+
+impl Front {
+    /// Before the first record.
+    pub(crate) fn new(alloc: Global) -> Front
+        ensures { HasRecords result [] }
+    {
+        Front {
+            alloc,
+            header: None,
+            place: Place::BeforeHeader,
+            lines: Vec::new(alloc),
+            changes: Vec::new(alloc),
+        }
+    }
+
+    /// Whether the trailer was read.
+    pub(crate) fn is_ended(&self) -> bool
+        ensures { (records : List (List ℕ)) → HasRecords self.now records → IsTrue result ↔ IsFile records }
+    {
+        match self.place {
+            Place::BeforeHeader => false,
+            Place::BetweenUnits => false,
+            Place::InSchedule(_) => false,
+            Place::AfterEnd => true,
+        }
+    }
+
+    /// The file that the records are, if the trailer was read; `count` is how many there are.
+    pub(crate) fn into_file(self, count: u32) -> Option<CifFile>
+        ensures { (records : List (List ℕ)) → HasRecords self records → count ≡ length records → MatchOption result (¬ IsFile records) (λ file. IsFile records × IsOfRecords file records) }
+    {
+        let Front {
+            header,
+            place,
+            changes,
+            ..
+        } = self;
+        match place {
+            Place::AfterEnd => match header {
+                Some(header) => Some(CifFile::of(header.into_line(), count, changes)),
+                None => None,
+            },
+            Place::BeforeHeader => None,
+            Place::BetweenUnits => None,
+            Place::InSchedule(_) => None,
+        }
+    }
+
+    /// Takes the next record, which has this number.
+    pub(crate) fn take(&mut self, number: u32, line: Line) -> Result<(), FileCause>
+        ensures read { (records : List (List ℕ)) → HasRecords self.old records → number ≡ length records + 1 → IsOk result → HasRecords self.new (records ++ line ∷ []) }
+        ensures err { (records : List (List ℕ)) → HasRecords self.old records → ¬ IsFile records → IfErr result (λ cause. IsNoNextTold records line (cause_meant cause)) }
+    {
+        let _record = line.bytes();
+        let Some(kind) = kind(&line) else {
+            return Err(FileCause::Kind);
+        };
+        match self.place {
+            Place::BeforeHeader => self.take_header(kind, line),
+            Place::BetweenUnits => self.take_unit(number, kind, line),
+            Place::InSchedule(opened) => self.take_behind(number, opened, kind, line),
+            Place::AfterEnd => Err(FileCause::After),
+        }
+    }
+
+    /// Takes the header.
+    fn take_header(&mut self, kind: Kind, line: Line) -> Result<(), FileCause>
+        requires place { self.old.place ≡ Place.BeforeHeader }
+        requires record { IsRecord line }
+        requires kind { HasKind (meaning kind) line }
+        ensures read { (records : List (List ℕ)) → HasRecords self.old records → IsOk result → HasRecords self.new (records ++ line ∷ []) }
+        ensures err { (records : List (List ℕ)) → HasRecords self.old records → IfErr result (λ cause. IsNoNextTold records line (cause_meant cause)) }
+    {
+        let Kind::Header = kind else {
+            return Err(FileCause::Place);
+        };
+        match header(&line) {
+            Err(fault) => Err(FileCause::Field(fault.0)),
+            Ok(_) => {
+                self.header = Some(HeaderLine::of(line));
+                self.place = Place::BetweenUnits;
+                Ok(())
+            }
+        }
+    }
+
+    /// Takes a record behind the header or a whole unit.
+    fn take_unit(&mut self, number: u32, kind: Kind, line: Line) -> Result<(), FileCause>
+        requires place { self.old.place ≡ Place.BetweenUnits }
+        requires record { IsRecord line }
+        requires kind { HasKind (meaning kind) line }
+        ensures read { (records : List (List ℕ)) → HasRecords self.old records → number ≡ length records + 1 → IsOk result → HasRecords self.new (records ++ line ∷ []) }
+        ensures err { (records : List (List ℕ)) → HasRecords self.old records → IfErr result (λ cause. IsNoNextTold records line (cause_meant cause)) }
+    {
+        if let Some(cause) = unit_cause(kind, &line) {
+            return Err(cause);
+        }
+        match self.add_unit(number, kind, line) {
+            Ok(()) => Ok(()),
+            Err(_) => Err(FileCause::Memory),
+        }
+    }
+
+    /// Takes a record behind lines of a schedule.
+    fn take_behind(
+        &mut self,
+        number: u32,
+        opened: Opened,
+        kind: Kind,
+        line: Line,
+    ) -> Result<(), FileCause>
+        requires place { self.old.place ≡ Place.InSchedule opened }
+        requires record { IsRecord line }
+        requires kind { HasKind (meaning kind) line }
+        ensures read { (records : List (List ℕ)) → HasRecords self.old records → number ≡ length records + 1 → IsOk result → HasRecords self.new (records ++ line ∷ []) }
+        ensures err { (records : List (List ℕ)) → HasRecords self.old records → IfErr result (λ cause. IsNoNextTold records line (cause_meant cause)) }
+    {
+        if follows_basic(kind) {
+            return self.follow(opened, line);
+        }
+        if !opened.progress.complete() {
+            return Err(FileCause::Place);
+        }
+        if let Some(cause) = unit_cause(kind, &line) {
+            return Err(cause);
+        }
+        match self.begin_anew(number, opened, kind, line) {
+            Ok(()) => Ok(()),
+            Err(_) => Err(FileCause::Memory),
+        }
+    }
+
+    /// Takes a line that may go on with the schedule.
+    fn follow(&mut self, opened: Opened, line: Line) -> Result<(), FileCause>
+        requires place { self.old.place ≡ Place.InSchedule opened }
+        requires record { IsRecord line }
+        requires follows { follows_basic (kind_of line) ≡ true }
+        ensures read { (records : List (List ℕ)) → HasRecords self.old records → IsOk result → HasRecords self.new (records ++ line ∷ []) }
+        ensures err { (records : List (List ℕ)) → HasRecords self.old records → IfErr result (λ cause. IsNoNextTold records line (cause_meant cause)) }
+    {
+        let progress = match opened.progress.with(&line) {
+            Ok(progress) => progress,
+            Err(cause) => return Err(cause),
+        };
+        match self.add_line(Opened { progress, ..opened }, line) {
+            Ok(()) => Ok(()),
+            Err(_) => Err(FileCause::Memory),
+        }
+    }
+
+    /// Adds a line of the schedule, behind which it stands so.
+    fn add_line(&mut self, opened: Opened, line: Line) -> Result<(), AllocError>
+        ensures { (records : List (List ℕ)) → StandsBefore self.old opened line records → OnOk result (HasRecords self.new (records ++ line ∷ [])) }
+    {
+        self.lines.push(line)?;
+        if opened.progress.is_over() {
+            return self.close(opened);
+        }
+        self.place = Place::InSchedule(opened);
+        Ok(())
+    }
+
+    /// Makes the change of a schedule whose lines are whole.
+    fn close(&mut self, opened: Opened) -> Result<(), AllocError>
+        ensures changes { OnOk result (map change_meant self.new.changes.items ≡ map change_meant self.old.changes.items ++ change_opened opened self.old.lines.items ∷ []) }
+        ensures place { OnOk result (self.new.place ≡ Place.BetweenUnits) }
+        ensures lines { OnOk result (self.new.lines.items ≡ []) }
+        ensures header { self.new.header ≡ self.old.header }
+    {
+        let change = opened.change(self.alloc, self.lines.as_slice())?;
+        push(&mut self.changes, change)?;
+        self.lines.clear();
+        self.place = Place::BetweenUnits;
+        Ok(())
+    }
+
+    /// Takes a record that begins anew behind a whole schedule.
+    fn begin_anew(
+        &mut self,
+        number: u32,
+        opened: Opened,
+        kind: Kind,
+        line: Line,
+    ) -> Result<(), AllocError>
+        requires place { self.old.place ≡ Place.InSchedule opened }
+        requires record { IsRecord line }
+        requires kind { HasKind (meaning kind) line }
+        requires begins { is_some (unit_by_kind (kind_of line) line) ≡ true }
+        requires fields { HasGoodFields line }
+        ensures { (records : List (List ℕ)) → HasRecords self.old records → IsWholeBy opened → number ≡ length records + 1 → OnOk result (HasRecords self.new (records ++ line ∷ [])) }
+    {
+        self.close(opened)?;
+        self.add_unit(number, kind, line)
+    }
+
+    /// Adds a record that begins a unit, or the trailer.
+    fn add_unit(&mut self, number: u32, kind: Kind, line: Line) -> Result<(), AllocError>
+        requires record { IsRecord line }
+        requires kind { HasKind (meaning kind) line }
+        requires begins { is_some (unit_by_kind (kind_of line) line) ≡ true }
+        requires fields { HasGoodFields line }
+        ensures { (records : List (List ℕ)) → IsOver self.old records → number ≡ length records + 1 → OnOk result (HasRecords self.new (records ++ line ∷ [])) }
+    {
+        match kind {
+            Kind::BasicSchedule => self.open(number, line),
+            Kind::Trailer => {
+                self.place = Place::AfterEnd;
+                Ok(())
+            }
+            _ => {
+                self.place = Place::BetweenUnits;
+                push_changes(&mut self.changes, number, kind, &line)
+            }
+        }
+    }
+
+    /// Adds a basic schedule.
+    fn open(&mut self, number: u32, line: Line) -> Result<(), AllocError>
+        requires record { IsRecord line }
+        requires kind { HasKind basic_schedule line }
+        requires fields { HasGoodFields line }
+        ensures { (records : List (List ℕ)) → IsOver self.old records → number ≡ length records + 1 → OnOk result (HasRecords self.new (records ++ line ∷ [])) }
+    {
+        let progress = begun_by(&line);
+        let key = schedule_key(&line);
+        self.lines.clear();
+        self.lines.push(line.as_new())?;
+        self.place = Place::InSchedule(Opened {
+            number,
+            key,
+            progress,
+        });
+        Ok(())
+    }
+}

@@ -1,0 +1,61 @@
+//! The reader of one schedule's lines.
+ghost use Rattle.std.specs.Prelude.{◌≡◌, ℕ, ◌≤◌, ◌↔◌, IsTrue, IsOk, IsErr, IfErr, List, [], ◌∷◌, ◌++◌};
+ghost use Rattle.docker_model.specs.File.{BeginsSchedule, IsSchedule};
+ghost use Rattle.cif_file.specs.JourneyRead.{HasLines, IsScheduleFaultTold};
+ghost use Rattle.cif_file.specs.Meaning.{cause_meant};
+
+use crate::fault::FileCause;
+use crate::progress::Progress;
+use cif_line::Line;
+use std::marker::Model;
+
+/// A reader of the lines of one schedule: a basic schedule (BS), at most one record of extra details (BX), and a journey from an origin (LO) over
+/// intermediate locations (LI) and changes en route (CR) to a terminating location (LT).
+#[derive(Debug, Drop)]
+pub struct Journey {
+    progress: Progress,
+}
+
+impl Model for Journey {
+    ghost use Rattle.cif_file.specs.JourneyRead.{JourneyState, kept};
+
+    ghost Value = { JourneyState };
+
+    ghost view = { λ journey. kept journey.progress };
+}
+
+impl Journey {
+    /// A reader that has taken no line.
+    pub fn new() -> Journey
+        ensures { HasLines result [] }
+    {
+        Journey {
+            progress: Progress::new(),
+        }
+    }
+
+    /// Takes the next line. It is refused where no schedule begins with the lines so far and this one, for the first of these causes that holds: `Kind`, an
+    /// identity of no kind of record; `Place`, a kind that doesn't stand there; `Field`, the leftmost bad field; `Midnights`, the third midnight. The last two
+    /// are no cause in the journey of a deletion. A refused line changes nothing.
+    pub fn line(&mut self, line: &Line) -> Result<(), FileCause>
+        ensures ok { (lines : List (List ℕ)) → HasLines self.old lines → IsOk result ↔ BeginsSchedule (lines ++ line.now ∷ []) }
+        ensures read { (lines : List (List ℕ)) → HasLines self.old lines → IsOk result → HasLines self.new (lines ++ line.now ∷ []) }
+        ensures err { (lines : List (List ℕ)) → HasLines self.old lines → IfErr result (λ cause. IsScheduleFaultTold lines line.now (cause_meant cause)) }
+        ensures unchanged { IsErr result → self.new ≡ self.old }
+    {
+        match self.progress.with(line) {
+            Ok(progress) => {
+                self.progress = progress;
+                Ok(())
+            }
+            Err(cause) => Err(cause),
+        }
+    }
+
+    /// Whether the lines are a schedule.
+    pub fn complete(&self) -> bool
+        ensures { (lines : List (List ℕ)) → HasLines self.now lines → IsTrue result ↔ IsSchedule lines }
+    {
+        self.progress.complete()
+    }
+}

@@ -1,0 +1,92 @@
+//! The numbered records of a file.
+ghost use Rattle.std.specs.Prelude.{◌≤◌};
+
+use crate::fault::{FileCause, FileFault};
+use crate::file::CifFile;
+use crate::front::Front;
+use crate::next_record::take_within;
+use std::alloc::Global;
+
+/// The records of a file so far, the number of the next one, and the most that there may be.
+#[derive(Debug, Drop)]
+pub(crate) struct Records {
+    limit: u32,
+    next: u32,
+    front: Front,
+    ghost room: { limit ≤ 4294967294 },
+    ghost first: { 1 ≤ next },
+}
+
+impl Records {
+    ghost use Rattle.std.specs.Prelude.{◌≡◌, ℕ, ◌+◌, ◌≤◌, ◌<◌, List, [], ◌∷◌, ◌++◌, length, IsOk, IfOk, IfErr, Some};
+    ghost use Rattle.docker_model.specs.File.{IsFile};
+    ghost use Rattle.docker_model.specs.FileFault.{no_end};
+    ghost use Rattle.cif_file.specs.Meaning.{cause_meant};
+    ghost use Rattle.cif_file.specs.FileRead.{IsOfRecords};
+    ghost use Rattle.cif_file.specs.ParserRead.{HasCounted, IsFaultNext, IsLongNext, IsCauseTold};
+
+    /// Before the first record, of `limit` at most.
+    pub(crate) fn new(alloc: Global, limit: u32) -> Records
+        requires { limit ≤ 4294967294 }
+        ensures { HasCounted result limit [] }
+    {
+        Records {
+            limit,
+            next: 1,
+            front: Front::new(alloc),
+        }
+    }
+
+    /// Takes the next record, a line without its line end.
+    pub(crate) fn take(&mut self, bytes: &[u8]) -> Result<(), FileFault>
+        ensures read { (limit : ℕ) (records : List (List ℕ)) → HasCounted self.old limit records → IsOk result → HasCounted self.new limit (records ++ bytes.now ∷ []) }
+        ensures err { (limit : ℕ) (records : List (List ℕ)) → HasCounted self.old limit records → IfErr result (λ fault. IsFaultNext limit records bytes.now fault) }
+    {
+        let number = self.next;
+        if number > self.limit {
+            return Err(FileFault {
+                number,
+                cause: FileCause::TooMany,
+            });
+        }
+        match take_within(&mut self.front, number, bytes) {
+            Ok(()) => {
+                self.next = number + 1;
+                Ok(())
+            }
+            Err(cause) => Err(FileFault { number, cause }),
+        }
+    }
+
+    /// The fault of a next record of more than 81 bytes.
+    pub(crate) fn too_long(&self) -> FileFault
+        ensures { (limit : ℕ) (records : List (List ℕ)) → HasCounted self.now limit records → IsLongNext limit records result }
+    {
+        let cause = if self.next > self.limit {
+            FileCause::TooMany
+        } else if self.front.is_ended() {
+            FileCause::After
+        } else {
+            FileCause::Length
+        };
+        FileFault {
+            number: self.next,
+            cause,
+        }
+    }
+
+    /// The file that the records are, if they end in a trailer.
+    pub(crate) fn finish(self) -> Result<CifFile, FileFault>
+        ensures ok { (limit : ℕ) (records : List (List ℕ)) → HasCounted self limit records → IfOk result (λ file. IsFile records × IsOfRecords file records) }
+        ensures err { (limit : ℕ) (records : List (List ℕ)) → HasCounted self limit records → IfErr result (λ fault. (fault.number ≡ length records + 1) × (cause_meant fault.cause ≡ Some no_end) × (¬ IsFile records)) }
+    {
+        let Records { next, front, .. } = self;
+        match front.into_file(next - 1) {
+            Some(file) => Ok(file),
+            None => Err(FileFault {
+                number: next,
+                cause: FileCause::NoEnd,
+            }),
+        }
+    }
+}
