@@ -34,3 +34,6 @@ pub use lines::Lines;
 pub use one_schedule::OneScheduleParser;
 pub use parser::FileParser;
 pub use pieces::read_pieces;
+
+#[cfg(test)]
+mod tests;
