@@ -1,0 +1,5 @@
+pub mod Meaning
+pub mod Live
+pub mod Parts
+pub mod Read
+pub mod Rows
