@@ -8,7 +8,6 @@ ghost use Rattle.docker_join.specs.Meaning.{entry_meant, file_stamp_meant};
 ghost use Rattle.docker_model.specs.Summary.{IsSummary};
 ghost use Rattle.cif_file.specs.FileRead.{IsOfRecords};
 ghost use Rattle.docker_state.specs.Live.{live_rows};
-ghost use Rattle.docker_state.specs.Read.{IsRead};
 ghost use Rattle.docker_state.specs.Meaning.{item_meant, row_meant, state_meant};
 
 use crate::floor::{common_floor, first_full};
@@ -65,7 +64,6 @@ impl State {
 
     /// The state of the one file. Want of memory, before the file was taken apart, hands it back as it was.
     pub fn of_file(alloc: Global, file: CifFile) -> Result<State, CifFile>
-        requires { IsRead file }
         ensures ok { (records : List (List ℕ)) → IsOfRecords file records → IfOk result (IsSummary (records ∷ [])) }
         ensures err { IfErr result (λ back. back ≡ file) }
     {
