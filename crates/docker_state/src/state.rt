@@ -94,6 +94,7 @@ impl State {
     /// Each key with its entry, in the order of the keys.
     pub fn entries(&self) -> &[(Key, Entry)]
         ensures rows { map row_meant result.now ≡ self.now.entries }
+        ensures valid { IsValid self.now }
     {
         self.entries.as_slice()
     }

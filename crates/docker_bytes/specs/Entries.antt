@@ -1,0 +1,40 @@
+-- The bytes of an entry in two parts: those up to its lines, and its lines.
+use Rattle.std.specs.Prelude.{◌≡◌, ℕ, ◌<◌, ◌^◌, List, [], ◌∷◌, ◌++◌, length}
+use Rattle.std.specs.Int.{w32, to_be_bytes}
+use Rattle.docker_model.specs.Change.{Key, Body, tiploc_body, association_body, schedule_body}
+use Rattle.docker_model.specs.Op.{Op, deleted, put_with, Entry, key_tag}
+use Rattle.docker_model.specs.State.{IsGoodKey, IsOpOf}
+use Rattle.docker_model.specs.StateText.{key_bytes, stamp_bytes}
+
+-- a body without its lines: of a schedule their number
+abbrev pub body_head : Body → List ℕ
+body_head (tiploc_body bytes) = bytes
+body_head (association_body line) = line
+body_head (schedule_body lines) = to_be_bytes w32 (length lines)
+
+-- an op without its lines
+abbrev pub op_head : Op → List ℕ
+op_head deleted = 0 ∷ []
+op_head (put_with body) = 1 ∷ body_head body
+
+-- an entry without its lines
+abbrev pub entry_head : Key × Entry → List ℕ
+entry_head entry = key_tag entry.0 ∷ key_bytes entry.0 ++ stamp_bytes entry.1.stamp ++ op_head entry.1.op
+
+-- the lines of a body. Only a schedule's body has any
+abbrev pub lines_in : Body → List (List ℕ)
+lines_in (schedule_body lines) = lines
+lines_in _ = []
+
+-- the lines of an op
+abbrev pub op_lines : Op → List (List ℕ)
+op_lines deleted = []
+op_lines (put_with body) = lines_in body
+
+-- four bytes can tell the number of its lines
+abbrev pub HasFewLines : Key × Entry → Type 0
+HasFewLines entry = length (op_lines entry.1.op) < 2 ^ 32
+
+-- the key is good, the op agrees with it, and the stamp has its 15 bytes
+abbrev pub IsOfWidth : Key × Entry → Type 0
+IsOfWidth entry = IsGoodKey entry.0 × IsOpOf entry.0 entry.1.op × (length (stamp_bytes entry.1.stamp) ≡ 15)
