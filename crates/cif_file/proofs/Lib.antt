@@ -1,6 +1,7 @@
 pub mod RecordsTaken
 pub mod Journeys
 pub mod Parsing
+pub mod LineFeed
 pub mod Joining
 pub mod OneSchedule
 pub mod OneScheduleText

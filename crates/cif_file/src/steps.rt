@@ -67,9 +67,20 @@ impl Progress {
         ensures err { (lines : List (List ℕ)) → HasLines (kept self) lines → IfErr result (λ cause. IsScheduleFaultTold lines line.now (cause_meant cause)) }
     {
         let _record = line.bytes();
-        let Some(kind) = kind(line) else {
-            return Err(FileCause::Kind);
-        };
+        match kind(line) {
+            None => Err(FileCause::Kind),
+            Some(kind) => self.with_kind(kind, line),
+        }
+    }
+
+    /// The same, of a record of this kind.
+    pub(crate) fn with_kind(self, kind: Kind, line: &Line) -> Result<Progress, FileCause>
+        requires record { IsRecord line.now }
+        requires kind { HasKind (meaning kind) line.now }
+        ensures ok { (lines : List (List ℕ)) → HasLines (kept self) lines → IsOk result ↔ BeginsSchedule (lines ++ line.now ∷ []) }
+        ensures read { (lines : List (List ℕ)) → HasLines (kept self) lines → IfOk result (λ progress. HasLines (kept progress) (lines ++ line.now ∷ [])) }
+        ensures err { (lines : List (List ℕ)) → HasLines (kept self) lines → IfErr result (λ cause. IsScheduleFaultTold lines line.now (cause_meant cause)) }
+    {
         let Some(stage) = self.stage else {
             return begun(kind, line);
         };
