@@ -3,8 +3,10 @@ use Rattle.std.proofs.Common.{◌≡◌, ℕ, List, [], ◌∷◌, Some, subst, 
 use Rattle.docker_model.specs.Table.{Table, IsPlainTable}
 use Rattle.docker_model.specs.DockerText.{IsDockerText}
 use Rattle.docker_laws.proofs.OneTable as law
-use Rattle.cif_file.specs.OneSchedule.{IsOneSchedule}
-use Rattle.cif_file.proofs.OneSchedule.{as_law}
+use Rattle.docker_model.specs.Change.{as_new}
+use Rattle.docker_laws.proofs.KeptSchedule.{kept_as_one, same_table}
+use Rattle.docker_cmd.specs.OneSchedule.{IsOneSchedule}
+use Rattle.docker_cmd.proofs.FileSchedule.{kept_at}
 use Rattle.docker_cmd.specs.Job.{JobView}
 use Rattle.docker_cmd.specs.Prepared.{PreparedView, ReadView, schedule_read, IsReadOf, IsPreparedOf, IsDockerOutput, IsOutputOf, IsOutput}
 use Rattle.docker_cmd.specs.Schedule.{AreRecordsOf}
@@ -18,17 +20,23 @@ IsDockerOf basic origin terminus place day text =
 -- such a text is the docker output of each file with these records
 docker_output : (job : JobView) (basic origin terminus place : List ℕ) (day : ℕ) (text : List ℕ) → job.tiploc ≡ Some place → job.day ≡ Some day
     → IsDockerOf basic origin terminus place day text → (file : List (List ℕ)) → AreRecordsOf basic origin terminus file → IsDockerOutput job file text
-docker_output job basic origin terminus place day text place_is day_is docker file of = record {
-  live = law.one_table file;
-  plain = law.plain_of_one file;
-  place = place;
-  place_is = place_is;
-  day = day;
-  day_is = day_is;
-  docker = docker of.header of.trailer (law.one_table file)
-      (as_law of.header basic origin terminus of.trailer (subst IsOneSchedule of.whole of.is))
-      (subst (λ (f : List (List ℕ)). IsPlainTable (f ∷ []) (law.one_table file)) of.whole (law.plain_of_one file));
-}
+docker_output job basic origin terminus place day text place_is day_is docker file of =
+    let kept = kept_at of.header of.first origin terminus of.trailer (subst IsOneSchedule of.whole of.is) in
+    let live = law.one_table file in
+    let plain : IsPlainTable ((of.header ∷ of.first ∷ origin ∷ terminus ∷ of.trailer ∷ []) ∷ []) live =
+    subst (λ (f : List (List ℕ)). IsPlainTable (f ∷ []) live) of.whole (law.plain_of_one file) in
+    record {
+      live = live;
+      plain = law.plain_of_one file;
+      place = place;
+      place_is = place_is;
+      day = day;
+      day_is = day_is;
+      docker = docker of.header of.trailer live
+          (subst (λ b. law.IsOneSchedule of.header b origin terminus of.trailer) (sym of.basic_is) (kept_as_one of.header of.first origin terminus of.trailer kept))
+          (subst (λ b. IsPlainTable ((of.header ∷ b ∷ origin ∷ terminus ∷ of.trailer ∷ []) ∷ []) live) (sym of.basic_is)
+          (same_table of.header of.first origin terminus of.trailer kept live plain));
+    }
 
 -- the same where the records are those that were read
 pub output_of : (prepared : PreparedView) (basic origin terminus place : List ℕ) (day : ℕ) (text : List ℕ)

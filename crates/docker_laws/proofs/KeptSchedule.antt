@@ -6,9 +6,8 @@ use Rattle.std.proofs.lemmas.List.Elements.{All-from_recursion, recursion_from_A
 use Rattle.docker_model.specs.Record.{header, tiploc_insert, tiploc_amend, tiploc_delete, association, basic_schedule, origin_location, terminating_location, trailer, HasKind, IsRecord, kind_of, column}
 use Rattle.docker_model.specs.Field.{HasGoodFields, is_deletion}
 use Rattle.docker_model.specs.File.{IsFile, IsUnit, IsSingleKind, IsSchedule, IsJourney, IsWithinJourney, MayLackJourney, IsSoundJourney}
-use Rattle.docker_model.specs.Change.{Key, Act, delete, put, schedule_body, Change, schedule_named, tiploc_named, new_tiploc_named, tiploc_details, association_named, association_body, as_new, keeps_code, acts_by_kind, changes_of_record, changes}
+use Rattle.docker_model.specs.Change.{Key, tiploc_key, schedule_key, ScheduleKey, Act, delete, put, schedule_body, Change, schedule_named, tiploc_named, new_tiploc_named, tiploc_details, association_named, association_body, as_new, keeps_code, acts_by_kind, changes_of_record, changes}
 use Rattle.docker_model.specs.UnitChange.{changes_of_unit, changes_of_units, change_of_schedule}
-use Rattle.docker_model.specs.Stamp.{first_record}
 use Rattle.docker_model.specs.Table.{Table, empty_table, after_change, IsPlainTable}
 use Rattle.docker_laws.proofs.Columns.{new_column, new_kind, is_new}
 use Rattle.docker_laws.proofs.GoodChanges.{same_schedule, no_deletion, new_is_schedule}
@@ -252,6 +251,11 @@ first_act : List Change → Act
 first_act [] = delete
 first_act (change ∷ made) = change.act
 
+-- and its key
+first_key : List Change → Key
+first_key [] = tiploc_key []
+first_key (change ∷ made) = change.key
+
 numbered : ℕ → Key × Act → Change
 numbered n act = record { number = n; key = act.0; act = act.1 }
 
@@ -291,36 +295,46 @@ single_puts_none n line later lines (inr (inr (inr kind))) puts = by (is_deletio
         let bad : put (association_body (as_new line)) ≡ put (schedule_body lines) =
         (λ i. cond (sym h i) delete act) ∙ (λ i. first_act (map (numbered n) (acts_by_kind (sym kind i) line []) ++ later)) ∙ puts in cc
 
--- a schedule that puts lines is no deletion, and its basic schedule is the first of them, as new
+-- a schedule that puts lines is no deletion
 schedule_puts : (n : ℕ) (unit : Lines) (schedule : IsSchedule unit) (later : List Change) (lines : Lines)
-    → first_act (changes_of_unit n unit ++ later) ≡ put (schedule_body lines) → (is_deletion schedule.basic ≡ false) × (first_record lines ≡ as_new schedule.basic)
+    → first_act (changes_of_unit n unit ++ later) ≡ put (schedule_body lines) → is_deletion schedule.basic ≡ false
 unfolding first_act
 schedule_puts n unit schedule later lines puts = by_whole unit schedule schedule.whole puts
   where
     by_test : (basic : List ℕ) (others : Lines) (b : Bool) → is_deletion basic ≡ b → cond (is_deletion basic) delete (put (schedule_body (as_new basic ∷ others))) ≡ put (schedule_body lines)
-        → (is_deletion basic ≡ false) × (first_record lines ≡ as_new basic)
+        → is_deletion basic ≡ false
     by_test basic others true h acts = let bad : delete ≡ put (schedule_body lines) = (λ i. cond (sym h i) delete (put (schedule_body (as_new basic ∷ others)))) ∙ acts in cc
-    by_test basic others false h acts =
-        let same : put (schedule_body (as_new basic ∷ others)) ≡ put (schedule_body lines) = (λ i. cond (sym h i) delete (put (schedule_body (as_new basic ∷ others)))) ∙ acts in
-        let are : as_new basic ∷ others ≡ lines = cc in
-        (h, sym (ap first_record are))
+    by_test basic others false h acts = h
 
     by_whole : (u : Lines) (is : IsSchedule u) → u ≡ is.basic ∷ is.extra ++ is.journey → first_act (changes_of_unit n u ++ later) ≡ put (schedule_body lines)
-        → (is_deletion is.basic ≡ false) × (first_record lines ≡ as_new is.basic)
+        → is_deletion is.basic ≡ false
     by_whole [] is whole acts = cc
     by_whole (basic ∷ others) is whole acts =
         let heads : basic ≡ is.basic = cc in
-        let told = by_test basic others (is_deletion basic) refl (sym (ap (λ made. first_act (made ++ later)) (schedule_change n basic others is)) ∙ acts) in
-        (sym (ap is_deletion heads) ∙ told.0, told.1 ∙ ap as_new heads)
+        sym (ap is_deletion heads) ∙ by_test basic others (is_deletion basic) refl (sym (ap (λ made. first_act (made ++ later)) (schedule_change n basic others is)) ∙ acts)
 
--- a file of five records whose first change puts a permanent schedule
-pub kept_by_change : (file : Lines) → IsFile file → length file ≡ 5 → (change : Change) (later : List Change) (lines : Lines) → changes file ≡ change ∷ later
-    → change.act ≡ put (schedule_body lines) → column 80 (first_record lines) ≡ 80 → IsKeptFile file
-unfolding first_act
-kept_by_change file is size change later lines made act permanent = by is.units refl (recursion_from_All IsUnit is.units is.each)
+-- and its key is that of the schedule
+schedule_key_first : (n : ℕ) (unit : Lines) (schedule : IsSchedule unit) (later : List Change) → first_key (changes_of_unit n unit ++ later) ≡ schedule_named schedule.basic
+unfolding first_key
+schedule_key_first n unit schedule later = by unit schedule schedule.whole
   where
+    by : (u : Lines) (is : IsSchedule u) → u ≡ is.basic ∷ is.extra ++ is.journey → first_key (changes_of_unit n u ++ later) ≡ schedule_named is.basic
+    by [] is whole = cc
+    by (basic ∷ others) is whole =
+        let heads : basic ≡ is.basic = cc in
+        ap (λ made. first_key (made ++ later)) (schedule_change n basic others is) ∙ ap schedule_named heads
+
+-- a file of five records whose first change puts lines at the key of a permanent schedule
+pub kept_by_change : (file : Lines) → IsFile file → length file ≡ 5 → (change : Change) (later : List Change) (lines : Lines) (key : ScheduleKey) → changes file ≡ change ∷ later
+    → change.act ≡ put (schedule_body lines) → change.key ≡ schedule_key key → key.indicator ≡ 80 → IsKeptFile file
+unfolding first_act first_key
+kept_by_change file is size change later lines key made act named permanent = by is.units refl (recursion_from_All IsUnit is.units is.each)
+  where
+    from : (units : List Lines) → is.units ≡ units → changes_of_units 2 units ≡ change ∷ later
+    from units same = sym (ap (changes_of_units 2) same) ∙ sym (changes_by_units file is) ∙ made
+
     puts : (units : List Lines) → is.units ≡ units → first_act (changes_of_units 2 units) ≡ put (schedule_body lines)
-    puts units same = sym (ap (λ us. first_act (changes_of_units 2 us)) same) ∙ sym (ap first_act (changes_by_units file is)) ∙ ap first_act made ∙ act
+    puts units same = ap first_act (from units same) ∙ act
 
     by_unit : (unit : Lines) (rest : List Lines) → is.units ≡ unit ∷ rest → IsUnit unit → IsKeptFile file
     by_unit unit rest same (inl single) =
@@ -328,7 +342,10 @@ kept_by_change file is size change later lines made act permanent = by is.units 
         (sym (ap (λ (u : Lines). first_act (changes_of_unit 2 u ++ changes_of_units (2 + length unit) rest)) single.1) ∙ puts (unit ∷ rest) same))
     by_unit unit rest same (inr schedule) =
         let told = schedule_puts 2 unit schedule (changes_of_units (2 + length unit) rest) lines (puts (unit ∷ rest) same) in
-        kept_of_unit file is unit rest same schedule told.0 (sym (new_column schedule.basic 80 (omega arith)) ∙ ap (column 80) (sym told.1) ∙ permanent) size
+        let keys : schedule_named schedule.basic ≡ schedule_key key =
+        sym (schedule_key_first 2 unit schedule (changes_of_units (2 + length unit) rest)) ∙ ap first_key (from (unit ∷ rest) same) ∙ named in
+        let letters : column 80 schedule.basic ≡ key.indicator = cc in
+        kept_of_unit file is unit rest same schedule told (letters ∙ permanent) size
 
     by : (units : List Lines) → is.units ≡ units → AllByRecursion IsUnit units → IsKeptFile file
     by [] same all = let bad : delete ≡ put (schedule_body lines) = puts [] same in cc
