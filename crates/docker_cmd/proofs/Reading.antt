@@ -21,7 +21,6 @@ use Rattle.docker_cmd.specs.declared.fault.OfficeFault.{OfficeFault}
 use Rattle.docker_cmd.specs.declared.fault.OfficeFault.TheVariants as office
 use Rattle.docker_cmd.specs.OneSchedule.{IsOneSchedule}
 use Rattle.docker_cmd.specs.Prepared.{Held, ReadsText, ReadsSchedule, HoldsOtherFile, IsFaultOf, IsFileRefused, IsPreparedOf, PreparedView, most_records}
-use Rattle.docker_cmd.specs.Schedule.{IsOfSomeFile}
 
 -- after so many turns the parser was fed a text, which is what the source lost
 pub record IsAtTurn (initial : Option (List ℕ)) (parser : ParserState) (now : Option (List ℕ)) (turn : ℕ) : Type 0 where
@@ -155,10 +154,6 @@ told_apart_from_source result old new apart same = (λ is. absurd (apart cc), λ
 
 -- ---- what `day` makes of a file
 
--- a file that was read is some file
-pub some_file : (left : Option (List ℕ)) (file : FileRead) → ReadsText left file → IsOfSomeFile file
-some_file left file read = record { records = read.of_text.records; is = read.of_text.is_text.is; of_records = read.of_text.of_records }
-
 -- the schedule of a file that was read
 pub reads_schedule : (left : Option (List ℕ)) (file : FileRead) (prepared : PreparedView) → ReadsText left file
     → ((records : List (List ℕ)) → IsFile records → IsOfRecords file records → IsPreparedOf prepared records × IsOneSchedule records)
@@ -172,17 +167,6 @@ reads_schedule left file prepared read of =
       is_text = (read.of_text.is_text, told.1);
       of_file = told.0;
     }
-
--- a file of another shape
-pub other_file : (left : Option (List ℕ)) (file : FileRead) → ReadsText left file
-    → ((records : List (List ℕ)) → IsFile records → IsOfRecords file records → ¬ IsOneSchedule records) → HoldsOtherFile left
-other_file left file read never = record {
-  text = read.text;
-  held = read.held;
-  file = read.of_text.records;
-  is_text = read.of_text.is_text;
-  other = never read.of_text.records read.of_text.is_text.is read.of_text.of_records;
-}
 
 -- the bytes that were read stand in front of the piece
 pub same_front : (n len : ℕ) (piece into items : List ℕ) → piece ≡ take len (into ++ drop (length into) items) → length into ≡ len → n ≤ length into
