@@ -2,8 +2,3 @@ pub mod RecordsTaken
 pub mod Journeys
 pub mod Parsing
 pub mod Joining
-pub mod OneSchedule
-pub mod OneScheduleText
-pub mod Accepting
-pub mod FirstLine
-pub mod OneScheduleExample

@@ -1,5 +1,5 @@
 -- The schedule of a file that was read: it is there exactly where the file is one of one schedule.
-use Rattle.std.proofs.Common.{◌≡◌, ℕ, ◌+◌, List, [], ◌∷◌, length, map, get_or, refl, ap, sym, ◌∙◌, subst, Bool, true, false, cond, Some, None, arith}
+use Rattle.std.proofs.Common.{◌≡◌, ℕ, List, [], ◌∷◌, length, get_or, refl, ap, sym, ◌∙◌, subst, Bool, true, false, cond, Some, None, arith}
 use Rattle.std.specs.Prelude.{Option, option_and_then, ◌==◌, slice_index_or}
 use Rattle.std.proofs.lemmas.Bool.{eqb-true}
 use Rattle.std.proofs.lemmas.List.{length-map}

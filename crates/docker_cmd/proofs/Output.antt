@@ -3,7 +3,6 @@ use Rattle.std.proofs.Common.{◌≡◌, ℕ, List, [], ◌∷◌, Some, subst, 
 use Rattle.docker_model.specs.Table.{Table, IsPlainTable}
 use Rattle.docker_model.specs.DockerText.{IsDockerText}
 use Rattle.docker_laws.proofs.OneTable as law
-use Rattle.docker_model.specs.Change.{as_new}
 use Rattle.docker_laws.proofs.KeptSchedule.{kept_as_one, same_table}
 use Rattle.docker_cmd.specs.OneSchedule.{IsOneSchedule}
 use Rattle.docker_cmd.proofs.FileSchedule.{kept_at}

@@ -1,8 +1,7 @@
 -- Reading a file: what the parser was fed is what the source had.
-use Rattle.std.proofs.Common.{◌≡◌, ℕ, ◌+◌, ◌<◌, ◌≤◌, List, [], ◌++◌, length, Some, None, true, false, refl, sym, ◌∙◌, ap, subst, arith, append_assoc, append-nil, length-append, ◌≢◌, inl, inr, Err, Result, ◌⊎◌}
-use Rattle.std.specs.Prelude.{Option, option_map, ◌↔◌, IsOk, is_ok, nat_le, take, drop}
+use Rattle.std.proofs.Common.{◌≡◌, ℕ, ◌+◌, ◌<◌, ◌≤◌, List, [], ◌++◌, length, Some, None, refl, sym, ◌∙◌, ap, subst, arith, append_assoc, append-nil, length-append, ◌≢◌, Err, Result}
+use Rattle.std.specs.Prelude.{Option, option_map, ◌↔◌, take, drop}
 use Rattle.std.proofs.lemmas.List.{take-append-le, take-take}
-use Rattle.std.proofs.lemmas.Bool.Decides.{leb_tells}
 use Rattle.cif_line.specs.Device.{Reads, IsEnd}
 use Rattle.cif_file.specs.FileRead.{FileRead, IsOfRecords}
 use Rattle.cif_file.specs.ParserRead.{ParserState, HasRead, IsOfFileText, IsToldSoFar, IsFaultTold, IsToldOf, IsRefused}
@@ -20,7 +19,7 @@ use Rattle.docker_laws.proofs.ToldBound.{text_without_fault_is_bounded}
 use Rattle.docker_cmd.specs.declared.fault.OfficeFault.{OfficeFault}
 use Rattle.docker_cmd.specs.declared.fault.OfficeFault.TheVariants as office
 use Rattle.docker_cmd.specs.OneSchedule.{IsOneSchedule}
-use Rattle.docker_cmd.specs.Prepared.{Held, ReadsText, ReadsSchedule, HoldsOtherFile, IsFaultOf, IsFileRefused, IsPreparedOf, PreparedView, most_records}
+use Rattle.docker_cmd.specs.Prepared.{Held, ReadsText, ReadsSchedule, IsFaultOf, IsFileRefused, IsPreparedOf, PreparedView, most_records}
 
 -- after so many turns the parser was fed a text, which is what the source lost
 pub record IsAtTurn (initial : Option (List ℕ)) (parser : ParserState) (now : Option (List ℕ)) (turn : ℕ) : Type 0 where

@@ -1,8 +1,8 @@
-use Rattle.std.proofs.Common.{◌≡◌, ℕ, List, ap, sym, ◌∙◌, subst}
+use Rattle.std.proofs.Common.{ℕ, List, ap, sym, ◌∙◌, subst}
 use Rattle.std.proofs.lemmas.Result.{on_ok_weaker, on_err_weaker}
 use Rattle.cif_line.specs.Device.{Takes, TakesPart}
 use Rattle.docker_cmd.specs.Job.{JobView}
-use Rattle.docker_cmd.specs.Prepared.{ReadView, schedule_read, content_meant, IsPreparedOf, IsOutput}
+use Rattle.docker_cmd.specs.Prepared.{schedule_read, content_meant, IsPreparedOf, IsOutput}
 use Rattle.docker_cmd.proofs.Output.{output_of}
 use Rattle.docker_cmd.proofs.emitting.emit.Goals as goal
 

@@ -1,4 +1,4 @@
-use Rattle.std.proofs.Common.{◌≡◌, ℕ, List, [], ◌∷◌, get_or, None, Some, ap, ◌∙◌, sym, subst}
+use Rattle.std.proofs.Common.{◌≡◌, [], ◌∷◌, None, Some, ap, ◌∙◌, sym, subst}
 use Rattle.docker_model.specs.Record.{basic_schedule, origin_location, terminating_location, column}
 use Rattle.cif_line.specs.View.{IsGood}
 use Rattle.docker_cmd.specs.OneSchedule.{IsOneSchedule}
