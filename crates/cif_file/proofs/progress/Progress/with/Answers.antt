@@ -18,4 +18,3 @@ returns-in-None-clause-ok c = λ lines has. (
   λ bad. absurd (false≢true bad),
   λ begins. absurd ((unknown_kind (kept c.args.self) lines c.args.line.now has c.bytes-record.ensures.«record» (sym c.kind.ensures ∙ ap (option_map meaning) c.in-None.is)).here begins),
 )
-
