@@ -8,5 +8,5 @@ use Rattle.cif_file.proofs.front.Front.take_unit.Goals as goal
 
 pub returns-in-Some-clause-err : goal.returns-in-Some-clause-err
 returns-in-Some-clause-err c = λ records has.
-    subst (IsNoNextTold records c.args.line) (sym c.in-Some.ensures.some)
-    (bad_between c.args.self.now records c.args.line (meaning c.args.kind) has c.requires.place c.requires.«record» c.requires.kind (λ good. false≢true (sym (c.in-Some.ensures.none.1 good))))
+    subst (IsNoNextTold records c.args.line.now) (sym c.in-Some.ensures.some)
+    (bad_between c.args.self.now records c.args.line.now (meaning c.args.kind) has c.requires.place c.requires.«record» c.requires.kind (λ good. false≢true (sym (c.in-Some.ensures.none.1 good))))
