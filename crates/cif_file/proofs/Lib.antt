@@ -3,8 +3,3 @@ pub mod Journeys
 pub mod Parsing
 pub mod LineFeed
 pub mod Joining
-pub mod OneSchedule
-pub mod OneScheduleText
-pub mod Accepting
-pub mod FirstLine
-pub mod OneScheduleExample

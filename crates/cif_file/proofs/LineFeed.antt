@@ -1,7 +1,7 @@
 -- The first line feed of a text that begins with the bytes of a record.
 use Rattle.std.proofs.Common.{◌≡◌, ℕ, ◌+◌, ◌<◌, ◌≤◌, Bool, true, false, cond, List, [], ◌∷◌, ◌++◌, length, take, drop, refl, sym, ap, ◌∙◌, Some, None, arith, length-append}
-use Rattle.std.specs.Prelude.{Option, option_map, position, ◌==◌, ◌&&◌, not, nat_lt}
-use Rattle.std.specs.List.{list_all, prefix_len, position_or_len}
+use Rattle.std.specs.Prelude.{option_map, position, ◌==◌, ◌&&◌, not, nat_lt}
+use Rattle.std.specs.List.{list_all, position_or_len}
 use Rattle.std.proofs.lemmas.Bool.{lt-ltb, le-ltb, ltb-true, ltb-false}
 use Rattle.std.proofs.lemmas.Bool.Decides.{nat_tests}
 use Rattle.std.proofs.lemmas.List.{take-append-drop, length-take-le}

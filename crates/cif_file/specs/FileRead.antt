@@ -1,8 +1,7 @@
--- What a file that was read tells, and what a parser has kept.
-use Rattle.std.specs.Prelude.{◌≡◌, ℕ, ◌≤◌, List, [], length, slice_index_or, Option}
+-- What a file that was read tells.
+use Rattle.std.specs.Prelude.{◌≡◌, ℕ, ◌≤◌, List, [], length, slice_index_or}
 use Rattle.docker_model.specs.Change.{Change, changes}
 use Rattle.docker_model.specs.File.{IsFile}
-use Rattle.cif_file.specs.OneSchedule.{IsOneScheduleText}
 
 -- the header's line, how many records there are, and the changes that they make
 pub record FileRead : Type 0 where
@@ -22,14 +21,3 @@ pub record IsRead (file : FileRead) : Type 0 where
   pub of_records : IsOfRecords file records
   pub is_file : IsFile records
   pub few : length records ≤ 4_294_967_294
-
--- the text is one of a file of one schedule, of at most so many records, and it tells of those records
-pub record IsOfText (file : FileRead) (limit : ℕ) (text : List ℕ) : Type 0 where
-  pub records : List (List ℕ)
-  pub is_text : IsOneScheduleText limit text records
-  pub of_records : IsOfRecords file records
-
--- the limit on records, and the bytes that are kept, or none once they are too many
-pub record ParserState : Type 0 where
-  pub limit : ℕ
-  pub bytes : Option (List ℕ)

@@ -1,8 +1,5 @@
-pub mod OneSchedule
-pub mod FiveLines
 pub mod Meaning
 pub mod FileRead
-pub mod Reading
 pub mod Joined
 pub mod Acts
 pub mod JourneyRead

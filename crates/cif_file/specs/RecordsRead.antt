@@ -1,5 +1,5 @@
 -- What the reader of a file's records has read.
-use Rattle.std.specs.Prelude.{◌≡◌, ℕ, ◌+◌, ◌<◌, ◌≤◌, true, false, List, [], ◌∷◌, ◌++◌, length, map, Option, Some, None, ⊤, if◌then◌else◌}
+use Rattle.std.specs.Prelude.{◌≡◌, ℕ, ◌+◌, ◌<◌, ◌≤◌, true, false, List, [], ◌∷◌, ◌++◌, length, map, Option, Some, None, if◌then◌else◌}
 use Rattle.docker_model.specs.Record.{IsRecord, kind_of}
 use Rattle.docker_model.specs.Stamp.{first_record}
 use Rattle.docker_model.specs.Change.{changes, schedule_named, schedule_body, delete, put, as_new, follows_basic}
@@ -82,9 +82,13 @@ pub record IsNoNext (records : Lines) (line : List ℕ) (cause : fault.FileCause
   pub nowhere : next_place place line ≡ None
   pub is : (limit : ℕ) → length records < limit → cause_of limit (length records) place line ≡ cause
 
--- a cause that was told; want of memory tells nothing of the line
+-- a line goes on with some file that begins with the records
+abbrev pub GoesOnWith : Lines → List ℕ → Type 0
+GoesOnWith records line = (next : law.Place) × IsPlaceOf (records ++ line ∷ []) next
+
+-- a cause that was told; memory was wanting only for a line that goes on
 abbrev pub IsNoNextTold : Lines → List ℕ → Option fault.FileCause → Type 0
-IsNoNextTold records line None = ⊤
+IsNoNextTold records line None = GoesOnWith records line
 IsNoNextTold records line (Some cause) = IsNoNext records line cause
 
 -- the change of a schedule with these lines

@@ -1,7 +1,4 @@
 //! Why a text is no file.
-ghost use Rattle.std.specs.Prelude.{◌≡◌};
-ghost use Rattle.cif_file.specs.Reading.{first_place, second_memory};
-
 use thiserror::Error;
 
 /// The cause of a fault.
@@ -47,24 +44,4 @@ pub struct FileFault {
     pub number: u32,
     /// What is wrong there.
     pub cause: FileCause,
-}
-
-/// The first record is out of place.
-pub(crate) fn first_place() -> FileFault
-    ensures { result ≡ first_place }
-{
-    FileFault {
-        number: 1,
-        cause: FileCause::Place,
-    }
-}
-
-/// Memory was wanting for the lines of the schedule that begins with the second record.
-pub(crate) fn second_memory() -> FileFault
-    ensures { result ≡ second_memory }
-{
-    FileFault {
-        number: 2,
-        cause: FileCause::Memory,
-    }
 }

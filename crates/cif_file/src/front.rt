@@ -14,8 +14,7 @@ use crate::change::Change;
 use crate::fault::FileCause;
 use crate::file::CifFile;
 use crate::header_line::HeaderLine;
-use crate::opened::{Opened, schedule_key};
-use crate::steps::begun_by;
+use crate::opened::{Opened, opened_by};
 use crate::unit::{push, push_changes, unit_cause};
 use cif_line::{Kind, Line, header, kind};
 use std::alloc::{AllocError, Global};
@@ -281,15 +280,10 @@ impl Front {
         requires fields { HasGoodFields line.now }
         ensures { (records : List (List ℕ)) → IsOver self.old records → number ≡ length records + 1 → OnOk result (HasRecords self.new (records ++ line.now ∷ [])) }
     {
-        let progress = begun_by(line);
-        let key = schedule_key(line);
+        let opened = opened_by(number, line);
         self.lines.clear();
         self.lines.push((*line).as_new())?;
-        self.place = Place::InSchedule(Opened {
-            number,
-            key,
-            progress,
-        });
+        self.place = Place::InSchedule(opened);
         Ok(())
     }
 }

@@ -129,7 +129,7 @@ impl FileParser {
     }
 
     /// Takes the next bytes of the file. It is refused once they have a record at fault whose line feed or 82nd byte came, and it tells that fault; or where
-    /// memory is wanting, at that record. Each later call answers the same fault.
+    /// memory is wanting, at that record, and then no record up to it is at fault. Each later call answers the same fault.
     pub fn feed(&mut self, piece: &[u8]) -> Result<(), FileFault>
         ensures read { (limit : ℕ) (text : List ℕ) → HasRead self.old limit text → HasRead self.new limit (text ++ piece.now) }
         ensures ok { (limit : ℕ) (text : List ℕ) → HasRead self.old limit text → IsOk result → (fault : model.FileFault) → ¬ IsFaultSoFar limit (text ++ piece.now) fault }
@@ -149,7 +149,7 @@ impl FileParser {
         }
     }
 
-    /// The file that the bytes are, or their fault. After a fault of `feed` it is that fault.
+    /// The file that the bytes are, or their fault; or want of memory, at a record up to which none is at fault. After a fault of `feed` it is that fault.
     pub fn finish(self) -> Result<CifFile, FileFault>
         ensures ok { (limit : ℕ) (text : List ℕ) → HasRead self limit text → IfOk result (λ file. IsOfFileText file limit text) }
         ensures err { (limit : ℕ) (text : List ℕ) → HasRead self limit text → IfErr result (λ fault. IsRefused limit text fault) }

@@ -152,21 +152,8 @@ fn begun_by_basic(line: &Line) -> Result<Progress, FileCause>
     }
 }
 
-/// Behind a basic schedule whose fields were judged.
-pub(crate) fn begun_by(line: &Line) -> Progress
-    requires record { IsRecord line.now }
-    requires kind { HasKind basic_schedule line.now }
-    requires fields { HasGoodFields line.now }
-    ensures { HasLines (kept result) (line.now ∷ []) }
-{
-    match basic(line) {
-        Ok(view) => behind_basic(&view),
-        Err(_) => unreachable!(),
-    }
-}
-
 /// Behind a basic schedule.
-fn behind_basic(view: &Basic<'_>) -> Progress
+pub(crate) fn behind_basic(view: &Basic<'_>) -> Progress
     requires { is_first_line view.now ≡ true }
     ensures { HasLines (kept result) (view.now ∷ []) }
 {

@@ -1,8 +1,8 @@
 ghost use Rattle.std.specs.Prelude.{◌<◌};
 
 use crate::{
-    Act, Body, Change, CifFile, FileCause, FileFault, FileParser, Journey, Key, OneScheduleParser,
-    ScheduleKey, read_pieces,
+    Act, Body, Change, CifFile, FileCause, FileFault, FileParser, Journey, Key, ScheduleKey,
+    read_pieces,
 };
 use cif_line::{Day, Extract, Line, Stp, Tiploc, Uid};
 use std::alloc::{AllocError, Global};
@@ -434,19 +434,6 @@ fn a_journey(rt: HostRuntime) -> Result<(), Fail> {
     assert!(rt; !journey.complete());
     assert_eq!(rt; journey.line(&terminus), Ok(()));
     assert!(rt; journey.complete());
-    Ok(())
-}
-
-#[test]
-fn one_schedule(rt: HostRuntime) -> Result<(), Fail> {
-    let whole = text(rt.alloc(), &F2, b"\n")?;
-    let mut parser = OneScheduleParser::new(rt.alloc(), 5);
-    parser.feed(whole.as_slice())?;
-    check_f2(&rt, parser.finish()?)?;
-    let mut parser = OneScheduleParser::new(rt.alloc(), 5);
-    parser.feed(BS)?;
-    parser.feed(b"\n")?;
-    assert_eq!(rt; parser.finish().err(), Some(at(1, FileCause::Place)));
     Ok(())
 }
 

@@ -1,5 +1,5 @@
 //! Line ends.
-ghost use Rattle.std.specs.Prelude.{◌≡◌, ◌==◌, ◌<◌, ◌≤◌, IsTrue, IfSome, length, position, take, MatchOption};
+ghost use Rattle.std.specs.Prelude.{◌≡◌, ◌==◌, ◌<◌, ◌≤◌, ◌↔◌, IsTrue, IfSome, length, position, take, MatchOption};
 ghost use Rattle.docker_model.specs.Record.{IsRecord};
 ghost use Rattle.docker_laws.proofs.ToldLines.{HasNoFeed};
 ghost use Rattle.cif_file.specs.Cut.{IsCut};
@@ -35,7 +35,7 @@ pub(crate) fn line_feed(text: &[u8]) -> Option<usize>
 
 /// The first bytes of the text are those of a record.
 fn begins_with_record(text: &[u8]) -> bool
-    ensures { IsTrue result → (RECORD ≤ length text.now) × IsRecord (take RECORD text.now) }
+    ensures { IsTrue result ↔ ((RECORD ≤ length text.now) × IsRecord (take RECORD text.now)) }
 {
     text.len() >= RECORD && Line::new(&text[..RECORD]).is_ok()
 }

@@ -13,3 +13,4 @@ pub mod Printed
 pub mod FileSchedule
 pub mod Reading
 pub mod Output
+pub mod OneScheduleExample

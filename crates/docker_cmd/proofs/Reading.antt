@@ -1,21 +1,25 @@
 -- Reading a file: what the parser was fed is what the source had.
-use Rattle.std.proofs.Common.{◌≡◌, ℕ, ◌+◌, ◌<◌, ◌≤◌, List, [], ◌++◌, length, Some, None, true, false, refl, sym, ◌∙◌, ap, subst, arith, append_assoc, append-nil, length-append, ◌≢◌, inl, inr, Err, Result, ◌⊎◌}
-use Rattle.std.specs.Prelude.{Option, option_map, ◌↔◌, IsOk, is_ok, nat_le, take, drop}
+use Rattle.std.proofs.Common.{◌≡◌, ℕ, ◌+◌, ◌<◌, ◌≤◌, List, [], ◌++◌, length, Some, None, refl, sym, ◌∙◌, ap, subst, arith, append_assoc, append-nil, length-append, ◌≢◌, Err, Result}
+use Rattle.std.specs.Prelude.{Option, option_map, ◌↔◌, take, drop}
 use Rattle.std.proofs.lemmas.List.{take-append-le, take-take}
-use Rattle.std.proofs.lemmas.Bool.Decides.{leb_tells}
 use Rattle.cif_line.specs.Device.{Reads, IsEnd}
-use Rattle.cif_file.specs.FileRead.{ParserState, FileRead, IsOfText, IsOfRecords}
-use Rattle.cif_file.specs.OneSchedule.{IsOneSchedule}
-use Rattle.cif_file.specs.Reading.{HasRead, IsAccepted, first_place, most_bytes}
+use Rattle.cif_file.specs.FileRead.{FileRead, IsOfRecords}
+use Rattle.cif_file.specs.ParserRead.{ParserState, HasRead, IsOfFileText, IsToldSoFar, IsFaultTold, IsToldOf, IsRefused}
+use Rattle.cif_file.specs.Meaning.{cause_meant}
 use Rattle.cif_file.specs.declared.fault.FileFault.{FileFault}
-use Rattle.cif_file.proofs.Accepting.{accepted_at_most}
-use Rattle.cif_file.specs.declared.fault.FileCause.TheVariants.{Place, Memory}
+use Rattle.cif_file.specs.declared.fault.FileCause.{FileCause}
+use Rattle.cif_file.specs.declared.fault.FileCause.TheVariants.{Length, Byte, Kind, Place, Field, Midnights, NoEnd, After, TooMany, Memory}
 use Rattle.cif_file.specs.declared.file.CifFile.{CifFile}
-use Rattle.cif_file.specs.Reading.{IsRefused}
+use Rattle.docker_model.specs.File.{IsFile}
+use Rattle.docker_model.specs.FaultSoFar.{IsFaultSoFar}
+use Rattle.docker_model.specs.FileFault.{IsFileFault}
+use Rattle.docker_model.specs.FileFault as model
+use Rattle.docker_laws.proofs.ToldFaults.{fault_in_the_end}
+use Rattle.docker_laws.proofs.ToldBound.{text_without_fault_is_bounded}
 use Rattle.docker_cmd.specs.declared.fault.OfficeFault.{OfficeFault}
 use Rattle.docker_cmd.specs.declared.fault.OfficeFault.TheVariants as office
-use Rattle.docker_cmd.specs.Prepared.{Held, ReadsFile, ReadsSchedule, IsFileRefused, IsPreparedOf, PreparedView, most_records}
-use Rattle.docker_cmd.specs.Schedule.{IsOfSomeText}
+use Rattle.docker_cmd.specs.OneSchedule.{IsOneSchedule}
+use Rattle.docker_cmd.specs.Prepared.{Held, ReadsText, ReadsSchedule, IsFaultOf, IsFileRefused, IsPreparedOf, PreparedView, most_records}
 
 -- after so many turns the parser was fed a text, which is what the source lost
 pub record IsAtTurn (initial : Option (List ℕ)) (parser : ParserState) (now : Option (List ℕ)) (turn : ℕ) : Type 0 where
@@ -23,7 +27,7 @@ pub record IsAtTurn (initial : Option (List ℕ)) (parser : ParserState) (now : 
   pub read : HasRead parser most_records text
   pub lost : Reads initial text now
   pub grown : turn ≤ length text
-  pub within : length text ≤ 410
+  pub within : length text ≤ 352187318189
 
 -- at first
 pub at_start : (left : Option (List ℕ)) (parser : ParserState) → HasRead parser most_records [] → IsAtTurn left parser left 0
@@ -33,6 +37,10 @@ at_start left parser read = record { text = []; read = read; lost = by left; gro
     by None = refl
     by (Some bytes) = refl
 
+-- a text without a fault so far is no longer than this
+pub bounded : (text : List ℕ) → ((fault : model.FileFault) → ¬ IsFaultSoFar most_records text fault) → length text ≤ 352187318189
+bounded text never = text_without_fault_is_bounded most_records text never
+
 -- what is read behind what was read
 lost_more : (initial now next : Option (List ℕ)) (text piece : List ℕ) → Reads initial text now → Reads now piece next → Reads initial (text ++ piece) next
 lost_more initial now None text piece first more = first ∙ ap (option_map (λ rest. text ++ rest)) more
@@ -41,7 +49,7 @@ lost_more initial now (Some rest) text piece first more =
 
 -- a piece more
 pub next_turn : (initial now next : Option (List ℕ)) (before after : ParserState) (turn : ℕ) (piece : List ℕ) → (at : IsAtTurn initial before now turn)
-    → 0 < length piece → Reads now piece next → HasRead after most_records (at.text ++ piece) → length (at.text ++ piece) ≤ 410 → IsAtTurn initial after next (turn + 1)
+    → 0 < length piece → Reads now piece next → HasRead after most_records (at.text ++ piece) → length (at.text ++ piece) ≤ 352187318189 → IsAtTurn initial after next (turn + 1)
 next_turn initial now next before after turn piece at some more read within = record {
   text = at.text ++ piece;
   read = read;
@@ -60,77 +68,107 @@ held_all (Some told) (Some rest) text lost end =
 
 -- the file of what was read to the end
 pub file_read : (initial now : Option (List ℕ)) (parser : ParserState) (turn : ℕ) (file : FileRead) → (at : IsAtTurn initial parser now turn) → IsEnd now
-    → IsOfText file most_records at.text → ReadsFile initial file
+    → IsOfFileText file most_records at.text → ReadsText initial file
 file_read initial now parser turn file at end of = record { text = at.text; held = held_all initial now at.text at.lost end; of_text = of }
 
--- a text that was read to the end and is refused
-pub refused_at_end : (initial now : Option (List ℕ)) (parser : ParserState) (turn : ℕ) (fault : FileFault) → (at : IsAtTurn initial parser now turn) → IsEnd now
-    → fault ≡ first_place → ¬ IsAccepted most_records at.text → IsFileRefused initial fault
-refused_at_end initial now parser turn fault at end is bad = by initial (held_all initial now at.text at.lost end)
-  where
-    by : (initial : Option (List ℕ)) → Held initial at.text → IsFileRefused initial fault
-    by None held = is
-    by (Some told) held = (is, λ accepted. bad (subst (IsAccepted most_records) held accepted))
+-- ---- faults
 
--- a text that is too long
-pub refused_over : (initial now next : Option (List ℕ)) (parser : ParserState) (turn : ℕ) (fault : FileFault) (piece : List ℕ) → (at : IsAtTurn initial parser now turn)
-    → Reads now piece next → 410 < length (at.text ++ piece) → fault ≡ first_place → IsFileRefused initial fault
-refused_over initial now next parser turn fault piece at more over is = by initial next (lost_more initial now next at.text piece at.lost more)
-  where
-    by : (initial next : Option (List ℕ)) → Reads initial (at.text ++ piece) next → IsFileRefused initial fault
-    by None next lost = is
-    by (Some told) None lost = cc
-    by (Some told) (Some rest) lost = (
-      is,
-      λ accepted.
-          let same : told ≡ (at.text ++ piece) ++ rest = cc in
-          let size : length told ≡ length ((at.text ++ piece) ++ rest) = ap (λ (l : List ℕ). length l) same in
-          let few : length told ≤ 410 = accepted_at_most most_records told accepted in
-          omega (arith, length-append (at.text ++ piece) rest),
-    )
+-- only want of memory is none of a text's
+memory_meant : (cause : FileCause) → cause_meant cause ≡ None → cause ≡ Memory
+memory_meant Length none = cc
+memory_meant (Byte at) none = cc
+memory_meant Kind none = cc
+memory_meant Place none = cc
+memory_meant (Field at) none = cc
+memory_meant Midnights none = cc
+memory_meant NoEnd none = cc
+memory_meant After none = cc
+memory_meant TooMany none = cc
+memory_meant Memory none = refl
 
--- a fault that is told as a file's is not want of memory
-pub told_as_file : (text : List ℕ) (fault told : FileFault) (result : OfficeFault) → IsRefused most_records text fault
-    → (fault.cause ≡ Memory → result ≡ office.Memory) → (fault.cause ≢ Memory → result ≡ office.File fault)
-    → ◌≡◌ {A = Result CifFile OfficeFault} (Err result) (Err (office.File told)) → (told ≡ first_place) × (¬ IsAccepted most_records text)
-told_as_file text fault told result (inl place) memory file is =
-    let other : fault.cause ≢ Memory = λ same. let cause : fault.cause ≡ Place = ap (λ (f : FileFault). f.cause) place.0 in cc in
+-- a fault that was told before the end is that of each longer text, and no want of memory
+told_of : (text more : List ℕ) (fault : FileFault) → IsFaultTold most_records text fault → fault.cause ≢ Memory → IsFaultOf (text ++ more) fault
+told_of text more fault told other = by (cause_meant fault.cause) refl told
+  where
+    by : (cause : Option model.FileCause) → cause_meant fault.cause ≡ cause → IsToldSoFar most_records text fault.number cause → IsFaultOf (text ++ more) fault
+    by None h so_far = absurd (other (memory_meant fault.cause h))
+    by (Some cause) h so_far =
+        record { cause = cause; cause_is = h; is = fault_in_the_end most_records text more (record { number = fault.number; cause = cause }) so_far }
+
+refused_of : (text : List ℕ) (fault : FileFault) → IsRefused most_records text fault → fault.cause ≢ Memory → IsFaultOf text fault
+refused_of text fault refused other = by (cause_meant fault.cause) refl refused
+  where
+    by : (cause : Option model.FileCause) → cause_meant fault.cause ≡ cause → IsToldOf most_records text fault.number cause → IsFaultOf text fault
+    by None h of = absurd (other (memory_meant fault.cause h))
+    by (Some cause) h of = record { cause = cause; cause_is = h; is = of }
+
+-- a fault that is told as a file's is the parser's, and no want of memory
+told_as_file : (fault told : FileFault) (result : OfficeFault) → (fault.cause ≡ Memory → result ≡ office.Memory) → (fault.cause ≢ Memory → result ≡ office.File fault)
+    → ◌≡◌ {A = Result CifFile OfficeFault} (Err result) (Err (office.File told)) → (fault ≡ told) × (fault.cause ≢ Memory)
+told_as_file fault told result memory file is =
+    let other : fault.cause ≢ Memory = λ same. let wanting : result ≡ office.Memory = memory same in cc in
     let from : result ≡ office.File fault = file other in
-    let same : fault ≡ told = cc in
-    (sym same ∙ place.0, place.1)
-told_as_file text fault told result (inr wanting) memory file is =
-    let from : result ≡ office.Memory = memory (ap (λ (f : FileFault). f.cause) wanting.0) in
-    absurd (cc)
+    (cc, other)
+
+-- the fault of a text that the parser refused at its end
+pub fault_at_end : (text : List ℕ) (fault told : FileFault) (result : OfficeFault) → IsRefused most_records text fault
+    → (fault.cause ≡ Memory → result ≡ office.Memory) → (fault.cause ≢ Memory → result ≡ office.File fault)
+    → ◌≡◌ {A = Result CifFile OfficeFault} (Err result) (Err (office.File told)) → IsFaultOf text told
+fault_at_end text fault told result refused memory file is =
+    let as_file = told_as_file fault told result memory file is in
+    subst (IsFaultOf text) as_file.0 (refused_of text fault refused as_file.1)
+
+-- it is that of what the source held
+pub refused_at_end : (initial now : Option (List ℕ)) (parser : ParserState) (turn : ℕ) (fault : FileFault) → (at : IsAtTurn initial parser now turn) → IsEnd now
+    → IsFaultOf at.text fault → IsFileRefused initial fault
+refused_at_end initial now parser turn fault at end is = record { text = at.text; held = held_all initial now at.text at.lost end; is = is }
+
+-- and so is a fault that was told before
+pub refused_before : (initial now next : Option (List ℕ)) (parser : ParserState) (turn : ℕ) (piece : List ℕ) (fault told : FileFault) (result : OfficeFault)
+    → (at : IsAtTurn initial parser now turn) → Reads now piece next → IsFaultTold most_records (at.text ++ piece) fault
+    → (fault.cause ≡ Memory → result ≡ office.Memory) → (fault.cause ≢ Memory → result ≡ office.File fault)
+    → ◌≡◌ {A = Result CifFile OfficeFault} (Err result) (Err (office.File told)) → IsFileRefused initial told
+refused_before initial now next parser turn piece fault told result at more so_far memory file is =
+    by initial next (lost_more initial now next at.text piece at.lost more)
+  where
+    as_file : (fault ≡ told) × (fault.cause ≢ Memory)
+    as_file = told_as_file fault told result memory file is
+
+    of : (rest : List ℕ) → IsFaultOf ((at.text ++ piece) ++ rest) told
+    of rest = subst (IsFaultOf ((at.text ++ piece) ++ rest)) as_file.0 (told_of (at.text ++ piece) rest fault so_far as_file.1)
+
+    by : (initial next : Option (List ℕ)) → Reads initial (at.text ++ piece) next → IsFileRefused initial told
+    by None next lost = record { text = (at.text ++ piece) ++ []; held = tt; is = of [] }
+    by (Some bytes) None lost = cc
+    by (Some bytes) (Some rest) lost = record { text = (at.text ++ piece) ++ rest; held = cc; is = of rest }
+
+-- a fault is told as itself
+pub told_apart : (result other : OfficeFault) → result ≢ other → ◌≡◌ {A = Result CifFile OfficeFault} (Err result) (Err other) → ⊥
+told_apart result other apart is = apart cc
+
+-- where no read failed, none is told
+pub told_apart_from_source : (result : OfficeFault) (old new : ℕ) → result ≢ office.Source → new ≡ old
+    → ◌≡◌ {A = Result CifFile OfficeFault} (Err result) (Err office.Source) ↔ (new ≡ old + 1)
+told_apart_from_source result old new apart same = (λ is. absurd (apart cc), λ more. absurd (omega arith))
+
+-- ---- what `day` makes of a file
 
 -- the schedule of a file that was read
-pub reads_schedule : (left : Option (List ℕ)) (file : FileRead) (prepared : PreparedView) → ReadsFile left file
-    → ((records : List (List ℕ)) → IsOneSchedule records → IsOfRecords file records → IsPreparedOf prepared records)
+pub reads_schedule : (left : Option (List ℕ)) (file : FileRead) (prepared : PreparedView) → ReadsText left file
+    → ((records : List (List ℕ)) → IsFile records → IsOfRecords file records → IsPreparedOf prepared records × IsOneSchedule records)
     → ReadsSchedule left prepared
-reads_schedule left file prepared read of = record {
-  text = read.text;
-  held = read.held;
-  file = read.of_text.records;
-  is_text = read.of_text.is_text;
-  of_file = of read.of_text.records read.of_text.is_text.1 read.of_text.of_records;
-}
-
--- a file that was read is of some text
-pub some_text : (left : Option (List ℕ)) (file : FileRead) → ReadsFile left file → IsOfSomeText file
-some_text left file read = record { limit = most_records; text = read.text; of_text = read.of_text }
+reads_schedule left file prepared read of =
+    let told = of read.of_text.records read.of_text.is_text.is read.of_text.of_records in
+    record {
+      text = read.text;
+      held = read.held;
+      file = read.of_text.records;
+      is_text = (read.of_text.is_text, told.1);
+      of_file = told.0;
+    }
 
 -- the bytes that were read stand in front of the piece
 pub same_front : (n len : ℕ) (piece into items : List ℕ) → piece ≡ take len (into ++ drop (length into) items) → length into ≡ len → n ≤ length into
     → take n piece ≡ take n into
 same_front n len piece into items is whole within =
     ap (take n) (is ∙ take-append-le len into (drop (length into) items) (omega arith)) ∙ take-take n len into (omega arith)
-
--- a parser that refuses has been fed too much
-pub over_of : (result : Result (Unit {0}) FileFault) (fault : FileFault) (size : ℕ) → IsOk result ↔ (size ≤ most_bytes) → result ≡ Err fault → 410 < size
-over_of result fault size iff is = by (leb_tells size 410)
-  where
-    by : ((nat_le size 410 ≡ true) × (size ≤ 410)) ⊎ ((nat_le size 410 ≡ false) × (410 < size)) → 410 < size
-    by (inl few) =
-        let ok : is_ok result ≡ true = iff.1 few.1 in
-        let err : is_ok result ≡ false = ap is_ok is in
-        absurd (cc)
-    by (inr many) = many.1

@@ -4,6 +4,7 @@ pub mod FaultLine
 pub mod Grammar
 pub mod Job
 pub mod JobLine
+pub mod OneSchedule
 pub mod Prepared
 pub mod Schedule
 pub mod Words

@@ -3,14 +3,18 @@ use Rattle.std.specs.Prelude.{◌≡◌, ℕ, List, [], ◌∷◌, length, Optio
 use Rattle.docker_model.specs.Change.{changes}
 use Rattle.docker_model.specs.Table.{Table, IsPlainTable}
 use Rattle.docker_model.specs.DockerText.{IsDockerText}
-use Rattle.cif_file.specs.OneSchedule.{IsOneScheduleText}
-use Rattle.cif_file.specs.Reading.{IsAccepted, first_place}
-use Rattle.cif_file.specs.FileRead.{FileRead, IsOfRecords, IsOfText}
+use Rattle.docker_model.specs.FileFault.{FileCause, IsFileFault, IsFileText}
+use Rattle.cif_file.specs.Meaning.{cause_meant}
+use Rattle.cif_file.specs.FileRead.{FileRead, IsOfRecords}
+use Rattle.cif_file.specs.ParserRead.{IsOfFileText}
 use Rattle.cif_file.specs.declared.fault.FileFault.{FileFault}
 use Rattle.cif_line.specs.Device.{Takes, TakesPart}
 use Rattle.docker_cmd.specs.CheckLine.{check_line}
 use Rattle.docker_cmd.specs.Job.{JobView}
+use Rattle.docker_cmd.specs.OneSchedule.{IsOneSchedule, IsOneScheduleText}
 use Rattle.docker_cmd.specs.Schedule.{AreRecordsOf}
+use Rattle.docker_cmd.specs.declared.preparing.Content.{Content}
+use Rattle.docker_cmd.specs.declared.preparing.Content.TheVariants.{File, Schedule}
 
 -- the most records that a file may have
 abbrev pub most_records : ℕ
@@ -20,6 +24,11 @@ most_records = 4294967294
 pub data ReadView : Type 0 where
   file_read : (file : FileRead) → ReadView
   schedule_read : (basic origin terminus : List ℕ) → ReadView
+
+-- what the code has read, as the same
+abbrev pub content_meant : Content → ReadView
+content_meant (File file) = file_read file
+content_meant (Schedule schedule) = schedule_read schedule.basic schedule.origin schedule.terminus
 
 -- a job, and what it has read
 pub record PreparedView : Type 0 where
@@ -49,15 +58,36 @@ pub record ReadsSchedule (left : Option (List ℕ)) (prepared : PreparedView) : 
   pub of_file : IsPreparedOf prepared file
 
 -- the file is of a text that the source held
-pub record ReadsFile (left : Option (List ℕ)) (file : FileRead) : Type 0 where
+pub record ReadsText (left : Option (List ℕ)) (file : FileRead) : Type 0 where
   pub text : List ℕ
   pub held : Held left text
-  pub of_text : IsOfText file most_records text
+  pub of_text : IsOfFileText file most_records text
 
--- a source that tells its bytes held no text of such a file, and the first record is out of place
-abbrev pub IsFileRefused : Option (List ℕ) → FileFault → Type 0
-IsFileRefused None fault = fault ≡ first_place
-IsFileRefused (Some told) fault = (fault ≡ first_place) × (¬ IsAccepted most_records told)
+-- what was read is such a file
+pub record ReadsFile (left : Option (List ℕ)) (prepared : PreparedView) : Type 0 where
+  pub file : FileRead
+  pub read_is : prepared.read ≡ file_read file
+  pub reads : ReadsText left file
+
+-- the source held the text of a file, but of none of one schedule
+pub record HoldsOtherFile (left : Option (List ℕ)) : Type 0 where
+  pub text : List ℕ
+  pub held : Held left text
+  pub file : List (List ℕ)
+  pub is_text : IsFileText most_records text file
+  pub other : ¬ IsOneSchedule file
+
+-- the fault is this text's, and no want of memory
+pub record IsFaultOf (text : List ℕ) (fault : FileFault) : Type 0 where
+  pub cause : FileCause
+  pub cause_is : cause_meant fault.cause ≡ Some cause
+  pub is : IsFileFault most_records text (record { number = fault.number; cause = cause })
+
+-- the fault is that of a text that the source held
+pub record IsFileRefused (left : Option (List ℕ)) (fault : FileFault) : Type 0 where
+  pub text : List ℕ
+  pub held : Held left text
+  pub is : IsFaultOf text fault
 
 -- the docker text of the plain table of this one file, at the job's timing point and on its day
 pub record IsDockerOutput (job : JobView) (file : List (List ℕ)) (text : List ℕ) : Type 0 where

@@ -1,57 +1,67 @@
 //! What a job reads.
 ghost use Rattle.std.specs.Prelude.{◌≡◌, ◌≢◌, ◌+◌, ◌-◌, ◌^◌, ◌<◌, ◌↔◌, IfOk, IfErr, Err};
-ghost use Rattle.docker_cmd.specs.Prepared.{IsFileRefused, ReadsFile, ReadsSchedule, schedule_read};
+ghost use Rattle.docker_cmd.specs.Prepared.{HoldsOtherFile, IsFileRefused, ReadsFile, ReadsSchedule, content_meant};
 ghost use Rattle.docker_cmd.specs.declared.jobs.Subcommand.TheVariants.{Check as check_subcommand, Day as day_subcommand};
 
 use crate::fault::OfficeFault;
 use crate::jobs::{Job, Subcommand};
 use crate::read_file::read_file;
 use crate::schedule::{Schedule, schedule_of};
+use cif_file::CifFile;
 use cif_line::Source;
 use std::alloc::Global;
 use std::marker::Model;
+
+/// What a job has read.
+#[derive(Debug, Drop)]
+pub(crate) enum Content {
+    /// A file, with its changes.
+    File(CifFile),
+    /// The schedule of a file of one schedule.
+    Schedule(Schedule),
+}
 
 /// A job and what it has read.
 #[derive(Debug, Drop)]
 pub struct Prepared<'a> {
     job: &'a Job,
-    schedule: Schedule,
+    content: Content,
 }
 
 impl<'a> Model for Prepared<'a> {
     ghost use Rattle.std.specs.Prelude.{◌≡◌};
-    ghost use Rattle.docker_cmd.specs.Prepared.{PreparedView, schedule_read};
+    ghost use Rattle.docker_cmd.specs.Prepared.{PreparedView, content_meant};
     ghost use Rattle.docker_cmd.specs.declared.jobs.Subcommand.TheVariants.{Day as day_subcommand};
+    ghost use Rattle.docker_cmd.specs.declared.preparing.Content.TheVariants.{Schedule as schedule_content};
 
     ghost Value = { PreparedView };
 
-    ghost view = { λ prepared. record {
-      job = prepared.job.now;
-      read = schedule_read prepared.schedule.basic prepared.schedule.origin prepared.schedule.terminus;
-    } };
+    ghost view = { λ prepared. record { job = prepared.job.now; read = content_meant prepared.content } };
 
-    ghost invariant = { λ prepared. prepared.job.now.subcommand ≡ day_subcommand };
+    ghost invariant = { λ prepared. (schedule : _) → prepared.content ≡ schedule_content schedule → prepared.job.now.subcommand ≡ day_subcommand };
 }
 
 impl<'a> Prepared<'a> {
+    ghost use Rattle.docker_cmd.specs.declared.preparing.Content.TheVariants.{Schedule as schedule_content};
+
     /// The job.
     pub(crate) fn job(&self) -> &'a Job
-        ensures job { result.now ≡ self.now.job }
-        ensures day { self.now.job.subcommand ≡ day_subcommand }
+        ensures { result.now ≡ self.now.job }
     {
         self.job
     }
 
-    /// The schedule that was read.
-    pub(crate) fn schedule(&self) -> &Schedule
-        ensures { self.now.read ≡ schedule_read result.now.basic result.now.origin result.now.terminus }
+    /// What was read. Where it is a schedule, the job is `day`.
+    pub(crate) fn content(&self) -> &Content
+        ensures content { self.now.read ≡ content_meant result.now }
+        ensures day { (schedule : _) → result.now ≡ schedule_content schedule → self.now.job.subcommand ≡ day_subcommand }
     {
-        &self.schedule
+        &self.content
     }
 }
 
-/// Reads what the job reads: `day` reads the file that its first word names, from the first source to its end. `check` is refused
-/// as not yet, and reads nothing. No job reads a second source yet.
+/// Reads what the job reads: `check` and `day` read the file that their first word names, from the first source to its end or its first fault. `day`
+/// is refused as not yet where the file is of another shape than that of one permanent schedule with two stops. No job reads a second source yet.
 pub fn prepare<'a, S: Source, T: Source>(
     alloc: Global,
     job: &'a Job,
@@ -60,23 +70,30 @@ pub fn prepare<'a, S: Source, T: Source>(
 ) -> Result<Prepared<'a>, OfficeFault>
     requires first { S.failures first.old < 2 ^ 64 - 1 }
     ensures job { IfOk result (λ prepared. prepared.job ≡ job.now) }
-    ensures ok { IfOk result (ReadsSchedule (S.left first.old)) }
+    ensures check { (job.now.subcommand ≡ check_subcommand) → IfOk result (ReadsFile (S.left first.old)) }
+    ensures day { (job.now.subcommand ≡ day_subcommand) → IfOk result (ReadsSchedule (S.left first.old)) }
     ensures file { (fault : _) → result ≡ Err (OfficeFault.File fault) → IsFileRefused (S.left first.old) fault }
+    ensures not_yet { result ≡ Err OfficeFault.NotYet → (job.now.subcommand ≡ day_subcommand) × HoldsOtherFile (S.left first.old) }
     ensures source { (result ≡ Err OfficeFault.Source) ↔ (S.failures first.new ≡ S.failures first.old + 1) }
     ensures no_failure { result ≢ Err OfficeFault.Source → S.failures first.new ≡ S.failures first.old }
     ensures sink { result ≢ Err OfficeFault.Sink }
-    ensures not_yet { (result ≡ Err OfficeFault.NotYet) ↔ (job.now.subcommand ≡ check_subcommand) }
-    ensures unread { (job.now.subcommand ≡ check_subcommand) → first.new ≡ first.old }
     ensures second { _second.new ≡ _second.old }
 {
+    let file = match read_file(alloc, first) {
+        Ok(file) => file,
+        Err(fault) => return Err(fault),
+    };
     match job.subcommand() {
-        Subcommand::Check => Err(OfficeFault::NotYet),
-        Subcommand::Day => {
-            let file = read_file(alloc, first)?;
-            Ok(Prepared {
+        Subcommand::Check => Ok(Prepared {
+            job,
+            content: Content::File(file),
+        }),
+        Subcommand::Day => match schedule_of(file) {
+            Some(schedule) => Ok(Prepared {
                 job,
-                schedule: schedule_of(file),
-            })
-        }
+                content: Content::Schedule(schedule),
+            }),
+            None => Err(OfficeFault::NotYet),
+        },
     }
 }

@@ -1,11 +1,10 @@
 //! The file that a source holds.
-ghost use Rattle.std.specs.Prelude.{◌≡◌, ◌≢◌, ℕ, ◌+◌, ◌-◌, ◌^◌, ◌<◌, ◌↔◌, List, IfOk, Err};
-ghost use Rattle.cif_file.specs.FileRead.{IsOfText};
-ghost use Rattle.cif_file.specs.Reading.{HasRead, IsAccepted, first_place};
-ghost use Rattle.docker_cmd.specs.Prepared.{IsFileRefused, ReadsFile, most_records};
+ghost use Rattle.std.specs.Prelude.{◌≡◌, ◌≢◌, ℕ, ◌+◌, ◌-◌, ◌^◌, ◌<◌, ◌↔◌, List, IfOk, IfErr, Err};
+ghost use Rattle.cif_file.specs.ParserRead.{IsOfFileText, HasRead};
+ghost use Rattle.docker_cmd.specs.Prepared.{IsFaultOf, IsFileRefused, ReadsText, most_records};
 
 use crate::fault::OfficeFault;
-use cif_file::{CifFile, FileCause, FileFault, OneScheduleParser};
+use cif_file::{CifFile, FileCause, FileFault, FileParser};
 use cif_line::Source;
 use std::alloc::Global;
 
@@ -15,13 +14,13 @@ const MOST_RECORDS: u32 = 4_294_967_294;
 /// How many bytes are read at once.
 const PIECE: usize = 65_536;
 
-/// How many bytes a text has at most before a parser refuses it.
-const MOST_BYTES: usize = 410;
+/// The most bytes that a text without a fault has, of so many records: 82 for each of them, and 81 behind them.
+const MOST_BYTES: usize = 352_187_318_189;
 
 /// Reads a file to the end of its source, or to the first fault.
 pub(crate) fn read_file<S: Source>(alloc: Global, source: &mut S) -> Result<CifFile, OfficeFault>
     requires { S.failures source.old < 2 ^ 64 - 1 }
-    ensures ok { IfOk result (ReadsFile (S.left source.old)) }
+    ensures ok { IfOk result (ReadsText (S.left source.old)) }
     ensures file { (fault : _) → result ≡ Err (OfficeFault.File fault) → IsFileRefused (S.left source.old) fault }
     ensures source { (result ≡ Err OfficeFault.Source) ↔ (S.failures source.new ≡ S.failures source.old + 1) }
     ensures no_failure { result ≢ Err OfficeFault.Source → S.failures source.new ≡ S.failures source.old }
@@ -31,7 +30,7 @@ pub(crate) fn read_file<S: Source>(alloc: Global, source: &mut S) -> Result<CifF
     let Ok(mut piece) = vec![in alloc; 0u8; PIECE] else {
         return Err(OfficeFault::Memory);
     };
-    let mut parser = OneScheduleParser::new(alloc, MOST_RECORDS);
+    let mut parser = FileParser::new(alloc, MOST_RECORDS);
     for _ in 0..=MOST_BYTES {
         let Ok(n) = source.read(piece.as_mut_slice()) else {
             return Err(OfficeFault::Source);
@@ -40,17 +39,16 @@ pub(crate) fn read_file<S: Source>(alloc: Global, source: &mut S) -> Result<CifF
             return finished(parser);
         }
         if let Err(fault) = parser.feed(&piece[..n]) {
-            return Err(OfficeFault::File(fault));
+            return Err(fault_of(fault));
         }
     }
     unreachable!()
 }
 
 /// The file that a parser was fed.
-fn finished(parser: OneScheduleParser) -> Result<CifFile, OfficeFault>
-    ensures ok { (text : List ℕ) → HasRead parser most_records text → IfOk result (λ file. IsOfText file most_records text) }
-    ensures file { (text : List ℕ) → HasRead parser most_records text → (fault : _) → result ≡ Err (OfficeFault.File fault)
-        → (fault ≡ first_place) × (¬ IsAccepted most_records text) }
+fn finished(parser: FileParser) -> Result<CifFile, OfficeFault>
+    ensures ok { (text : List ℕ) → HasRead parser most_records text → IfOk result (λ file. IsOfFileText file most_records text) }
+    ensures file { (text : List ℕ) → HasRead parser most_records text → (fault : _) → result ≡ Err (OfficeFault.File fault) → IsFaultOf text fault }
     ensures source { result ≢ Err OfficeFault.Source }
     ensures sink { result ≢ Err OfficeFault.Sink }
     ensures not_yet { result ≢ Err OfficeFault.NotYet }
@@ -65,6 +63,9 @@ fn finished(parser: OneScheduleParser) -> Result<CifFile, OfficeFault>
 fn fault_of(fault: FileFault) -> OfficeFault
     ensures memory { (fault.cause ≡ FileCause.Memory) → result ≡ OfficeFault.Memory }
     ensures file { (fault.cause ≢ FileCause.Memory) → result ≡ OfficeFault.File fault }
+    ensures source { result ≢ OfficeFault.Source }
+    ensures sink { result ≢ OfficeFault.Sink }
+    ensures not_yet { result ≢ OfficeFault.NotYet }
 {
     match fault.cause {
         FileCause::Memory => OfficeFault::Memory,

@@ -1,16 +1,20 @@
 //! The schedule of a file of one schedule.
-ghost use Rattle.std.specs.Prelude.{◌≡◌, List, ℕ, map, option_map, option_and_then, OnOk};
+ghost use Rattle.std.specs.Prelude.{◌≡◌, ◌==◌, List, ℕ, map, option_map, option_and_then, IfSome, IsNone};
+ghost use Rattle.docker_model.specs.File.{IsFile};
 ghost use Rattle.docker_model.specs.Record.{basic_schedule, origin_location, terminating_location, column};
 ghost use Rattle.cif_line.specs.View.{IsGood};
-ghost use Rattle.cif_file.specs.OneSchedule.{IsOneSchedule};
 ghost use Rattle.cif_file.specs.FileRead.{IsOfRecords};
-ghost use Rattle.cif_file.specs.Meaning.{change_meant};
-ghost use Rattle.docker_cmd.specs.Schedule.{AreRecordsOf, IsOfSomeText, first_lines, only_three};
+ghost use Rattle.cif_file.specs.Meaning.{act_meant, change_meant, key_meant};
+ghost use Rattle.docker_cmd.specs.OneSchedule.{IsOneSchedule};
+ghost use Rattle.docker_cmd.specs.Schedule.{AreRecordsOf, first_permanent, indicator_of, lines_put, only_three};
 
-use cif_file::{Act, Body, Change, CifFile, Lines};
-use cif_line::Line;
+use cif_file::{Act, Body, Change, CifFile, Key, Lines};
+use cif_line::{Line, Stp};
 
-/// A new permanent schedule that calls at its origin and its terminus alone: its three records.
+/// The records of a file of one schedule: a header, the three of the schedule, and a trailer.
+const RECORDS: u32 = 5;
+
+/// A permanent schedule that calls at its origin and its terminus alone: its three records, the transaction of the first set to `N`.
 #[derive(Debug, Drop)]
 pub(crate) struct Schedule {
     pub(crate) basic: Line,
@@ -23,41 +27,67 @@ pub(crate) struct Schedule {
     ghost permanent: { column 80 basic ≡ 80 },
 }
 
-/// The schedule of a file that was read.
-pub(crate) fn schedule_of(file: CifFile) -> Schedule
-    requires { IsOfSomeText file }
-    ensures { (records : List (List ℕ)) → IsOneSchedule records → IsOfRecords file records
-        → AreRecordsOf result.basic result.origin result.terminus records }
+/// The schedule of a file that was read. None where the file is of another shape than that of one such schedule.
+pub(crate) fn schedule_of(file: CifFile) -> Option<Schedule>
+    ensures some { IfSome result (λ schedule. (records : List (List ℕ)) → IsFile records → IsOfRecords file records
+        → AreRecordsOf schedule.basic schedule.origin schedule.terminus records) }
+    ensures none { IsNone result → (records : List (List ℕ)) → IsFile records → IsOfRecords file records → ¬ IsOneSchedule records }
 {
-    let Some(lines) = schedule_lines(file) else {
-        unreachable!()
-    };
-    Schedule {
-        basic: lines[0],
-        origin: lines[1],
-        terminus: lines[2],
+    if file.records() != RECORDS {
+        return None;
+    }
+    match schedule_lines(file) {
+        Some(lines) => Some(Schedule {
+            basic: lines[0],
+            origin: lines[1],
+            terminus: lines[2],
+        }),
+        None => None,
     }
 }
 
-/// The three lines that the first change of a file puts.
+/// The three lines that the first change of a file puts at the key of a permanent schedule.
 fn schedule_lines(file: CifFile) -> Option<[Line; 3]>
-    ensures { result ≡ option_and_then only_three (first_lines file.changes_made) }
+    ensures { result ≡ option_and_then only_three (first_permanent file.changes_made) }
 {
     let changes = file.into_changes();
     let lines = put_lines(changes.as_slice())?;
     three(lines.as_slice())
 }
 
-/// The lines that the first change puts.
+/// The lines that the first change puts at the key of a permanent schedule.
 fn put_lines(changes: &[Change]) -> Option<&Lines>
-    ensures { option_map (λ lines. lines.now) result ≡ first_lines (map change_meant changes.now) }
+    ensures { option_map (λ lines. lines.now) result ≡ first_permanent (map change_meant changes.now) }
 {
     match changes {
         [] => None,
-        [change, ..] => match &change.act {
-            Act::Put(Body::Schedule(lines)) => Some(lines),
-            _ => None,
-        },
+        [change, ..] => {
+            if is_permanent(&change.key) {
+                lines_of(&change.act)
+            } else {
+                None
+            }
+        }
+    }
+}
+
+/// Whether a key is that of a permanent schedule.
+fn is_permanent(key: &Key) -> bool
+    ensures { result ≡ (indicator_of (key_meant key.now) == 80) }
+{
+    match key {
+        Key::Schedule(key) => key.stp == Stp::Permanent,
+        _ => false,
+    }
+}
+
+/// The lines that an act puts.
+fn lines_of(act: &Act) -> Option<&Lines>
+    ensures { option_map (λ lines. lines.now) result ≡ lines_put (act_meant act.now) }
+{
+    match act {
+        Act::Put(Body::Schedule(lines)) => Some(lines),
+        _ => None,
     }
 }
 

@@ -7,6 +7,7 @@ use crate::{
 use cif_file::{FileCause, FileFault};
 use cif_line::{Bytes, Failed, Kept, Sink, Source};
 use std::alloc::{AllocError, Global};
+use std::process::Abort;
 use std::test::Fail;
 
 /// A train from Ashfeld to Brayton on weekdays from 2024-06-10 to 2024-06-14, as its lines without the spaces behind them.
@@ -27,6 +28,60 @@ const NIGHT: [&str; 5] = [
     "ZZ",
 ];
 
+/// The same train, whose schedule a revise record puts.
+const REVISED: [&str; 5] = [
+    "HDTPS.UDFROC1.PD2406090906242100DFROC1ADFROC1ZUA",
+    "BSRC100012406102406141111100 POO1A10                                           P",
+    "LOASHFELD 0900 09001  SL",
+    "LTBRAYTON 0930 09322  FL",
+    "ZZ",
+];
+
+/// The same train as an overlay.
+const OVERLAY: [&str; 5] = [
+    "HDTPS.UDFROC1.PD2406090906242100DFROC1ADFROC1ZUA",
+    "BSNC100012406102406141111100 POO1A10                                           O",
+    "LOASHFELD 0900 09001  SL",
+    "LTBRAYTON 0930 09322  FL",
+    "ZZ",
+];
+
+/// The same train with a pass on its way.
+const PASSING: [&str; 6] = [
+    "HDTPS.UDFROC1.PD2406090906242100DFROC1ADFROC1ZUA",
+    "BSNC100012406102406141111100 POO1A10                                           P",
+    "LOASHFELD 0900 09001  SL",
+    "LIDUNMERE           0910",
+    "LTBRAYTON 0930 09322  FL",
+    "ZZ",
+];
+
+/// The same train, leaving at 24:00, which is no time.
+const LATE: [&str; 5] = [
+    "HDTPS.UDFROC1.PD2406090906242100DFROC1ADFROC1ZUA",
+    "BSNC100012406102406141111100 POO1A10                                           P",
+    "LOASHFELD 2400 09001  SL",
+    "LTBRAYTON 0930 09322  FL",
+    "ZZ",
+];
+
+/// A TIPLOC that is renamed.
+const RENAMED: [&str; 3] = [
+    "HDTPS.UDFROC1.PD2406091006242100DFROC1BDFROC1AUA",
+    "TAASHFELD         ASHFIELD NEW                                          ASHFLDN",
+    "ZZ",
+];
+
+/// A file without a change.
+const EMPTY: [&str; 2] = ["HDTPS.UDFROC1.PD2406090906242100DFROC1ADFROC1ZUA", "ZZ"];
+
+/// The deletion of a schedule.
+const DELETED: [&str; 3] = [
+    "HDTPS.UDFROC1.PD2406090906242100DFROC1ADFROC1ZUA",
+    "BSDC10001240610              POO                                               P",
+    "ZZ",
+];
+
 const DEPARTURE: &str = "\
 DOCKER ASHFELD 2024-06-10                               
 0900  D 1A10 C10001 P   1   SL      0900 ASHFELD BRAYTON
@@ -37,7 +92,7 @@ const USAGE: &str =
     "docker: usage: new STATE | check FILE | day FILE TIPLOC DATE | take STATE FILE | merge STATE OTHER | print STATE TIPLOC DATE | files STATE\n";
 
 /// The text of these lines, each of 80 columns.
-fn text(alloc: Global, lines: &[&str; 5]) -> Result<Vec<u8>, AllocError> {
+fn text(alloc: Global, lines: &[&str]) -> Result<Vec<u8>, AllocError> {
     let mut text = Vec::new(alloc);
     for line in lines {
         text.extend_from_slice(line.as_bytes())?;
@@ -49,10 +104,30 @@ fn text(alloc: Global, lines: &[&str; 5]) -> Result<Vec<u8>, AllocError> {
     Ok(text)
 }
 
+/// What a job of these words writes of a text that is read by so many bytes, and why it is refused, if it is.
+fn outcome(
+    alloc: Global,
+    words: &[&str],
+    text: &[u8],
+    step: usize,
+) -> Result<(Kept, Option<OfficeFault>), Fail>
+    requires { 0 < step }
+{
+    let job = job(alloc, words)?;
+    let mut first = Bytes::new(text, step);
+    let mut second = Bytes::new(b"", 1);
+    let mut sink = Kept::new(alloc, 228)?;
+    let fault = match prepare(alloc, &job, &mut first, &mut second) {
+        Ok(prepared) => emit(&prepared, &mut sink).err(),
+        Err(fault) => Some(fault),
+    };
+    Ok((sink, fault))
+}
+
 /// What `day` prints of a file that is read by so many bytes.
 fn printed(
     alloc: Global,
-    lines: &[&str; 5],
+    lines: &[&str],
     step: usize,
     tiploc: &str,
     date: &str,
@@ -60,15 +135,10 @@ fn printed(
     requires { 0 < step }
 {
     let text = text(alloc, lines)?;
-    let job = job(alloc, &["day", "F", tiploc, date])?;
-    let mut first = Bytes::new(text.as_slice(), step);
-    let mut second = Bytes::new(b"", 1);
-    let mut sink = Kept::new(alloc, 228)?;
-    match prepare(alloc, &job, &mut first, &mut second) {
-        Ok(prepared) => emit(&prepared, &mut sink).ok().ok_or("a sink that failed")?,
-        Err(_) => return Err("a file that is refused")?,
+    match outcome(alloc, &["day", "F", tiploc, date], text.as_slice(), step)? {
+        (sink, None) => Ok(sink),
+        _ => Err("a file that is refused")?,
     }
-    Ok(sink)
 }
 
 #[test]
@@ -182,13 +252,114 @@ fn a_job_line_of_check(rt: HostRuntime) -> Result<(), Fail> {
 }
 
 #[test]
-fn a_check_that_is_not_built_yet(rt: HostRuntime) -> Result<(), Fail> {
-    let job = job(rt.alloc(), &["check", "F"])?;
-    let mut first = Bytes::new(b"HD", 1);
+fn accepted_files(rt: HostRuntime) -> Result<(), Fail> {
+    let rows: [(&[&str], &str); 6] = [
+        (&MORNING, "accepted: 5 records, 1 changes\n"),
+        (&RENAMED, "accepted: 3 records, 2 changes\n"),
+        (&EMPTY, "accepted: 2 records, 0 changes\n"),
+        (&DELETED, "accepted: 3 records, 1 changes\n"),
+        (&REVISED, "accepted: 5 records, 1 changes\n"),
+        (&PASSING, "accepted: 6 records, 1 changes\n"),
+    ];
+    for (lines, want) in rows {
+        let text = text(rt.alloc(), lines)?;
+        for step in [1, 80, 81, 4096] {
+            let (sink, fault) = outcome(rt.alloc(), &["check", "F"], text.as_slice(), step)?;
+            assert_eq!(rt; fault, None, "{want}");
+            assert_eq!(rt; sink.bytes(), want.as_bytes());
+        }
+    }
+    Ok(())
+}
+
+/// That `check` and `day` refuse the text of these lines with these bytes behind them, for this cause, and write nothing.
+fn assert_refused(
+    rt: &impl Abort,
+    alloc: Global,
+    lines: &[&str],
+    rest: &[u8],
+    number: u32,
+    cause: FileCause,
+) -> Result<(), Fail> {
+    let mut text = text(alloc, lines)?;
+    text.extend_from_slice(rest)?;
+    let want = OfficeFault::File(FileFault { number, cause });
+    for step in [1, 4096] {
+        let (sink, fault) = outcome(alloc, &["check", "F"], text.as_slice(), step)?;
+        assert_eq!(rt; fault, Some(want), "check");
+        assert!(rt; sink.bytes().is_empty());
+        let words = ["day", "F", "ASHFELD", "2024-06-10"];
+        let (sink, fault) = outcome(alloc, &words, text.as_slice(), step)?;
+        assert_eq!(rt; fault, Some(want), "day");
+        assert!(rt; sink.bytes().is_empty());
+    }
+    Ok(())
+}
+
+#[test]
+fn refused_files(rt: HostRuntime) -> Result<(), Fail> {
+    assert_refused(&rt, rt.alloc(), &[], b"", 1, FileCause::NoEnd)?;
+    assert_refused(&rt, rt.alloc(), &[], &[b'H'; 79], 1, FileCause::Length)?;
+    assert_refused(
+        &rt,
+        rt.alloc(),
+        &MORNING[..1],
+        &[b'T'; 79],
+        2,
+        FileCause::Length,
+    )?;
+    assert_refused(&rt, rt.alloc(), &MORNING[..1], b"\n", 2, FileCause::Length)?;
+    assert_refused(&rt, rt.alloc(), &MORNING[..4], b"", 5, FileCause::NoEnd)?;
+    assert_refused(&rt, rt.alloc(), &MORNING, b"ZZ", 6, FileCause::After)?;
+    assert_refused(&rt, rt.alloc(), &MORNING[1..], b"", 1, FileCause::Place)?;
+    assert_refused(&rt, rt.alloc(), &LATE, b"", 3, FileCause::Field(11))?;
+    Ok(())
+}
+
+#[test]
+fn a_revised_schedule(rt: HostRuntime) -> Result<(), Fail> {
+    let ashfeld = printed(rt.alloc(), &REVISED, 4096, "ASHFELD", "2024-06-10")?;
+    assert_eq!(rt; ashfeld.bytes(), DEPARTURE.as_bytes());
+    Ok(())
+}
+
+#[test]
+fn dockers_that_are_not_built_yet(rt: HostRuntime) -> Result<(), Fail> {
+    let rows: [(&[&str], &str); 5] = [
+        (&OVERLAY, "an overlay"),
+        (&PASSING, "a pass"),
+        (&RENAMED, "no schedule"),
+        (&EMPTY, "nothing"),
+        (&DELETED, "a deletion"),
+    ];
+    for (lines, what) in rows {
+        let text = text(rt.alloc(), lines)?;
+        let words = ["day", "F", "ASHFELD", "2024-06-10"];
+        let (sink, fault) = outcome(rt.alloc(), &words, text.as_slice(), 4096)?;
+        assert_eq!(rt; fault, Some(OfficeFault::NotYet), "{what}");
+        assert!(rt; sink.bytes().is_empty());
+    }
+    Ok(())
+}
+
+#[test]
+fn a_check_behind_its_job_line(rt: HostRuntime) -> Result<(), Fail> {
+    let file = text(rt.alloc(), &MORNING)?;
+    let mut input = Vec::new(rt.alloc());
+    input.extend_from_slice(b"check stdin\n")?;
+    input.extend_from_slice(file.as_slice())?;
+    let mut source = Bytes::new(input.as_slice(), 7);
+    let job = job_line(rt.alloc(), &mut source)?;
     let mut second = Bytes::new(b"", 1);
-    let fault = prepare(rt.alloc(), &job, &mut first, &mut second).err();
-    assert_eq!(rt; fault, Some(OfficeFault::NotYet));
-    assert_eq!(rt; first.left(), b"HD".as_slice());
+    let mut sink = Kept::new(rt.alloc(), 31)?;
+    match prepare(rt.alloc(), &job, &mut source, &mut second) {
+        Ok(prepared) => assert_eq!(rt; emit(&prepared, &mut sink), Ok(())),
+        Err(_) => return Err("a file that is refused")?,
+    }
+    assert_eq!(rt;
+        sink.bytes(),
+        b"accepted: 5 records, 1 changes\n".as_slice()
+    );
     Ok(())
 }
 
@@ -231,6 +402,17 @@ fn a_sink_that_is_full(rt: HostRuntime) -> Result<(), Fail> {
     }
     assert_eq!(rt; sink.failures(), 1);
     assert_eq!(rt; sink.bytes(), &DEPARTURE.as_bytes()[..100]);
+    let job = crate::job(rt.alloc(), &["check", "F"])?;
+    let mut first = Bytes::new(text.as_slice(), 7);
+    let mut sink = Kept::new(rt.alloc(), 30)?;
+    match prepare(rt.alloc(), &job, &mut first, &mut second) {
+        Ok(prepared) => {
+            assert_eq!(rt; emit(&prepared, &mut sink), Err(OfficeFault::Sink));
+        }
+        Err(_) => return Err("a file that is refused")?,
+    }
+    assert_eq!(rt; sink.failures(), 1);
+    assert_eq!(rt; sink.bytes(), b"accepted: 5 records, 1 changes".as_slice());
     Ok(())
 }
 
@@ -315,30 +497,25 @@ fn a_source_that_fails(rt: HostRuntime) -> Result<(), Fail> {
 }
 
 #[test]
-fn a_file_of_one_short_line(rt: HostRuntime) -> Result<(), Fail> {
-    let job = job(rt.alloc(), &["day", "F", "ASHFELD", "2024-06-10"])?;
-    let mut first = Bytes::new(&[b'H'; 79], 4096);
-    let mut second = Bytes::new(b"", 1);
-    let fault = prepare(rt.alloc(), &job, &mut first, &mut second).err();
-    let place = FileFault {
-        number: 1,
-        cause: FileCause::Place,
-    };
-    assert_eq!(rt; fault, Some(OfficeFault::File(place)));
-    Ok(())
-}
-
-#[test]
 fn how_faults_are_told(rt: HostRuntime) {
-    let place = FileFault {
-        number: 1,
-        cause: FileCause::Place,
+    let short = FileFault {
+        number: 2,
+        cause: FileCause::Length,
+    };
+    let tab = FileFault {
+        number: 10_000_000,
+        cause: FileCause::Byte(20),
     };
     let rows = [
         (
-            Fault::Office(OfficeFault::File(place)),
+            Fault::Office(OfficeFault::File(short)),
             1,
-            "docker: file refused: record 1: Place\n",
+            "docker: file refused: record 2: Length\n",
+        ),
+        (
+            Fault::Office(OfficeFault::File(tab)),
+            1,
+            "docker: file refused: record 10000000: Byte 20\n",
         ),
         (Fault::Office(OfficeFault::NotYet), 1, "docker: not yet\n"),
         (Fault::Job(JobFault::Usage), 2, USAGE),

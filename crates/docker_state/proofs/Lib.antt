@@ -8,3 +8,5 @@ pub mod Lasts
 pub mod Greatest
 pub mod OfFile
 pub mod Given
+pub mod LiveTable
+pub mod OneOfEach

@@ -14,7 +14,7 @@ told text found begins at =
     ∙ sym (feed_behind text 80 begins.0 begins.1)
 
 pub returns-in-Some : goal.returns-in-Some
-returns-in-Some c = record { place = told c.args.text.now (Some c.in-Some.at) (c.begins_with_record.ensures c.if-not-begins_with_record.false) c.in-Some.ensures.place }
+returns-in-Some c = record { place = told c.args.text.now (Some c.in-Some.at) (c.begins_with_record.ensures.0 c.if-not-begins_with_record.false) c.in-Some.ensures.place }
 
 pub returns-in-None : goal.returns-in-None
-returns-in-None c = record { place = told c.args.text.now _ (c.begins_with_record.ensures c.if-not-begins_with_record.false) c.in-None.ensures.place }
+returns-in-None c = record { place = told c.args.text.now _ (c.begins_with_record.ensures.0 c.if-not-begins_with_record.false) c.in-None.ensures.place }

@@ -1,11 +1,11 @@
-use Rattle.std.proofs.Common.{◌≡◌, ◌<◌, ◌≤◌, ◌++◌, length, take, refl, arith, sym, ◌∙◌, ap, subst, true}
+use Rattle.std.proofs.Common.{◌≡◌, ◌<◌, ◌≤◌, ◌++◌, length, take, refl, arith, ◌∙◌, ap, subst}
 use Rattle.std.specs.Prelude.{is_ok}
 use Rattle.std.proofs.lemmas.List.{length-take-le}
-use Rattle.cif_file.specs.Reading.{HasRead, first_place}
 use Rattle.std.proofs.lemmas.Result.{IfOk-weaker}
+use Rattle.cif_file.specs.ParserRead.{HasRead, IsFaultTold}
 use Rattle.cif_line.specs.Device.{IsEnd}
 use Rattle.docker_cmd.specs.Prepared.{most_records}
-use Rattle.docker_cmd.proofs.Reading.{at_start, next_turn, file_read, refused_at_end, refused_over, same_front, over_of}
+use Rattle.docker_cmd.proofs.Reading.{at_start, next_turn, file_read, refused_at_end, refused_before, same_front, bounded, told_apart, told_apart_from_source}
 use Rattle.docker_cmd.proofs.read_file.read_file.Goals as goal
 
 pub loop-init : goal.loop-init
@@ -28,8 +28,7 @@ returns-then-n-eq0-clause-file g c = λ fault is.
     let at = c.loop.invariant.turn in
     let room : 0 < length c.read.new.into = omega (arith, c.loop.invariant.room, c.as_mut_slice.ensures.len, c.read.auto.into) in
     let end : IsEnd (g.S.Source.left c.loop.source) = c.in-Ok-read.ensures.end c.if-n-eq0.true room in
-    let told = c.finished.ensures.file at.text at.read fault is in
-    refused_at_end (g.S.Source.left c.args.source.now) (g.S.Source.left c.loop.source) c.loop.parser c.loop.counter fault at end told.0 told.1
+    refused_at_end (g.S.Source.left c.args.source.now) (g.S.Source.left c.loop.source) c.loop.parser c.loop.counter fault at end (c.finished.ensures.file at.text at.read fault is)
 
 pub returns-in-Err-clause-file : goal.returns-in-Err-clause-file
 returns-in-Err-clause-file g c = λ fault is.
@@ -37,11 +36,19 @@ returns-in-Err-clause-file g c = λ fault is.
     let long : length c.read.new.into ≡ c.loop.piece.len = c.read.auto.into ∙ c.as_mut_slice.ensures.len in
     let same : take c.in-Ok-read.n c.deref.result.now ≡ take c.in-Ok-read.n c.read.new.into =
     same_front c.in-Ok-read.n c.loop.piece.len c.deref.result.now c.read.new.into c.loop.piece.items c.deref.ensures.value long c.in-Ok-read.ensures.within in
-    let over : 410 < length (at.text ++ take c.in-Ok-read.n c.read.new.into) =
-    subst (λ piece. 410 < length (at.text ++ piece)) same (over_of c.feed.result c.in-Err.fault _ (c.feed.ensures.ok most_records at.text at.read) c.in-Err.is) in
-    let first : fault ≡ first_place = (let told : c.in-Err.fault ≡ fault = cc in sym told ∙ c.in-Err.ensures.fault) in
-    refused_over (g.S.Source.left c.args.source.now) (g.S.Source.left c.loop.source) (g.S.Source.left c.read.new.self) c.loop.parser c.loop.counter fault
-    (take c.in-Ok-read.n c.read.new.into) at c.in-Ok-read.ensures.moved over first
+    let told : IsFaultTold most_records (at.text ++ take c.in-Ok-read.n c.read.new.into) c.in-Err.fault =
+    subst (λ piece. IsFaultTold most_records (at.text ++ piece) c.in-Err.fault) same (c.in-Err.ensures.err most_records at.text at.read) in
+    refused_before (g.S.Source.left c.args.source.now) (g.S.Source.left c.loop.source) (g.S.Source.left c.read.new.self) c.loop.parser c.loop.counter
+    (take c.in-Ok-read.n c.read.new.into) c.in-Err.fault fault c.fault_of.result at c.in-Ok-read.ensures.moved told c.fault_of.ensures.memory c.fault_of.ensures.file is
+
+pub returns-in-Err-clause-source : goal.returns-in-Err-clause-source
+returns-in-Err-clause-source g c = told_apart_from_source c.fault_of.result _ _ c.fault_of.ensures.source (c.in-Ok-read.ensures.no_failure ∙ c.loop.invariant.no_failure)
+
+pub returns-in-Err-clause-sink : goal.returns-in-Err-clause-sink
+returns-in-Err-clause-sink g c = told_apart c.fault_of.result _ c.fault_of.ensures.sink
+
+pub returns-in-Err-clause-not_yet : goal.returns-in-Err-clause-not_yet
+returns-in-Err-clause-not_yet g c = told_apart c.fault_of.result _ c.fault_of.ensures.not_yet
 
 pub loop-preserved : goal.loop-preserved
 loop-preserved g c =
@@ -51,9 +58,9 @@ loop-preserved g c =
     same_front c.in-Ok-read.n c.loop.piece.len c.deref.result.now c.read.new.into c.loop.piece.items c.deref.ensures.value long c.in-Ok-read.ensures.within in
     let size : length (take c.in-Ok-read.n c.read.new.into) ≡ c.in-Ok-read.n = length-take-le c.in-Ok-read.n c.read.new.into c.in-Ok-read.ensures.within in
     let some : 0 < length (take c.in-Ok-read.n c.read.new.into) = omega (arith, size, c.if-n-eq0.false) in
-    let ok : is_ok c.feed.result ≡ true = ap is_ok c.in_default-feed.is in
-    let within : length (at.text ++ take c.in-Ok-read.n c.read.new.into) ≤ 410 =
-    subst (λ piece. length (at.text ++ piece) ≤ 410) same ((c.feed.ensures.ok most_records at.text at.read).0 ok) in
+    let within : length (at.text ++ take c.in-Ok-read.n c.read.new.into) ≤ 352187318189 =
+    subst (λ piece. length (at.text ++ piece) ≤ 352187318189) same
+    (bounded (at.text ++ take c.in-Ok-read.n c.deref.result.now) (c.feed.ensures.ok most_records at.text at.read (ap is_ok c.in_default-feed.is))) in
     record {
       turn = next_turn (g.S.Source.left c.args.source.now) (g.S.Source.left c.loop.source) (g.S.Source.left c.read.new.self) c.loop.parser c.feed.new.self c.loop.counter
           (take c.in-Ok-read.n c.read.new.into) at some c.in-Ok-read.ensures.moved

@@ -1,45 +1,43 @@
-use Rattle.std.proofs.Common.{◌≡◌, ℕ, List, [], ◌∷◌, ap, ◌∙◌, sym, subst}
-use Rattle.std.specs.Prelude.{slice_index_or}
-use Rattle.docker_model.specs.Record.{Kind, basic_schedule, origin_location, terminating_location, column}
+use Rattle.std.proofs.Common.{◌≡◌, [], ◌∷◌, None, Some, ap, ◌∙◌, sym, subst}
+use Rattle.docker_model.specs.Record.{basic_schedule, origin_location, terminating_location, column}
 use Rattle.cif_line.specs.View.{IsGood}
-use Rattle.cif_file.specs.OneSchedule.{IsGoodRecord}
-use Rattle.docker_cmd.proofs.FileSchedule.{has_lines, some_lines}
+use Rattle.docker_cmd.specs.OneSchedule.{IsOneSchedule}
+use Rattle.docker_cmd.proofs.FileSchedule.{has_lines, found_of_one, one_schedule_length, good_lines, first_three, one_of_kept}
 use Rattle.docker_cmd.proofs.schedule.schedule_of.Goals as goal
-
-pub unreachable-requires : goal.unreachable-requires
-unreachable-requires c = let has = some_lines c.args.file c.requires in let lines = has.lines in absurd (cc)
-
--- a good record has its kind and good fields
-good : (kind : Kind) (line other : List ℕ) → line ≡ other → IsGoodRecord kind other → IsGood kind line
-good kind line other same is = subst (λ l. IsGood kind l) (sym same) (record { has_kind = is.kind_is; good_fields = is.fields })
 
 pub invariant_of-result : goal.invariant_of-result
 invariant_of-result c =
-    let has = some_lines c.args.file c.requires in
-    let lines = has.lines in
-    let same : c.in-Some.lines ≡ has.bs ∷ has.lo ∷ has.lt ∷ [] = cc in
-    let basic : slice_index_or c.in-Some.lines 0 c.index-lines-0.result ≡ has.bs = ap (λ l. slice_index_or l 0 c.index-lines-0.result) same in
-    let origin : slice_index_or c.in-Some.lines 1 c.index-lines-1.result ≡ has.lo = ap (λ l. slice_index_or l 1 c.index-lines-1.result) same in
-    let terminus : slice_index_or c.in-Some.lines 2 c.index-lines-2.result ≡ has.lt = ap (λ l. slice_index_or l 2 c.index-lines-2.result) same in
+    let has = has_lines c.args.file c.records.ensures.read.records c.in-Some.lines c.records.ensures.read.is_file c.records.ensures.read.of_records (sym c.records.ensures.count ∙ c.if-records-ne-RECORDS.false)
+    (sym c.schedule_lines.ensures ∙ c.in-Some.is) in
+    let good = good_lines has.hd has.bs has.lo has.lt has.zz has.are in
+    let three = first_three c.in-Some.lines _ has.lo has.lt c.index-lines-0.result c.index-lines-1.result c.index-lines-2.result has.lines_are in
     record {
-      basic_good = good basic_schedule _ has.bs basic has.are.good.basic_is;
-      origin_good = good origin_location _ has.lo origin has.are.good.origin_is;
-      terminus_good = good terminating_location _ has.lt terminus has.are.good.terminus_is;
-      new = ap (column 3) basic ∙ has.are.new_permanent.0;
-      permanent = ap (column 80) basic ∙ has.are.new_permanent.1;
+      basic_good = subst (IsGood basic_schedule) (sym three.0) good.basic_good;
+      origin_good = subst (IsGood origin_location) (sym three.1) good.origin_good;
+      terminus_good = subst (IsGood terminating_location) (sym three.2) good.terminus_good;
+      new = ap (column 3) three.0 ∙ good.new;
+      permanent = ap (column 80) three.0 ∙ good.permanent;
     }
 
-pub returns : goal.returns
-returns c = λ records is of.
-    let has = has_lines c.args.file records is of in
-    let lines = has.lines in
-    let same : c.in-Some.lines ≡ has.bs ∷ has.lo ∷ has.lt ∷ [] = cc in
-    let basic : slice_index_or c.in-Some.lines 0 c.index-lines-0.result ≡ has.bs = ap (λ l. slice_index_or l 0 c.index-lines-0.result) same in
-    let origin : slice_index_or c.in-Some.lines 1 c.index-lines-1.result ≡ has.lo = ap (λ l. slice_index_or l 1 c.index-lines-1.result) same in
-    let terminus : slice_index_or c.in-Some.lines 2 c.index-lines-2.result ≡ has.lt = ap (λ l. slice_index_or l 2 c.index-lines-2.result) same in
+pub returns-in-Some-clause-some : goal.returns-in-Some-clause-some
+returns-in-Some-clause-some c = λ records is of.
+    let has = has_lines c.args.file records c.in-Some.lines is of (sym c.records.ensures.count ∙ c.if-records-ne-RECORDS.false) (sym c.schedule_lines.ensures ∙ c.in-Some.is) in
+    let three = first_three c.in-Some.lines _ has.lo has.lt c.index-lines-0.result c.index-lines-1.result c.index-lines-2.result has.lines_are in
     record {
       header = has.hd;
+      first = has.bs;
       trailer = has.zz;
-      whole = has.whole ∙ (λ i. has.hd ∷ sym basic i ∷ sym origin i ∷ sym terminus i ∷ has.zz ∷ []);
-      is = is;
+      whole = has.whole ∙ (λ i. has.hd ∷ has.bs ∷ sym three.1 i ∷ sym three.2 i ∷ has.zz ∷ []);
+      basic_is = three.0;
+      is = subst IsOneSchedule (sym has.whole) (one_of_kept has.hd has.bs has.lo has.lt has.zz has.are);
     }
+
+pub returns-in-None-clause-none : goal.returns-in-None-clause-none
+returns-in-None-clause-none c = λ none records is of one.
+    let found = found_of_one c.args.file records one of in
+    let bad : None ≡ Some found.1.0 = sym c.in-None.is ∙ c.schedule_lines.ensures ∙ found.1.1 in
+    cc
+
+pub returns-then-records-ne-RECORDS-clause-none : goal.returns-then-records-ne-RECORDS-clause-none
+returns-then-records-ne-RECORDS-clause-none c = λ _ records is of one.
+    c.if-records-ne-RECORDS.true (c.records.ensures.count ∙ of.count_is ∙ one_schedule_length records one)

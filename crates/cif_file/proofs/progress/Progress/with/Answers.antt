@@ -1,13 +1,10 @@
 -- A line of no kind goes on with no schedule.
-use Rattle.std.proofs.Common.{ap, sym, ◌∙◌, Some}
+use Rattle.std.proofs.Common.{ap, sym, ◌∙◌}
 use Rattle.std.specs.Prelude.{option_map}
 use Rattle.std.proofs.lemmas.Bool.{false≢true}
-use Rattle.docker_model.specs.Record.{kind_of}
-use Rattle.docker_laws.proofs.FileCauses.{field_cause}
-use Rattle.docker_laws.proofs.ScheduleCauses.{first_line_cause}
 use Rattle.cif_line.specs.Kind.{meaning}
-use Rattle.cif_file.specs.JourneyRead.{kept, stage_then, stage_meant}
-use Rattle.cif_file.proofs.Journeys.{judged_ok, judged_err, iff_along, first_test, next_test, next_cause, cause_by, unknown_kind, out_of_place}
+use Rattle.cif_file.specs.JourneyRead.{kept}
+use Rattle.cif_file.proofs.Journeys.{unknown_kind}
 use Rattle.cif_file.proofs.progress.Progress.with.Goals as goal
 
 pub returns-in-None-clause-err : goal.returns-in-None-clause-err
@@ -18,4 +15,3 @@ returns-in-None-clause-ok c = λ lines has. (
   λ bad. absurd (false≢true bad),
   λ begins. absurd ((unknown_kind (kept c.args.self) lines c.args.line.now has c.bytes-record.ensures.«record» (sym c.kind.ensures ∙ ap (option_map meaning) c.in-None.is)).here begins),
 )
-

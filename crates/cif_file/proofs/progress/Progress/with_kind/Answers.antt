@@ -7,7 +7,7 @@ use Rattle.docker_laws.proofs.FileCauses.{field_cause}
 use Rattle.docker_laws.proofs.ScheduleCauses.{first_line_cause}
 use Rattle.cif_line.specs.Kind.{meaning}
 use Rattle.cif_file.specs.JourneyRead.{kept, stage_then, stage_meant}
-use Rattle.cif_file.proofs.Journeys.{judged_ok, judged_err, iff_along, first_test, next_test, next_cause, cause_by, unknown_kind, out_of_place}
+use Rattle.cif_file.proofs.Journeys.{judged_ok, judged_err, iff_along, first_test, next_test, next_cause, cause_by, out_of_place}
 use Rattle.cif_file.proofs.progress.Progress.with_kind.Goals as goal
 
 pub returns-in_default-clause-ok : goal.returns-in_default-clause-ok
