@@ -26,6 +26,12 @@ pub record HasCounted (state : Records) (limit : ℕ) (records : Lines) : Type 0
   pub within : length records ≤ limit
   pub has : HasRecords state.front records
 
+-- some records were taken, within some limit
+pub record HasCountedSome (state : Records) : Type 0 where
+  pub limit : ℕ
+  pub records : Lines
+  pub has : HasCounted state limit records
+
 -- a record is at fault behind these, for this cause
 pub record IsCauseNext (limit : ℕ) (records : Lines) (line : List ℕ) (cause : model.FileCause) : Type 0 where
   pub place : law.Place
@@ -56,6 +62,12 @@ pub record IsReading (reading : Reading) (limit : ℕ) (text : List ℕ) : Type 
   pub partial_is : reading.partial.items ≡ open_line text
   pub short : length (open_line text) ≤ 81
 
+-- the same, of some text under some limit
+pub record IsReadingSome (reading : Reading) : Type 0 where
+  pub limit : ℕ
+  pub text : List ℕ
+  pub is : IsReading reading limit text
+
 -- the cause that a fault tells is that of the first record at fault which is told; or memory was wanting at a record that is told
 abbrev pub IsToldSoFar : ℕ → List ℕ → ℕ → Option model.FileCause → Type 0
 IsToldSoFar limit text number None = (0 < number) × (number ≤ lines_told text)
@@ -84,6 +96,12 @@ IsReadingOrFault reading limit text (Some fault) = IsFaultTold limit text fault
 -- the parser was fed this text, under this limit on records
 abbrev pub HasRead : ParserState → ℕ → List ℕ → Type 0
 HasRead parser limit text = IsReadingOrFault parser.reading limit text parser.fault
+
+-- the parser was fed some text, under some limit
+pub record WasFed (parser : ParserState) : Type 0 where
+  pub limit : ℕ
+  pub text : List ℕ
+  pub read : HasRead parser limit text
 
 -- the text is one of a file of at most so many records, and what was read tells of those
 pub record IsOfFileText (file : FileRead) (limit : ℕ) (text : List ℕ) : Type 0 where

@@ -1,5 +1,5 @@
 -- What the reader of a file's records has read.
-use Rattle.std.specs.Prelude.{◌≡◌, ℕ, ◌+◌, ◌<◌, true, false, List, [], ◌∷◌, ◌++◌, length, map, Option, Some, None, ⊤, if◌then◌else◌}
+use Rattle.std.specs.Prelude.{◌≡◌, ℕ, ◌+◌, ◌<◌, ◌≤◌, true, false, List, [], ◌∷◌, ◌++◌, length, map, Option, Some, None, ⊤, if◌then◌else◌}
 use Rattle.docker_model.specs.Record.{IsRecord, kind_of}
 use Rattle.docker_model.specs.Stamp.{first_record}
 use Rattle.docker_model.specs.Change.{changes, schedule_named, schedule_body, delete, put, as_new, follows_basic}
@@ -58,6 +58,13 @@ pub record HasRecords (front : Front) (records : Lines) : Type 0 where
   pub at : IsPlaceOf records place
   pub header_is : front.header ≡ header_of records
   pub kept_are : IsKept front.place front.lines.items (map change_meant front.changes.items) place records
+
+-- the reader has taken so many records, and no more than can be numbered
+pub record HasRecordsCounted (front : Front) (count : ℕ) : Type 0 where
+  pub records : Lines
+  pub has : HasRecords front records
+  pub counted : count ≡ length records
+  pub few : count ≤ 4_294_967_294
 
 -- all units of the records are whole, and their changes were made: what begins anew may follow
 pub record IsOver (front : Front) (records : Lines) : Type 0 where

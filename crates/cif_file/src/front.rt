@@ -8,7 +8,7 @@ ghost use Rattle.docker_laws.proofs.FilePlace.{unit_by_kind};
 ghost use Rattle.cif_line.specs.Kind.{meaning};
 ghost use Rattle.cif_file.specs.Meaning.{cause_meant, change_meant};
 ghost use Rattle.cif_file.specs.FileRead.{IsOfRecords};
-ghost use Rattle.cif_file.specs.RecordsRead.{HasRecords, IsOver, IsNoNextTold, StandsBefore, IsWholeBy, change_opened};
+ghost use Rattle.cif_file.specs.RecordsRead.{HasRecords, HasRecordsCounted, IsOver, IsNoNextTold, StandsBefore, IsWholeBy, change_opened};
 
 use crate::change::Change;
 use crate::fault::FileCause;
@@ -85,6 +85,7 @@ impl Front {
 
     /// The file that the records are, if the trailer was read; `count` is how many there are.
     pub(crate) fn into_file(self, count: u32) -> Option<CifFile>
+        requires { HasRecordsCounted self count }
         ensures { (records : List (List ℕ)) → HasRecords self records → count ≡ length records → MatchOption result (¬ IsFile records) (λ file. IsFile records × IsOfRecords file records) }
     {
         let Front {

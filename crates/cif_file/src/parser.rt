@@ -3,7 +3,7 @@ ghost use Rattle.std.specs.Prelude.{◌≡◌, ℕ, ◌+◌, ◌≤◌, ◌↔�
 ghost use Rattle.docker_model.specs.FaultSoFar.{IsFaultSoFar};
 ghost use Rattle.docker_model.specs.FileFault as model;
 ghost use Rattle.docker_laws.proofs.ToldLines.{HasNoFeed};
-ghost use Rattle.cif_file.specs.ParserRead.{IsOfFileText, HasRead, HasFailed, IsReading, IsFaultTold, IsRefused};
+ghost use Rattle.cif_file.specs.ParserRead.{IsOfFileText, HasRead, HasFailed, IsReading, IsReadingSome, IsFaultTold, IsRefused};
 
 use crate::fault::FileFault;
 use crate::file::CifFile;
@@ -78,6 +78,7 @@ impl Reading {
 
     /// The file that the bytes are.
     fn end(self) -> Result<CifFile, FileFault>
+        requires { IsReadingSome self }
         ensures ok { (limit : ℕ) (text : List ℕ) → IsReading self limit text → IfOk result (λ file. IsOfFileText file limit text) }
         ensures err { (limit : ℕ) (text : List ℕ) → IsReading self limit text → IfErr result (λ fault. IsRefused limit text fault) }
     {
@@ -103,11 +104,13 @@ pub struct FileParser {
 }
 
 impl Model for FileParser {
-    ghost use Rattle.cif_file.specs.ParserRead.{ParserState};
+    ghost use Rattle.cif_file.specs.ParserRead.{ParserState, WasFed};
 
     ghost Value = { ParserState };
 
     ghost view = { λ parser. record { reading = parser.reading; fault = parser.fault } };
+
+    ghost invariant = { λ parser. WasFed (record { reading = parser.reading; fault = parser.fault }) };
 }
 
 impl FileParser {

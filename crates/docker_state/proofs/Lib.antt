@@ -8,3 +8,4 @@ pub mod Lasts
 pub mod Greatest
 pub mod OfFile
 pub mod Given
+pub mod LiveTable

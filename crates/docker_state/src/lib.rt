@@ -14,3 +14,6 @@ pub use item::LedgerItem;
 pub use live::Live;
 pub use parts::Parts;
 pub use state::State;
+
+#[cfg(test)]
+mod tests;

@@ -1,14 +1,15 @@
 //! The state of files.
-ghost use Rattle.std.specs.Prelude.{◌≡◌, ℕ, List, [], ◌∷◌, map, IfOk, IfErr};
-ghost use Rattle.docker_model.specs.State.{entry_at, IsValid};
+ghost use Rattle.std.specs.Prelude.{◌≡◌, ℕ, List, [], ◌∷◌, ◌++◌, ◌↔◌, map, Contains, IfOk, IfErr};
+ghost use Rattle.docker_model.specs.Change as model;
+ghost use Rattle.docker_model.specs.State.{entry_at, live_table, IsValid, IsJoin};
 ghost use Rattle.std.specs.Option.{option_copied, option_map};
 ghost use Rattle.cif_file.specs.Meaning.{key_meant};
 ghost use Rattle.docker_model.specs.Stamp.{IsFloor};
 ghost use Rattle.docker_join.specs.Meaning.{entry_meant, file_stamp_meant};
-ghost use Rattle.docker_model.specs.Summary.{IsSummary};
+ghost use Rattle.docker_model.specs.Summary.{IsSummary, HaveDistinctMoments};
+ghost use Rattle.docker_model.specs.Table.{IsPlainTable};
 ghost use Rattle.cif_file.specs.FileRead.{IsOfRecords};
-ghost use Rattle.docker_state.specs.Live.{live_rows};
-ghost use Rattle.docker_state.specs.Read.{IsRead};
+ghost use Rattle.docker_state.specs.Live.{live_rows, AreInKeyOrder};
 ghost use Rattle.docker_state.specs.Meaning.{item_meant, row_meant, state_meant};
 
 use crate::floor::{common_floor, first_full};
@@ -55,7 +56,8 @@ impl State {
 
     /// The state of no file.
     pub fn empty(alloc: Global) -> State
-        ensures { result ≡ record { ledger = []; entries = [] } }
+        ensures empty { result ≡ record { ledger = []; entries = [] } }
+        ensures summary { IsSummary [] result }
     {
         State {
             ledger: Vec::new(alloc),
@@ -65,7 +67,6 @@ impl State {
 
     /// The state of the one file. Want of memory, before the file was taken apart, hands it back as it was.
     pub fn of_file(alloc: Global, file: CifFile) -> Result<State, CifFile>
-        requires { IsRead file }
         ensures ok { (records : List (List ℕ)) → IsOfRecords file records → IfOk result (IsSummary (records ∷ [])) }
         ensures err { IfErr result (λ back. back ≡ file) }
     {
@@ -89,6 +90,7 @@ impl State {
     /// The ledger items, ascending.
     pub fn ledger(&self) -> &[LedgerItem]
         ensures items { map item_meant result.now ≡ self.now.ledger }
+        ensures valid { IsValid self.now }
     {
         self.ledger.as_slice()
     }
@@ -108,9 +110,12 @@ impl State {
         self.entries.get(key)
     }
 
-    /// The keys that are put, each with its body, in the order of the keys.
+    /// The live table: the keys that are put, each with its body, in the order of the keys.
     pub fn live(&self) -> Live<'_>
-        ensures { result ≡ live_rows self.now.entries }
+        ensures rows { result ≡ live_rows self.now.entries }
+        ensures table { (key : model.Key) (body : model.Body) → Contains result (key, body) ↔ (live_table self.now key ≡ Some body) }
+        ensures ascending { AreInKeyOrder result }
+        ensures plain { (files : List (List (List ℕ))) → IsSummary files self.now → HaveDistinctMoments files → IsPlainTable files (live_table self.now) }
     {
         Live::of(self.entries.as_slice())
     }
@@ -147,7 +152,12 @@ impl Merge for State {
     ghost idempotent = { join_idempotent };
 
     /// The join of two states: the union of their ledgers kept under its floor, and of each key the greater entry kept under the same floor. Want of memory, before anything was moved, hands both back as they were.
-    fn join(self, alloc: Global, other: State) -> Result<State, (State, State)> {
+    fn join(self, alloc: Global, other: State) -> Result<State, (State, State)>
+        ensures ok { IfOk result (IsJoin self other) }
+        ensures err { IfErr result (λ both. (both.0 ≡ self) × (both.1 ≡ other)) }
+        ensures summary { (files others : List (List (List ℕ))) → IsSummary files self → IsSummary others other
+            → IfOk result (IsSummary (files ++ others)) }
+    {
         let Some(items) = room_for(alloc, self.ledger.len(), other.ledger.len()) else {
             return Err((self, other));
         };

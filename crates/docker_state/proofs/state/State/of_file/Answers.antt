@@ -16,22 +16,22 @@ pub made_rows-made-requires-clause-room : goal.made_rows-made-requires-clause-ro
 made_rows-made-requires-clause-room c =
     let one = length-map c.changes-count.result.now change_meant in
     let two = length-map c.into_changes.result.items change_meant in
-    let same = ap length (c.changes-count.ensures ∙ sym c.into_changes.ensures) in
+    let same = ap length (c.changes-count.ensures.changes ∙ sym c.into_changes.ensures) in
     let room = c.in-Ok-with_capacity.ensures.capacity in
     let size = c.into_changes.result.ok.0 in
     omega arith
 
 pub greatest_rows-requires-clause-records : goal.greatest_rows-requires-clause-records
 greatest_rows-requires-clause-records c =
-    made_records c.requires.records c.requires.is_file c.requires.few c.made_rows-made.result.items
-    (made_of_file c.args.file c.header.result c.header.ensures c.item_of-item.result c.item_of-item.ensures c.requires.records c.requires.of_records
+    made_records c.changes-count.ensures.read.records c.changes-count.ensures.read.is_file c.changes-count.ensures.read.few c.made_rows-made.result.items
+    (made_of_file c.args.file c.header.result c.header.ensures c.item_of-item.result c.item_of-item.ensures c.changes-count.ensures.read.records c.changes-count.ensures.read.of_records
     c.stamp.result c.stamp.ensures c.into_changes.result.items c.into_changes.ensures c.made_rows-made.result.items c.made_rows-made.ensures.made)
 
 pub greatest_rows-requires-clause-room : goal.greatest_rows-requires-clause-room
 greatest_rows-requires-clause-room c =
     let one = length-map c.changes-count.result.now change_meant in
     let two = length-map c.into_changes.result.items change_meant in
-    let same = ap length (c.changes-count.ensures ∙ sym c.into_changes.ensures) in
+    let same = ap length (c.changes-count.ensures.changes ∙ sym c.into_changes.ensures) in
     let room = c.in-Ok-with_capacity-2.ensures.capacity in
     let size = c.into_changes.result.ok.0 in
     let made = c.made_rows-made.ensures.len in
@@ -39,16 +39,16 @@ greatest_rows-requires-clause-room c =
 
 pub invariant_of-result : goal.invariant_of-result
 invariant_of-result c =
-    file_valid c.requires.records c.push_within.new.items.items
-    (ledger_of_file c.args.file c.header.result c.header.ensures c.item_of-item.result c.item_of-item.ensures c.requires.records c.requires.of_records
+    file_valid c.changes-count.ensures.read.records c.push_within.new.items.items
+    (ledger_of_file c.args.file c.header.result c.header.ensures c.item_of-item.result c.item_of-item.ensures c.changes-count.ensures.read.records c.changes-count.ensures.read.of_records
     c.in-Ok.ledger.items c.push_within.new.items.items c.in-Ok.ensures.items c.push_within.ensures.items)
     c.made_rows-made.result.items c.from_rows-entries.result
-    (made_of_file c.args.file c.header.result c.header.ensures c.item_of-item.result c.item_of-item.ensures c.requires.records c.requires.of_records
+    (made_of_file c.args.file c.header.result c.header.ensures c.item_of-item.result c.item_of-item.ensures c.changes-count.ensures.read.records c.changes-count.ensures.read.of_records
     c.stamp.result c.stamp.ensures c.into_changes.result.items c.into_changes.ensures c.made_rows-made.result.items c.made_rows-made.ensures.made)
     (subst (λ (rows : List (Key × Entry)). AreAscending rows) (sym c.from_rows-entries.ensures) c.greatest_rows.ensures.ascending)
     (subst (λ (rows : List (Key × Entry)). (key : model.Key) (entry : ops.Entry) → Contains (map row_meant rows) (key, entry) ↔ IsGreatestAmong (map row_meant c.made_rows-made.result.items) key entry)
     (sym c.from_rows-entries.ensures) c.greatest_rows.ensures.greatest)
-    c.requires.is_file c.requires.few
+    c.changes-count.ensures.read.is_file c.changes-count.ensures.read.few
 
 pub returns-clause-ok : goal.returns-clause-ok
 returns-clause-ok c = λ records of.

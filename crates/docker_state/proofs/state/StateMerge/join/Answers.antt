@@ -7,6 +7,7 @@ use Rattle.docker_model.specs.Stamp.{IsFloor, IsKept}
 use Rattle.docker_model.specs.Op as ops
 use Rattle.docker_model.specs.State.{State, IsJoin}
 use Rattle.docker_laws.proofs.JoinValid.{join_is_valid}
+use Rattle.docker_laws.proofs.UnionSummary.{join_is_summary}
 use Rattle.cif_file.specs.declared.key.Key.{Key}
 use Rattle.docker_join.specs.declared.entry.Entry.{Entry}
 use Rattle.docker_join.specs.Meaning.{file_stamp_meant}
@@ -55,3 +56,7 @@ returns-in-Ok-clause-ok c =
     (subst (λ (ys : List (Key × Entry)). (key : model.Key) (entry : ops.Entry) → Contains (map row_meant ys) (key, entry) ↔ (Contains (map row_meant c.in-Ok.joined) (key, entry) × IsKept (option_map file_stamp_meant c.common_floor-floor.result) entry.stamp.file)) (sym c.from_rows-entries.ensures)
     (subst (λ (xs : List (Key × Entry)). (key : model.Key) (entry : ops.Entry) → Contains (map row_meant c.kept_rows-rows.result.items) (key, entry) ↔ (Contains (map row_meant xs) (key, entry) × IsKept (option_map file_stamp_meant c.common_floor-floor.result) entry.stamp.file)) c.into_rows.ensures.rows
     c.kept_rows-rows.ensures.members))))
+
+pub returns-in-Ok-clause-summary : goal.returns-in-Ok-clause-summary
+returns-in-Ok-clause-summary c = λ files others one two.
+    join_is_summary files others c.args.self c.args.other (state_meant c.kept_items-ledger.result.items c.from_rows-entries.result) one two (returns-in-Ok-clause-ok c)
