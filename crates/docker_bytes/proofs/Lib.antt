@@ -1,3 +1,8 @@
 pub mod Gathering
 pub mod WrittenText
 pub mod TextLength
+pub mod LastAbove
+pub mod ItemTold
+pub mod KeyTold
+pub mod LineTold
+pub mod Stepping

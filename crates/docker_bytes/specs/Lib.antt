@@ -1,2 +1,6 @@
 pub mod Written
 pub mod Entries
+pub mod Place
+pub mod FaultMeaning
+pub mod Judged
+pub mod Lines
