@@ -6,3 +6,5 @@ pub mod ItemTold
 pub mod KeyTold
 pub mod LineTold
 pub mod Stepping
+pub mod PartByPart
+pub mod WholeText

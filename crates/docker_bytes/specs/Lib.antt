@@ -4,3 +4,5 @@ pub mod Place
 pub mod FaultMeaning
 pub mod Judged
 pub mod Lines
+pub mod Reading
+pub mod ParserRead

@@ -48,3 +48,12 @@ pub struct StateFault {
     /// What is wrong there.
     pub cause: StateCause,
 }
+
+/// Whether the text of a state is whole.
+#[derive(Clone, Copy, PartialEq, Eq, Debug)]
+pub enum Step {
+    /// The last byte of the state has come.
+    Done,
+    /// More bytes are to come.
+    More,
+}

@@ -9,12 +9,15 @@ mod fields;
 mod item;
 mod key;
 mod length;
+mod parser;
 mod place;
+mod reading;
 mod schedule;
 mod stamp;
 mod step;
 mod write;
 
-pub use fault::{StateCause, StateFault};
+pub use fault::{StateCause, StateFault, Step};
 pub use length::encoded_len;
+pub use parser::StateParser;
 pub use write::write_state;
