@@ -1,6 +1,6 @@
 -- What the bytes of a ledger item tell.
-use Rattle.std.proofs.Common.{◌≡◌, ℕ, ◌+◌, ◌-◌, ◌<◌, ◌≤◌, List, [], ◌∷◌, length, take, drop, refl, ap, sym, ◌∙◌, subst, inl, inr, ◌⊎◌, arith, true, false, length-drop}
-use Rattle.std.specs.Prelude.{slice_range, slice_index, slice_get, option_map, Some, ◌==◌, ◌||◌, IsTrue, ◌↔◌, All, map, Bool}
+use Rattle.std.proofs.Common.{◌≡◌, ℕ, ◌+◌, ◌-◌, ◌<◌, ◌≤◌, List, length, take, drop, refl, ap, ◌∙◌, subst, arith, true, length-drop}
+use Rattle.std.specs.Prelude.{slice_range, slice_index, slice_get, option_map, Some, ◌==◌, ◌||◌, IsTrue, ◌↔◌, map, Bool}
 use Rattle.std.specs.List.{AllPass}
 use Rattle.std.specs.Int.{w16, from_be_bytes}
 use Rattle.std.specs.Ordering.{is_lt}
@@ -16,7 +16,7 @@ use Rattle.docker_laws.proofs.Orders.{ledger_item_total}
 use Rattle.cif_line.specs.declared.letter.Extract.{Extract}
 use Rattle.cif_line.specs.declared.letter.Extract.TheVariants as letter
 use Rattle.cif_line.specs.Letter.{extract_letter}
-use Rattle.docker_bytes.proofs.LastAbove.{above_last, above_none}
+use Rattle.docker_bytes.proofs.LastAbove.{above_last}
 
 pub range_length : (bytes : List ℕ) (from n : ℕ) → from + n ≤ length bytes → length (slice_range bytes from (from + n)) ≡ n
 range_length bytes from n within =

@@ -1,6 +1,6 @@
 -- Of an ascending list all are below what its last element is below.
-use Rattle.std.proofs.Common.{◌≡◌, ℕ, suc, ◌-◌, ◌<◌, List, [], ◌∷◌, length, refl, ap, sym, ◌∙◌, subst, inl, inr, ◌⊎◌, arith, Bool, true, false, All, Some, None}
-use Rattle.std.specs.Prelude.{Option, slice_get, IsTrue, ◌↔◌}
+use Rattle.std.proofs.Common.{◌≡◌, suc, ◌-◌, List, [], ◌∷◌, length, refl, ap, sym, ◌∙◌, subst, inl, inr, ◌⊎◌, arith, Bool, true, All, Some, None}
+use Rattle.std.specs.Prelude.{slice_get, IsTrue, ◌↔◌}
 use Rattle.std.specs.List.{AllByRecursion}
 use Rattle.std.specs.Ordering.{is_lt, on}
 use Rattle.std.specs.declared.cmp.Ordering.{Ordering}

@@ -8,3 +8,4 @@ pub mod LineTold
 pub mod Stepping
 pub mod PartByPart
 pub mod WholeText
+pub mod SourceReading

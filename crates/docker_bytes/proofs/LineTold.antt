@@ -1,12 +1,11 @@
 -- What is found of the lines of a schedule.
-use Rattle.std.proofs.Common.{◌≡◌, ℕ, List, [], ◌∷◌, ◌++◌, length, refl, ap, sym, ◌∙◌, subst, inl, inr, ◌⊎◌, append_assoc}
+use Rattle.std.proofs.Common.{◌≡◌, ℕ, List, [], ◌∷◌, ◌++◌, length, refl, ap, sym, ◌∙◌, subst, inl, inr, ◌⊎◌}
 use Rattle.std.proofs.lemmas.List.Elements.{recursion_from_All}
 use Rattle.docker_model.specs.Record.{IsRecord, HasKind, basic_schedule}
 use Rattle.docker_model.specs.Field.{HasGoodFields}
-use Rattle.docker_model.specs.Change.{ScheduleKey, schedule_named, schedule_key}
+use Rattle.docker_model.specs.Change.{ScheduleKey}
 use Rattle.docker_model.specs.Stamp.{first_record}
 use Rattle.docker_model.specs.File.{IsSchedule, BeginsSchedule}
-use Rattle.docker_model.specs.State.{HasNewTransaction}
 use Rattle.docker_model.specs.StateFault.{AreLinesOf, AreLinesUpTo}
 use Rattle.docker_laws.proofs.StateReach.{all_front, all_behind}
 use Rattle.docker_bytes.specs.Judged.{IsFirstOf}

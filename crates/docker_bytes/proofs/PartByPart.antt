@@ -1,8 +1,8 @@
 -- Reading part by part.
-use Rattle.std.proofs.Common.{◌≡◌, ℕ, zero, suc, ◌+◌, ◌-◌, ◌<◌, ◌≤◌, List, [], ◌∷◌, ◌++◌, length, take, drop, get_or, refl, ap, sym, ◌∙◌, subst, inl, inr, ◌⊎◌, arith, Bool, true, false, cond, nat_le, append_assoc, append-nil, length-append, Some, None}
+use Rattle.std.proofs.Common.{◌≡◌, ℕ, zero, suc, ◌+◌, ◌-◌, ◌<◌, ◌≤◌, List, [], ◌∷◌, ◌++◌, length, take, get_or, refl, ap, sym, ◌∙◌, subst, inl, inr, ◌⊎◌, arith, Bool, true, false, cond, nat_le, append_assoc, append-nil, length-append, Some, None}
 use Rattle.std.specs.Prelude.{Option, slice_index}
 use Rattle.std.specs.Int.{w32, w64, from_be_bytes}
-use Rattle.docker_model.specs.Change.{tiploc_key, association_key, schedule_key, tiploc_body, association_body, schedule_body, Key, ScheduleKey}
+use Rattle.docker_model.specs.Change.{tiploc_key, association_key, schedule_key, tiploc_body, association_body, schedule_body, ScheduleKey}
 use Rattle.docker_model.specs.Op.{put_with, deleted}
 use Rattle.docker_model.specs.Stamp.{Stamp, LedgerItem}
 use Rattle.docker_model.specs.State.{State}
@@ -11,11 +11,11 @@ use Rattle.docker_model.specs.StateFault.{StateCause, too_short, EntryPart, befo
 use Rattle.docker_laws.proofs.StateBytes.{AreBytes}
 use Rattle.docker_laws.proofs.StateFaultStays.{bad_part_stays, long_stays}
 use Rattle.std.proofs.Math.Seq.{take-append_seam}
-use Rattle.docker_laws.proofs.StateRun.{next, after_items, after_entries, after_lines, after_op, after_body, with_entry}
+use Rattle.docker_laws.proofs.StateRun.{next, after_items, after_entries, after_lines, after_op, with_entry}
 use Rattle.docker_laws.proofs.StateWalk.{Judged, Good, judge}
 use Rattle.docker_bytes.specs.declared.reading.Reading.{Reading}
 use Rattle.docker_bytes.specs.FaultMeaning.{IsBadHere}
-use Rattle.docker_bytes.specs.Place.{begins_item, LeadsTo, IsReady}
+use Rattle.docker_bytes.specs.Place.{begins_item, LeadsTo}
 use Rattle.docker_bytes.specs.Reading.{before_of, text_of, IsReading, ReadsOn, IsToldSoFar, IsOpen}
 
 -- what of a piece stands before a rest of it

@@ -1,11 +1,11 @@
 -- From a part to the next: ledger items and lines.
-use Rattle.std.proofs.Common.{◌≡◌, ℕ, ◌+◌, ◌-◌, ◌<◌, ◌≤◌, ◌^◌, List, [], ◌∷◌, ◌++◌, length, refl, ap, sym, ◌∙◌, subst, inl, inr, ◌⊎◌, arith, length-append, Ok, Err}
+use Rattle.std.proofs.Common.{◌≡◌, ℕ, ◌-◌, ◌<◌, ◌≤◌, ◌^◌, List, [], ◌∷◌, ◌++◌, length, ap, sym, ◌∙◌, subst, arith, length-append, Ok, Err}
 use Rattle.std.specs.Prelude.{Result, IfOk}
 use Rattle.docker_model.specs.Change.{ScheduleKey, schedule_key, schedule_body}
 use Rattle.docker_model.specs.Stamp.{LedgerItem, Stamp}
 use Rattle.docker_model.specs.Op.{put_with}
 use Rattle.docker_model.specs.State.{State, IsLedger, IsScheduleOf}
-use Rattle.docker_model.specs.StateFault.{in_entry, before_line, Before, AreLinesUpTo, IsPartHere}
+use Rattle.docker_model.specs.StateFault.{in_entry, before_line, AreLinesUpTo, IsPartHere}
 use Rattle.docker_laws.proofs.StateRun.{next, after_lines, after_entries, with_entry}
 use Rattle.docker_laws.proofs.StateSteps.{more_lines, all_lines}
 use Rattle.docker_laws.proofs.StateWalk.{one_item_more}

@@ -2,7 +2,7 @@
 use Rattle.std.proofs.Common.{◌≡◌, ℕ, ◌<◌, ◌≤◌, List, [], ◌∷◌, ◌++◌, length, refl, ap, sym, ◌∙◌, subst, inl, inr, ◌⊎◌, arith, append-nil, length-append}
 use Rattle.docker_model.specs.State.{State}
 use Rattle.docker_model.specs.StateText.{state_text}
-use Rattle.docker_model.specs.StateFault.{Before, at_end, before_mark, items_before, text_before, width, AreGood, too_short, StateFault, IsShort, IsStateText}
+use Rattle.docker_model.specs.StateFault.{at_end, items_before, text_before, width, AreGood, too_short, IsStateText}
 use Rattle.docker_laws.proofs.StateWalk.{end_or_part}
 use Rattle.docker_laws.proofs.OneStateFault.{no_fault_of_state}
 use Rattle.docker_bytes.specs.declared.place.Place.{Place}

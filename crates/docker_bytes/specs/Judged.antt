@@ -1,5 +1,5 @@
 -- What is found of a part.
-use Rattle.std.specs.Prelude.{◌≡◌, ℕ, List, Option, Some, None, Result, Ok, Err, ⊤}
+use Rattle.std.specs.Prelude.{◌≡◌, ℕ, List, Option, Some, None, Result, Ok, Err}
 use Rattle.docker_model.specs.Stamp as stamps
 use Rattle.docker_model.specs.Change as model
 use Rattle.docker_model.specs.State.{State, IsGoodItem, IsGoodKey, HasNewTransaction}

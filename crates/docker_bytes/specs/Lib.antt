@@ -6,3 +6,4 @@ pub mod Judged
 pub mod Lines
 pub mod Reading
 pub mod ParserRead
+pub mod SourceRead

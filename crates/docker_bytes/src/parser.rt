@@ -65,6 +65,16 @@ impl StateParser {
         }
     }
 
+    /// How many bytes were read.
+    pub(crate) fn offset(&self) -> u64
+        ensures { (limit : ℕ) (text : List ℕ) → HasRead self.now limit text → result ≡ length text }
+    {
+        if self.fault.is_some() {
+            return 0;
+        }
+        self.reading.offset()
+    }
+
     /// The state whose text was read. `Short` where the text ends before the state does, at the item that is not whole. After a fault of `feed` it is that fault.
     pub fn finish(self) -> Result<State, StateFault>
         ensures ok { (limit : ℕ) (text : List ℕ) → HasRead self limit text → IfOk result (λ state. IsStateText limit text state) }

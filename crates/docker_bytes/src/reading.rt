@@ -58,6 +58,14 @@ impl Reading {
         }
     }
 
+    /// How many bytes were read.
+    pub(crate) fn offset(&self) -> u64
+        requires { IsReading self.now }
+        ensures { result ≡ length (text_of self.now) }
+    {
+        self.reached + self.partial.len() as u64
+    }
+
     /// Whether the state is whole.
     pub(crate) fn is_done(&self) -> bool
         ensures { IsTrue result ↔ (width (before_of self.now) ≡ 0) }

@@ -1,5 +1,4 @@
-use Rattle.std.proofs.Common.{sym, ap, ◌∙◌}
-use Rattle.std.specs.Option.{option_copied}
+use Rattle.std.proofs.Common.{sym}
 use Rattle.docker_state.specs.Meaning.{item_meant}
 use Rattle.docker_bytes.proofs.ItemTold.{items_above}
 use Rattle.docker_bytes.proofs.item.is_above.Goals as goal

@@ -1,4 +1,4 @@
-use Rattle.std.proofs.Common.{refl, sym, ◌∙◌}
+use Rattle.std.proofs.Common.{refl, ◌∙◌}
 use Rattle.docker_bytes.specs.Place.{schedule_meant}
 use Rattle.docker_bytes.proofs.LineTold.{lines_up_to}
 use Rattle.docker_bytes.proofs.schedule.judged_line.Goals as goal

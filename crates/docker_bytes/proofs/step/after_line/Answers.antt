@@ -1,6 +1,6 @@
-use Rattle.std.proofs.Common.{refl, ◌∙◌, ◌≤◌, length, subst, sym, arith}
+use Rattle.std.proofs.Common.{refl, ◌∙◌, arith}
 use Rattle.docker_join.specs.Meaning.{stamp_meant}
-use Rattle.docker_bytes.specs.Place.{schedule_meant, LeadsTo}
+use Rattle.docker_bytes.specs.Place.{schedule_meant}
 use Rattle.docker_bytes.proofs.Stepping.{both_ok, more_to_come, all_there, whole_schedule}
 use Rattle.docker_bytes.proofs.step.after_line.Goals as goal
 

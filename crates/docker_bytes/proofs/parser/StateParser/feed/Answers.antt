@@ -1,4 +1,4 @@
-use Rattle.std.proofs.Common.{◌≡◌, sym, ap, ◌∙◌, true, false}
+use Rattle.std.proofs.Common.{◌≡◌, sym, ap, true, false}
 use Rattle.docker_bytes.specs.ParserRead.{ParserState}
 use Rattle.docker_bytes.proofs.WholeText.{not_whole_yet}
 use Rattle.docker_bytes.proofs.parser.StateParser.feed.Goals as goal

@@ -1,4 +1,4 @@
-use Rattle.std.proofs.Common.{◌≡◌, sym, subst, arith, ◌∙◌}
+use Rattle.std.proofs.Common.{◌≡◌, sym, subst, arith}
 use Rattle.docker_model.specs.StateFault.{width, IsStateText}
 use Rattle.docker_bytes.specs.Reading.{before_of, text_of}
 use Rattle.docker_bytes.proofs.WholeText.{whole_text}

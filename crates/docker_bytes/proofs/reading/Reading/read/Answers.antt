@@ -1,4 +1,4 @@
-use Rattle.std.proofs.Common.{refl, ◌-◌, ◌<◌, ◌+◌, length, arith}
+use Rattle.std.proofs.Common.{refl, ◌<◌, ◌+◌, length, arith}
 use Rattle.docker_model.specs.StateFault.{width}
 use Rattle.docker_bytes.specs.FaultMeaning.{cause_meant}
 use Rattle.docker_bytes.specs.Reading.{before_of}

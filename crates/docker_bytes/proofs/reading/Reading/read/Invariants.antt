@@ -1,6 +1,5 @@
 -- The bytes before the rest were read.
-use Rattle.std.proofs.Common.{◌≡◌, ℕ, List, ◌++◌, length}
-use Rattle.docker_bytes.specs.declared.reading.Reading.{Reading}
+use Rattle.std.proofs.Common.{◌≡◌, ◌++◌, length}
 use Rattle.docker_bytes.specs.Reading.{ReadsOn}
 use Rattle.docker_bytes.proofs.PartByPart.{before_rest}
 use Rattle.docker_bytes.proofs.reading.Reading.read.Given as goal
