@@ -23,3 +23,6 @@ pub use length::encoded_len;
 pub use parser::StateParser;
 pub use read::{ReadFault, read_state};
 pub use write::write_state;
+
+#[cfg(test)]
+mod tests;
