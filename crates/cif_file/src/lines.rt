@@ -25,7 +25,8 @@ impl Model for Lines {
 }
 
 impl Lines {
-    pub(crate) fn of(lines: Vec<Line>) -> Lines
+    /// These lines.
+    pub fn of(lines: Vec<Line>) -> Lines
         ensures { result ≡ lines.items }
     {
         Lines { lines }

@@ -5,7 +5,7 @@ ghost use Rattle.docker_model.specs.State.{IsLedger, IsOpOf};
 ghost use Rattle.docker_model.specs.StateFault.{IsStampHere};
 ghost use Rattle.cif_file.specs.Meaning.{key_meant};
 ghost use Rattle.docker_join.specs.Meaning.{entry_meant};
-ghost use Rattle.docker_state.specs.Meaning.{item_meant};
+ghost use Rattle.docker_state.specs.Meaning.{item_meant, row_meant};
 ghost use Rattle.docker_state.specs.Parts.{last_key};
 
 use crate::item::LedgerItem;
@@ -73,6 +73,13 @@ impl Parts {
         ensures { map item_meant result.now ≡ self.now.ledger }
     {
         self.ledger.as_slice()
+    }
+
+    /// The entries given so far, each with its key, in the order of the keys.
+    pub fn entries(&self) -> &[(Key, Entry)]
+        ensures { map row_meant result.now ≡ self.now.entries }
+    {
+        self.entries.as_slice()
     }
 
     /// The key of the last entry given. None where there is none yet.

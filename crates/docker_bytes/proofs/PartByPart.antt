@@ -1,0 +1,251 @@
+-- Reading part by part.
+use Rattle.std.proofs.Common.{◌≡◌, ℕ, zero, suc, ◌+◌, ◌-◌, ◌<◌, ◌≤◌, List, [], ◌∷◌, ◌++◌, length, take, get_or, refl, ap, sym, ◌∙◌, subst, inl, inr, ◌⊎◌, arith, Bool, true, false, cond, nat_le, append_assoc, append-nil, length-append, Some, None}
+use Rattle.std.specs.Prelude.{Option, slice_index}
+use Rattle.std.specs.Int.{w32, w64, from_be_bytes}
+use Rattle.docker_model.specs.Change.{tiploc_key, association_key, schedule_key, tiploc_body, association_body, schedule_body, ScheduleKey}
+use Rattle.docker_model.specs.Op.{put_with, deleted}
+use Rattle.docker_model.specs.Stamp.{Stamp, LedgerItem}
+use Rattle.docker_model.specs.State.{State}
+use Rattle.docker_model.specs.StateText.{item_in}
+use Rattle.docker_model.specs.StateFault.{StateCause, too_short, EntryPart, before_tag, before_key, before_stamp, before_op, before_body, before_line, Before, before_mark, before_ledger_count, before_item, before_entry_count, in_entry, at_end, items_before, parts_before, text_before, width, AreGood, IsBadPart}
+use Rattle.docker_laws.proofs.StateBytes.{AreBytes}
+use Rattle.docker_laws.proofs.StateFaultStays.{bad_part_stays, long_stays}
+use Rattle.std.proofs.Math.Seq.{take-append_seam}
+use Rattle.docker_laws.proofs.StateRun.{next, after_items, after_entries, after_lines, after_op, with_entry}
+use Rattle.docker_laws.proofs.StateWalk.{Judged, Good, judge}
+use Rattle.docker_bytes.specs.declared.reading.Reading.{Reading}
+use Rattle.docker_bytes.specs.FaultMeaning.{IsBadHere}
+use Rattle.docker_bytes.specs.Place.{begins_item, LeadsTo}
+use Rattle.docker_bytes.specs.Reading.{before_of, text_of, IsReading, ReadsOn, IsToldSoFar, IsOpen}
+
+-- what of a piece stands before a rest of it
+abbrev pub before_rest : List ℕ → List ℕ → List ℕ
+before_rest piece rest = take (length piece - length rest) piece
+
+-- the first part of an item stands behind whole items
+pub no_parts : (before : Before) → begins_item before ≡ true → parts_before before ≡ []
+no_parts before_mark is = refl
+no_parts before_ledger_count is = refl
+no_parts (before_item count ledger) is = refl
+no_parts (before_entry_count ledger) is = refl
+no_parts (in_entry count state before_tag) is = refl
+no_parts (in_entry count state (before_key tag)) is = cc
+no_parts (in_entry count state (before_stamp key)) is = cc
+no_parts (in_entry count state (before_op key stamp)) is = cc
+no_parts (in_entry count state (before_body key stamp)) is = cc
+no_parts (in_entry count state (before_line key stamp n lines)) is = cc
+no_parts (at_end state) is = refl
+
+-- within an item the items before stay
+
+begins : (before after : Before) → begins_item after ≡ true → begins_item after ≡ false → items_before after ≡ items_before before
+begins before after first inner = let both : true ≡ false = sym first ∙ inner in cc
+
+entries_begin : (count : ℕ) (state : State) → begins_item (after_entries count state) ≡ true
+entries_begin count state = by (nat_le count (length state.entries))
+  where
+    by : (b : Bool) → begins_item (cond b (at_end state) (in_entry count state before_tag)) ≡ true
+    by true = refl
+    by false = refl
+
+items_begin : (count : ℕ) (ledger : List LedgerItem) → begins_item (after_items count ledger) ≡ true
+items_begin count ledger = by (nat_le count (length ledger))
+  where
+    by : (b : Bool) → begins_item (cond b (before_entry_count ledger) (before_item count ledger)) ≡ true
+    by true = refl
+    by false = refl
+
+lines_stay : (count : ℕ) (state : State) (key : ScheduleKey) (stamp : Stamp) (n : ℕ) (lines : List (List ℕ)) (part : EntryPart)
+    → begins_item (after_lines count state key stamp n lines) ≡ false → items_before (after_lines count state key stamp n lines) ≡ items_before (in_entry count state part)
+lines_stay count state key stamp n lines part = by (nat_le n (length lines))
+  where
+    done : Before
+    done = after_entries count (with_entry state (schedule_key key) stamp (put_with (schedule_body lines)))
+
+    by : (b : Bool) → begins_item (cond b (after_entries count (with_entry state (schedule_key key) stamp (put_with (schedule_body lines)))) (in_entry count state (before_line key stamp n lines))) ≡ false
+        → items_before (cond b (after_entries count (with_entry state (schedule_key key) stamp (put_with (schedule_body lines)))) (in_entry count state (before_line key stamp n lines))) ≡ items_before (in_entry count state part)
+    by true within =
+        begins (in_entry count state part) (after_entries count (with_entry state (schedule_key key) stamp (put_with (schedule_body lines))))
+        (entries_begin count (with_entry state (schedule_key key) stamp (put_with (schedule_body lines)))) within
+    by false within = refl
+
+pub items_stay : (before : Before) (bytes : List ℕ) → begins_item (next before bytes) ≡ false → items_before (next before bytes) ≡ items_before before
+items_stay before_mark bytes inner = cc
+items_stay before_ledger_count bytes inner = begins before_ledger_count (after_items (from_be_bytes w64 bytes) []) (items_begin (from_be_bytes w64 bytes) []) inner
+items_stay (before_item count ledger) bytes inner = begins (before_item count ledger) (after_items count (ledger ++ item_in bytes ∷ [])) (items_begin count (ledger ++ item_in bytes ∷ [])) inner
+items_stay (before_entry_count ledger) bytes inner =
+    begins (before_entry_count ledger) (after_entries (from_be_bytes w64 bytes) (record { ledger = ledger; entries = [] })) (entries_begin (from_be_bytes w64 bytes) (record { ledger = ledger; entries = [] })) inner
+items_stay (in_entry count state before_tag) bytes inner = refl
+items_stay (in_entry count state (before_key tag)) bytes inner = refl
+items_stay (in_entry count state (before_stamp key)) bytes inner = refl
+items_stay (in_entry count state (before_op key stamp)) bytes inner = by (slice_index bytes 0) inner
+  where
+    by : (op : ℕ) → begins_item (after_op count state key stamp op) ≡ false → items_before (after_op count state key stamp op) ≡ items_before (in_entry count state (before_op key stamp))
+    by zero inner = begins (in_entry count state (before_op key stamp)) (after_entries count (with_entry state key stamp deleted)) (entries_begin count (with_entry state key stamp deleted)) inner
+    by (suc op) inner = refl
+items_stay (in_entry count state (before_body (tiploc_key code) stamp)) bytes inner =
+    begins (in_entry count state (before_body (tiploc_key code) stamp)) (after_entries count (with_entry state (tiploc_key code) stamp (put_with (tiploc_body bytes))))
+    (entries_begin count (with_entry state (tiploc_key code) stamp (put_with (tiploc_body bytes)))) inner
+items_stay (in_entry count state (before_body (association_key key) stamp)) bytes inner =
+    begins (in_entry count state (before_body (association_key key) stamp)) (after_entries count (with_entry state (association_key key) stamp (put_with (association_body bytes))))
+    (entries_begin count (with_entry state (association_key key) stamp (put_with (association_body bytes)))) inner
+items_stay (in_entry count state (before_body (schedule_key key) stamp)) bytes inner = lines_stay count state key stamp (from_be_bytes w32 bytes) [] (before_body (schedule_key key) stamp) inner
+items_stay (in_entry count state (before_line key stamp n lines)) bytes inner = lines_stay count state key stamp n (lines ++ bytes ∷ []) (before_line key stamp n lines) inner
+items_stay (at_end state) bytes inner = cc
+
+-- ---- one part
+
+bytes_are : (bytes : List ℕ) → ((i : ℕ) → get_or bytes i 0 < 256) → AreBytes bytes
+bytes_are [] small = tt
+bytes_are (b ∷ bytes) small = (small 0, bytes_are bytes (λ i. small (suc i)))
+
+good_next : (before : Before) (bytes : List ℕ) → AreGood before → 0 < length bytes → length bytes ≡ width before → ((i : ℕ) → get_or bytes i 0 < 256)
+    → ((cause : StateCause) → ¬ IsBadPart before bytes cause) → Good before bytes
+good_next before bytes good some wide small not_bad = by (judge before bytes good (omega arith) wide (bytes_are bytes small))
+  where
+    by : Judged before bytes → Good before bytes
+    by (inl bad) = absurd (not_bad bad.0 bad.1)
+    by (inr fine) = fine
+
+-- the reading behind a part that is not bad
+pub part_read : (old new : Reading) (bytes : List ℕ) → IsReading old → old.partial.items ≡ [] → length bytes ≡ width (before_of old) → 0 < length bytes → ((i : ℕ) → get_or bytes i 0 < 256)
+    → old.reached + length bytes ≤ old.limit → LeadsTo (before_of old) bytes new.place new.parts new.lines → new.partial.items ≡ [] → new.reached ≡ old.reached + length bytes → new.limit ≡ old.limit
+    → (begins_item (before_of new) ≡ true) × (new.item_at ≡ new.reached) ⊎ (begins_item (before_of new) ≡ false) × (new.item_at ≡ old.item_at) → ReadsOn old new bytes
+part_read old new bytes is none wide some small fits leads empty reached same at = record {
+  reading = record {
+    ready = record { good = subst AreGood (sym leads.is) good.0; fresh = leads.fresh };
+    short = (let size = ap length empty in omega arith);
+    reached_is = reached_now;
+    item_is = item at;
+    within = (let size = ap length empty in omega arith);
+  };
+  text = whole;
+  limit = same;
+}
+  where
+    good : Good (before_of old) bytes
+    good = good_next (before_of old) bytes is.ready.good some wide small leads.not_bad
+
+    text : text_before (before_of new) ≡ text_before (before_of old) ++ bytes
+    text = ap text_before leads.is ∙ good.1
+
+    reached_now : new.reached ≡ length (text_before (before_of new))
+    reached_now =
+        let sizes = ap length text ∙ length-append (text_before (before_of old)) bytes in
+        let before = is.reached_is in
+        let now = reached in
+        omega arith
+
+    whole : text_of new ≡ text_of old ++ bytes
+    whole =
+        ap (λ xs. text_before (before_of new) ++ xs) empty ∙ append-nil (text_before (before_of new)) ∙ text
+        ∙ ap (λ xs. xs ++ bytes) (sym (append-nil (text_before (before_of old))) ∙ ap (λ xs. text_before (before_of old) ++ xs) (sym none))
+
+    item : (begins_item (before_of new) ≡ true) × (new.item_at ≡ new.reached) ⊎ (begins_item (before_of new) ≡ false) × (new.item_at ≡ old.item_at) → new.item_at ≡ length (items_before (before_of new))
+    item (inl begun) =
+        begun.1 ∙ reached_now ∙ ap length (ap (λ xs. items_before (before_of new) ++ xs) (no_parts (before_of new) begun.0) ∙ append-nil (items_before (before_of new)))
+    item (inr within) =
+        within.1 ∙ is.item_is
+        ∙ ap length (sym (items_stay (before_of old) bytes (ap begins_item (sym leads.is) ∙ within.0)) ∙ ap items_before (sym leads.is))
+
+-- a part that is bad
+pub part_refused : (old : Reading) (bytes : List ℕ) (cause : Option StateCause) → IsReading old → old.partial.items ≡ [] → length bytes ≡ width (before_of old) → old.reached + length bytes ≤ old.limit
+    → IsBadHere (before_of old) bytes cause → IsToldSoFar old.limit (text_of old ++ bytes) old.item_at cause
+part_refused old bytes None is none wide fits bad = record {
+  before = before_of old;
+  good = is.ready.good;
+  rest = bytes;
+  whole = ap (λ xs. (text_before (before_of old) ++ xs) ++ bytes) none ∙ ap (λ xs. xs ++ bytes) (append-nil (text_before (before_of old)));
+  there = omega arith;
+  below_limit = (let reached = is.reached_is in omega arith);
+  item_at = is.item_is;
+}
+part_refused old bytes (Some cause) is none wide fits bad =
+    inl (record {
+      before = before_of old;
+      good = is.ready.good;
+      bytes = bytes;
+      rest = [];
+      whole = ap (λ xs. (text_before (before_of old) ++ xs) ++ bytes) none ∙ ap (λ xs. xs ++ bytes) (append-nil (text_before (before_of old))) ∙ sym (append-nil (text_before (before_of old) ++ bytes));
+      size = wide;
+      below_limit = (let reached = is.reached_is in omega arith);
+      bad = bad;
+      item_at = is.item_is;
+    })
+
+-- ---- a piece
+
+pub told_stays : (limit : ℕ) (text more : List ℕ) (at : ℕ) (cause : Option StateCause) → IsToldSoFar limit text at cause → IsToldSoFar limit (text ++ more) at cause
+told_stays limit text more at None wanting = record {
+  before = wanting.before;
+  good = wanting.good;
+  rest = wanting.rest ++ more;
+  whole = ap (λ xs. xs ++ more) wanting.whole ∙ append_assoc (text_before wanting.before) wanting.rest more;
+  there = (let size = length-append wanting.rest more in let there = wanting.there in omega arith);
+  below_limit = wanting.below_limit;
+  item_at = wanting.item_at;
+}
+told_stays limit text more at (Some cause) (inl bad) = inl (bad_part_stays limit text more (record { at = at; cause = cause }) bad)
+told_stays limit text more at (Some cause) (inr long) = inr (long_stays limit text more (record { at = at; cause = cause }) long)
+
+pub rest_more : (piece rest front behind : List ℕ) → before_rest piece rest ++ rest ≡ piece → rest ≡ front ++ behind
+    → (before_rest piece behind ≡ before_rest piece rest ++ front) × (before_rest piece behind ++ behind ≡ piece)
+rest_more piece rest front behind whole split = (now, ap (λ xs. xs ++ behind) now ∙ all)
+  where
+    all : (before_rest piece rest ++ front) ++ behind ≡ piece
+    all = append_assoc (before_rest piece rest) front behind ∙ ap (λ xs. before_rest piece rest ++ xs) (sym split) ∙ whole
+
+    now : before_rest piece behind ≡ before_rest piece rest ++ front
+    now =
+        let size = sym (ap length all) ∙ length-append (before_rest piece rest ++ front) behind in
+        let count : length piece - length behind ≡ length (before_rest piece rest ++ front) = omega arith in
+        ap (λ n. take n piece) count ∙ ap (take (length (before_rest piece rest ++ front))) (sym all) ∙ take-append_seam (before_rest piece rest ++ front) behind
+
+pub rest_first : (piece : List ℕ) → (before_rest piece piece ≡ []) × (before_rest piece piece ++ piece ≡ piece)
+rest_first piece = (none, ap (λ xs. xs ++ piece) none)
+  where
+    none : before_rest piece piece ≡ []
+    none = let zero_left : length piece - length piece ≡ 0 = omega arith in ap (λ n. take n piece) zero_left
+
+module _ (initial now : Reading) (piece rest : List ℕ) (whole : before_rest piece rest ++ rest ≡ piece) (on : ReadsOn initial now (before_rest piece rest)) where
+  -- the bytes so far and the rest
+  pub all_text : text_of now ++ rest ≡ text_of initial ++ piece
+  all_text = ap (λ xs. xs ++ rest) on.text ∙ append_assoc (text_of initial) (before_rest piece rest) rest ∙ ap (λ xs. text_of initial ++ xs) whole
+
+  pub told_of_piece : (front behind : List ℕ) (at : ℕ) (cause : Option StateCause) → rest ≡ front ++ behind → IsToldSoFar now.limit (text_of now ++ front) at cause
+      → IsToldSoFar initial.limit (text_of initial ++ piece) at cause
+  told_of_piece front behind at cause split told =
+      subst (λ n. IsToldSoFar n (text_of initial ++ piece) at cause) on.limit
+      (subst (λ xs. IsToldSoFar now.limit xs at cause)
+      (append_assoc (text_of now) front behind ∙ ap (λ xs. text_of now ++ xs) (sym split) ∙ all_text)
+      (told_stays now.limit (text_of now ++ front) behind at cause told))
+
+  pub reads_further : (next : Reading) (front behind : List ℕ) → rest ≡ front ++ behind → ReadsOn now next front → ReadsOn initial next (before_rest piece behind)
+  reads_further next front behind split further = record {
+    reading = further.reading;
+    text = further.text ∙ ap (λ xs. xs ++ front) on.text ∙ append_assoc (text_of initial) (before_rest piece rest) front
+        ∙ ap (λ xs. text_of initial ++ xs) (sym (rest_more piece rest front behind whole split).0);
+    limit = further.limit ∙ on.limit;
+  }
+
+  pub open_text : (next : Reading) → length now.partial.items + length rest < width (before_of now) → ReadsOn now next rest → IsOpen initial.limit (text_of initial ++ piece)
+  open_text next short further =
+      subst (λ n. IsOpen n (text_of initial ++ piece)) on.limit
+      (subst (IsOpen now.limit) all_text (
+        record { at = length (items_before (before_of now)); cause = too_short },
+        record {
+          before = before_of now;
+          good = on.reading.ready.good;
+          rest = now.partial.items ++ rest;
+          whole = append_assoc (text_before (before_of now)) now.partial.items rest;
+          ends = (let size = length-append now.partial.items rest in omega arith);
+          within =
+              (let sizes = sym (ap length further.text) ∙ length-append (text_before (before_of next)) next.partial.items in
+              let reached = further.reading.reached_is in
+              let within = further.reading.within in
+              let same = further.limit in
+              omega arith);
+          cause = refl;
+          item_at = refl;
+        },
+      ))

@@ -1,0 +1,202 @@
+-- Reading a source: what the parser was fed is what the source had.
+use Rattle.std.proofs.Common.{◌≡◌, ◌≢◌, ℕ, ◌+◌, ◌-◌, ◌<◌, ◌≤◌, List, [], ◌∷◌, ◌++◌, length, take, drop, refl, ap, sym, ◌∙◌, subst, inl, inr, ◌⊎◌, arith, append_assoc, append-nil, length-append, length-drop, Some, None, Err, Result}
+use Rattle.std.specs.Prelude.{Option, option_map, IfOk}
+use Rattle.std.proofs.lemmas.List.{take-append-drop, take-append-le, take-take}
+use Rattle.std.proofs.lemmas.Result.{IfOk-weaker}
+use Rattle.cif_line.specs.Device.{Reads, IsEnd}
+use Rattle.docker_model.specs.State.{State}
+use Rattle.docker_model.specs.StateFault.{text_before, has_tail, IsStateFault, IsStateText, HasTail}
+use Rattle.docker_model.specs.StateFault as model
+use Rattle.docker_laws.proofs.StateFaultStays.{bad_part_stays, long_stays}
+use Rattle.docker_bytes.specs.declared.fault.StateCause.{StateCause}
+use Rattle.docker_bytes.specs.declared.fault.StateCause.TheVariants as cause
+use Rattle.docker_bytes.specs.declared.fault.StateFault.{StateFault}
+use Rattle.docker_bytes.specs.declared.fault.Step.{Step}
+use Rattle.docker_bytes.specs.declared.fault.Step.TheVariants.{Done, More}
+use Rattle.docker_bytes.specs.declared.read.ReadFault.{ReadFault}
+use Rattle.docker_bytes.specs.declared.read.ReadFault.TheVariants as fault
+use Rattle.docker_bytes.specs.FaultMeaning.{cause_meant}
+use Rattle.docker_bytes.specs.Reading.{before_of, text_of, IsToldSoFar, IsFaultTold, IsToldAtEnd, IsUnended, IsWhole, IsStep}
+use Rattle.docker_bytes.specs.ParserRead.{ParserState, HasRead}
+use Rattle.docker_bytes.specs.SourceRead.{Held, ReadsState, IsCauseOf, IsFaultOf, RefusesState}
+
+-- ---- causes
+
+none_is_memory : (c : StateCause) → cause_meant c ≡ None → c ≡ cause.Memory
+none_is_memory cause.Mark is = cc
+none_is_memory cause.Item is = cc
+none_is_memory cause.Order is = cc
+none_is_memory cause.Floor is = cc
+none_is_memory cause.Tag is = cc
+none_is_memory cause.Stamp is = cc
+none_is_memory cause.Body is = cc
+none_is_memory cause.Short is = cc
+none_is_memory cause.Tail is = cc
+none_is_memory cause.Long is = cc
+none_is_memory cause.Memory is = refl
+
+memory_or_not : (c : StateCause) → (c ≡ cause.Memory) ⊎ (c ≢ cause.Memory)
+memory_or_not cause.Mark = inr (λ same. cc)
+memory_or_not cause.Item = inr (λ same. cc)
+memory_or_not cause.Order = inr (λ same. cc)
+memory_or_not cause.Floor = inr (λ same. cc)
+memory_or_not cause.Tag = inr (λ same. cc)
+memory_or_not cause.Stamp = inr (λ same. cc)
+memory_or_not cause.Body = inr (λ same. cc)
+memory_or_not cause.Short = inr (λ same. cc)
+memory_or_not cause.Tail = inr (λ same. cc)
+memory_or_not cause.Long = inr (λ same. cc)
+memory_or_not cause.Memory = inl refl
+
+-- a fault that is told as that of a state is the one that was found, and no want of memory
+not_memory : {A : Type 0} (found told : StateFault) (result : ReadFault) → (found.cause ≡ cause.Memory → result ≡ fault.Memory) → (found.cause ≢ cause.Memory → result ≡ fault.State found)
+    → ◌≡◌ {A = Result A ReadFault} (Err result) (Err (fault.State told)) → (found ≡ told) × (found.cause ≢ cause.Memory)
+not_memory found told result memory state is = by (memory_or_not found.cause)
+  where
+    by : (found.cause ≡ cause.Memory) ⊎ (found.cause ≢ cause.Memory) → (found ≡ told) × (found.cause ≢ cause.Memory)
+    by (inl wanting) = absurd (let from = memory wanting in cc)
+    by (inr other) = (let from = state other in cc, other)
+
+told_so_far : (limit : ℕ) (text rest : List ℕ) (at : ℕ) (c : StateCause) → c ≢ cause.Memory → IsToldSoFar limit text at (cause_meant c) → IsCauseOf limit (text ++ rest) at (cause_meant c)
+told_so_far limit text rest at c other = by (cause_meant c) refl
+  where
+    by : (o : Option model.StateCause) → cause_meant c ≡ o → IsToldSoFar limit text at o → IsCauseOf limit (text ++ rest) at o
+    by None is told = other (none_is_memory c is)
+    by (Some k) is (inl bad) = inl (bad_part_stays limit text rest (record { at = at; cause = k }) bad)
+    by (Some k) is (inr long) = inr (inl (long_stays limit text rest (record { at = at; cause = k }) long))
+
+told_at_end : (limit : ℕ) (text : List ℕ) (at : ℕ) (c : StateCause) → c ≢ cause.Memory → IsToldAtEnd limit text at (cause_meant c) → IsCauseOf limit text at (cause_meant c)
+told_at_end limit text at c other = by (cause_meant c) refl
+  where
+    by : (o : Option model.StateCause) → cause_meant c ≡ o → IsToldAtEnd limit text at o → IsCauseOf limit text at o
+    by None is told = other (none_is_memory c is)
+    by (Some k) is short = inr (inr (inl short))
+
+pub told_as_state : {A : Type 0} (limit : ℕ) (text rest : List ℕ) (found told : StateFault) (result : ReadFault) → IsFaultTold limit text found → (found.cause ≡ cause.Memory → result ≡ fault.Memory)
+    → (found.cause ≢ cause.Memory → result ≡ fault.State found) → ◌≡◌ {A = Result A ReadFault} (Err result) (Err (fault.State told)) → IsFaultOf limit (text ++ rest) told
+told_as_state limit text rest found told result so_far memory state is =
+    let same = not_memory found told result memory state is in
+    subst (IsFaultOf limit (text ++ rest)) same.0 (told_so_far limit text rest found.at found.cause same.1 so_far)
+
+pub ended_as_state : {A : Type 0} (limit : ℕ) (text : List ℕ) (found told : StateFault) (result : ReadFault) → IsUnended limit text found → (found.cause ≡ cause.Memory → result ≡ fault.Memory)
+    → (found.cause ≢ cause.Memory → result ≡ fault.State found) → ◌≡◌ {A = Result A ReadFault} (Err result) (Err (fault.State told)) → IsFaultOf limit text told
+ended_as_state limit text found told result at_end memory state is =
+    let same = not_memory found told result memory state is in
+    subst (IsFaultOf limit text) same.0 (told_at_end limit text found.at found.cause same.1 at_end)
+
+-- ---- bytes behind the state
+
+tail_of : (limit : ℕ) (text piece rest : List ℕ) (used : ℕ) (found : StateFault) → used < length piece → IsWhole limit (text ++ take used piece) → found.at ≡ length (text ++ take used piece)
+    → found.cause ≡ cause.Tail → IsFaultOf limit ((text ++ piece) ++ rest) found
+tail_of limit text piece rest used found below whole at is =
+    subst (λ c. IsCauseOf limit ((text ++ piece) ++ rest) found.at (cause_meant c)) (sym is) (inr (inr (inr (by (drop used piece) (take-append-drop used piece) (let size = length-drop used piece in omega arith)))))
+  where
+    by : (behind : List ℕ) → take used piece ++ behind ≡ piece → 0 < length behind → HasTail limit ((text ++ piece) ++ rest) (record { at = found.at; cause = has_tail })
+    by [] split some = absurd (let none : 0 < length {A = ℕ} [] = some in omega arith)
+    by (next ∷ behind) split some = record {
+      state = whole.0;
+      valid = whole.1.valid;
+      next = next;
+      rest = behind ++ rest;
+      whole = ap (λ xs. (text ++ xs) ++ rest) (sym split)
+          ∙ ap (λ xs. xs ++ rest) (sym (append_assoc text (take used piece) (next ∷ behind)))
+          ∙ append_assoc (text ++ take used piece) (next ∷ behind) rest
+          ∙ ap (λ xs. xs ++ (next ∷ behind ++ rest)) whole.1.is;
+      within = (let size = ap length whole.1.is in let within = whole.1.within in omega arith);
+      cause = refl;
+      end_at = at ∙ ap length whole.1.is;
+    }
+
+pub tail_told : (limit : ℕ) (text piece rest : List ℕ) (used : ℕ) (step : Step) (found : StateFault) → used < length piece → IsStep limit text piece (used, step)
+    → found.at ≡ length (text ++ take used piece) → found.cause ≡ cause.Tail → IsFaultOf limit ((text ++ piece) ++ rest) found
+tail_told limit text piece rest used Done found below whole at is = tail_of limit text piece rest used found below whole at is
+tail_told limit text piece rest used More found below more at is = absurd (let all = more.0 in omega arith)
+
+-- ---- turns
+
+-- after so many turns the parser was fed a text, which is what the source lost
+record IsAtTurn (limit : ℕ) (initial : Option (List ℕ)) (parser : ParserState) (now : Option (List ℕ)) : Type 0 where
+  text : List ℕ
+  read : HasRead parser limit text
+  lost : Reads initial text now
+
+-- the same, shut so that the search does not open it
+pub HasTurned : ℕ → Option (List ℕ) → ParserState → Option (List ℕ) → Type 0
+HasTurned limit initial parser now = IsAtTurn limit initial parser now
+
+-- at first
+pub at_start : (limit : ℕ) (left : Option (List ℕ)) (parser : ParserState) → HasRead parser limit [] → HasTurned limit left parser left
+unfolding HasTurned
+at_start limit left parser read = record { text = []; read = read; lost = by left }
+  where
+    by : (left : Option (List ℕ)) → Reads left [] left
+    by None = refl
+    by (Some bytes) = refl
+
+-- what is read behind what was read
+lost_more : (initial now next : Option (List ℕ)) (text piece : List ℕ) → Reads initial text now → Reads now piece next → Reads initial (text ++ piece) next
+lost_more initial now None text piece first more = first ∙ ap (option_map (λ rest. text ++ rest)) more
+lost_more initial now (Some rest) text piece first more = first ∙ ap (option_map (λ r. text ++ r)) more ∙ ap (λ t. Some t) (sym (append_assoc text piece rest))
+
+-- a piece more
+pub next_turn : (limit : ℕ) (initial now next : Option (List ℕ)) (before after : ParserState) (piece : List ℕ) → HasTurned limit initial before now → 0 < length piece
+    → Reads now piece next → ((text : List ℕ) → HasRead before limit text → HasRead after limit (text ++ piece)) → HasTurned limit initial after next
+unfolding HasTurned
+next_turn limit initial now next before after piece at some more read = record {
+  text = at.text ++ piece;
+  read = read at.text at.read;
+  lost = lost_more initial now next at.text piece at.lost more;
+}
+
+-- how many bytes a parser has read
+abbrev pub read_length : ParserState → ℕ
+read_length parser = length (text_of parser.reading)
+
+-- each turn reads further, within the limit
+pub fewer_left : (limit : ℕ) (initial now : Option (List ℕ)) (before after : ParserState) (piece : List ℕ) → HasTurned limit initial before now → 0 < length piece
+    → ((text : List ℕ) → HasRead before limit text → HasRead after limit (text ++ piece)) → limit + 1 - read_length after < limit + 1 - read_length before
+unfolding HasTurned
+fewer_left limit initial now before after piece at some read =
+    let was = at.read in
+    let has = read at.text at.read in
+    let old : length (text_of before.reading) ≡ length at.text = ap length was.text_is in
+    let grown : length (text_of after.reading) ≡ length at.text + length piece = ap length has.text_is ∙ length-append at.text piece in
+    let size = length-append (text_before (before_of after.reading)) after.reading.partial.items in
+    let reached = has.sound.reached_is in
+    let within = has.sound.within in
+    let same = has.limit_is in
+    omega arith
+
+-- what was read to the end is what the source held
+held_all : (initial now : Option (List ℕ)) (text : List ℕ) → Reads initial text now → IsEnd now → Held initial text
+held_all None now text lost end = tt
+held_all (Some told) None text lost end = cc
+held_all (Some told) (Some rest) text lost end =
+    let same : told ≡ text ++ rest = cc in
+    same ∙ ap (λ r. text ++ r) end ∙ append-nil text
+
+pub state_read : (limit : ℕ) (initial now : Option (List ℕ)) (parser : ParserState) (result : Result State ReadFault) → HasTurned limit initial parser now → IsEnd now
+    → ((text : List ℕ) → HasRead parser limit text → IfOk result (λ state. IsStateText limit text state)) → IfOk result (ReadsState limit initial)
+unfolding HasTurned
+state_read limit initial now parser result at end is =
+    IfOk-weaker result _ (ReadsState limit initial) (λ state told. record { text = at.text; held = held_all initial now at.text at.lost end; is = told }) (is at.text at.read)
+
+pub refused_at_end : (limit : ℕ) (initial now : Option (List ℕ)) (parser : ParserState) (found : StateFault) → HasTurned limit initial parser now → IsEnd now
+    → ((text : List ℕ) → HasRead parser limit text → IsFaultOf limit text found) → RefusesState limit initial found
+unfolding HasTurned
+refused_at_end limit initial now parser found at end is = record { text = at.text; held = held_all initial now at.text at.lost end; is = is at.text at.read }
+
+-- a fault that a text tells is that of what the source held
+pub refused_within : (limit : ℕ) (initial now next : Option (List ℕ)) (parser : ParserState) (found : StateFault) (piece : List ℕ) → HasTurned limit initial parser now
+    → Reads now piece next → ((text : List ℕ) → HasRead parser limit text → (rest : List ℕ) → IsFaultOf limit ((text ++ piece) ++ rest) found) → RefusesState limit initial found
+unfolding HasTurned
+refused_within limit initial now next parser found piece at more is = by initial next (lost_more initial now next at.text piece at.lost more)
+  where
+    by : (initial next : Option (List ℕ)) → Reads initial (at.text ++ piece) next → RefusesState limit initial found
+    by None next lost = record { text = (at.text ++ piece) ++ []; held = tt; is = is at.text at.read [] }
+    by (Some told) None lost = cc
+    by (Some told) (Some rest) lost = record { text = (at.text ++ piece) ++ rest; held = cc; is = is at.text at.read rest }
+
+-- the bytes of a buffer that were read
+pub same_front : (n len : ℕ) (piece into items : List ℕ) → piece ≡ take len (into ++ drop (length into) items) → length into ≡ len → n ≤ length into → take n piece ≡ take n into
+same_front n len piece into items is whole within = ap (take n) (is ∙ take-append-le len into (drop (length into) items) (omega arith)) ∙ take-take n len into (omega arith)

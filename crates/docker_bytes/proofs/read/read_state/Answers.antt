@@ -1,0 +1,63 @@
+use Rattle.std.proofs.Common.{◌≡◌, ◌<◌, ◌^◌, ◌++◌, length, take, refl, arith, sym, ◌-◌, ◌∙◌, subst}
+use Rattle.std.proofs.lemmas.List.{length-take-le}
+use Rattle.cif_line.specs.Device.{IsEnd}
+use Rattle.docker_bytes.specs.SourceRead.{IsFaultOf}
+use Rattle.docker_bytes.specs.ParserRead.{HasRead}
+use Rattle.docker_bytes.proofs.SourceReading.{at_start, next_turn, fewer_left, state_read, refused_at_end, refused_within, same_front}
+use Rattle.docker_bytes.proofs.read.read_state.Goals as goal
+
+pub pieces-init : goal.pieces-init
+pieces-init g c = record {
+  turn = at_start c.args.limit (g.S.Source.left c.args.source.now) c.new-parser.result c.new-parser.ensures;
+  no_failure = refl;
+  room = c.in-Ok.ensures.len;
+}
+
+pub read-requires : goal.read-requires
+read-requires g c = subst (λ n. n < 2 ^ 64 - 1) (sym c.pieces.invariant.no_failure) c.requires
+
+pub returns-then-n-eq0-clause-ok : goal.returns-then-n-eq0-clause-ok
+returns-then-n-eq0-clause-ok g c =
+    let room : 0 < length c.read.new.into = omega (arith, c.pieces.invariant.room, c.as_mut_slice.ensures.len, c.read.auto.into) in
+    let end : IsEnd (g.S.Source.left c.pieces.source) = c.in-Ok-read.ensures.end c.if-n-eq0.true room in
+    state_read c.args.limit (g.S.Source.left c.args.source.now) (g.S.Source.left c.pieces.source) c.pieces.parser c.finished.result c.pieces.invariant.turn end (λ text has. c.finished.ensures.ok c.args.limit text has)
+
+pub returns-then-n-eq0-clause-state : goal.returns-then-n-eq0-clause-state
+returns-then-n-eq0-clause-state g c = λ fault is.
+    let room : 0 < length c.read.new.into = omega (arith, c.pieces.invariant.room, c.as_mut_slice.ensures.len, c.read.auto.into) in
+    let end : IsEnd (g.S.Source.left c.pieces.source) = c.in-Ok-read.ensures.end c.if-n-eq0.true room in
+    refused_at_end c.args.limit (g.S.Source.left c.args.source.now) (g.S.Source.left c.pieces.source) c.pieces.parser fault c.pieces.invariant.turn end (λ text has. c.finished.ensures.state c.args.limit text has fault is)
+
+pub returns-in-Err-clause-state : goal.returns-in-Err-clause-state
+returns-in-Err-clause-state g c = λ fault is.
+    let long : length c.read.new.into ≡ c.pieces.piece.len = c.read.auto.into ∙ c.as_mut_slice.ensures.len in
+    let same : take c.in-Ok-read.n c.deref.result.now ≡ take c.in-Ok-read.n c.read.new.into =
+    same_front c.in-Ok-read.n c.pieces.piece.len c.deref.result.now c.read.new.into c.pieces.piece.items c.deref.ensures.value long c.in-Ok-read.ensures.within in
+    refused_within c.args.limit (g.S.Source.left c.args.source.now) (g.S.Source.left c.pieces.source) (g.S.Source.left c.read.new.self) c.pieces.parser fault (take c.in-Ok-read.n c.read.new.into) c.pieces.invariant.turn
+    c.in-Ok-read.ensures.moved
+    (λ text has rest. subst (λ piece. IsFaultOf c.args.limit ((text ++ piece) ++ rest) fault) same (c.in-Err.ensures.state c.args.limit text has fault (cc) rest))
+
+pub pieces-preserved : goal.pieces-preserved
+pieces-preserved g c =
+    let long : length c.read.new.into ≡ c.pieces.piece.len = c.read.auto.into ∙ c.as_mut_slice.ensures.len in
+    let same : take c.in-Ok-read.n c.deref.result.now ≡ take c.in-Ok-read.n c.read.new.into =
+    same_front c.in-Ok-read.n c.pieces.piece.len c.deref.result.now c.read.new.into c.pieces.piece.items c.deref.ensures.value long c.in-Ok-read.ensures.within in
+    let size : length (take c.in-Ok-read.n c.read.new.into) ≡ c.in-Ok-read.n = length-take-le c.in-Ok-read.n c.read.new.into c.in-Ok-read.ensures.within in
+    let some : 0 < length (take c.in-Ok-read.n c.read.new.into) = omega (arith, size, c.if-n-eq0.false) in
+    record {
+      turn = next_turn c.args.limit (g.S.Source.left c.args.source.now) (g.S.Source.left c.pieces.source) (g.S.Source.left c.read.new.self) c.pieces.parser c.fed.new.parser (take c.in-Ok-read.n c.read.new.into) c.pieces.invariant.turn some
+          c.in-Ok-read.ensures.moved
+          (λ text has. subst (λ piece. HasRead c.fed.new.parser c.args.limit (text ++ piece)) same (c.in_default-fed.ensures.read c.args.limit text has refl));
+      no_failure = c.in-Ok-read.ensures.no_failure ∙ c.pieces.invariant.no_failure;
+      room = c.pieces.invariant.room;
+    }
+
+pub pieces-smaller : goal.pieces-smaller
+pieces-smaller g c =
+    let long : length c.read.new.into ≡ c.pieces.piece.len = c.read.auto.into ∙ c.as_mut_slice.ensures.len in
+    let same : take c.in-Ok-read.n c.deref.result.now ≡ take c.in-Ok-read.n c.read.new.into =
+    same_front c.in-Ok-read.n c.pieces.piece.len c.deref.result.now c.read.new.into c.pieces.piece.items c.deref.ensures.value long c.in-Ok-read.ensures.within in
+    let size : length (take c.in-Ok-read.n c.read.new.into) ≡ c.in-Ok-read.n = length-take-le c.in-Ok-read.n c.read.new.into c.in-Ok-read.ensures.within in
+    let some : 0 < length (take c.in-Ok-read.n c.read.new.into) = omega (arith, size, c.if-n-eq0.false) in
+    fewer_left c.args.limit (g.S.Source.left c.args.source.now) (g.S.Source.left c.pieces.source) c.pieces.parser c.fed.new.parser (take c.in-Ok-read.n c.read.new.into) c.pieces.invariant.turn some
+    (λ text has. subst (λ piece. HasRead c.fed.new.parser c.args.limit (text ++ piece)) same (c.in_default-fed.ensures.read c.args.limit text has refl))

@@ -1,0 +1,28 @@
+use Rattle.std.proofs.Common.{refl, ◌<◌, ◌+◌, length, arith}
+use Rattle.docker_model.specs.StateFault.{width}
+use Rattle.docker_bytes.specs.FaultMeaning.{cause_meant}
+use Rattle.docker_bytes.specs.Reading.{before_of}
+use Rattle.docker_bytes.proofs.PartByPart.{open_text, told_of_piece, rest_more, reads_further}
+use Rattle.docker_bytes.proofs.reading.Reading.read.Goals as goal
+
+pub returns-then-rest-missing-clause-step : goal.returns-then-rest-missing-clause-step
+returns-then-rest-missing-clause-step c =
+    let wide = c.width-width.ensures.value c.parts.self.parts c.parts.self.lines in
+    let kept = c.len.ensures.value in
+    let below = c.if-rest-missing.true in
+    let short : length c.parts.self.partial.items + length c.parts.rest.now < width (before_of c.parts.self) = omega arith in (
+      refl,
+      open_text c.args.self.now c.parts.self c.args.piece.now c.parts.rest.now c.parts.invariant.whole c.parts.invariant.on c.keep.new.self short (c.in_default.ensures.ok refl),
+    )
+
+pub returns-in-Err-take-clause-err : goal.returns-in-Err-take-clause-err
+returns-in-Err-take-clause-err c =
+    told_of_piece c.args.self.now c.parts.self c.args.piece.now c.parts.rest.now c.parts.invariant.whole c.parts.invariant.on c.split_at.result.0.now c.split_at.result.1.now
+    c.in-Err-take.fault.at (cause_meant c.in-Err-take.fault.cause) c.split_at.ensures.by_index.0 c.in-Err-take.ensures.err
+
+pub parts-preserved : goal.parts-preserved
+parts-preserved c = record {
+  whole = (rest_more c.args.piece.now c.parts.rest.now c.split_at.result.0.now c.split_at.result.1.now c.parts.invariant.whole c.split_at.ensures.by_index.0).1;
+  on = reads_further c.args.self.now c.parts.self c.args.piece.now c.parts.rest.now c.parts.invariant.whole c.parts.invariant.on c.take.new.self c.split_at.result.0.now c.split_at.result.1.now
+      c.split_at.ensures.by_index.0 (c.in_default-take.ensures.ok refl);
+}

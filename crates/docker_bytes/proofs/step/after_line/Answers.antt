@@ -1,0 +1,30 @@
+use Rattle.std.proofs.Common.{refl, ◌∙◌, arith}
+use Rattle.docker_join.specs.Meaning.{stamp_meant}
+use Rattle.docker_bytes.specs.Place.{schedule_meant}
+use Rattle.docker_bytes.proofs.Stepping.{both_ok, more_to_come, all_there, whole_schedule}
+use Rattle.docker_bytes.proofs.step.after_line.Goals as goal
+
+pub returns-then-len-schedule-clause-ok : goal.returns-then-len-schedule-clause-ok
+returns-then-len-schedule-clause-ok c = record {
+  is = more_to_come c.args.count c.args.parts.now (schedule_meant c.args.schedule.key) (stamp_meant c.args.schedule.stamp) c.args.schedule.count c.args.lines.now c.args.bytes.now
+      c.judged_line.new.lines c.requires.4 (c.in_default.ensures.taken refl) (omega (arith, c.len.ensures, c.if-len-schedule.true));
+  not_bad = λ cause bad. bad.1 (c.in_default.ensures.up_to refl);
+  fresh = tt;
+}
+
+pub give-requires-clause-agrees : goal.give-requires-clause-agrees
+give-requires-clause-agrees c =
+    whole_schedule c.args.count c.args.parts.now (schedule_meant c.args.schedule.key) (stamp_meant c.args.schedule.stamp) c.args.schedule.count c.args.lines.now c.args.bytes.now
+    c.judged_line.new.lines c.requires.4 (c.in_default.ensures.taken refl) c.in-Ok.body c.in-Ok.ensures (omega (arith, c.len.ensures, c.if-len-schedule.false)) (c.in_default.ensures.up_to refl)
+
+pub returns-in-Ok-clause-ok : goal.returns-in-Ok-clause-ok
+returns-in-Ok-clause-ok c =
+    both_ok c.give.result _ _ _
+    (λ place is fresh. record {
+      is = is c.judged_line.new.lines
+          ∙ all_there c.args.count c.args.parts.now (schedule_meant c.args.schedule.key) (stamp_meant c.args.schedule.stamp) c.args.schedule.count c.args.lines.now c.args.bytes.now
+          c.judged_line.new.lines c.requires.4 (c.in_default.ensures.taken refl) c.in-Ok.body c.in-Ok.ensures (omega (arith, c.len.ensures, c.if-len-schedule.false));
+      not_bad = λ cause bad. bad.1 (c.in_default.ensures.up_to refl);
+      fresh = fresh;
+    })
+    c.give.ensures.ok c.give.ensures.fresh

@@ -1,0 +1,49 @@
+-- What is found of a part.
+use Rattle.std.specs.Prelude.{◌≡◌, ℕ, List, Option, Some, None, Result, Ok, Err}
+use Rattle.docker_model.specs.Stamp as stamps
+use Rattle.docker_model.specs.Change as model
+use Rattle.docker_model.specs.State.{State, IsGoodItem, IsGoodKey, HasNewTransaction}
+use Rattle.docker_model.specs.Record.{HasKind, basic_schedule}
+use Rattle.docker_model.specs.Field.{HasGoodFields}
+use Rattle.docker_model.specs.Change.{schedule_named, schedule_key}
+use Rattle.docker_model.specs.StateFault.{IsAboveItems, RaisesFloor, IsAboveEntries, IsBadItem, IsBadKey}
+use Rattle.docker_model.specs.StateFault as fault
+use Rattle.cif_file.specs.declared.key.Key.{Key}
+use Rattle.cif_file.specs.Meaning.{key_meant}
+use Rattle.docker_state.specs.declared.item.LedgerItem.{LedgerItem}
+use Rattle.docker_state.specs.Meaning.{item_meant}
+use Rattle.docker_bytes.specs.declared.fault.StateCause.{StateCause}
+use Rattle.docker_bytes.specs.FaultMeaning.{cause_meant}
+
+-- the ledger item may follow
+pub record MayFollow (ledger : List stamps.LedgerItem) (item : stamps.LedgerItem) : Type 0 where
+  pub good : IsGoodItem item
+  pub above : IsAboveItems ledger item
+  pub keeps_floor : ¬ RaisesFloor ledger item
+
+-- it is bad for a cause
+abbrev pub IsItemCause : List stamps.LedgerItem → stamps.LedgerItem → Option fault.StateCause → Type 0
+IsItemCause ledger item None = ⊥
+IsItemCause ledger item (Some cause) = IsBadItem ledger item cause
+
+-- a ledger item that may follow, or why it may not
+abbrev pub IsJudgedItem : List stamps.LedgerItem → stamps.LedgerItem → Result LedgerItem StateCause → Type 0
+IsJudgedItem ledger item (Ok told) = (item_meant told ≡ item) × MayFollow ledger item
+IsJudgedItem ledger item (Err cause) = IsItemCause ledger item (cause_meant cause)
+
+-- the key is bad for a cause
+abbrev pub IsKeyCause : State → model.Key → Option fault.StateCause → Type 0
+IsKeyCause state key None = ⊥
+IsKeyCause state key (Some cause) = IsBadKey state key cause
+
+-- a key that may come next, or why it may not
+abbrev pub IsJudgedKey : State → model.Key → Result Key StateCause → Type 0
+IsJudgedKey state key (Ok told) = (key_meant told ≡ key) × IsGoodKey key × IsAboveEntries state key
+IsJudgedKey state key (Err cause) = IsKeyCause state key (cause_meant cause)
+
+-- a good basic schedule, new and of this key
+pub record IsFirstOf (key : model.ScheduleKey) (line : List ℕ) : Type 0 where
+  pub kind : HasKind basic_schedule line
+  pub fields : HasGoodFields line
+  pub new : HasNewTransaction line
+  pub key_is : schedule_named line ≡ schedule_key key

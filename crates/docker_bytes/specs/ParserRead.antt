@@ -1,0 +1,25 @@
+-- What a parser of a state's text was fed.
+use Rattle.std.specs.Prelude.{◌≡◌, ℕ, List, Option, Some, None}
+use Rattle.docker_bytes.specs.declared.fault.StateFault.{StateFault}
+use Rattle.docker_bytes.specs.declared.reading.Reading.{Reading}
+use Rattle.docker_bytes.specs.Reading.{text_of, IsReading}
+
+-- what a parser keeps
+pub record ParserState : Type 0 where
+  pub reading : Reading
+  pub fault : Option StateFault
+
+-- as long as no fault was told, what was read is sound
+abbrev pub IsSound : Reading → Option StateFault → Type 0
+IsSound reading fault = fault ≡ None → IsReading reading
+
+-- the parser has used exactly these bytes, under this limit, and told no fault
+pub record HasRead (parser : ParserState) (limit : ℕ) (text : List ℕ) : Type 0 where
+  pub no_fault : parser.fault ≡ None
+  pub sound : IsReading parser.reading
+  pub limit_is : parser.reading.limit ≡ limit
+  pub text_is : text_of parser.reading ≡ text
+
+-- the parser told this fault
+abbrev pub HasFailed : ParserState → StateFault → Type 0
+HasFailed parser fault = parser.fault ≡ Some fault

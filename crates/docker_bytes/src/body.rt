@@ -1,0 +1,119 @@
+//! Bodies of TIPLOCs and associations, and the first line of a schedule, as they are read.
+ghost use Rattle.std.specs.Prelude.{◌≡◌, ◌↔◌, length, IsTrue, MatchOption};
+ghost use Rattle.docker_model.specs.Record.{IsRecord, HasKind, association, basic_schedule};
+ghost use Rattle.docker_model.specs.Field.{HasGoodFields};
+ghost use Rattle.docker_model.specs.Change.{tiploc_body, association_body, association_named, schedule_named, association_key, schedule_key};
+ghost use Rattle.docker_model.specs.State.{IsTextOfLength, HasNewTransaction, IsAssociationOf};
+ghost use Rattle.cif_line.specs.Kind.{meaning};
+ghost use Rattle.cif_file.specs.Meaning.{key_meant, body_meant};
+ghost use Rattle.docker_bytes.specs.Place.{assoc_meant, schedule_meant};
+ghost use Rattle.docker_bytes.specs.Judged.{IsFirstOf};
+
+use crate::fields::{field, is_text};
+use cif_file::{AssocKey, Body, Key, ScheduleKey};
+use cif_line::{Assoc, Basic, Kind, Line, Transaction, assoc, basic, kind};
+
+/// The body of a TIPLOC that 63 bytes are. None where a byte is not printable.
+pub(crate) fn tiploc_body(bytes: &[u8]) -> Option<Body>
+    requires { length bytes.now ≡ 63 }
+    ensures { MatchOption result (¬ IsTextOfLength 63 bytes.now) (λ body. (body_meant body ≡ tiploc_body bytes.now) × IsTextOfLength 63 bytes.now) }
+{
+    if !is_text(bytes) {
+        return None;
+    }
+    Some(Body::Tiploc(*field(bytes, 0)))
+}
+
+/// The body of an association of this key that bytes are. None where they are none.
+pub(crate) fn assoc_body(key: &AssocKey, bytes: &[u8]) -> Option<Body>
+    ensures { MatchOption result (¬ IsAssociationOf (assoc_meant key.now) bytes.now)
+        (λ body. (body_meant body ≡ association_body bytes.now) × IsAssociationOf (assoc_meant key.now) bytes.now) }
+{
+    let Ok(line) = Line::new(bytes) else {
+        return None;
+    };
+    if !is_association_of(key, &line) {
+        return None;
+    }
+    Some(Body::Assoc(line))
+}
+
+/// Whether a line is of this kind.
+fn has_kind(line: &Line, wanted: Kind) -> bool
+    ensures { IsTrue result ↔ HasKind (meaning wanted) line.now }
+{
+    kind(line) == Some(wanted)
+}
+
+/// Whether a line is that of an association of this key.
+fn is_association_of(key: &AssocKey, line: &Line) -> bool
+    requires { IsRecord line.now }
+    ensures { IsTrue result ↔ IsAssociationOf (assoc_meant key.now) line.now }
+{
+    if !has_kind(line, Kind::Association) {
+        return false;
+    }
+    match assoc(line) {
+        Ok(view) => is_new_association(key, &view),
+        Err(_) => false,
+    }
+}
+
+/// Whether an association is new and of this key.
+fn is_new_association(key: &AssocKey, view: &Assoc<'_>) -> bool
+    ensures { IsTrue result ↔ (HasNewTransaction view.now × (association_named view.now ≡ association_key (assoc_meant key.now))) }
+{
+    view.transaction() == Transaction::New && is_same(&association_of(view), &Key::Assoc(*key))
+}
+
+/// What an association is known by.
+fn association_of(view: &Assoc<'_>) -> Key
+    ensures { key_meant result ≡ association_named view.now }
+{
+    Key::Assoc(AssocKey {
+        base: view.base(),
+        associated: view.associated(),
+        start: view.start(),
+        location: view.location(),
+        suffix: view.base_suffix(),
+        stp: view.stp(),
+    })
+}
+
+/// Whether two keys are the same.
+fn is_same(first: &Key, second: &Key) -> bool
+    ensures { IsTrue result ↔ (key_meant first.now ≡ key_meant second.now) }
+{
+    first == second
+}
+
+/// Whether a line is a good basic schedule, new and of this key.
+pub(crate) fn is_first_of(key: &ScheduleKey, line: &Line) -> bool
+    ensures { IsTrue result ↔ IsFirstOf (schedule_meant key.now) line.now }
+{
+    if !has_kind(line, Kind::BasicSchedule) {
+        return false;
+    }
+    match basic(line) {
+        Ok(view) => is_new_schedule(key, &view),
+        Err(_) => false,
+    }
+}
+
+/// Whether a basic schedule is new and of this key.
+fn is_new_schedule(key: &ScheduleKey, view: &Basic<'_>) -> bool
+    ensures { IsTrue result ↔ (HasNewTransaction view.now × (schedule_named view.now ≡ schedule_key (schedule_meant key.now))) }
+{
+    view.transaction() == Transaction::New && is_same(&schedule_of(view), &Key::Schedule(*key))
+}
+
+/// What a schedule is known by.
+fn schedule_of(view: &Basic<'_>) -> Key
+    ensures { key_meant result ≡ schedule_named view.now }
+{
+    Key::Schedule(ScheduleKey {
+        uid: view.uid(),
+        runs_from: view.runs_from(),
+        stp: view.stp(),
+    })
+}

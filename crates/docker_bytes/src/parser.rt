@@ -1,0 +1,89 @@
+//! A parser that is fed the text of a state piece by piece.
+ghost use Rattle.std.specs.Prelude.{◌≡◌, ℕ, ◌+◌, ◌≤◌, List, [], ◌++◌, length, take, IfOk, IfErr, Ok, Err};
+ghost use Rattle.docker_model.specs.StateFault.{IsStateText};
+ghost use Rattle.docker_bytes.specs.Reading.{IsFaultTold, IsUnended, IsStep, IsWhole};
+ghost use Rattle.docker_bytes.specs.ParserRead.{HasRead, HasFailed};
+
+use crate::fault::{StateFault, Step};
+use crate::reading::Reading;
+use docker_state::State;
+use std::alloc::Global;
+use std::marker::Model;
+
+/// A parser of the text of one state, which comes in pieces of any length. It keeps the parts so far, and at most 80 bytes of the one that comes next.
+#[derive(Debug, Drop)]
+pub struct StateParser {
+    reading: Reading,
+    fault: Option<StateFault>,
+}
+
+impl Model for StateParser {
+    ghost use Rattle.docker_bytes.specs.ParserRead.{ParserState, IsSound};
+
+    ghost Value = { ParserState };
+
+    ghost view = { λ parser. record { reading = parser.reading; fault = parser.fault } };
+
+    ghost invariant = { λ parser. IsSound parser.reading parser.fault };
+}
+
+impl StateParser {
+    /// A parser of a text of at most `limit` bytes.
+    pub fn new(alloc: Global, limit: u64) -> StateParser
+        ensures { HasRead result limit [] }
+    {
+        StateParser {
+            reading: Reading::new(alloc, limit),
+            fault: None,
+        }
+    }
+
+    /// Takes the next bytes of the text, and tells how many of them it used: at `More` all, and more are to come; at `Done` those up to the last byte of the
+    /// state, and from then on none. It is refused once a bad part is there, or a byte at the limit that the state needs, and it tells that fault; or where
+    /// memory is wanting, at the item that is being read. Each later call answers the same fault.
+    pub fn feed(&mut self, piece: &[u8]) -> Result<(usize, Step), StateFault>
+        ensures within { IfOk result (λ answer. answer.0 ≤ length piece.now) }
+        ensures read { (limit : ℕ) (text : List ℕ) → HasRead self.old limit text → IfOk result (λ answer. HasRead self.new limit (text ++ take answer.0 piece.now)) }
+        ensures step { (limit : ℕ) (text : List ℕ) → HasRead self.old limit text → IfOk result (IsStep limit text piece.now) }
+        ensures done { (limit : ℕ) (text : List ℕ) → HasRead self.old limit text → IsWhole limit text → result ≡ Ok (0, Step.Done) }
+        ensures err { (limit : ℕ) (text : List ℕ) → HasRead self.old limit text → IfErr result (λ fault. IsFaultTold limit (text ++ piece.now) fault) }
+        ensures failed { IfErr result (λ fault. HasFailed self.new fault) }
+        ensures again { (fault : _) → HasFailed self.old fault → result ≡ Err fault }
+    {
+        if let Some(fault) = self.fault {
+            return Err(fault);
+        }
+        if self.reading.is_done() {
+            return Ok((0, Step::Done));
+        }
+        match self.reading.read(piece) {
+            Ok(answer) => Ok(answer),
+            Err(fault) => {
+                self.fault = Some(fault);
+                Err(fault)
+            }
+        }
+    }
+
+    /// How many bytes were read.
+    pub(crate) fn offset(&self) -> u64
+        ensures { (limit : ℕ) (text : List ℕ) → HasRead self.now limit text → result ≡ length text }
+    {
+        if self.fault.is_some() {
+            return 0;
+        }
+        self.reading.offset()
+    }
+
+    /// The state whose text was read. `Short` where the text ends before the state does, at the item that is not whole. After a fault of `feed` it is that fault.
+    pub fn finish(self) -> Result<State, StateFault>
+        ensures ok { (limit : ℕ) (text : List ℕ) → HasRead self limit text → IfOk result (λ state. IsStateText limit text state) }
+        ensures err { (limit : ℕ) (text : List ℕ) → HasRead self limit text → IfErr result (λ fault. IsUnended limit text fault) }
+        ensures again { (fault : _) → HasFailed self fault → result ≡ Err fault }
+    {
+        match self.fault {
+            Some(fault) => Err(fault),
+            None => self.reading.finish(),
+        }
+    }
+}

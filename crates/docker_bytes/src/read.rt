@@ -1,0 +1,107 @@
+//! The state that a source holds.
+ghost use Rattle.std.specs.Prelude.{◌≡◌, ◌≢◌, ℕ, ◌+◌, ◌-◌, ◌^◌, ◌<◌, ◌↔◌, List, ◌++◌, length, IsOk, IfOk, Err};
+ghost use Rattle.docker_model.specs.StateFault.{IsStateText};
+ghost use Rattle.docker_bytes.specs.ParserRead.{HasRead};
+ghost use Rattle.docker_bytes.specs.SourceRead.{ReadsState, RefusesState, IsFaultOf};
+
+use crate::fault::{StateCause, StateFault};
+use crate::parser::StateParser;
+use cif_line::Source;
+use docker_state::State;
+use std::alloc::Global;
+use thiserror::Error;
+
+/// How many bytes are read at once.
+const PIECE: usize = 65_536;
+
+/// Why no state was read.
+#[derive(Clone, Copy, PartialEq, Eq, Debug, Error)]
+pub enum ReadFault {
+    /// The source failed.
+    #[error("the source failed")]
+    Source,
+    /// What the source holds is no text of a state: never `Memory`.
+    #[error("{0}")]
+    State(StateFault),
+    /// A growth was refused: want of memory.
+    #[error("want of memory")]
+    Memory,
+}
+
+/// Reads a source to its end, or to the first fault, and answers the state whose text it held. A source that never ends is read to the byte at the limit at
+/// the latest, and that piece of 65,536 bytes to its end.
+pub fn read_state<S: Source>(alloc: Global, source: &mut S, limit: u64) -> Result<State, ReadFault>
+    requires { S.failures source.old < 2 ^ 64 - 1 }
+    ensures ok { IfOk result (ReadsState limit (S.left source.old)) }
+    ensures state { (fault : _) → result ≡ Err (ReadFault.State fault) → RefusesState limit (S.left source.old) fault }
+    ensures source { (result ≡ Err ReadFault.Source) ↔ (S.failures source.new ≡ S.failures source.old + 1) }
+    ensures no_failure { result ≢ Err ReadFault.Source → S.failures source.new ≡ S.failures source.old }
+{
+    let Ok(mut piece) = vec![in alloc; 0u8; PIECE] else {
+        return Err(ReadFault::Memory);
+    };
+    let mut parser = StateParser::new(alloc, limit);
+    'pieces: loop {
+        let Ok(n) = source.read(piece.as_mut_slice()) else {
+            return Err(ReadFault::Source);
+        };
+        if n == 0 {
+            return finished(parser);
+        }
+        if let Err(fault) = fed(&mut parser, &piece[..n]) {
+            return Err(fault);
+        }
+    }
+}
+
+/// Feeds bytes to a parser, all of which have to be of the state.
+fn fed(parser: &mut StateParser, piece: &[u8]) -> Result<(), ReadFault>
+    ensures read { (limit : ℕ) (text : List ℕ) → HasRead parser.old limit text → IsOk result → HasRead parser.new limit (text ++ piece.now) }
+    ensures state { (limit : ℕ) (text : List ℕ) → HasRead parser.old limit text → (fault : _) → result ≡ Err (ReadFault.State fault)
+        → (rest : List ℕ) → IsFaultOf limit ((text ++ piece.now) ++ rest) fault }
+    ensures source { result ≢ Err ReadFault.Source }
+{
+    match parser.feed(piece) {
+        Ok((used, _)) => {
+            if used < piece.len() {
+                return Err(ReadFault::State(tail(parser)));
+            }
+            Ok(())
+        }
+        Err(fault) => Err(fault_of(fault)),
+    }
+}
+
+/// The state that a parser was fed.
+fn finished(parser: StateParser) -> Result<State, ReadFault>
+    ensures ok { (limit : ℕ) (text : List ℕ) → HasRead parser limit text → IfOk result (λ state. IsStateText limit text state) }
+    ensures state { (limit : ℕ) (text : List ℕ) → HasRead parser limit text → (fault : _) → result ≡ Err (ReadFault.State fault) → IsFaultOf limit text fault }
+    ensures source { result ≢ Err ReadFault.Source }
+{
+    match parser.finish() {
+        Ok(state) => Ok(state),
+        Err(fault) => Err(fault_of(fault)),
+    }
+}
+
+/// The fault of a byte behind what a parser has read.
+fn tail(parser: &StateParser) -> StateFault
+    ensures at { (limit : ℕ) (text : List ℕ) → HasRead parser.now limit text → result.at ≡ length text }
+    ensures cause { result.cause ≡ StateCause.Tail }
+{
+    StateFault {
+        at: parser.offset(),
+        cause: StateCause::Tail,
+    }
+}
+
+/// Want of memory is a fault of its own, and each other cause is the text's.
+fn fault_of(fault: StateFault) -> ReadFault
+    ensures memory { fault.cause ≡ StateCause.Memory → result ≡ ReadFault.Memory }
+    ensures state { fault.cause ≢ StateCause.Memory → result ≡ ReadFault.State fault }
+{
+    match fault.cause {
+        StateCause::Memory => ReadFault::Memory,
+        _ => ReadFault::State(fault),
+    }
+}

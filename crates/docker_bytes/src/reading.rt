@@ -1,0 +1,210 @@
+//! The reading of a text in pieces, part by part.
+ghost use Rattle.std.specs.Prelude.{◌≡◌, ◌+◌, ◌-◌, ◌<◌, ◌≤◌, ◌↔◌, [], ◌++◌, length, take, IsTrue, IsOk, IfOk, IfErr};
+ghost use Rattle.arrayvec.specs.ArrayVec.{array_vec_len};
+ghost use Rattle.docker_model.specs.StateFault.{width, IsStateText};
+ghost use Rattle.docker_bytes.specs.Reading.{before_of, text_of, IsReading, ReadsOn, IsFaultTold, IsUnended, IsStep};
+
+use crate::fault::{StateCause, StateFault, Step};
+use crate::place::Place;
+use crate::schedule::Gathered;
+use crate::step::step;
+use arrayvec::ArrayVec;
+use docker_state::{Parts, State};
+use std::alloc::Global;
+use std::mem;
+
+/// The most bytes that a part has.
+const MOST_WIDTH: usize = 80;
+
+/// A text so far: the state that its parts tell, the part that comes next with the bytes of it that came, and where its item began.
+#[derive(Debug, Drop)]
+pub(crate) struct Reading {
+    alloc: Global,
+    limit: u64,
+    place: Place,
+    parts: Parts,
+    lines: Gathered,
+    partial: ArrayVec<u8, MOST_WIDTH>,
+    item_at: u64,
+    reached: u64,
+}
+
+/// Appends bytes to a part, for which there is room.
+fn extend(partial: &mut ArrayVec<u8, MOST_WIDTH>, more: &[u8])
+    requires { array_vec_len partial.old + length more.now ≤ 80 }
+    ensures { partial.new.items ≡ partial.old.items ++ more.now }
+{
+    if partial.try_extend_from_slice(more).is_err() {
+        unreachable!()
+    }
+}
+
+impl Reading {
+    /// No byte yet, of at most `limit`.
+    pub(crate) fn new(alloc: Global, limit: u64) -> Reading
+        ensures reading { IsReading result }
+        ensures text { text_of result ≡ [] }
+        ensures limit { result.limit ≡ limit }
+    {
+        Reading {
+            alloc,
+            limit,
+            place: Place::Mark,
+            parts: Parts::new(alloc),
+            lines: Gathered::new(alloc),
+            partial: ArrayVec::new(),
+            item_at: 0,
+            reached: 0,
+        }
+    }
+
+    /// How many bytes were read.
+    pub(crate) fn offset(&self) -> u64
+        requires { IsReading self.now }
+        ensures { result ≡ length (text_of self.now) }
+    {
+        self.reached + self.partial.len() as u64
+    }
+
+    /// Whether the state is whole.
+    pub(crate) fn is_done(&self) -> bool
+        ensures { IsTrue result ↔ (width (before_of self.now) ≡ 0) }
+    {
+        self.place.width() == 0
+    }
+
+    /// The fault of a text that needs a byte at the limit.
+    fn long(&self) -> StateFault
+        ensures { result ≡ record { at = self.now.limit; cause = StateCause.Long } }
+    {
+        StateFault {
+            at: self.limit,
+            cause: StateCause::Long,
+        }
+    }
+
+    /// Takes a whole part, of which nothing was kept.
+    fn judge(&mut self, bytes: &[u8]) -> Result<(), StateFault>
+        requires reading { IsReading self.old }
+        requires fresh { self.old.partial.items ≡ [] }
+        requires wide { length bytes.now ≡ width (before_of self.old) }
+        requires some { 0 < length bytes.now }
+        requires fits { self.old.reached + length bytes.now ≤ self.old.limit }
+        ensures ok { IsOk result → ReadsOn self.old self.new bytes.now }
+        ensures err { IfErr result (λ fault. IsFaultTold self.old.limit (text_of self.old ++ bytes.now) fault) }
+    {
+        match step(
+            self.alloc,
+            self.place,
+            &mut self.parts,
+            &mut self.lines,
+            bytes,
+        ) {
+            Ok(place) => {
+                self.place = place;
+                self.reached += bytes.len() as u64;
+                if place.begins_item() {
+                    self.item_at = self.reached;
+                }
+                Ok(())
+            }
+            Err(cause) => Err(StateFault {
+                at: self.item_at,
+                cause,
+            }),
+        }
+    }
+
+    /// Takes the bytes up to the end of a part.
+    fn take(&mut self, front: &[u8]) -> Result<(), StateFault>
+        requires reading { IsReading self.old }
+        requires wide { length self.old.partial.items + length front.now ≡ width (before_of self.old) }
+        requires some { 0 < length front.now }
+        ensures ok { IsOk result → ReadsOn self.old self.new front.now }
+        ensures err { IfErr result (λ fault. IsFaultTold self.old.limit (text_of self.old ++ front.now) fault) }
+    {
+        if (self.partial.len() + front.len()) as u64 > self.limit - self.reached {
+            return Err(self.long());
+        }
+        if self.partial.is_empty() {
+            return self.judge(front);
+        }
+        let mut part = mem::replace(&mut self.partial, ArrayVec::new());
+        extend(&mut part, front);
+        self.judge(part.as_slice())
+    }
+
+    /// Takes bytes that end before a part does.
+    fn keep(&mut self, more: &[u8]) -> Result<(), StateFault>
+        requires reading { IsReading self.old }
+        requires short { length self.old.partial.items + length more.now < width (before_of self.old) }
+        ensures ok { IsOk result → ReadsOn self.old self.new more.now }
+        ensures err { IfErr result (λ fault. IsFaultTold self.old.limit (text_of self.old ++ more.now) fault) }
+    {
+        if (self.partial.len() + more.len()) as u64 > self.limit - self.reached {
+            return Err(self.long());
+        }
+        extend(&mut self.partial, more);
+        Ok(())
+    }
+
+    /// Takes the next bytes, up to the end of the state, and tells how many they are.
+    pub(crate) fn read(&mut self, piece: &[u8]) -> Result<(usize, Step), StateFault>
+        requires { IsReading self.old }
+        ensures within { IfOk result (λ answer. answer.0 ≤ length piece.now) }
+        ensures on { IfOk result (λ answer. ReadsOn self.old self.new (take answer.0 piece.now)) }
+        ensures step { IfOk result (IsStep self.old.limit (text_of self.old) piece.now) }
+        ensures err { IfErr result (λ fault. IsFaultTold self.old.limit (text_of self.old ++ piece.now) fault) }
+    {
+        let mut rest = piece;
+        'parts: loop {
+            let width = self.place.width();
+            if width == 0 {
+                return Ok((piece.len() - rest.len(), Step::Done));
+            }
+            let missing = width - self.partial.len();
+            if rest.len() < missing {
+                if let Err(fault) = self.keep(rest) {
+                    return Err(fault);
+                }
+                return Ok((piece.len(), Step::More));
+            }
+            let (front, behind) = rest.split_at(missing);
+            if let Err(fault) = self.take(front) {
+                return Err(fault);
+            }
+            rest = behind;
+        }
+    }
+
+    /// The state whose text was read, or the fault of a text that ends before the state does.
+    pub(crate) fn finish(self) -> Result<State, StateFault>
+        requires { IsReading self }
+        ensures ok { IfOk result (λ state. IsStateText self.limit (text_of self) state) }
+        ensures err { IfErr result (λ fault. IsUnended self.limit (text_of self) fault) }
+    {
+        let Reading {
+            alloc: _,
+            limit: _,
+            place,
+            parts,
+            lines: _,
+            partial: _,
+            item_at,
+            reached: _,
+        } = self;
+        if place.width() > 0 {
+            return Err(StateFault {
+                at: item_at,
+                cause: StateCause::Short,
+            });
+        }
+        match parts.finish() {
+            Ok(state) => Ok(state),
+            Err(_) => Err(StateFault {
+                at: item_at,
+                cause: StateCause::Memory,
+            }),
+        }
+    }
+}

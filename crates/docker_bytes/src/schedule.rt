@@ -1,0 +1,135 @@
+//! The lines of a schedule, as they are read.
+ghost use Rattle.std.specs.Prelude.{◌≡◌, ◌↔◌, ◌⊎◌, [], ◌∷◌, ◌++◌, length, false, IsTrue, IsOk, IfOk, IfErr};
+ghost use Rattle.docker_model.specs.File.{IsSchedule, BeginsSchedule};
+ghost use Rattle.docker_model.specs.StateFault.{AreLinesOf, AreLinesUpTo};
+ghost use Rattle.docker_bytes.specs.Place.{schedule_meant};
+ghost use Rattle.docker_bytes.specs.Judged.{IsFirstOf};
+ghost use Rattle.docker_bytes.specs.FaultMeaning.{cause_meant};
+ghost use Rattle.docker_bytes.specs.Lines.{IsLineRefusal, IsUpToRefusal};
+
+use crate::body::is_first_of;
+use crate::fault::StateCause;
+use cif_file::{Journey, Lines, ScheduleKey};
+use cif_line::Line;
+use std::alloc::{AllocError, Global};
+use std::marker::Model;
+
+/// The lines of a schedule so far, in one buffer, and their reader.
+#[derive(Debug, Drop)]
+pub(crate) struct Gathered {
+    journey: Journey,
+    lines: Vec<Line>,
+}
+
+impl Model for Gathered {
+    ghost use Rattle.std.specs.Prelude.{List, ℕ};
+    ghost use Rattle.cif_file.specs.JourneyRead.{HasLines};
+
+    ghost Value = { List (List ℕ) };
+
+    ghost view = { λ gathered. gathered.lines.items };
+
+    ghost invariant = { λ gathered. HasLines gathered.journey gathered.lines.items };
+}
+
+impl Gathered {
+    /// No line yet.
+    pub(crate) fn new(alloc: Global) -> Gathered
+        ensures { result ≡ [] }
+    {
+        Gathered {
+            journey: Journey::new(),
+            lines: Vec::new(alloc),
+        }
+    }
+
+    /// Lets go of the lines, and keeps the buffer.
+    pub(crate) fn clear(&mut self)
+        ensures { self.new ≡ [] }
+    {
+        self.journey = Journey::new();
+        self.lines.clear();
+    }
+
+    /// How many lines there are.
+    pub(crate) fn len(&self) -> usize
+        ensures { result ≡ length self.now }
+    {
+        self.lines.len()
+    }
+
+    /// Whether the lines are a schedule.
+    pub(crate) fn is_complete(&self) -> bool
+        ensures { IsTrue result ↔ IsSchedule self.now }
+    {
+        self.journey.complete()
+    }
+
+    /// The lines, in memory of just their size.
+    pub(crate) fn body(&self, alloc: Global) -> Result<Lines, AllocError>
+        ensures { IfOk result (λ lines. lines ≡ self.now) }
+    {
+        let mut body = Vec::with_capacity(alloc, self.lines.len())?;
+        body.extend_from_slice(self.lines.as_slice())?;
+        Ok(Lines::of(body))
+    }
+
+    /// Takes the next line. `Body` where no schedule begins with the lines so far and this one. Want of memory lets go of all lines.
+    fn take(&mut self, line: Line) -> Result<(), StateCause>
+        ensures taken { IsOk result → self.new ≡ self.old ++ line ∷ [] }
+        ensures begin { IsOk result → BeginsSchedule (self.old ++ line ∷ []) }
+        ensures err { IfErr result (λ cause. IsLineRefusal self.old line (cause_meant cause)) }
+    {
+        if self.journey.line(&line).is_err() {
+            return Err(StateCause::Body);
+        }
+        match self.lines.push(line) {
+            Ok(()) => Ok(()),
+            Err(_) => {
+                self.journey = Journey::new();
+                self.lines.clear();
+                Err(StateCause::Memory)
+            }
+        }
+    }
+}
+
+/// Whether a line may come next as far as the key goes: behind other lines, or as the first line of a new schedule of this key.
+fn may_follow(key: &ScheduleKey, lines: &Gathered, line: &Line) -> bool
+    ensures first { IsTrue result → lines.now ≡ [] → IsFirstOf (schedule_meant key.now) line.now }
+    ensures refused { result ≡ false → (lines.now ≡ []) × (¬ IsFirstOf (schedule_meant key.now) line.now) }
+{
+    if lines.len() > 0 {
+        return true;
+    }
+    is_first_of(key, line)
+}
+
+/// Takes the next of so many lines of this key. `Body` where it does not go on with a schedule of this key that has as many lines.
+pub(crate) fn judged_line(
+    key: &ScheduleKey,
+    count: u32,
+    lines: &mut Gathered,
+    bytes: &[u8],
+) -> Result<(), StateCause>
+    requires { (lines.old ≡ []) ⊎ AreLinesOf (schedule_meant key.now) lines.old }
+    ensures taken { IsOk result → lines.new ≡ lines.old ++ bytes.now ∷ [] }
+    ensures up_to { IsOk result → AreLinesUpTo (schedule_meant key.now) count (lines.old ++ bytes.now ∷ []) }
+    ensures err { IfErr result (λ cause. IsUpToRefusal (schedule_meant key.now) count lines.old bytes.now (cause_meant cause)) }
+{
+    let Ok(line) = Line::new(bytes) else {
+        return Err(StateCause::Body);
+    };
+    if !may_follow(key, lines, &line) {
+        return Err(StateCause::Body);
+    }
+    if let Err(cause) = lines.take(line) {
+        return Err(cause);
+    }
+    if lines.len() == count as usize {
+        if !lines.is_complete() {
+            return Err(StateCause::Body);
+        }
+    }
+    Ok(())
+}

@@ -1,0 +1,415 @@
+use crate::{
+    ReadFault, StateCause, StateFault, StateParser, Step, encoded_len, read_state, write_state,
+};
+use cif_file::read_pieces;
+use cif_line::{Bytes, Kept};
+use docker_join::Merge;
+use docker_state::State;
+use std::alloc::{AllocError, Global};
+use std::process::Abort;
+use std::test::Fail;
+
+/// The header of an update of 9 June 2024, 21:00.
+const HD: &[u8] =
+    b"HDTPS.UDFROC1.PD2406090906242100DFROC1ADFROC1ZUA                                ";
+
+/// The header of an update a day later.
+const HD_10B: &[u8] =
+    b"HDTPS.UDFROC1.PD2406091006242100DFROC1BDFROC1AUA                                ";
+
+/// The header of an update of 8 June.
+const HD_8A: &[u8] =
+    b"HDTPS.UDFROC1.PD2406090806242100DFROC1ADFROC1ZUA                                ";
+
+/// The header of another update of 9 June.
+const HD_9B: &[u8] =
+    b"HDTPS.UDFROC1.PD2406090906242100DFROC1BDFROC1AUA                                ";
+
+/// A new permanent schedule of C10001, from 10 to 14 June 2024.
+const BS: &[u8] =
+    b"BSNC100012406102406141111100 POO1A10                                           P";
+
+/// Its deletion.
+const BS_DELETED: &[u8] =
+    b"BSDC10001240610              POO                                               P";
+
+/// An origin: Ashfeld, 09:00.
+const LO: &[u8] =
+    b"LOASHFELD 0900 09001  SL                                                        ";
+
+/// A terminus: Brayton, 09:30.
+const LT: &[u8] =
+    b"LTBRAYTON 0930 09322  FL                                                        ";
+
+/// The insertion of Ashfield Central.
+const TI: &[u8] =
+    b"TIASHFELD         ASHFIELD CENTRAL                                              ";
+
+/// Its amendment: another code and description.
+const TA: &[u8] =
+    b"TAASHFELD         ASHFIELD NEW                                          ASHFLDN ";
+
+/// C10001 joins C10002 at Ashfeld.
+const AA: &[u8] =
+    b"AANC10001C100022406102406141111100JJSASHFELD  TP                               P";
+
+/// A trailer.
+const ZZ: &[u8] =
+    b"ZZ                                                                              ";
+
+/// A text of one file and one entry, up to the number of ledger items.
+const MARK: &[u8] = b"DKS1";
+
+/// The number one in eight bytes.
+const ONE: &[u8] = b"\x00\x00\x00\x00\x00\x00\x00\x01";
+
+/// The number two in eight bytes.
+const TWO: &[u8] = b"\x00\x00\x00\x00\x00\x00\x00\x02";
+
+/// The greatest number in eight bytes.
+const MOST: &[u8] = b"\xff\xff\xff\xff\xff\xff\xff\xff";
+
+/// The ledger item of the file of 9 June.
+const ITEM: &[u8] = b"\x5b\xf0\x04\xecDFROC1AUDFROC1Z";
+
+/// The ledger item of an update of 5 June.
+const ITEM_5A: &[u8] = b"\x5b\xec\x04\xecDFROC1AUDFROC1Z";
+
+/// The ledger item of a full extract of 7 June.
+const ITEM_7B: &[u8] = b"\x5b\xee\x04\xecDFROC1BFDFROC1A";
+
+/// An entry of the schedule, up to its lines.
+const HEAD: &[u8] =
+    b"\x03C10001\x5b\xf1P\x5b\xf0\x04\xecDFROC1A\x00\x00\x00\x02\x01\x00\x00\x00\x03";
+
+/// The pieces joined.
+fn joined_text(alloc: Global, pieces: &[&[u8]]) -> Result<Vec<u8>, AllocError> {
+    let mut text = Vec::new(alloc);
+    for piece in pieces {
+        text.extend_from_slice(piece)?;
+    }
+    Ok(text)
+}
+
+/// The state of the file of these records.
+fn state(alloc: Global, records: &[&[u8]]) -> Result<State, Fail> {
+    let mut text = Vec::new(alloc);
+    for record in records {
+        text.extend_from_slice(record)?;
+        text.push(b'\n')?;
+    }
+    let file = read_pieces(alloc, &[text.as_slice()], 1000)?;
+    match State::of_file(alloc, file) {
+        Ok(state) => Ok(state),
+        Err(_) => Err("memory")?,
+    }
+}
+
+/// The join of the states of two files.
+fn both(alloc: Global, one: &[&[u8]], other: &[&[u8]]) -> Result<State, Fail> {
+    match state(alloc, one)?.join(alloc, state(alloc, other)?) {
+        Ok(joined) => Ok(joined),
+        Err(_) => Err("memory")?,
+    }
+}
+
+/// The text that is written of a state.
+fn written(alloc: Global, state: &State) -> Result<Vec<u8>, Fail> {
+    let mut kept = Kept::new(alloc, 1000)?;
+    write_state(state, &mut kept)?;
+    Ok(Vec::from_slice(alloc, kept.bytes())?)
+}
+
+/// The text of the file of 9 June with its schedule: 309 bytes.
+fn known_text(alloc: Global) -> Result<Vec<u8>, AllocError> {
+    joined_text(alloc, &[MARK, ONE, ITEM, ONE, HEAD, BS, LO, LT])
+}
+
+/// That a state has a text of so many bytes, and that this text is read back.
+fn goes_round(
+    rt: &impl Abort,
+    alloc: Global,
+    state: &State,
+    len: usize,
+    step: usize,
+) -> Result<(), Fail> {
+    let text = written(alloc, state)?;
+    assert_eq!(rt; text.len(), len);
+    assert_eq!(rt; encoded_len(state), len as u128);
+    if step > 0 {
+        let read = read_state(alloc, &mut Bytes::new(text.as_slice(), step), len as u64)?;
+        let again = written(alloc, &read)?;
+        assert_eq!(rt; again.as_slice(), text.as_slice());
+    }
+    Ok(())
+}
+
+#[test]
+fn the_text_of_a_schedule(rt: HostRuntime) -> Result<(), Fail> {
+    let alloc = rt.alloc();
+    let state = state(alloc, &[HD, BS, LO, LT, ZZ])?;
+    let known = known_text(alloc)?;
+    let text = written(alloc, &state)?;
+    assert_eq!(rt; text.as_slice(), known.as_slice());
+    goes_round(&rt, alloc, &state, 309, 1)?;
+    goes_round(&rt, alloc, &state, 309, 4096)
+}
+
+#[test]
+fn the_text_of_nothing(rt: HostRuntime) -> Result<(), Fail> {
+    let alloc = rt.alloc();
+    let empty = State::empty(alloc);
+    let text = written(alloc, &empty)?;
+    assert_eq!(rt;
+        text.as_slice(),
+        b"DKS1\0\0\0\0\0\0\0\0\0\0\0\0\0\0\0\0".as_slice()
+    );
+    goes_round(&rt, alloc, &empty, 20, 3)
+}
+
+#[test]
+fn texts_of_each_kind_of_entry(rt: HostRuntime) -> Result<(), Fail> {
+    let alloc = rt.alloc();
+    let deleted = both(alloc, &[HD_9B, BS_DELETED, ZZ], &[HD_8A, BS, LO, LT, ZZ])?;
+    goes_round(&rt, alloc, &deleted, 84, 1)?;
+    let renamed = both(alloc, &[HD, TI, ZZ], &[HD_10B, TA, ZZ])?;
+    goes_round(&rt, alloc, &renamed, 169, 7)?;
+    let associated = state(alloc, &[HD, AA, ZZ])?;
+    goes_round(&rt, alloc, &associated, 159, 1)
+}
+
+#[test]
+fn a_full_sink_has_a_beginning(rt: HostRuntime) -> Result<(), Fail> {
+    let alloc = rt.alloc();
+    let state = state(alloc, &[HD, BS, LO, LT, ZZ])?;
+    let known = known_text(alloc)?;
+    let mut kept = Kept::new(alloc, 20)?;
+    assert!(rt; write_state(&state, &mut kept).is_err());
+    assert_eq!(rt; kept.bytes(), &known.as_slice()[..20]);
+    Ok(())
+}
+
+/// The fault of a text, as each way of reading tells it.
+fn fault_of(rt: &impl Abort, alloc: Global, text: &[u8], limit: u64) -> Result<StateFault, Fail> {
+    let whole = match read_state(alloc, &mut Bytes::new(text, 4096), limit) {
+        Err(ReadFault::State(fault)) => fault,
+        _ => Err("no fault")?,
+    };
+    match read_state(alloc, &mut Bytes::new(text, 1), limit) {
+        Err(ReadFault::State(fault)) => assert_eq!(rt; fault, whole),
+        _ => Err("no fault")?,
+    }
+    Ok(whole)
+}
+
+/// That a text of these pieces has this fault under this limit.
+fn refused(
+    rt: &impl Abort,
+    alloc: Global,
+    pieces: &[&[u8]],
+    limit: u64,
+    wanted: (u64, StateCause),
+) -> Result<(), Fail> {
+    let text = joined_text(alloc, pieces)?;
+    let fault = fault_of(rt, alloc, text.as_slice(), limit)?;
+    assert_eq!(rt; fault.at, wanted.0);
+    assert_eq!(rt; fault.cause, wanted.1);
+    Ok(())
+}
+
+#[test]
+fn faults_of_the_ledger(rt: HostRuntime) -> Result<(), Fail> {
+    let alloc = rt.alloc();
+    refused(&rt, alloc, &[b"DKS2", ONE], 1000, (0, StateCause::Mark))?;
+    refused(&rt, alloc, &[b"DKS"], 1000, (0, StateCause::Short))?;
+    refused(&rt, alloc, &[b"XYZ"], 3, (0, StateCause::Short))?;
+    refused(&rt, alloc, &[b"XYZ"], 2, (2, StateCause::Long))?;
+    let late = b"\x8e\xad\x04\xecDFROC1AUDFROC1Z";
+    refused(&rt, alloc, &[MARK, ONE, late], 1000, (12, StateCause::Item))?;
+    refused(
+        &rt,
+        alloc,
+        &[MARK, TWO, ITEM, ITEM],
+        1000,
+        (31, StateCause::Order),
+    )?;
+    refused(
+        &rt,
+        alloc,
+        &[MARK, TWO, ITEM_5A, ITEM_7B],
+        1000,
+        (31, StateCause::Floor),
+    )?;
+    refused(
+        &rt,
+        alloc,
+        &[MARK, MOST, ITEM_5A],
+        1000,
+        (31, StateCause::Short),
+    )
+}
+
+#[test]
+fn faults_of_an_entry(rt: HostRuntime) -> Result<(), Fail> {
+    let alloc = rt.alloc();
+    let tag = b"\x04C10001\x5b\xf1P\x5b\xf0\x04\xecDFROC1A\x00\x00\x00\x02\x01\x00\x00\x00\x03";
+    refused(
+        &rt,
+        alloc,
+        &[MARK, ONE, ITEM, ONE, tag, BS, LO, LT],
+        1000,
+        (39, StateCause::Tag),
+    )?;
+    let other = b"\x03C10001\x5b\xf1P\x5b\xf0\x04\xecDFROC1B\x00\x00\x00\x02\x01\x00\x00\x00\x03";
+    refused(
+        &rt,
+        alloc,
+        &[MARK, ONE, ITEM, ONE, other, BS, LO, LT],
+        1000,
+        (39, StateCause::Stamp),
+    )?;
+    let op = b"\x03C10001\x5b\xf1P\x5b\xf0\x04\xecDFROC1A\x00\x00\x00\x02\x02\x00\x00\x00\x03";
+    refused(
+        &rt,
+        alloc,
+        &[MARK, ONE, ITEM, ONE, op, BS, LO, LT],
+        1000,
+        (39, StateCause::Body),
+    )?;
+    let revised =
+        b"BSRC100012406102406141111100 POO1A10                                           P";
+    refused(
+        &rt,
+        alloc,
+        &[MARK, ONE, ITEM, ONE, HEAD, revised, LO, LT],
+        1000,
+        (39, StateCause::Body),
+    )?;
+    refused(
+        &rt,
+        alloc,
+        &[MARK, ONE, ITEM, ONE, HEAD, BS, LT, LO],
+        1000,
+        (39, StateCause::Body),
+    )?;
+    refused(
+        &rt,
+        alloc,
+        &[MARK, ONE, ITEM, TWO, HEAD, BS, LO, LT, HEAD, BS, LO, LT],
+        1000,
+        (309, StateCause::Order),
+    )?;
+    refused(
+        &rt,
+        alloc,
+        &[MARK, ONE, ITEM, MOST, HEAD, BS, LO, LT],
+        1000,
+        (309, StateCause::Short),
+    )
+}
+
+#[test]
+fn faults_of_length(rt: HostRuntime) -> Result<(), Fail> {
+    let alloc = rt.alloc();
+    let known = known_text(alloc)?;
+    refused(
+        &rt,
+        alloc,
+        &[known.as_slice(), b"\0"],
+        1000,
+        (309, StateCause::Tail),
+    )?;
+    refused(
+        &rt,
+        alloc,
+        &[known.as_slice(), b"\0"],
+        309,
+        (309, StateCause::Tail),
+    )?;
+    refused(
+        &rt,
+        alloc,
+        &[known.as_slice()],
+        308,
+        (308, StateCause::Long),
+    )?;
+    for (n, _) in known.as_slice().iter().enumerate() {
+        let at = if n < 4 {
+            0
+        } else if n < 12 {
+            4
+        } else if n < 31 {
+            12
+        } else if n < 39 {
+            31
+        } else {
+            39
+        };
+        refused(
+            &rt,
+            alloc,
+            &[&known.as_slice()[..n]],
+            1000,
+            (at, StateCause::Short),
+        )?;
+    }
+    Ok(())
+}
+
+#[test]
+fn a_parser_uses_the_bytes_of_the_state_alone(rt: HostRuntime) -> Result<(), Fail> {
+    let alloc = rt.alloc();
+    let known = known_text(alloc)?;
+    let longer = joined_text(alloc, &[known.as_slice(), b"\0"])?;
+    let mut parser = StateParser::new(alloc, 1000);
+    assert_eq!(rt; parser.feed(longer.as_slice())?, (309, Step::Done));
+    assert_eq!(rt; parser.feed(longer.as_slice())?, (0, Step::Done));
+    let text = written(alloc, &parser.finish()?)?;
+    assert_eq!(rt; text.as_slice(), known.as_slice());
+    let mut parser = StateParser::new(alloc, 1000);
+    assert_eq!(rt; parser.feed(&known.as_slice()[..308])?, (308, Step::More));
+    match parser.finish() {
+        Err(fault) => assert_eq!(rt; (fault.at, fault.cause), (39, StateCause::Short)),
+        Ok(_) => Err("no fault")?,
+    }
+    Ok(())
+}
+
+#[test]
+fn a_fault_is_told_again(rt: HostRuntime) -> Result<(), Fail> {
+    let alloc = rt.alloc();
+    let mut parser = StateParser::new(alloc, 1000);
+    let first = parser.feed(b"DKS2");
+    let second = parser.feed(b"DKS1");
+    let fault = StateFault {
+        at: 0,
+        cause: StateCause::Mark,
+    };
+    assert_eq!(rt; first, Err(fault));
+    assert_eq!(rt; second, Err(fault));
+    match parser.finish() {
+        Err(told) => assert_eq!(rt; told, fault),
+        Ok(_) => Err("no fault")?,
+    }
+    Ok(())
+}
+
+#[test]
+fn want_of_memory_names_its_item(rt: HostRuntime) -> Result<(), Fail> {
+    let alloc = rt.alloc();
+    let known = known_text(alloc)?;
+    let mut parser = StateParser::new(alloc, 1000);
+    match parser.feed(known.as_slice()) {
+        Ok(answer) => assert_eq!(rt; answer, (309, Step::Done)),
+        Err(fault) => {
+            assert_eq!(rt; fault.cause, StateCause::Memory);
+            assert!(rt; fault.at == 12 || fault.at == 39);
+            assert_eq!(rt; parser.feed(known.as_slice()), Err(fault));
+        }
+    }
+    match read_state(alloc, &mut Bytes::new(known.as_slice(), 64), 309) {
+        Ok(state) => assert_eq!(rt; encoded_len(&state), 309),
+        Err(fault) => assert_eq!(rt; fault, ReadFault::Memory),
+    }
+    Ok(())
+}
