@@ -8,6 +8,7 @@ mod network;
 mod plan;
 mod random;
 mod records;
+mod state;
 #[cfg(test)]
 mod tests;
 
@@ -16,7 +17,7 @@ use std::io::Result;
 use std::process::ExitCode;
 
 const USAGE: &str = "usage: extract full SCHEDULES SEED FILE | extract update SCHEDULES BASE_SEED SEED DAY FILE | \
-extract judge FILE | extract flip FILE SEED | extract compare DOCKER FILE SEED FLIPS | extract measure DOCKER FILE..";
+extract judge FILE | extract flip FILE SEED | extract compare DOCKER FILE SEED FLIPS | extract measure DOCKER FILE.. | extract state STATE_TIMES FILE UPDATE FOLDER";
 
 fn main() -> ExitCode {
     let words: Vec<String> = std::env::args().skip(1).collect();
@@ -53,6 +54,7 @@ fn job(words: &[&str]) -> Option<Result<u8>> {
             flip::compare(program, path, number(seed)?, count(flips)?).map(|same| u8::from(!same))
         }
         ["measure", program, paths @ ..] if !paths.is_empty() => measure::tables(program, paths).map(|()| 0),
+        ["state", program, path, update, folder] => state::table(program, path, update, folder).map(|()| 0),
         _ => return None,
     })
 }

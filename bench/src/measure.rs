@@ -222,7 +222,8 @@ fn print_growth(before: &Growth, after: &Growth) {
     }
 }
 
-fn machine() -> String {
+/// Processors and memory of the machine.
+pub fn machine() -> String {
     let processors = std::thread::available_parallelism().map_or(0, |count| count.get());
     let after = |path: &str, name: &str| {
         let text = fs::read_to_string(path).unwrap_or_default();

@@ -1,0 +1,131 @@
+//! Time and memory of the calls on states, by the program `state_times`.
+
+use crate::measure::{machine, run, Input, Spent};
+use std::fs;
+use std::io::{Error, Result};
+
+const ROUNDS: usize = 5;
+
+/// A stage: its name in the table, and its name in what the program says on standard error.
+struct Stage {
+    name: &'static str,
+    said: &'static str,
+    /// The bytes that its speed is told by: of the extract, or of the text.
+    of_text: bool,
+    best: f64,
+}
+
+/// A run of the program, its stages, and the bytes of the states that it holds.
+struct Job<'a> {
+    name: &'static str,
+    words: Vec<&'a str>,
+    stages: Vec<Stage>,
+    states: u64,
+    memory: u64,
+}
+
+fn stage(name: &'static str, said: &'static str, of_text: bool) -> Stage {
+    Stage { name, said, of_text, best: f64::INFINITY }
+}
+
+/// Prints the table of an extract and an update of it. The texts of their states are left in the folder.
+pub fn table(program: &str, extract: &str, update: &str, folder: &str) -> Result<()> {
+    let (text, other) = (format!("{folder}/full.state"), format!("{folder}/update.state"));
+    said_by(&run(&[program, "make", update, &other], Input::None)?)?;
+    said_by(&run(&[program, "make", extract, &text], Input::None)?)?;
+    let size = |path: &str| fs::metadata(path).map(|about| about.len());
+    let (bytes, state, beside) = (size(extract)?, size(&text)?, size(&other)?);
+    let mut jobs = [
+        Job {
+            name: "`make`",
+            words: vec![program, "make", extract, "/dev/null"],
+            stages: vec![
+                stage("reading the extract", "reading the extract", false),
+                stage("making its state", "state of the extract", false),
+                stage("writing the text into memory", "writing the text into memory", true),
+            ],
+            // The state, and its text in memory.
+            states: 2 * state,
+            memory: 0,
+        },
+        Job {
+            name: "`read`",
+            words: vec![program, "read", &text],
+            stages: vec![stage("reading the text back", "reading the text", true)],
+            states: state,
+            memory: 0,
+        },
+        Job {
+            name: "`join`",
+            words: vec![program, "join", &text, &other],
+            stages: vec![stage("joining it with the update's", "the join", true)],
+            states: state + beside,
+            memory: 0,
+        },
+    ];
+    let mut counting = [f64::INFINITY; 2];
+    for _ in 0..ROUNDS {
+        for (best, path) in counting.iter_mut().zip([extract, &text]) {
+            *best = best.min(run(&["wc", "-l", path], Input::None)?.seconds);
+        }
+        for job in &mut jobs {
+            measure(job)?;
+        }
+    }
+    print(&jobs, [bytes, state], counting);
+    Ok(())
+}
+
+/// What the program said on standard error, of a run that ended well.
+fn said_by(spent: &Spent) -> Result<&str> {
+    match spent.status {
+        0 => Ok(&spent.errors),
+        status => Err(Error::other(format!("state_times ended with {status}: {}", spent.errors))),
+    }
+}
+
+/// The milliseconds that the program said of a stage: the first line of its name, since a join reads two texts.
+fn milliseconds(said: &str, stage: &str) -> Option<f64> {
+    let line = said.lines().find(|line| line.starts_with(stage))?;
+    line[stage.len()..].strip_prefix(": ")?.strip_suffix(" ms")?.parse().ok()
+}
+
+fn measure(job: &mut Job) -> Result<()> {
+    let spent = run(&job.words, Input::None)?;
+    let said = said_by(&spent)?;
+    for stage in &mut job.stages {
+        let took = milliseconds(said, stage.said).ok_or_else(|| Error::other(format!("nothing said of {}", stage.said)))?;
+        stage.best = stage.best.min(took / 1e3);
+    }
+    job.memory = job.memory.max(spent.memory);
+    Ok(())
+}
+
+fn print(jobs: &[Job], [bytes, state]: [u64; 2], [of_extract, of_text]: [f64; 2]) {
+    let megabytes = |bytes: u64| bytes as f64 / 1e6;
+    println!("{}", machine());
+    println!(
+        "\nextract {:.1} MB, text of its state {:.1} MB; best time and greatest memory of {ROUNDS}\n",
+        megabytes(bytes),
+        megabytes(state)
+    );
+    println!("| Stage | Time, s | MB/s | × `wc -l` of the same bytes | Peak memory of the run, MB | × the states held |");
+    println!("|---|---|---|---|---|---|");
+    for job in jobs {
+        for (at, stage) in job.stages.iter().enumerate() {
+            let (size, counting) = if stage.of_text { (state, of_text) } else { (bytes, of_extract) };
+            let memory = match at + 1 == job.stages.len() {
+                true => format!("{:.1} | {:.2}", megabytes(job.memory), job.memory as f64 / job.states as f64),
+                false => " | ".to_string(),
+            };
+            println!(
+                "| {}: {} | {:.3} | {:.0} | {:.2} | {memory} |",
+                job.name,
+                stage.name,
+                stage.best,
+                megabytes(size) / stage.best,
+                stage.best / counting
+            );
+        }
+    }
+}
