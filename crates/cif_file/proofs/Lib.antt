@@ -1,4 +1,5 @@
 pub mod RecordsTaken
 pub mod Journeys
 pub mod Parsing
+pub mod LineFeed
 pub mod Joining

@@ -8,20 +8,20 @@ use Rattle.std.specs.Prelude.{nat_lt}
 use Rattle.std.specs.List.{position_or_len}
 use Rattle.std.proofs.lemmas.Bool.{ltb-false}
 use Rattle.std.proofs.lemmas.List.Sums.{position_or_len_is, fails_before_first}
-use Rattle.std.proofs.lemmas.List.{take-append-drop, get_or-take, length-take-le}
+use Rattle.std.proofs.lemmas.List.{take-append-drop, take-append-le, take_all, get_or-take, length-take-le}
 use Rattle.std.proofs.lemmas.List.Quantifiers.{position-Some}
 use Rattle.std.proofs.lemmas.Bool.{leb-true, leb-false, lt-leb, le-leb, eqb-false}
 use Rattle.docker_model.specs.Record.{IsRecord}
 use Rattle.docker_model.specs.Text.{lines_of}
-use Rattle.docker_model.specs.File.{IsFile}
-use Rattle.docker_model.specs.FaultSoFar.{lines_told, IsFaultSoFar}
+use Rattle.docker_model.specs.File.{IsFile, BeginsFile}
+use Rattle.docker_model.specs.FaultSoFar.{IsFaultSoFar}
 use Rattle.docker_model.specs.FileFault.{IsFileFault, IsUnended, too_many, after_trailer, bad_byte, bad_length, no_end}
 use Rattle.docker_model.specs.FileFault as model
 use Rattle.docker_laws.proofs.RecordTests.{is_record, has_good_fields}
 use Rattle.docker_laws.proofs.FilePlace.{Place, after_end, place_at, next_by_test, next_place, file_iff_place, begins_iff_place}
 use Rattle.docker_laws.proofs.FileCauses.{end_cause, length_cause, is_after_end}
-use Rattle.docker_laws.proofs.ToldLines.{HasNoFeed, told_lines, open_line, line_left, lines_of_told, lines_of_ended, lines_of_open, told_lines_plain, open_line_plain, told_lines_ended, open_line_ended, lines_told_grow}
-use Rattle.docker_laws.proofs.ToldFaults.{cause_of_long, cause_of_length, not_80, no_next_place, lines_told_short, lines_told_long, fault_at_feed, fault_at_long, fault_at_end, fault_stays, length_at_end, no_fault_told}
+use Rattle.docker_laws.proofs.ToldLines.{HasNoFeed, told_lines, open_line, line_left, lines_of_told, lines_of_ended, lines_of_open, told_lines_plain, open_line_plain, told_lines_ended, open_line_ended, told_lines_stay}
+use Rattle.docker_laws.proofs.ToldFaults.{cause_of_long, cause_of_length, not_80, no_next_place, fault_at_feed, fault_at_long, fault_at_end, fault_stays, no_fault_told}
 use Rattle.cif_file.specs.declared.fault.FileCause.{FileCause}
 use Rattle.cif_file.specs.declared.fault.FileFault.{FileFault}
 use Rattle.cif_file.specs.declared.front.Front.{Front}
@@ -30,8 +30,8 @@ use Rattle.cif_file.specs.declared.parser.Reading.{Reading}
 use Rattle.cif_file.specs.Cut.{IsCut}
 use Rattle.cif_file.specs.Meaning.{cause_meant}
 use Rattle.cif_file.specs.FileRead.{FileRead, IsOfRecords}
-use Rattle.cif_file.specs.RecordsRead.{HasRecords, IsNoNextTold}
-use Rattle.cif_file.specs.ParserRead.{IsOfFileText, ParserState, HasRead, IsReadingOrFault, HasCounted, IsCauseNext, IsCauseTold, IsFaultNext, IsLongNext, IsReading, IsToldSoFar, IsFaultTold, IsToldOf, IsRefused}
+use Rattle.cif_file.specs.RecordsRead.{HasRecords, GoesOnWith, IsNoNextTold}
+use Rattle.cif_file.specs.ParserRead.{IsOfFileText, ParserState, HasRead, IsReadingOrFault, HasCounted, IsCauseNext, IsCauseTold, IsFaultNext, IsLongNext, IsReading, IsMemoryTold, IsToldSoFar, IsFaultTold, IsToldOf, IsRefused}
 
 abbrev Lines : Type 0
 Lines = List (List ℕ)
@@ -49,23 +49,28 @@ above most n many = by (nat_le n most) refl
     by true h = absurd (many (leb-true n most h))
     by false h = let over = leb-false n most h in omega arith
 
--- the lines that ended are among those of the text
-told_within : (text : List ℕ) → length (told_lines text) ≤ length (lines_of text)
-told_within text = let size = ap (λ (l : Lines). length l) (lines_of_told text) ∙ length-append (told_lines text) (line_left (open_line text)) in omega arith
+-- ---- want of memory
 
--- the lines that are told are among those of the text, an open one of more than 81 bytes too
-lines_told_within : (text : List ℕ) → lines_told text ≤ length (lines_of text)
-lines_told_within text = by (nat_le 82 (length (open_line text))) refl
-  where
-    by : (b : Bool) → nat_le 82 (length (open_line text)) ≡ b → lines_told text ≤ length (lines_of text)
-    by true h =
-        let many = leb-true 82 (length (open_line text)) h in
-        let size = length_at_end text (omega arith) in
-        let told = lines_told_long text many in omega arith
-    by false h =
-        let few = leb-false 82 (length (open_line text)) h in
-        let told = lines_told_short text (omega arith) in
-        let most = told_within text in omega arith
+-- at a line that goes on with a file behind these
+memory_told : (limit : ℕ) (records : Lines) (line : List ℕ) (number : ℕ) (all : Lines) → length records < limit → GoesOnWith records line → number ≡ length records + 1 → all ≡ records ++ line ∷ []
+    → IsMemoryTold limit all number
+memory_told limit records line number all under goes_on counted whole =
+    let size : length all ≡ length records + 1 = ap (λ (l : Lines). length l) whole ∙ length-append records (line ∷ []) in
+    record {
+      some = omega arith;
+      one = omega arith;
+      within = omega arith;
+      sound = subst BeginsFile (sym (take_all number all (omega arith))) (subst BeginsFile (sym whole) ((begins_iff_place (records ++ line ∷ [])).1 goes_on));
+    }
+
+-- more records change nothing
+memory_more : (limit : ℕ) (records others : Lines) (number : ℕ) → IsMemoryTold limit records number → IsMemoryTold limit (records ++ others) number
+memory_more limit records others number told = record {
+  some = told.some;
+  one = let one = told.one in let size = length-append records others in omega arith;
+  within = told.within;
+  sound = subst BeginsFile (sym (take-append-le number records others told.one)) told.sound;
+}
 
 end_by_test : (place : Place) → is_after_end place ≡ true → place ≡ after_end
 end_by_test after_end h = refl
@@ -89,7 +94,7 @@ after_cause limit front records line has is under = record {
 -- a line that is no record
 pub line_cause : (limit : ℕ) (front : Front) (records : Lines) (line : List ℕ) (cause : Option model.FileCause) → HasRecords front records → ¬ IsFile records → length records < limit → ¬ IsRecord line
     → ((place : Place) → cause ≡ Some (length_cause place line)) → IsCauseTold limit records line cause
-line_cause limit front records line None has unended under bad told = under
+line_cause limit front records line None has unended under bad told = absurd (let never = told has.place in cc)
 line_cause limit front records line (Some cause) has unended under bad told = record {
   place = has.place;
   at = has.at;
@@ -115,7 +120,7 @@ front_cause (Ok value) limit records line under told = told
 front_cause (Err cause) limit records line under told = by (cause_meant cause) told
   where
     by : (meant : Option model.FileCause) → IsNoNextTold records line meant → IsCauseTold limit records line meant
-    by None told_no = under
+    by None goes_on = (under, goes_on)
     by (Some c) told_no = record { place = told_no.place; at = told_no.at; here = inr told_no.nowhere; is = told_no.is limit under }
 
 -- ---- a line that ends
@@ -132,14 +137,9 @@ pub ended_fault : (old : Reading) (limit : ℕ) (text front : List ℕ) (fault :
     → IsFaultNext limit (told_lines text) (strip_carriage_return (open_line text ++ front)) fault → IsFaultTold limit (text ++ (front ++ 10 ∷ [])) fault
 ended_fault old limit text front fault reading plain next = by (cause_meant fault.cause) next.cause
   where
-    size : lines_told (text ++ (front ++ 10 ∷ [])) ≡ length (told_lines text) + 1
-    size =
-        let none = ap (λ (l : List ℕ). length l) (open_line_ended text front plain) in
-        lines_told_short (text ++ (front ++ 10 ∷ [])) (omega arith)
-        ∙ ap (λ (l : Lines). length l) (told_lines_ended text front plain) ∙ length-append (told_lines text) (strip_carriage_return (open_line text ++ front) ∷ [])
-
     by : (meant : Option model.FileCause) → IsCauseTold limit (told_lines text) (strip_carriage_return (open_line text ++ front)) meant → IsToldSoFar limit (text ++ (front ++ 10 ∷ [])) fault.number meant
-    by None under = let number = next.number in let most = size in (omega arith, omega arith)
+    by None told =
+        memory_told limit (told_lines text) (strip_carriage_return (open_line text ++ front)) fault.number (told_lines (text ++ (front ++ 10 ∷ []))) told.0 told.1 next.number (told_lines_ended text front plain)
     by (Some cause) told =
         subst (λ f. IsFaultSoFar limit (text ++ (front ++ 10 ∷ [])) f) (λ i. record { number = sym next.number i; cause = told.is i })
         (fault_at_feed limit text front [] told.place plain told.at reading.counted.within told.here)
@@ -182,7 +182,7 @@ pub told_stays : (limit : ℕ) (text more : List ℕ) (fault : FileFault) → Is
 told_stays limit text more fault told = by (cause_meant fault.cause) told
   where
     by : (meant : Option model.FileCause) → IsToldSoFar limit text fault.number meant → IsToldSoFar limit (text ++ more) fault.number meant
-    by None here = let first = here.0 in let most = here.1 in let grow = lines_told_grow text more in (omega arith, omega arith)
+    by None here = let stay = told_lines_stay text more in subst (λ (l : Lines). IsMemoryTold limit l fault.number) (sym stay.1) (memory_more limit (told_lines text) stay.0 fault.number here)
     by (Some cause) here = fault_stays limit text more (record { number = fault.number; cause = cause }) here
 
 -- ---- the end
@@ -198,7 +198,8 @@ pub end_fault : (reading : Reading) (limit : ℕ) (text : List ℕ) (fault : Fil
 end_fault reading limit text fault is some next = by (cause_meant fault.cause) next.cause
   where
     by : (meant : Option model.FileCause) → IsCauseTold limit (told_lines text) (strip_carriage_return (open_line text)) meant → IsToldOf limit text fault.number meant
-    by None under = let number = next.number in let size = length_at_end text some in (omega arith, omega arith)
+    by None told =
+        memory_told limit (told_lines text) (strip_carriage_return (open_line text)) fault.number (lines_of text) told.0 told.1 next.number (lines_of_open text some)
     by (Some cause) told =
         subst (λ f. IsFileFault limit text f) (λ i. record { number = sym next.number i; cause = told.is i }) (fault_at_end limit text told.place told.at is.counted.within some told.here)
 
@@ -227,7 +228,7 @@ pub told_refused : (limit : ℕ) (text : List ℕ) (fault : FileFault) → IsFau
 told_refused limit text fault told = by (cause_meant fault.cause) told
   where
     by : (meant : Option model.FileCause) → IsToldSoFar limit text fault.number meant → IsToldOf limit text fault.number meant
-    by None here = let most = lines_told_within text in let last = here.1 in (here.0, omega arith)
+    by None here = subst (λ (l : Lines). IsMemoryTold limit l fault.number) (sym (lines_of_told text)) (memory_more limit (told_lines text) (line_left (open_line text)) fault.number here)
     by (Some cause) here = inl here.is
 
 -- ---- a line that is too long

@@ -27,7 +27,7 @@ use Rattle.cif_file.specs.declared.front.Place.TheVariants.{BeforeHeader, Betwee
 use Rattle.cif_file.specs.Meaning.{key_meant, change_meant}
 use Rattle.cif_file.specs.FileRead.{FileRead, IsOfRecords}
 use Rattle.cif_file.specs.JourneyRead.{kept, HasLines, IsScheduleFaultTold, is_over_by}
-use Rattle.cif_file.specs.RecordsRead.{with_new_first, header_of, IsOpen, IsKept, HasRecords, IsOver, IsNoNext, IsNoNextTold, change_opened, IsWholeBy, StandsBefore}
+use Rattle.cif_file.specs.RecordsRead.{with_new_first, header_of, IsOpen, IsKept, HasRecords, IsOver, GoesOnWith, IsNoNext, IsNoNextTold, change_opened, IsWholeBy, StandsBefore}
 use Rattle.cif_file.proofs.Journeys.{whole_iff, first_line_is}
 
 abbrev Lines : Type 0
@@ -328,6 +328,41 @@ line_closed old new opened line records before outside same_header place made =
       );
     }
 
+-- ---- a line that goes on
+
+next_of_unit : (line : List ℕ) → is_some (unit_by_kind (kind_of line) line) ≡ true → (next : Place) × (unit_by_kind (kind_of line) line ≡ Some next)
+next_of_unit line begins = by (unit_by_kind (kind_of line) line) refl
+  where
+    by : (found : Option Place) → unit_by_kind (kind_of line) line ≡ found → (next : Place) × (unit_by_kind (kind_of line) line ≡ Some next)
+    by None h = absurd (let bad : false ≡ true = (λ i. is_some (sym h i)) ∙ begins in cc)
+    by (Some next) h = (next, h)
+
+-- behind whole units
+pub unit_goes_on : (front : Front) (records : Lines) (line : List ℕ) → HasRecords front records → front.place ≡ BetweenUnits → IsRecord line → HasGoodFields line
+    → is_some (unit_by_kind (kind_of line) line) ≡ true → GoesOnWith records line
+unit_goes_on front records line has place is fields begins =
+    let next = next_of_unit line begins in
+    (next.0, place_over front records line next.0 (over_of_between front records has place) is fields next.1)
+
+-- behind a whole schedule
+pub anew_goes_on : (front : Front) (opened : Opened) (records : Lines) (line : List ℕ) → HasRecords front records → front.place ≡ InSchedule opened → IsWholeBy opened → IsRecord line → HasGoodFields line
+    → is_some (unit_by_kind (kind_of line) line) ≡ true → GoesOnWith records line
+anew_goes_on front opened records line has place whole is fields begins =
+    let told = opened_of front opened records has place in
+    let next = next_of_unit line begins in (
+      next.0,
+      place_of_more records has.place line has.at
+          ∙ ap (λ p. next_place p line) told.place_is
+          ∙ next_behind told.stage told.lines line ((whole_iff told.lines told.stage told.stage_is).0 (whole told.lines told.progress_is)) (anew_by_unit line begins)
+          ∙ test_by_next between_units line next.0 (record { is = is; sound = test_by_none (leftmost_bad_field line) fields; place_is = next.1 }),
+    )
+
+-- in a schedule
+pub line_goes_on : (front : Front) (opened : Opened) (line : List ℕ) (records : Lines) → StandsBefore front opened line records → GoesOnWith records line
+line_goes_on front opened line records before =
+    let next = stage_begun before.lines line before.goes_on in
+    (place_in next.0 (before.lines ++ line ∷ []), place_followed front opened line records before next.0 next.1)
+
 -- ---- the end
 
 end_by_test : (place : Place) → is_after_end place ≡ true → place ≡ after_end
@@ -503,7 +538,7 @@ not_whole front opened records line kind has at open_end is known stops =
 -- a line that a schedule does not go on with
 pub bad_line : (front : Front) (opened : Opened) (records : Lines) (line : List ℕ) (cause : Option fault.FileCause) → HasRecords front records → front.place ≡ InSchedule opened → IsRecord line
     → follows_basic (kind_of line) ≡ true → ((lines : Lines) → HasLines (kept opened.progress) lines → IsScheduleFaultTold lines line cause) → IsNoNextTold records line cause
-bad_line front opened records line None has at is follow told = tt
+bad_line front opened records line None has at is follow told = let here = opened_of front opened records has at in absurd (told here.lines here.progress_is)
 bad_line front opened records line (Some cause) has at is follow told =
     let here = opened_of front opened records has at in
     let found : IsPlaceOf records (in_schedule here.stage here.lines) = has.at ∙ ap Some here.place_is in

@@ -1,6 +1,7 @@
 -- What a file that was read tells.
-use Rattle.std.specs.Prelude.{◌≡◌, ℕ, List, [], length, slice_index_or}
+use Rattle.std.specs.Prelude.{◌≡◌, ℕ, ◌≤◌, List, [], length, slice_index_or}
 use Rattle.docker_model.specs.Change.{Change, changes}
+use Rattle.docker_model.specs.File.{IsFile}
 
 -- the header's line, how many records there are, and the changes that they make
 pub record FileRead : Type 0 where
@@ -13,3 +14,10 @@ pub record IsOfRecords (file : FileRead) (records : List (List ℕ)) : Type 0 wh
   pub header_is : file.header_line ≡ slice_index_or records 0 []
   pub count_is : file.record_count ≡ length records
   pub changes_are : file.changes_made ≡ changes records
+
+-- it tells of some records, which are a file; their numbers are at most 4,294,967,294
+pub record IsRead (file : FileRead) : Type 0 where
+  pub records : List (List ℕ)
+  pub of_records : IsOfRecords file records
+  pub is_file : IsFile records
+  pub few : length records ≤ 4_294_967_294

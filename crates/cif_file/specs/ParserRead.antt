@@ -1,7 +1,8 @@
 -- What a parser of files was fed.
-use Rattle.std.specs.Prelude.{◌≡◌, ℕ, ◌+◌, ◌<◌, ◌≤◌, ◌⊎◌, List, length, Option, Some, None}
+use Rattle.std.specs.Prelude.{◌≡◌, ℕ, ◌+◌, ◌<◌, ◌≤◌, ◌⊎◌, List, length, take, Option, Some, None}
 use Rattle.docker_model.specs.Text.{lines_of}
-use Rattle.docker_model.specs.FaultSoFar.{lines_told, IsFaultSoFar}
+use Rattle.docker_model.specs.FaultSoFar.{IsFaultSoFar}
+use Rattle.docker_model.specs.File.{BeginsFile}
 use Rattle.docker_model.specs.FileFault.{IsFileFault, IsFileText}
 use Rattle.docker_model.specs.FileFault as model
 use Rattle.docker_laws.proofs.FilePlace.{next_place, IsPlaceOf}
@@ -14,7 +15,7 @@ use Rattle.cif_file.specs.declared.records.Records.{Records}
 use Rattle.cif_file.specs.declared.parser.Reading.{Reading}
 use Rattle.cif_file.specs.Meaning.{cause_meant}
 use Rattle.cif_file.specs.FileRead.{FileRead, IsOfRecords}
-use Rattle.cif_file.specs.RecordsRead.{HasRecords}
+use Rattle.cif_file.specs.RecordsRead.{HasRecords, GoesOnWith}
 
 abbrev Lines : Type 0
 Lines = List (List ℕ)
@@ -26,6 +27,12 @@ pub record HasCounted (state : Records) (limit : ℕ) (records : Lines) : Type 0
   pub within : length records ≤ limit
   pub has : HasRecords state.front records
 
+-- some records were taken, within some limit
+pub record HasCountedSome (state : Records) : Type 0 where
+  pub limit : ℕ
+  pub records : Lines
+  pub has : HasCounted state limit records
+
 -- a record is at fault behind these, for this cause
 pub record IsCauseNext (limit : ℕ) (records : Lines) (line : List ℕ) (cause : model.FileCause) : Type 0 where
   pub place : law.Place
@@ -33,9 +40,9 @@ pub record IsCauseNext (limit : ℕ) (records : Lines) (line : List ℕ) (cause 
   pub here : (limit ≤ length records) ⊎ (next_place place line ≡ None)
   pub is : cause_of limit (length records) place line ≡ cause
 
--- a cause that was told of a record; want of memory comes within the limit
+-- a cause that was told of a record; memory was wanting only within the limit, and for a record that goes on
 abbrev pub IsCauseTold : ℕ → Lines → List ℕ → Option model.FileCause → Type 0
-IsCauseTold limit records line None = length records < limit
+IsCauseTold limit records line None = (length records < limit) × GoesOnWith records line
 IsCauseTold limit records line (Some cause) = IsCauseNext limit records line cause
 
 -- a fault that was told of the record behind these
@@ -56,17 +63,30 @@ pub record IsReading (reading : Reading) (limit : ℕ) (text : List ℕ) : Type 
   pub partial_is : reading.partial.items ≡ open_line text
   pub short : length (open_line text) ≤ 81
 
--- the cause that a fault tells is that of the first record at fault which is told; or memory was wanting at a record that is told
+-- the same, of some text under some limit
+pub record IsReadingSome (reading : Reading) : Type 0 where
+  pub limit : ℕ
+  pub text : List ℕ
+  pub is : IsReading reading limit text
+
+-- memory was wanting at the record of this number: one of these, within the limit, and some file begins with those up to it
+pub record IsMemoryTold (limit : ℕ) (records : Lines) (number : ℕ) : Type 0 where
+  pub some : 0 < number
+  pub one : number ≤ length records
+  pub within : number ≤ limit
+  pub sound : BeginsFile (take number records)
+
+-- the cause that a fault tells is that of the first record at fault which is told; or memory was wanting at a record whose line feed came, and none up to it is at fault
 abbrev pub IsToldSoFar : ℕ → List ℕ → ℕ → Option model.FileCause → Type 0
-IsToldSoFar limit text number None = (0 < number) × (number ≤ lines_told text)
+IsToldSoFar limit text number None = IsMemoryTold limit (told_lines text) number
 IsToldSoFar limit text number (Some cause) = IsFaultSoFar limit text (record { number = number; cause = cause })
 
 abbrev pub IsFaultTold : ℕ → List ℕ → FileFault → Type 0
 IsFaultTold limit text fault = IsToldSoFar limit text fault.number (cause_meant fault.cause)
 
--- the fault is the text's; or memory was wanting at one of its records
+-- the fault is the text's; or memory was wanting at one of its records, and none up to it is at fault
 abbrev pub IsToldOf : ℕ → List ℕ → ℕ → Option model.FileCause → Type 0
-IsToldOf limit text number None = (0 < number) × (number ≤ length (lines_of text))
+IsToldOf limit text number None = IsMemoryTold limit (lines_of text) number
 IsToldOf limit text number (Some cause) = IsFileFault limit text (record { number = number; cause = cause })
 
 abbrev pub IsRefused : ℕ → List ℕ → FileFault → Type 0
@@ -84,6 +104,12 @@ IsReadingOrFault reading limit text (Some fault) = IsFaultTold limit text fault
 -- the parser was fed this text, under this limit on records
 abbrev pub HasRead : ParserState → ℕ → List ℕ → Type 0
 HasRead parser limit text = IsReadingOrFault parser.reading limit text parser.fault
+
+-- the parser was fed some text, under some limit
+pub record WasFed (parser : ParserState) : Type 0 where
+  pub limit : ℕ
+  pub text : List ℕ
+  pub read : HasRead parser limit text
 
 -- the text is one of a file of at most so many records, and what was read tells of those
 pub record IsOfFileText (file : FileRead) (limit : ℕ) (text : List ℕ) : Type 0 where

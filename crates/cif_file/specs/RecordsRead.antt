@@ -1,5 +1,5 @@
 -- What the reader of a file's records has read.
-use Rattle.std.specs.Prelude.{◌≡◌, ℕ, ◌+◌, ◌<◌, true, false, List, [], ◌∷◌, ◌++◌, length, map, Option, Some, None, ⊤, if◌then◌else◌}
+use Rattle.std.specs.Prelude.{◌≡◌, ℕ, ◌+◌, ◌<◌, ◌≤◌, true, false, List, [], ◌∷◌, ◌++◌, length, map, Option, Some, None, if◌then◌else◌}
 use Rattle.docker_model.specs.Record.{IsRecord, kind_of}
 use Rattle.docker_model.specs.Stamp.{first_record}
 use Rattle.docker_model.specs.Change.{changes, schedule_named, schedule_body, delete, put, as_new, follows_basic}
@@ -59,6 +59,13 @@ pub record HasRecords (front : Front) (records : Lines) : Type 0 where
   pub header_is : front.header ≡ header_of records
   pub kept_are : IsKept front.place front.lines.items (map change_meant front.changes.items) place records
 
+-- the reader has taken so many records, and no more than can be numbered
+pub record HasRecordsCounted (front : Front) (count : ℕ) : Type 0 where
+  pub records : Lines
+  pub has : HasRecords front records
+  pub counted : count ≡ length records
+  pub few : count ≤ 4_294_967_294
+
 -- all units of the records are whole, and their changes were made: what begins anew may follow
 pub record IsOver (front : Front) (records : Lines) : Type 0 where
   pub place : law.Place
@@ -75,9 +82,13 @@ pub record IsNoNext (records : Lines) (line : List ℕ) (cause : fault.FileCause
   pub nowhere : next_place place line ≡ None
   pub is : (limit : ℕ) → length records < limit → cause_of limit (length records) place line ≡ cause
 
--- a cause that was told; want of memory tells nothing of the line
+-- a line goes on with some file that begins with the records
+abbrev pub GoesOnWith : Lines → List ℕ → Type 0
+GoesOnWith records line = (next : law.Place) × IsPlaceOf (records ++ line ∷ []) next
+
+-- a cause that was told; memory was wanting only for a line that goes on
 abbrev pub IsNoNextTold : Lines → List ℕ → Option fault.FileCause → Type 0
-IsNoNextTold records line None = ⊤
+IsNoNextTold records line None = GoesOnWith records line
 IsNoNextTold records line (Some cause) = IsNoNext records line cause
 
 -- the change of a schedule with these lines

@@ -3,6 +3,7 @@ ghost use Rattle.std.specs.Prelude.{◌≡◌, map};
 ghost use Rattle.docker_model.specs.Record.{header as head};
 ghost use Rattle.cif_line.specs.View.{IsGood};
 ghost use Rattle.cif_file.specs.Meaning.{change_meant};
+ghost use Rattle.cif_file.specs.FileRead.{IsRead};
 
 use crate::change::Change;
 use cif_line::{Header, Line, header};
@@ -20,7 +21,7 @@ impl Model for CifFile {
     ghost use Rattle.std.specs.Prelude.{map};
     ghost use Rattle.docker_model.specs.Record.{header as head};
     ghost use Rattle.cif_line.specs.View.{IsGood};
-    ghost use Rattle.cif_file.specs.FileRead.{FileRead};
+    ghost use Rattle.cif_file.specs.FileRead.{FileRead, IsRead};
 
     ghost Value = { FileRead };
 
@@ -32,13 +33,18 @@ impl Model for CifFile {
       changes_made = map change_meant file.changes.items;
     } };
 
-    ghost invariant = { λ file. IsGood head file.header };
+    ghost invariant = { λ file. IsGood head file.header × IsRead (record {
+      header_line = file.header;
+      record_count = file.records;
+      changes_made = map change_meant file.changes.items;
+    }) };
 }
 
 impl CifFile {
     /// The file with this header, so many records and these changes.
     pub(crate) fn of(header: Line, records: u32, changes: Vec<Change>) -> CifFile
-        requires { IsGood head header }
+        requires header { IsGood head header }
+        requires read { IsRead (record { header_line = header; record_count = records; changes_made = map change_meant changes.items }) }
         ensures { result ≡ record { header_line = header; record_count = records; changes_made = map change_meant changes.items } }
     {
         CifFile {
@@ -60,14 +66,16 @@ impl CifFile {
 
     /// How many records the file has, the header and the trailer among them.
     pub fn records(&self) -> u32
-        ensures { result ≡ self.now.record_count }
+        ensures count { result ≡ self.now.record_count }
+        ensures read { IsRead self.now }
     {
         self.records
     }
 
     /// The changes, in the order of their records.
     pub fn changes(&self) -> &[Change]
-        ensures { map change_meant result.now ≡ self.now.changes_made }
+        ensures changes { map change_meant result.now ≡ self.now.changes_made }
+        ensures read { IsRead self.now }
     {
         self.changes.as_slice()
     }

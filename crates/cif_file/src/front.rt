@@ -8,14 +8,13 @@ ghost use Rattle.docker_laws.proofs.FilePlace.{unit_by_kind};
 ghost use Rattle.cif_line.specs.Kind.{meaning};
 ghost use Rattle.cif_file.specs.Meaning.{cause_meant, change_meant};
 ghost use Rattle.cif_file.specs.FileRead.{IsOfRecords};
-ghost use Rattle.cif_file.specs.RecordsRead.{HasRecords, IsOver, IsNoNextTold, StandsBefore, IsWholeBy, change_opened};
+ghost use Rattle.cif_file.specs.RecordsRead.{HasRecords, HasRecordsCounted, IsOver, IsNoNextTold, StandsBefore, IsWholeBy, change_opened};
 
 use crate::change::Change;
 use crate::fault::FileCause;
 use crate::file::CifFile;
 use crate::header_line::HeaderLine;
-use crate::opened::{Opened, schedule_key};
-use crate::steps::begun_by;
+use crate::opened::{Opened, opened_by};
 use crate::unit::{push, push_changes, unit_cause};
 use cif_line::{Kind, Line, header, kind};
 use std::alloc::{AllocError, Global};
@@ -85,6 +84,7 @@ impl Front {
 
     /// The file that the records are, if the trailer was read; `count` is how many there are.
     pub(crate) fn into_file(self, count: u32) -> Option<CifFile>
+        requires { HasRecordsCounted self count }
         ensures { (records : List (List ℕ)) → HasRecords self records → count ≡ length records → MatchOption result (¬ IsFile records) (λ file. IsFile records × IsOfRecords file records) }
     {
         let Front {
@@ -105,12 +105,12 @@ impl Front {
     }
 
     /// Takes the next record, which has this number.
-    pub(crate) fn take(&mut self, number: u32, line: Line) -> Result<(), FileCause>
-        ensures read { (records : List (List ℕ)) → HasRecords self.old records → number ≡ length records + 1 → IsOk result → HasRecords self.new (records ++ line ∷ []) }
-        ensures err { (records : List (List ℕ)) → HasRecords self.old records → ¬ IsFile records → IfErr result (λ cause. IsNoNextTold records line (cause_meant cause)) }
+    pub(crate) fn take(&mut self, number: u32, line: &Line) -> Result<(), FileCause>
+        ensures read { (records : List (List ℕ)) → HasRecords self.old records → number ≡ length records + 1 → IsOk result → HasRecords self.new (records ++ line.now ∷ []) }
+        ensures err { (records : List (List ℕ)) → HasRecords self.old records → ¬ IsFile records → IfErr result (λ cause. IsNoNextTold records line.now (cause_meant cause)) }
     {
         let _record = line.bytes();
-        let Some(kind) = kind(&line) else {
+        let Some(kind) = kind(line) else {
             return Err(FileCause::Kind);
         };
         match self.place {
@@ -122,20 +122,20 @@ impl Front {
     }
 
     /// Takes the header.
-    fn take_header(&mut self, kind: Kind, line: Line) -> Result<(), FileCause>
+    fn take_header(&mut self, kind: Kind, line: &Line) -> Result<(), FileCause>
         requires place { self.old.place ≡ Place.BeforeHeader }
-        requires record { IsRecord line }
-        requires kind { HasKind (meaning kind) line }
-        ensures read { (records : List (List ℕ)) → HasRecords self.old records → IsOk result → HasRecords self.new (records ++ line ∷ []) }
-        ensures err { (records : List (List ℕ)) → HasRecords self.old records → IfErr result (λ cause. IsNoNextTold records line (cause_meant cause)) }
+        requires record { IsRecord line.now }
+        requires kind { HasKind (meaning kind) line.now }
+        ensures read { (records : List (List ℕ)) → HasRecords self.old records → IsOk result → HasRecords self.new (records ++ line.now ∷ []) }
+        ensures err { (records : List (List ℕ)) → HasRecords self.old records → IfErr result (λ cause. IsNoNextTold records line.now (cause_meant cause)) }
     {
         let Kind::Header = kind else {
             return Err(FileCause::Place);
         };
-        match header(&line) {
+        match header(line) {
             Err(fault) => Err(FileCause::Field(fault.0)),
             Ok(_) => {
-                self.header = Some(HeaderLine::of(line));
+                self.header = Some(HeaderLine::of(*line));
                 self.place = Place::BetweenUnits;
                 Ok(())
             }
@@ -143,14 +143,14 @@ impl Front {
     }
 
     /// Takes a record behind the header or a whole unit.
-    fn take_unit(&mut self, number: u32, kind: Kind, line: Line) -> Result<(), FileCause>
+    fn take_unit(&mut self, number: u32, kind: Kind, line: &Line) -> Result<(), FileCause>
         requires place { self.old.place ≡ Place.BetweenUnits }
-        requires record { IsRecord line }
-        requires kind { HasKind (meaning kind) line }
-        ensures read { (records : List (List ℕ)) → HasRecords self.old records → number ≡ length records + 1 → IsOk result → HasRecords self.new (records ++ line ∷ []) }
-        ensures err { (records : List (List ℕ)) → HasRecords self.old records → IfErr result (λ cause. IsNoNextTold records line (cause_meant cause)) }
+        requires record { IsRecord line.now }
+        requires kind { HasKind (meaning kind) line.now }
+        ensures read { (records : List (List ℕ)) → HasRecords self.old records → number ≡ length records + 1 → IsOk result → HasRecords self.new (records ++ line.now ∷ []) }
+        ensures err { (records : List (List ℕ)) → HasRecords self.old records → IfErr result (λ cause. IsNoNextTold records line.now (cause_meant cause)) }
     {
-        if let Some(cause) = unit_cause(kind, &line) {
+        if let Some(cause) = unit_cause(kind, line) {
             return Err(cause);
         }
         match self.add_unit(number, kind, line) {
@@ -165,21 +165,21 @@ impl Front {
         number: u32,
         opened: Opened,
         kind: Kind,
-        line: Line,
+        line: &Line,
     ) -> Result<(), FileCause>
         requires place { self.old.place ≡ Place.InSchedule opened }
-        requires record { IsRecord line }
-        requires kind { HasKind (meaning kind) line }
-        ensures read { (records : List (List ℕ)) → HasRecords self.old records → number ≡ length records + 1 → IsOk result → HasRecords self.new (records ++ line ∷ []) }
-        ensures err { (records : List (List ℕ)) → HasRecords self.old records → IfErr result (λ cause. IsNoNextTold records line (cause_meant cause)) }
+        requires record { IsRecord line.now }
+        requires kind { HasKind (meaning kind) line.now }
+        ensures read { (records : List (List ℕ)) → HasRecords self.old records → number ≡ length records + 1 → IsOk result → HasRecords self.new (records ++ line.now ∷ []) }
+        ensures err { (records : List (List ℕ)) → HasRecords self.old records → IfErr result (λ cause. IsNoNextTold records line.now (cause_meant cause)) }
     {
         if follows_basic(kind) {
-            return self.follow(opened, line);
+            return self.follow(opened, kind, line);
         }
         if !opened.progress.complete() {
             return Err(FileCause::Place);
         }
-        if let Some(cause) = unit_cause(kind, &line) {
+        if let Some(cause) = unit_cause(kind, line) {
             return Err(cause);
         }
         match self.begin_anew(number, opened, kind, line) {
@@ -189,14 +189,15 @@ impl Front {
     }
 
     /// Takes a line that may go on with the schedule.
-    fn follow(&mut self, opened: Opened, line: Line) -> Result<(), FileCause>
+    fn follow(&mut self, opened: Opened, kind: Kind, line: &Line) -> Result<(), FileCause>
         requires place { self.old.place ≡ Place.InSchedule opened }
-        requires record { IsRecord line }
-        requires follows { follows_basic (kind_of line) ≡ true }
-        ensures read { (records : List (List ℕ)) → HasRecords self.old records → IsOk result → HasRecords self.new (records ++ line ∷ []) }
-        ensures err { (records : List (List ℕ)) → HasRecords self.old records → IfErr result (λ cause. IsNoNextTold records line (cause_meant cause)) }
+        requires record { IsRecord line.now }
+        requires kind { HasKind (meaning kind) line.now }
+        requires follows { follows_basic (Some (meaning kind)) ≡ true }
+        ensures read { (records : List (List ℕ)) → HasRecords self.old records → IsOk result → HasRecords self.new (records ++ line.now ∷ []) }
+        ensures err { (records : List (List ℕ)) → HasRecords self.old records → IfErr result (λ cause. IsNoNextTold records line.now (cause_meant cause)) }
     {
-        let progress = match opened.progress.with(&line) {
+        let progress = match opened.progress.with_kind(kind, line) {
             Ok(progress) => progress,
             Err(cause) => return Err(cause),
         };
@@ -207,10 +208,10 @@ impl Front {
     }
 
     /// Adds a line of the schedule, behind which it stands so.
-    fn add_line(&mut self, opened: Opened, line: Line) -> Result<(), AllocError>
-        ensures { (records : List (List ℕ)) → StandsBefore self.old opened line records → OnOk result (HasRecords self.new (records ++ line ∷ [])) }
+    fn add_line(&mut self, opened: Opened, line: &Line) -> Result<(), AllocError>
+        ensures { (records : List (List ℕ)) → StandsBefore self.old opened line.now records → OnOk result (HasRecords self.new (records ++ line.now ∷ [])) }
     {
-        self.lines.push(line)?;
+        self.lines.push(*line)?;
         if opened.progress.is_over() {
             return self.close(opened);
         }
@@ -238,26 +239,26 @@ impl Front {
         number: u32,
         opened: Opened,
         kind: Kind,
-        line: Line,
+        line: &Line,
     ) -> Result<(), AllocError>
         requires place { self.old.place ≡ Place.InSchedule opened }
-        requires record { IsRecord line }
-        requires kind { HasKind (meaning kind) line }
-        requires begins { is_some (unit_by_kind (kind_of line) line) ≡ true }
-        requires fields { HasGoodFields line }
-        ensures { (records : List (List ℕ)) → HasRecords self.old records → IsWholeBy opened → number ≡ length records + 1 → OnOk result (HasRecords self.new (records ++ line ∷ [])) }
+        requires record { IsRecord line.now }
+        requires kind { HasKind (meaning kind) line.now }
+        requires begins { is_some (unit_by_kind (kind_of line.now) line.now) ≡ true }
+        requires fields { HasGoodFields line.now }
+        ensures { (records : List (List ℕ)) → HasRecords self.old records → IsWholeBy opened → number ≡ length records + 1 → OnOk result (HasRecords self.new (records ++ line.now ∷ [])) }
     {
         self.close(opened)?;
         self.add_unit(number, kind, line)
     }
 
     /// Adds a record that begins a unit, or the trailer.
-    fn add_unit(&mut self, number: u32, kind: Kind, line: Line) -> Result<(), AllocError>
-        requires record { IsRecord line }
-        requires kind { HasKind (meaning kind) line }
-        requires begins { is_some (unit_by_kind (kind_of line) line) ≡ true }
-        requires fields { HasGoodFields line }
-        ensures { (records : List (List ℕ)) → IsOver self.old records → number ≡ length records + 1 → OnOk result (HasRecords self.new (records ++ line ∷ [])) }
+    fn add_unit(&mut self, number: u32, kind: Kind, line: &Line) -> Result<(), AllocError>
+        requires record { IsRecord line.now }
+        requires kind { HasKind (meaning kind) line.now }
+        requires begins { is_some (unit_by_kind (kind_of line.now) line.now) ≡ true }
+        requires fields { HasGoodFields line.now }
+        ensures { (records : List (List ℕ)) → IsOver self.old records → number ≡ length records + 1 → OnOk result (HasRecords self.new (records ++ line.now ∷ [])) }
     {
         match kind {
             Kind::BasicSchedule => self.open(number, line),
@@ -267,27 +268,22 @@ impl Front {
             }
             _ => {
                 self.place = Place::BetweenUnits;
-                push_changes(&mut self.changes, number, kind, &line)
+                push_changes(&mut self.changes, number, kind, line)
             }
         }
     }
 
     /// Adds a basic schedule.
-    fn open(&mut self, number: u32, line: Line) -> Result<(), AllocError>
-        requires record { IsRecord line }
-        requires kind { HasKind basic_schedule line }
-        requires fields { HasGoodFields line }
-        ensures { (records : List (List ℕ)) → IsOver self.old records → number ≡ length records + 1 → OnOk result (HasRecords self.new (records ++ line ∷ [])) }
+    fn open(&mut self, number: u32, line: &Line) -> Result<(), AllocError>
+        requires record { IsRecord line.now }
+        requires kind { HasKind basic_schedule line.now }
+        requires fields { HasGoodFields line.now }
+        ensures { (records : List (List ℕ)) → IsOver self.old records → number ≡ length records + 1 → OnOk result (HasRecords self.new (records ++ line.now ∷ [])) }
     {
-        let progress = begun_by(&line);
-        let key = schedule_key(&line);
+        let opened = opened_by(number, line);
         self.lines.clear();
-        self.lines.push(line.as_new())?;
-        self.place = Place::InSchedule(Opened {
-            number,
-            key,
-            progress,
-        });
+        self.lines.push((*line).as_new())?;
+        self.place = Place::InSchedule(opened);
         Ok(())
     }
 }

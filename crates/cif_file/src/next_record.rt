@@ -33,7 +33,7 @@ pub(crate) fn take_within(front: &mut Front, number: u32, bytes: &[u8]) -> Resul
         return Err(FileCause::After);
     }
     match line_of(bytes) {
-        Ok(line) => front.take(number, line),
+        Ok(line) => front.take(number, &line),
         Err(cause) => Err(cause),
     }
 }

@@ -1,15 +1,17 @@
 //! A schedule whose lines are being read.
-ghost use Rattle.std.specs.Prelude.{◌≡◌, IfOk, if◌then◌else◌};
-ghost use Rattle.docker_model.specs.Record.{basic_schedule};
+ghost use Rattle.std.specs.Prelude.{◌≡◌, [], ◌∷◌, IfOk, if◌then◌else◌};
+ghost use Rattle.docker_model.specs.Record.{HasKind, IsRecord, basic_schedule};
+ghost use Rattle.docker_model.specs.Field.{HasGoodFields};
 ghost use Rattle.docker_model.specs.Change.{schedule_named, schedule_body, delete, put};
-ghost use Rattle.cif_line.specs.View.{IsGood};
+ghost use Rattle.cif_file.specs.JourneyRead.{kept, HasLines};
 ghost use Rattle.cif_file.specs.Meaning.{change_meant, key_meant};
 
 use crate::change::{Act, Body, Change};
 use crate::key::{Key, ScheduleKey};
 use crate::lines::Lines;
 use crate::progress::Progress;
-use cif_line::{Line, basic};
+use crate::steps::behind_basic;
+use cif_line::{Basic, Line, basic};
 use std::alloc::{AllocError, Global};
 
 /// A schedule whose lines are being read: the number of its basic schedule, its key, and how far it has come.
@@ -51,17 +53,32 @@ fn body_of(alloc: Global, lines: &[Line]) -> Result<Lines, AllocError>
     Ok(Lines::of(body))
 }
 
-/// What the schedule of a basic schedule is known by.
-pub(crate) fn schedule_key(line: &Line) -> ScheduleKey
-    requires { IsGood basic_schedule line.now }
-    ensures { key_meant (Key.Schedule result) ≡ schedule_named line.now }
+/// The schedule that a basic schedule begins, which has this number.
+pub(crate) fn opened_by(number: u32, line: &Line) -> Opened
+    requires record { IsRecord line.now }
+    requires kind { HasKind basic_schedule line.now }
+    requires fields { HasGoodFields line.now }
+    ensures number { result.number ≡ number }
+    ensures key { key_meant (Key.Schedule result.key) ≡ schedule_named line.now }
+    ensures progress { HasLines (kept result.progress) (line.now ∷ []) }
 {
     match basic(line) {
-        Ok(view) => ScheduleKey {
-            uid: view.uid(),
-            runs_from: view.runs_from(),
-            stp: view.stp(),
+        Ok(view) => Opened {
+            number,
+            key: schedule_key(&view),
+            progress: behind_basic(&view),
         },
         Err(_) => unreachable!(),
+    }
+}
+
+/// What the schedule of a basic schedule is known by.
+fn schedule_key(view: &Basic<'_>) -> ScheduleKey
+    ensures { key_meant (Key.Schedule result) ≡ schedule_named view.now }
+{
+    ScheduleKey {
+        uid: view.uid(),
+        runs_from: view.runs_from(),
+        stp: view.stp(),
     }
 }

@@ -3,7 +3,7 @@ ghost use Rattle.std.specs.Prelude.{◌≡◌, ℕ, ◌+◌, ◌≤◌, ◌↔�
 ghost use Rattle.docker_model.specs.FaultSoFar.{IsFaultSoFar};
 ghost use Rattle.docker_model.specs.FileFault as model;
 ghost use Rattle.docker_laws.proofs.ToldLines.{HasNoFeed};
-ghost use Rattle.cif_file.specs.ParserRead.{IsOfFileText, HasRead, HasFailed, IsReading, IsFaultTold, IsRefused};
+ghost use Rattle.cif_file.specs.ParserRead.{IsOfFileText, HasRead, HasFailed, IsReading, IsReadingSome, IsFaultTold, IsRefused};
 
 use crate::fault::FileFault;
 use crate::file::CifFile;
@@ -78,6 +78,7 @@ impl Reading {
 
     /// The file that the bytes are.
     fn end(self) -> Result<CifFile, FileFault>
+        requires { IsReadingSome self }
         ensures ok { (limit : ℕ) (text : List ℕ) → IsReading self limit text → IfOk result (λ file. IsOfFileText file limit text) }
         ensures err { (limit : ℕ) (text : List ℕ) → IsReading self limit text → IfErr result (λ fault. IsRefused limit text fault) }
     {
@@ -103,11 +104,13 @@ pub struct FileParser {
 }
 
 impl Model for FileParser {
-    ghost use Rattle.cif_file.specs.ParserRead.{ParserState};
+    ghost use Rattle.cif_file.specs.ParserRead.{ParserState, WasFed};
 
     ghost Value = { ParserState };
 
     ghost view = { λ parser. record { reading = parser.reading; fault = parser.fault } };
+
+    ghost invariant = { λ parser. WasFed (record { reading = parser.reading; fault = parser.fault }) };
 }
 
 impl FileParser {
@@ -126,7 +129,7 @@ impl FileParser {
     }
 
     /// Takes the next bytes of the file. It is refused once they have a record at fault whose line feed or 82nd byte came, and it tells that fault; or where
-    /// memory is wanting, at that record. Each later call answers the same fault.
+    /// memory is wanting, at that record, and then no record up to it is at fault. Each later call answers the same fault.
     pub fn feed(&mut self, piece: &[u8]) -> Result<(), FileFault>
         ensures read { (limit : ℕ) (text : List ℕ) → HasRead self.old limit text → HasRead self.new limit (text ++ piece.now) }
         ensures ok { (limit : ℕ) (text : List ℕ) → HasRead self.old limit text → IsOk result → (fault : model.FileFault) → ¬ IsFaultSoFar limit (text ++ piece.now) fault }
@@ -146,7 +149,7 @@ impl FileParser {
         }
     }
 
-    /// The file that the bytes are, or their fault. After a fault of `feed` it is that fault.
+    /// The file that the bytes are, or their fault; or want of memory, at a record up to which none is at fault. After a fault of `feed` it is that fault.
     pub fn finish(self) -> Result<CifFile, FileFault>
         ensures ok { (limit : ℕ) (text : List ℕ) → HasRead self limit text → IfOk result (λ file. IsOfFileText file limit text) }
         ensures err { (limit : ℕ) (text : List ℕ) → HasRead self limit text → IfErr result (λ fault. IsRefused limit text fault) }

@@ -23,7 +23,7 @@ impl Records {
     ghost use Rattle.docker_model.specs.FileFault.{no_end};
     ghost use Rattle.cif_file.specs.Meaning.{cause_meant};
     ghost use Rattle.cif_file.specs.FileRead.{IsOfRecords};
-    ghost use Rattle.cif_file.specs.ParserRead.{HasCounted, IsFaultNext, IsLongNext, IsCauseTold};
+    ghost use Rattle.cif_file.specs.ParserRead.{HasCounted, HasCountedSome, IsFaultNext, IsLongNext, IsCauseTold};
 
     /// Before the first record, of `limit` at most.
     pub(crate) fn new(alloc: Global, limit: u32) -> Records
@@ -77,6 +77,7 @@ impl Records {
 
     /// The file that the records are, if they end in a trailer.
     pub(crate) fn finish(self) -> Result<CifFile, FileFault>
+        requires { HasCountedSome self }
         ensures ok { (limit : ℕ) (records : List (List ℕ)) → HasCounted self limit records → IfOk result (λ file. IsFile records × IsOfRecords file records) }
         ensures err { (limit : ℕ) (records : List (List ℕ)) → HasCounted self limit records → IfErr result (λ fault. (fault.number ≡ length records + 1) × (cause_meant fault.cause ≡ Some no_end) × (¬ IsFile records)) }
     {

@@ -67,9 +67,20 @@ impl Progress {
         ensures err { (lines : List (List ℕ)) → HasLines (kept self) lines → IfErr result (λ cause. IsScheduleFaultTold lines line.now (cause_meant cause)) }
     {
         let _record = line.bytes();
-        let Some(kind) = kind(line) else {
-            return Err(FileCause::Kind);
-        };
+        match kind(line) {
+            None => Err(FileCause::Kind),
+            Some(kind) => self.with_kind(kind, line),
+        }
+    }
+
+    /// The same, of a record of this kind.
+    pub(crate) fn with_kind(self, kind: Kind, line: &Line) -> Result<Progress, FileCause>
+        requires record { IsRecord line.now }
+        requires kind { HasKind (meaning kind) line.now }
+        ensures ok { (lines : List (List ℕ)) → HasLines (kept self) lines → IsOk result ↔ BeginsSchedule (lines ++ line.now ∷ []) }
+        ensures read { (lines : List (List ℕ)) → HasLines (kept self) lines → IfOk result (λ progress. HasLines (kept progress) (lines ++ line.now ∷ [])) }
+        ensures err { (lines : List (List ℕ)) → HasLines (kept self) lines → IfErr result (λ cause. IsScheduleFaultTold lines line.now (cause_meant cause)) }
+    {
         let Some(stage) = self.stage else {
             return begun(kind, line);
         };
@@ -141,21 +152,8 @@ fn begun_by_basic(line: &Line) -> Result<Progress, FileCause>
     }
 }
 
-/// Behind a basic schedule whose fields were judged.
-pub(crate) fn begun_by(line: &Line) -> Progress
-    requires record { IsRecord line.now }
-    requires kind { HasKind basic_schedule line.now }
-    requires fields { HasGoodFields line.now }
-    ensures { HasLines (kept result) (line.now ∷ []) }
-{
-    match basic(line) {
-        Ok(view) => behind_basic(&view),
-        Err(_) => unreachable!(),
-    }
-}
-
 /// Behind a basic schedule.
-fn behind_basic(view: &Basic<'_>) -> Progress
+pub(crate) fn behind_basic(view: &Basic<'_>) -> Progress
     requires { is_first_line view.now ≡ true }
     ensures { HasLines (kept result) (view.now ∷ []) }
 {

@@ -1,8 +1,14 @@
 //! Line ends.
-ghost use Rattle.std.specs.Prelude.{◌≡◌, ◌==◌, position, MatchOption};
+ghost use Rattle.std.specs.Prelude.{◌≡◌, ◌==◌, ◌<◌, ◌≤◌, ◌↔◌, IsTrue, IfSome, length, position, take, MatchOption};
+ghost use Rattle.docker_model.specs.Record.{IsRecord};
 ghost use Rattle.docker_laws.proofs.ToldLines.{HasNoFeed};
 ghost use Rattle.cif_file.specs.Cut.{IsCut};
 ghost use Rattle.std.specs.Str.Lines.{strip_carriage_return};
+
+use cif_line::Line;
+
+/// The bytes of a record.
+const RECORD: usize = 80;
 
 /// The piece without the one carriage return at its end, if it has one.
 pub(crate) fn without_return(piece: &[u8]) -> &[u8]
@@ -14,9 +20,30 @@ pub(crate) fn without_return(piece: &[u8]) -> &[u8]
     }
 }
 
-/// Where the first line feed stands.
+/// Where the first line feed stands. In 80 bytes that a record may hold there is none, and they are judged sixteen at a time.
 pub(crate) fn line_feed(text: &[u8]) -> Option<usize>
     ensures place { result ≡ position (λ byte. byte == 10) text.now }
+{
+    if !begins_with_record(text) {
+        return first_feed(text);
+    }
+    match first_feed(&text[RECORD..]) {
+        Some(at) => Some(RECORD + at),
+        None => None,
+    }
+}
+
+/// The first bytes of the text are those of a record.
+fn begins_with_record(text: &[u8]) -> bool
+    ensures { IsTrue result ↔ ((RECORD ≤ length text.now) × IsRecord (take RECORD text.now)) }
+{
+    text.len() >= RECORD && Line::new(&text[..RECORD]).is_ok()
+}
+
+/// Where the first line feed stands, looked for byte by byte.
+fn first_feed(text: &[u8]) -> Option<usize>
+    ensures place { result ≡ position (λ byte. byte == 10) text.now }
+    ensures within { IfSome result (λ at. at < length text.now) }
 {
     text.iter().position(|byte| *byte == b'\n')
 }

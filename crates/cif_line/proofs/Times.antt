@@ -1,8 +1,9 @@
 -- Times of day, read from their fields.
-use Rattle.std.proofs.Common.{◌≡◌, ℕ, List, [], ◌∷◌, true, false, Bool, ◌&&◌, refl, take, length, ◌≤◌, arith}
+use Rattle.std.proofs.Common.{◌≡◌, ℕ, List, [], ◌∷◌, true, false, Bool, ◌&&◌, refl, take, length, ◌≤◌, ◌<◌, arith}
 use Rattle.std.specs.Prelude.{codes, ◌==◌, ◌||◌, nat_lt, slice_index}
 use Rattle.std.specs.List.{list_all}
 use Rattle.std.specs.Str.{bytes_eq}
+use Rattle.std.proofs.lemmas.Bool.{ltb-true}
 use Rattle.std.proofs.lemmas.Bool.Decides.{nat_tests}
 use Rattle.std.specs.Char.{is_ascii_digit}
 use Rattle.docker_model.specs.Date.{two_digits}
@@ -63,5 +64,26 @@ present_not_blank [] there = cc
 present_not_blank (b ∷ field) there =
     let clock = first_holds (is_clock (b ∷ field)) ((slice_index (b ∷ field) 4 == 72) || (slice_index (b ∷ field) 4 == 32)) there in
     λ i. digit_not_space b (first_digit b field clock) i && is_blank field
+
+second_holds : (a b : Bool) → (a && b) ≡ true → b ≡ true
+second_holds true b both = both
+second_holds false b both = absurd cc
+
+-- a field that begins HHMM tells an hour and a minute of a day
+pub hour_bound : (field : List ℕ) → is_clock field ≡ true → two_digits field 0 < 24
+hour_bound field clock =
+    ltb-true (two_digits field 0) 24
+    (second_holds (list_all is_ascii_digit (take 4 field)) (nat_lt (two_digits field 0) 24)
+    (first_holds (list_all is_ascii_digit (take 4 field) && nat_lt (two_digits field 0) 24) (nat_lt (two_digits field 2) 60) clock))
+
+pub minute_bound : (field : List ℕ) → is_clock field ≡ true → two_digits field 2 < 60
+minute_bound field clock =
+    ltb-true (two_digits field 2) 60 (second_holds (list_all is_ascii_digit (take 4 field) && nat_lt (two_digits field 0) 24) (nat_lt (two_digits field 2) 60) clock)
+
+-- a scheduled time begins HHMM
+pub clock_of_present : (field : List ℕ) → is_present_time field ≡ true → is_clock field ≡ true
+clock_of_present field there = first_holds (is_clock field) ((slice_index field 4 == 72) || (slice_index field 4 == 32)) there
+
+pub ruleset clock_bounds = (hour_bound, minute_bound, clock_of_present)
 
 pub ruleset scheduled_times = (present_not_blank)

@@ -39,10 +39,7 @@ impl Line {
         requires good { is_present_time (columns first (first - 1 + 5) self.now) ≡ true }
         ensures { result ≡ half_minutes (columns first (first - 1 + 5) self.now) }
     {
-        match Time::from_field(self.field(first)) {
-            Some(time) => time,
-            None => unreachable!(),
-        }
+        Time::from_present(self.field(first))
     }
 
     /// The scheduled time in the five columns from one on, none where they are blank.

@@ -56,7 +56,22 @@ impl Time {
         requires good { is_scheduled_time field.now ≡ true }
         ensures { result ≡ scheduled_time field.now }
     {
-        Time::from_field(field)
+        if is_blank_time(field) {
+            return None;
+        }
+        Some(Time::from_present(field))
+    }
+
+    /// The scheduled time of a field that is known to be one.
+    #[tactic(auto, using(crate::proofs::Times::clock_bounds))]
+    pub(crate) fn from_present(field: &[u8; 5]) -> Time
+        requires good { is_present_time field.now ≡ true }
+        ensures { result ≡ half_minutes field.now }
+    {
+        let half = if field[4] == b'H' { 1 } else { 0 };
+        Time {
+            half_minutes: 2 * minute_in(field) + half,
+        }
     }
 
     /// The public time of a field HHMM, which is a whole minute; none where the field is blank or `0000`.
@@ -120,6 +135,16 @@ pub(crate) fn clock(field: &[u8]) -> Option<u16>
     } else {
         None
     }
+}
+
+/// The minute of the day that a field tells which is known to begin HHMM.
+#[tactic(auto, using(crate::proofs::Times::clock_bounds))]
+fn minute_in(field: &[u8; 5]) -> u16
+    requires good { is_clock field.now ≡ true }
+    ensures value { result ≡ minute_of field.now }
+    ensures bound { result < 1440 }
+{
+    60 * two_digits(field, 0) + two_digits(field, 2)
 }
 
 /// The first four bytes of the field are digits. No byte has a branch of its own.

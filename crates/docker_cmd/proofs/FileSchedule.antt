@@ -37,7 +37,7 @@ as_five (a ∷ b ∷ c ∷ d ∷ []) size = absurd (omega arith)
 as_five (a ∷ b ∷ c ∷ d ∷ e ∷ []) size = record { hd = a; bs = b; lo = c; lt = d; zz = e; whole = refl }
 as_five (a ∷ b ∷ c ∷ d ∷ e ∷ f ∷ lines) size = absurd (omega arith)
 
-one_schedule_length : (file : Lines) → IsOneSchedule file → length file ≡ 5
+pub one_schedule_length : (file : Lines) → IsOneSchedule file → length file ≡ 5
 one_schedule_length file is = sym (length-map file kind_of) ∙ ap (λ (kinds : List (Option _)). length kinds) is.kinds
 
 -- the n-th of some lines

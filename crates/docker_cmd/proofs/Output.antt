@@ -1,13 +1,19 @@
 -- The output of a job is the docker text of the plain table of its one file.
-use Rattle.std.proofs.Common.{◌≡◌, ℕ, List, [], ◌∷◌, Some, subst, sym}
+use Rattle.std.proofs.Common.{◌≡◌, ℕ, List, [], ◌∷◌, length, map, Some, subst, sym, ap, ◌∙◌}
 use Rattle.docker_model.specs.Table.{Table, IsPlainTable}
 use Rattle.docker_model.specs.DockerText.{IsDockerText}
+use Rattle.std.proofs.lemmas.List.{length-map}
 use Rattle.docker_laws.proofs.OneTable as law
 use Rattle.docker_laws.proofs.KeptSchedule.{kept_as_one, same_table}
 use Rattle.docker_cmd.specs.OneSchedule.{IsOneSchedule}
 use Rattle.docker_cmd.proofs.FileSchedule.{kept_at}
 use Rattle.docker_cmd.specs.Job.{JobView}
-use Rattle.docker_cmd.specs.Prepared.{PreparedView, ReadView, schedule_read, IsReadOf, IsPreparedOf, IsDockerOutput, IsOutputOf, IsOutput}
+use Rattle.docker_cmd.specs.Prepared.{PreparedView, ReadView, file_read, schedule_read, IsReadOf, IsPreparedOf, IsDockerOutput, IsOutputOf, IsOutput}
+use Rattle.docker_model.specs.Change.{changes}
+use Rattle.cif_file.specs.declared.change.Change.{Change}
+use Rattle.cif_file.specs.Meaning.{change_meant}
+use Rattle.cif_file.specs.FileRead.{FileRead, IsOfRecords}
+use Rattle.docker_cmd.specs.CheckLine.{count_line}
 use Rattle.docker_cmd.specs.Schedule.{AreRecordsOf}
 
 -- a text is the docker text of these three records in each plain table of a file that has them
@@ -46,3 +52,13 @@ output_of prepared basic origin terminus place day text read_is place_is day_is 
     subst (λ (r : ReadView). IsOutputOf r prepared.job file text) (sym read_is)
     (docker_output prepared.job basic origin terminus place day text place_is day_is docker file
     (subst (λ (r : ReadView). IsReadOf r file) read_is of))
+
+-- the counts of a file that was read are those of the line
+pub line_of : (prepared : PreparedView) (read : FileRead) (records : ℕ) (made : List Change) (text : List ℕ)
+    → prepared.read ≡ file_read read → records ≡ read.record_count → map change_meant made ≡ read.changes_made → text ≡ count_line records (length made)
+    → (file : List (List ℕ)) → IsPreparedOf prepared file → IsOutput prepared file text
+line_of prepared read records made text read_is count_is made_are text_is file of =
+    let tells : IsOfRecords read file = subst (λ (r : ReadView). IsReadOf r file) read_is of in
+    let counted : length made ≡ length (changes file) = sym (length-map made change_meant) ∙ ap length (made_are ∙ tells.changes_are) in
+    subst (λ (r : ReadView). IsOutputOf r prepared.job file text) (sym read_is)
+    (text_is ∙ (λ i. count_line ((count_is ∙ tells.count_is) i) (counted i)))

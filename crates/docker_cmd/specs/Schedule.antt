@@ -1,8 +1,6 @@
 -- The schedule of a file that was read, by its first change.
 use Rattle.std.specs.Prelude.{◌≡◌, ℕ, ◌==◌, List, [], ◌∷◌, length, Option, Some, None, if◌then◌else◌}
-use Rattle.docker_model.specs.File.{IsFile}
 use Rattle.docker_model.specs.Change.{Change, Key, tiploc_key, association_key, schedule_key, Act, delete, put, tiploc_body, association_body, schedule_body, as_new}
-use Rattle.cif_file.specs.FileRead.{FileRead, IsOfRecords}
 use Rattle.docker_cmd.specs.OneSchedule.{IsOneSchedule}
 
 -- the lines that an act puts
@@ -30,12 +28,6 @@ first_permanent (change ∷ changes) = permanent_put change
 -- these lines, if they are three
 abbrev pub only_three : List (List ℕ) → Option (List (List ℕ))
 only_three lines = if length lines == 3 then Some lines else None
-
--- what was read tells of some file
-pub record IsOfSomeFile (file : FileRead) : Type 0 where
-  pub records : List (List ℕ)
-  pub is : IsFile records
-  pub of_records : IsOfRecords file records
 
 -- these are the records of the file's schedule, the transaction of the first set to N
 pub record AreRecordsOf (basic origin terminus : List ℕ) (file : List (List ℕ)) : Type 0 where

@@ -6,7 +6,7 @@ ghost use Rattle.cif_line.specs.View.{IsGood};
 ghost use Rattle.cif_file.specs.FileRead.{IsOfRecords};
 ghost use Rattle.cif_file.specs.Meaning.{act_meant, change_meant, key_meant};
 ghost use Rattle.docker_cmd.specs.OneSchedule.{IsOneSchedule};
-ghost use Rattle.docker_cmd.specs.Schedule.{AreRecordsOf, IsOfSomeFile, first_permanent, indicator_of, lines_put, only_three};
+ghost use Rattle.docker_cmd.specs.Schedule.{AreRecordsOf, first_permanent, indicator_of, lines_put, only_three};
 
 use cif_file::{Act, Body, Change, CifFile, Key, Lines};
 use cif_line::{Line, Stp};
@@ -29,7 +29,6 @@ pub(crate) struct Schedule {
 
 /// The schedule of a file that was read. None where the file is of another shape than that of one such schedule.
 pub(crate) fn schedule_of(file: CifFile) -> Option<Schedule>
-    requires { IsOfSomeFile file }
     ensures some { IfSome result (λ schedule. (records : List (List ℕ)) → IsFile records → IsOfRecords file records
         → AreRecordsOf schedule.basic schedule.origin schedule.terminus records) }
     ensures none { IsNone result → (records : List (List ℕ)) → IsFile records → IsOfRecords file records → ¬ IsOneSchedule records }

@@ -3,7 +3,7 @@ use Rattle.std.proofs.lemmas.Result.{on_ok_weaker, on_err_weaker}
 use Rattle.cif_line.specs.Device.{Takes, TakesPart}
 use Rattle.docker_cmd.specs.Job.{JobView}
 use Rattle.docker_cmd.specs.Prepared.{schedule_read, content_meant, IsPreparedOf, IsOutput}
-use Rattle.docker_cmd.proofs.Output.{output_of}
+use Rattle.docker_cmd.proofs.Output.{output_of, line_of}
 use Rattle.docker_cmd.proofs.emitting.emit.Goals as goal
 
 pub returns-in-Schedule-clause-ok : goal.returns-in-Schedule-clause-ok
@@ -43,3 +43,25 @@ returns-in-Schedule-clause-err g c =
       gained = subst (λ piece. TakesPart (g.K.Sink.taken c.args.sink.now) piece (g.K.Sink.taken c.write-in-Schedule.new.sink)) c.as_slice-in-Schedule.ensures.value took;
     })
     c.write-in-Schedule.ensures.part
+
+pub returns-in-File-clause-ok : goal.returns-in-File-clause-ok
+returns-in-File-clause-ok g c =
+    on_ok_weaker c.write.result
+    (λ took. record {
+      text = c.check_line-text.result.items;
+      output = line_of c.args.prepared.now c.in-File.file c.records.result c.changes.result.now c.check_line-text.result.items
+          (c.content.ensures.content ∙ ap content_meant c.in-File.is) c.records.ensures.count c.changes.ensures.changes c.check_line-text.ensures;
+      gained = subst (λ piece. Takes (g.K.Sink.taken c.args.sink.now) piece (g.K.Sink.taken c.write.new.sink)) c.as_slice.ensures.value took;
+    })
+    c.write.ensures.whole
+
+pub returns-in-File-clause-err : goal.returns-in-File-clause-err
+returns-in-File-clause-err g c =
+    on_err_weaker c.write.result
+    (λ took. record {
+      text = c.check_line-text.result.items;
+      output = line_of c.args.prepared.now c.in-File.file c.records.result c.changes.result.now c.check_line-text.result.items
+          (c.content.ensures.content ∙ ap content_meant c.in-File.is) c.records.ensures.count c.changes.ensures.changes c.check_line-text.ensures;
+      gained = subst (λ piece. TakesPart (g.K.Sink.taken c.args.sink.now) piece (g.K.Sink.taken c.write.new.sink)) c.as_slice.ensures.value took;
+    })
+    c.write.ensures.part

@@ -2,12 +2,12 @@ use Rattle.std.proofs.Common.{◌≡◌, [], ◌∷◌, None, Some, ap, ◌∙�
 use Rattle.docker_model.specs.Record.{basic_schedule, origin_location, terminating_location, column}
 use Rattle.cif_line.specs.View.{IsGood}
 use Rattle.docker_cmd.specs.OneSchedule.{IsOneSchedule}
-use Rattle.docker_cmd.proofs.FileSchedule.{has_lines, found_of_one, good_lines, first_three, one_of_kept}
+use Rattle.docker_cmd.proofs.FileSchedule.{has_lines, found_of_one, one_schedule_length, good_lines, first_three, one_of_kept}
 use Rattle.docker_cmd.proofs.schedule.schedule_of.Goals as goal
 
 pub invariant_of-result : goal.invariant_of-result
 invariant_of-result c =
-    let has = has_lines c.args.file c.requires.records c.in-Some.lines c.requires.is c.requires.of_records (sym c.records.ensures ∙ c.if-records-ne-RECORDS.false)
+    let has = has_lines c.args.file c.records.ensures.read.records c.in-Some.lines c.records.ensures.read.is_file c.records.ensures.read.of_records (sym c.records.ensures.count ∙ c.if-records-ne-RECORDS.false)
     (sym c.schedule_lines.ensures ∙ c.in-Some.is) in
     let good = good_lines has.hd has.bs has.lo has.lt has.zz has.are in
     let three = first_three c.in-Some.lines _ has.lo has.lt c.index-lines-0.result c.index-lines-1.result c.index-lines-2.result has.lines_are in
@@ -21,7 +21,7 @@ invariant_of-result c =
 
 pub returns-in-Some-clause-some : goal.returns-in-Some-clause-some
 returns-in-Some-clause-some c = λ records is of.
-    let has = has_lines c.args.file records c.in-Some.lines is of (sym c.records.ensures ∙ c.if-records-ne-RECORDS.false) (sym c.schedule_lines.ensures ∙ c.in-Some.is) in
+    let has = has_lines c.args.file records c.in-Some.lines is of (sym c.records.ensures.count ∙ c.if-records-ne-RECORDS.false) (sym c.schedule_lines.ensures ∙ c.in-Some.is) in
     let three = first_three c.in-Some.lines _ has.lo has.lt c.index-lines-0.result c.index-lines-1.result c.index-lines-2.result has.lines_are in
     record {
       header = has.hd;
@@ -37,3 +37,7 @@ returns-in-None-clause-none c = λ none records is of one.
     let found = found_of_one c.args.file records one of in
     let bad : None ≡ Some found.1.0 = sym c.in-None.is ∙ c.schedule_lines.ensures ∙ found.1.1 in
     cc
+
+pub returns-then-records-ne-RECORDS-clause-none : goal.returns-then-records-ne-RECORDS-clause-none
+returns-then-records-ne-RECORDS-clause-none c = λ _ records is of one.
+    c.if-records-ne-RECORDS.true (c.records.ensures.count ∙ of.count_is ∙ one_schedule_length records one)

@@ -9,9 +9,9 @@ pub returns-then-is_over : goal.returns-then-is_over
 returns-then-is_over c = λ records before.
     on_ok c.close.result c.close.ensures.changes c.close.ensures.place
     (λ made place.
-    line_closed c.args.self.now c.close.new.self c.args.opened c.args.line records before (sym c.if-is_over.ensures) c.close.ensures.header place
+    line_closed c.args.self.now c.close.new.self c.args.opened c.args.line.now records before (sym c.if-is_over.ensures) c.close.ensures.header place
     (made ∙ (λ i. map change_meant c.args.self.now.changes.items ++ change_opened c.args.opened (c.in_ok-push.ensures.items i) ∷ [])))
 
 pub returns : goal.returns
 returns c = λ records before.
-    line_added c.args.self.now _ c.args.opened c.args.line records before (sym c.if-is_over.ensures) refl refl c.in_ok-push.ensures.items refl
+    line_added c.args.self.now _ c.args.opened c.args.line.now records before (sym c.if-is_over.ensures) refl refl c.in_ok-push.ensures.items refl

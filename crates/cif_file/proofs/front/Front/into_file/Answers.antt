@@ -1,6 +1,7 @@
 -- The records are a file exactly behind the trailer, and then this one.
-use Rattle.std.proofs.Common.{false}
+use Rattle.std.proofs.Common.{false, map, refl, arith}
 use Rattle.std.proofs.lemmas.Bool.{false≢true}
+use Rattle.cif_file.specs.Meaning.{change_meant}
 use Rattle.cif_file.proofs.RecordsTaken.{ended_iff, tells_before, tells_between, tells_inside, file_made}
 use Rattle.cif_file.proofs.front.Front.into_file.Goals as goal
 
@@ -16,3 +17,11 @@ returns c = λ records has counted is. false≢true ((ended_iff c.args.self reco
 pub returns-in-Some : goal.returns-in-Some
 returns-in-Some c = λ records has counted.
     file_made c.args.self records c.args.count c.in-Some.header c.into_line.result c.of.result has c.in-AfterEnd.is c.in-Some.is c.into_line.ensures.line counted c.of.ensures
+
+pub of-requires-clause-read : goal.of-requires-clause-read
+of-requires-clause-read c =
+    let taken = c.requires in
+    let made =
+    file_made c.args.self taken.records c.args.count c.in-Some.header c.into_line.result (record { header_line = c.into_line.result; record_count = c.args.count; changes_made = map change_meant c.args.self.changes.items })
+    taken.has c.in-AfterEnd.is c.in-Some.is c.into_line.ensures.line taken.counted refl in
+    record { records = taken.records; of_records = made.1; is_file = made.0; few = let counted = taken.counted in let few = taken.few in omega arith }

@@ -5,6 +5,6 @@ use Rattle.cif_file.proofs.front.Front.open.Goals as goal
 
 pub returns : goal.returns
 returns c = λ records over counted.
-    basic_added c.args.self.now _ (record { number = c.args.number; key = c.schedule_key-key.result; progress = c.begun_by-progress.result }) records c.args.line over c.requires.«record» c.requires.kind
-    c.requires.fields counted c.schedule_key-key.ensures c.begun_by-progress.ensures refl refl
+    basic_added c.args.self.now _ c.opened_by-opened.result records c.args.line.now over c.requires.«record» c.requires.kind
+    c.requires.fields (c.opened_by-opened.ensures.number ∙ counted) c.opened_by-opened.ensures.key c.opened_by-opened.ensures.progress refl refl
     (c.in_ok-push.ensures.items ∙ (λ i. c.clear.ensures.items i ++ c.as_new.ensures i ∷ [])) refl

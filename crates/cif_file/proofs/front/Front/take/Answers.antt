@@ -7,7 +7,7 @@ use Rattle.cif_file.proofs.front.Front.take.Goals as goal
 
 pub returns-in_default-clause-err : goal.returns-in_default-clause-err
 returns-in_default-clause-err c = λ records has unended.
-    no_kind c.args.self.now records c.args.line has unended c.bytes-record.ensures.«record» (sym c.kind.ensures ∙ ap (option_map meaning) c.in_default.is)
+    no_kind c.args.self.now records c.args.line.now has unended c.bytes-record.ensures.«record» (sym c.kind.ensures ∙ ap (option_map meaning) c.in_default.is)
 
 pub returns-in-BeforeHeader-clause-err : goal.returns-in-BeforeHeader-clause-err
 returns-in-BeforeHeader-clause-err c = λ records has unended. c.take_header.ensures.err records has

@@ -29,3 +29,28 @@ pub returns-in-Err-clause-read : goal.returns-in-Err-clause-read
 returns-in-Err-clause-read c = λ limit text has.
     c.in-Err.ensures.err limit text
     (subst (λ r. IsReading r limit text) (ap (λ (p : ParserState). p.reading) (sym c.self.view_is)) (reading_at_none c.args.self.now limit text (ap (λ (p : ParserState). p.fault) (sym c.self.view_is) ∙ c.in_default.is) has))
+
+pub returns-in-Err-clause-err : goal.returns-in-Err-clause-err
+returns-in-Err-clause-err c = λ limit text has.
+    c.in-Err.ensures.err limit text
+    (subst (λ r. IsReading r limit text) (ap (λ (p : ParserState). p.reading) (sym c.self.view_is)) (reading_at_none c.args.self.now limit text (ap (λ (p : ParserState). p.fault) (sym c.self.view_is) ∙ c.in_default.is) has))
+
+pub invariant_of-self : goal.invariant_of-self
+invariant_of-self c =
+    let fed = c.self.invariant in
+    record {
+      limit = fed.limit;
+      text = fed.text ++ c.args.piece.now;
+      read =
+          none_at_reading (record { reading = c.read.new.self; fault = c.self.inside.fault }) fed.limit (fed.text ++ c.args.piece.now) c.in_default.is
+          (c.in-Ok.ensures.read fed.limit fed.text (reading_at_none (record { reading = c.self.inside.reading; fault = c.self.inside.fault }) fed.limit fed.text c.in_default.is fed.read) refl);
+    }
+
+pub invariant_of-self-in-Err : goal.invariant_of-self-in-Err
+invariant_of-self-in-Err c =
+    let fed = c.self.invariant in
+    record {
+      limit = fed.limit;
+      text = fed.text ++ c.args.piece.now;
+      read = c.in-Err.ensures.err fed.limit fed.text (reading_at_none (record { reading = c.self.inside.reading; fault = c.self.inside.fault }) fed.limit fed.text c.in_default.is fed.read);
+    }

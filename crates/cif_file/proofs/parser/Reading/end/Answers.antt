@@ -38,3 +38,12 @@ returns-in-Ok-clause-err c = λ limit text reading.
     (subst (λ line. HasCounted c.take.new.self limit (told_lines text ++ line ∷ [])) (c.without_return.ensures.line ∙ ap strip_carriage_return (c.as_slice.ensures.value ∙ reading.partial_is))
     (c.in-Ok.ensures.read limit (told_lines text) reading.counted refl)) in
     finish_err c.finish-in-Ok.result c.take.new.self limit text counted (c.finish-in-Ok.ensures.err limit (lines_of text) counted)
+
+pub finish-requires-in-Ok : goal.finish-requires-in-Ok
+finish-requires-in-Ok c =
+    let some = c.requires in
+    record {
+      limit = some.limit;
+      records = told_lines some.text ++ c.without_return.result.now ∷ [];
+      has = c.in-Ok.ensures.read some.limit (told_lines some.text) some.is.counted refl;
+    }

@@ -2,7 +2,7 @@
 use Rattle.std.proofs.Common.{◌≡◌, true, subst, sym}
 use Rattle.docker_laws.proofs.SchedulePlace.{is_first_line}
 use Rattle.cif_file.proofs.Journeys.{first_line_is}
-use Rattle.cif_file.proofs.steps.begun_by.Goals as goal
+use Rattle.cif_file.proofs.opened.opened_by.Goals as goal
 
 pub behind_basic-requires : goal.behind_basic-requires
 behind_basic-requires c =

@@ -1,0 +1,76 @@
+-- The floor of two ledgers together.
+use Rattle.std.proofs.Common.{◌≡◌, List, ◌++◌, ap, sym, ◌∙◌, inl, inr, ◌⊎◌, Contains}
+use Rattle.std.specs.Ordering.{on}
+use Rattle.std.proofs.lemmas.List.Elements.{Contains-append_left, Contains-append_right, Contains-append_cases}
+use Rattle.docker_model.specs.Order.{IsAtMost}
+use Rattle.docker_model.specs.Stamp as stamps
+use Rattle.docker_model.specs.Stamp.{LedgerItem, file_stamp_cmp, IsFull, HasNoFull, IsGreatestFull}
+use Rattle.docker_laws.proofs.Orders.{file_stamp_total}
+use Rattle.docker_laws.proofs.PlainTable.{at_most_trans}
+use Rattle.docker_join.specs.Greater.{IsGreater}
+
+module _ (left right : List LedgerItem) where
+  pub neither_full : HasNoFull left → HasNoFull right → HasNoFull (left ++ right)
+  neither_full one other item among full = by (Contains-append_cases left right item among)
+    where
+      by : Contains left item ⊎ Contains right item → ⊥
+      by (inl here) = one item here full
+      by (inr here) = other item here full
+
+  pub left_full : (stamp : stamps.FileStamp) → IsGreatestFull left stamp → HasNoFull right → IsGreatestFull (left ++ right) stamp
+  left_full stamp one other = record {
+    full = one.full;
+    among = Contains-append_left left right one.full one.among;
+    is_full = one.is_full;
+    stamped = one.stamped;
+    greatest = λ item among full. by item full (Contains-append_cases left right item among);
+  }
+    where
+      by : (item : LedgerItem) → IsFull item → Contains left item ⊎ Contains right item → IsAtMost file_stamp_cmp item.stamp stamp
+      by item full (inl here) = one.greatest item here full
+      by item full (inr here) = absurd (other item here full)
+
+  pub right_full : (stamp : stamps.FileStamp) → HasNoFull left → IsGreatestFull right stamp → IsGreatestFull (left ++ right) stamp
+  right_full stamp one other = record {
+    full = other.full;
+    among = Contains-append_right left right other.full other.among;
+    is_full = other.is_full;
+    stamped = other.stamped;
+    greatest = λ item among full. by item full (Contains-append_cases left right item among);
+  }
+    where
+      by : (item : LedgerItem) → IsFull item → Contains left item ⊎ Contains right item → IsAtMost file_stamp_cmp item.stamp stamp
+      by item full (inl here) = absurd (one item here full)
+      by item full (inr here) = other.greatest item here full
+
+  pub both_full : (first second greater : stamps.FileStamp) → IsGreatestFull left first → IsGreatestFull right second → IsGreater file_stamp_cmp first second greater
+      → IsGreatestFull (left ++ right) greater
+  both_full first second greater one other is = by is.among
+    where
+      up : (item : LedgerItem) → IsFull item → Contains left item ⊎ Contains right item → IsAtMost file_stamp_cmp item.stamp greater
+      up item full (inl here) = at_most_trans file_stamp_total item.stamp first greater (one.greatest item here full) is.first
+      up item full (inr here) = at_most_trans file_stamp_total item.stamp second greater (other.greatest item here full) is.second
+
+      by : (greater ≡ first) ⊎ (greater ≡ second) → IsGreatestFull (left ++ right) greater
+      by (inl same) = record {
+        full = one.full;
+        among = Contains-append_left left right one.full one.among;
+        is_full = one.is_full;
+        stamped = one.stamped ∙ sym same;
+        greatest = λ item among full. up item full (Contains-append_cases left right item among);
+      }
+      by (inr same) = record {
+        full = other.full;
+        among = Contains-append_right left right other.full other.among;
+        is_full = other.is_full;
+        stamped = other.stamped ∙ sym same;
+        greatest = λ item among full. up item full (Contains-append_cases left right item among);
+      }
+
+-- the greater of two in the code is the greater of what they mean
+pub greater_meant : {A B : Type 0} (f : A → B) (cmp : _) (a b c : A) → IsGreater (on f cmp) a b c → IsGreater cmp (f a) (f b) (f c)
+greater_meant f cmp a b c is = record { among = by is.among; first = is.first; second = is.second }
+  where
+    by : (c ≡ a) ⊎ (c ≡ b) → (f c ≡ f a) ⊎ (f c ≡ f b)
+    by (inl same) = inl (ap f same)
+    by (inr same) = inr (ap f same)

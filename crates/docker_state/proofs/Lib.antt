@@ -1,0 +1,12 @@
+pub mod United
+pub mod Kept
+pub mod States
+pub mod Floors
+pub mod JoinStates
+pub mod StatesJoined
+pub mod Lasts
+pub mod Greatest
+pub mod OfFile
+pub mod Given
+pub mod LiveTable
+pub mod OneOfEach

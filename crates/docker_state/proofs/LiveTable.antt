@@ -1,0 +1,102 @@
+-- The walk over the keys that are put is the live table in key order.
+use Rattle.std.proofs.Common.{◌≡◌, List, [], ◌∷◌, refl, ap, sym, ◌∙◌, subst, inl, inr, ◌⊎◌, Contains, Some, None}
+use Rattle.std.specs.Prelude.{◌↔◌}
+use Rattle.std.specs.List.{AllByRecursion}
+use Rattle.std.specs.declared.cmp.Ordering.TheVariants.{Less}
+use Rattle.docker_model.specs.Change.{Key, Body}
+use Rattle.docker_model.specs.Op.{Op, deleted, put_with, Entry, key_cmp, body_of}
+use Rattle.docker_model.specs.State.{State, AreAscending, IsValid, live_table}
+use Rattle.docker_laws.proofs.Ascending.{Contains-cons, cons-Contains, cons-Contains-first, nil-Contains}
+use Rattle.docker_laws.proofs.PlainTable.{Found, NotFound, find_in, one_per_key, live_at, live_none}
+use Rattle.docker_state.specs.Live.{put_before, live_rows, AreInKeyOrder}
+
+-- a key with a body
+abbrev Row : Type 0
+Row = Key × Body
+
+abbrev SameRow : Row → Row → Type 0
+SameRow a b = a ≡ b
+
+-- an entry of the key that puts the body
+abbrev PutThere : List (Key × Entry) → Key → Body → Type 0
+PutThere entries key body = (entry : Entry) × Contains entries (key, entry) × (entry.op ≡ put_with body)
+
+from_live : (entries : List (Key × Entry)) (key : Key) (body : Body) → Contains (live_rows entries) (key, body) → PutThere entries key body
+from_live [] key body among = absurd (nil-Contains (key, body) among)
+from_live (first ∷ entries) key body among = by first.1.op refl (from_live entries key body) among
+  where
+    later : PutThere entries key body → PutThere (first ∷ entries) key body
+    later found = (found.0, cons-Contains first entries (key, found.0) found.1, found.2)
+
+    here : (other : Body) → first.1.op ≡ put_with other → SameRow (first.0, other) (key, body) → PutThere (first ∷ entries) key body
+    here other is same =
+        let whole : first ≡ (key, first.1) = (λ i. ((same i).0, first.1)) in
+        (first.1, subst (Contains (first ∷ entries)) whole (cons-Contains-first first entries), is ∙ (λ i. put_with (same i).1))
+
+    by : (op : Op) → first.1.op ≡ op → (Contains (live_rows entries) (key, body) → PutThere entries key body)
+        → Contains (put_before first.0 op (live_rows entries)) (key, body) → PutThere (first ∷ entries) key body
+    by deleted is rest inside = later (rest inside)
+    by (put_with other) is rest inside = cases (Contains-cons (first.0, other) (live_rows entries) (key, body) inside)
+      where
+        cases : SameRow (first.0, other) (key, body) ⊎ Contains (live_rows entries) (key, body) → PutThere (first ∷ entries) key body
+        cases (inl same) = here other is same
+        cases (inr behind) = later (rest behind)
+
+to_live : (entries : List (Key × Entry)) (key : Key) (entry : Entry) (body : Body) → entry.op ≡ put_with body → Contains entries (key, entry) → Contains (live_rows entries) (key, body)
+to_live [] key entry body is among = absurd (nil-Contains (key, entry) among)
+to_live (first ∷ entries) key entry body is among = by (to_live entries key entry body is) (Contains-cons first entries (key, entry) among)
+  where
+    before : (op : Op) → Contains (live_rows entries) (key, body) → Contains (put_before first.0 op (live_rows entries)) (key, body)
+    before deleted inside = inside
+    before (put_with other) inside = cons-Contains (first.0, other) (live_rows entries) (key, body) inside
+
+    by : (Contains entries (key, entry) → Contains (live_rows entries) (key, body)) → (first ≡ (key, entry)) ⊎ Contains entries (key, entry) → Contains (live_rows (first ∷ entries)) (key, body)
+    by rest (inl same) =
+        let op : first.1.op ≡ put_with body = (λ i. (same i).1.op) ∙ is in
+        subst (λ (o : Op). Contains (put_before first.0 o (live_rows entries)) (key, body)) (sym op)
+        (subst (λ (k : Key). Contains ((k, body) ∷ live_rows entries) (key, body)) (λ i. (sym same i).0) (cons-Contains-first (key, body) (live_rows entries)))
+    by rest (inr inside) = before first.1.op (rest inside)
+
+put_of : (op : Op) (body : Body) → body_of op ≡ Some body → op ≡ put_with body
+put_of deleted body is = cc
+put_of (put_with other) body is = let same : other ≡ body = cc in ap put_with same
+
+-- the walk has a key with a body exactly where the live table has that body there
+pub live_walks : (state : State) → IsValid state → (walked : List (Key × Body)) → walked ≡ live_rows state.entries
+    → (key : Key) (body : Body) → Contains walked (key, body) ↔ (live_table state key ≡ Some body)
+live_walks state valid walked walked_is key body = (
+  λ among. there (from_live state.entries key body (subst (λ (rows : List (Key × Body)). Contains rows (key, body)) walked_is among)) (find_in state.entries key),
+  λ is. subst (λ (rows : List (Key × Body)). Contains rows (key, body)) (sym walked_is) (back is (find_in state.entries key)),
+)
+  where
+    there : PutThere state.entries key body → Found state.entries key ⊎ NotFound state.entries key → live_table state key ≡ Some body
+    there put (inl found) =
+        let same = one_per_key state.entries valid.entries.1 key found.0.1 put.0 found.2 put.1 in
+        live_at state key found.0 found.1 ∙ (λ i. body_of (same i).op) ∙ ap body_of put.2
+    there put (inr gone) = absurd (gone.1 put.0 put.1)
+
+    back : live_table state key ≡ Some body → Found state.entries key ⊎ NotFound state.entries key → Contains (live_rows state.entries) (key, body)
+    back is (inl found) = to_live state.entries key found.0.1 body (put_of found.0.1.op body (sym (live_at state key found.0 found.1) ∙ is)) found.2
+    back is (inr gone) = let none : None ≡ Some body = sym (live_none state key gone.0) ∙ is in cc
+
+live_above : (key : Key) (entries : List (Key × Entry)) → AllByRecursion (λ (entry : Key × Entry). key_cmp key entry.0 ≡ Less) entries
+    → AllByRecursion (λ (row : Key × Body). key_cmp key row.0 ≡ Less) (live_rows entries)
+live_above key [] above = tt
+live_above key (first ∷ entries) above = by first.1.op (live_above key entries above.1)
+  where
+    by : (op : Op) → AllByRecursion (λ (row : Key × Body). key_cmp key row.0 ≡ Less) (live_rows entries)
+        → AllByRecursion (λ (row : Key × Body). key_cmp key row.0 ≡ Less) (put_before first.0 op (live_rows entries))
+    by deleted rest = rest
+    by (put_with body) rest = (above.0, rest)
+
+ascends : (entries : List (Key × Entry)) → AreAscending entries → AreInKeyOrder (live_rows entries)
+ascends [] up = tt
+ascends (first ∷ entries) up = by first.1.op (ascends entries up.1)
+  where
+    by : (op : Op) → AreInKeyOrder (live_rows entries) → AreInKeyOrder (put_before first.0 op (live_rows entries))
+    by deleted rest = rest
+    by (put_with body) rest = (live_above first.0 entries up.0, rest)
+
+-- the walk goes up by key
+pub live_ascends : (state : State) → IsValid state → (walked : List (Key × Body)) → walked ≡ live_rows state.entries → AreInKeyOrder walked
+live_ascends state valid walked is = subst AreInKeyOrder (sym is) (ascends state.entries valid.entries.1)

@@ -1,0 +1,72 @@
+-- The join of two states, from the union of their ledgers and the join of their rows.
+use Rattle.std.proofs.Common.{List, ◌++◌, map, inl, inr, ◌⊎◌, Contains}
+use Rattle.std.specs.Prelude.{Option, ◌↔◌}
+use Rattle.std.specs.Ordering.{on, ord_max}
+use Rattle.std.proofs.lemmas.List.Elements.{All-contains, Contains-append_cases}
+use Rattle.docker_model.specs.Change as model
+use Rattle.docker_model.specs.Change.{tiploc_key, association_key, schedule_key, tiploc_body, association_body, schedule_body}
+use Rattle.docker_model.specs.Stamp as stamps
+use Rattle.docker_model.specs.Stamp.{ledger_item_cmp, IsFloor, IsKept}
+use Rattle.docker_model.specs.Op as ops
+use Rattle.docker_model.specs.Op.{key_cmp, entry_cmp, deleted, put_with}
+use Rattle.docker_model.specs.Order.{IsStrictlyAscending}
+use Rattle.docker_model.specs.State.{IsValid, IsGoodEntry, IsOpOf, IsJoin}
+use Rattle.cif_file.specs.declared.key.Key.{Key}
+use Rattle.docker_join.specs.declared.entry.Entry.{Entry}
+use Rattle.docker_join.specs.Meaning.{entry_meant}
+use Rattle.docker_join.specs.Records.{HasRecords}
+use Rattle.docker_join.specs.Rows.{AreAscending, IsJoinOfRows}
+use Rattle.docker_state.specs.declared.item.LedgerItem.{LedgerItem}
+use Rattle.docker_state.specs.Meaning.{item_meant, row_meant, state_meant}
+use Rattle.docker_state.proofs.Kept.{ascending_meant, meant_ascending}
+use Rattle.docker_state.proofs.JoinStates.{joined_greatest, greatest_joined}
+
+-- an op that agrees with a key is of records
+pub op_records : (key : model.Key) (op : ops.Op) → IsOpOf key op → HasRecords op
+op_records key deleted good = tt
+op_records (tiploc_key code) (put_with (tiploc_body bytes)) good = tt
+op_records (tiploc_key code) (put_with (association_body line)) good = absurd good
+op_records (tiploc_key code) (put_with (schedule_body lines)) good = absurd good
+op_records (association_key key) (put_with (tiploc_body bytes)) good = absurd good
+op_records (association_key key) (put_with (association_body line)) good = good.is_record
+op_records (association_key key) (put_with (schedule_body lines)) good = absurd good
+op_records (schedule_key key) (put_with (tiploc_body bytes)) good = absurd good
+op_records (schedule_key key) (put_with (association_body line)) good = absurd good
+op_records (schedule_key key) (put_with (schedule_body lines)) good = good.schedule.records
+
+module _ (items others : List LedgerItem) (first second : List (Key × Entry)) (one : IsValid (state_meant items first)) (two : IsValid (state_meant others second)) where
+  entry_records : (pair : model.Key × ops.Entry) → Contains (map row_meant first ++ map row_meant second) pair → HasRecords pair.1.op
+  entry_records pair among = by (Contains-append_cases (map row_meant first) (map row_meant second) pair among)
+    where
+      by : Contains (map row_meant first) pair ⊎ Contains (map row_meant second) pair → HasRecords pair.1.op
+      by (inl inside) = op_records pair.0 pair.1.op (All-contains (IsGoodEntry (map item_meant items)) (map row_meant first) pair one.entries.0 inside).op
+      by (inr inside) = op_records pair.0 pair.1.op (All-contains (IsGoodEntry (map item_meant others)) (map row_meant second) pair two.entries.0 inside).op
+
+  up_first : AreAscending first
+  up_first = meant_ascending row_meant (λ (a b : model.Key × ops.Entry). key_cmp a.0 b.0) first one.entries.1
+
+  up_second : AreAscending second
+  up_second = meant_ascending row_meant (λ (a b : model.Key × ops.Entry). key_cmp a.0 b.0) second two.entries.1
+
+  pub states_joined : (floor : Option stamps.FileStamp) → IsFloor (map item_meant items ++ map item_meant others) floor
+      → (union ledger : List LedgerItem) → ((item : stamps.LedgerItem) → Contains (map item_meant union) item ↔ Contains (map item_meant items ++ map item_meant others) item)
+      → IsStrictlyAscending ledger_item_cmp (map item_meant ledger)
+      → ((item : stamps.LedgerItem) → Contains (map item_meant ledger) item ↔ (Contains (map item_meant union) item × IsKept floor item.stamp))
+      → (joined rows : List (Key × Entry)) → IsJoinOfRows (ord_max (on entry_meant entry_cmp)) first second joined
+      → AreAscending rows
+      → ((key : model.Key) (entry : ops.Entry) → Contains (map row_meant rows) (key, entry) ↔ (Contains (map row_meant joined) (key, entry) × IsKept floor entry.stamp.file))
+      → IsJoin (state_meant items first) (state_meant others second) (state_meant ledger rows)
+  states_joined floor is_floor union ledger in_union up_ledger in_ledger joined rows is up_rows in_rows = record {
+    floor = floor;
+    is_floor = is_floor;
+    ledger_ascends = up_ledger;
+    ledger = λ item. (
+      λ among. let told = (in_ledger item).0 among in ((in_union item).0 told.0, told.1),
+      λ told. (in_ledger item).1 ((in_union item).1 told.0, told.1),
+    );
+    entries_ascend = ascending_meant row_meant (λ (a b : model.Key × ops.Entry). key_cmp a.0 b.0) rows up_rows;
+    entries = λ key entry. (
+      λ among. let told = (in_rows key entry).0 among in (joined_greatest first second joined up_first up_second is key entry told.0, told.1),
+      λ told. (in_rows key entry).1 (greatest_joined first second joined up_first up_second is entry_records key entry told.0, told.1),
+    );
+  }

@@ -1,0 +1,20 @@
+use Rattle.std.proofs.Common.{map, ap, ◌∙◌, subst}
+use Rattle.docker_model.specs.State.{State, IsValid}
+use Rattle.docker_laws.proofs.MomentOrder.{live_table_is_plain}
+use Rattle.docker_state.specs.Live.{live_rows}
+use Rattle.docker_state.specs.Meaning.{row_meant}
+use Rattle.docker_state.proofs.LiveTable.{live_walks, live_ascends}
+use Rattle.docker_state.proofs.state.State.live.Goals as goal
+
+pub returns-clause-table : goal.returns-clause-table
+returns-clause-table c =
+    live_walks c.args.self.now (subst IsValid c.self.view_is c.self.invariant) c.of.result
+    (c.of.ensures ∙ (λ i. live_rows (map row_meant (c.as_slice.ensures.rows i))) ∙ ap (λ (s : State). live_rows s.entries) c.self.view_is)
+
+pub returns-clause-ascending : goal.returns-clause-ascending
+returns-clause-ascending c =
+    live_ascends c.args.self.now (subst IsValid c.self.view_is c.self.invariant) c.of.result
+    (c.of.ensures ∙ (λ i. live_rows (map row_meant (c.as_slice.ensures.rows i))) ∙ ap (λ (s : State). live_rows s.entries) c.self.view_is)
+
+pub returns-clause-plain : goal.returns-clause-plain
+returns-clause-plain c = λ files summary distinct. live_table_is_plain files c.args.self.now summary distinct

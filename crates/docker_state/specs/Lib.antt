@@ -1,0 +1,4 @@
+pub mod Meaning
+pub mod Live
+pub mod Parts
+pub mod Rows

@@ -1,0 +1,20 @@
+-- The keys of a state that are put, each with its body.
+use Rattle.std.specs.Prelude.{List, [], ◌∷◌}
+use Rattle.docker_model.specs.Change.{Key, Body}
+use Rattle.std.specs.Ordering.{on}
+use Rattle.docker_model.specs.Order.{IsStrictlyAscending}
+use Rattle.docker_model.specs.Op.{Op, deleted, put_with, Entry, key_cmp}
+
+-- a key with its body where the op is a put, before further ones
+abbrev pub put_before : Key → Op → List (Key × Body) → List (Key × Body)
+put_before key deleted rest = rest
+put_before key (put_with body) rest = (key, body) ∷ rest
+
+-- of entries in key order, the keys that are put, in key order, each with its body
+abbrev pub live_rows : List (Key × Entry) → List (Key × Body)
+live_rows [] = []
+live_rows (entry ∷ entries) = put_before entry.0 entry.1.op (live_rows entries)
+
+-- each key is below those behind it
+abbrev pub AreInKeyOrder : List (Key × Body) → Type 0
+AreInKeyOrder rows = IsStrictlyAscending (on (λ (row : Key × Body). row.0) key_cmp) rows

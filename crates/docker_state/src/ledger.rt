@@ -1,0 +1,86 @@
+//! The union of two ledgers, and what is kept of it.
+ghost use Rattle.std.specs.Prelude.{◌≡◌, ◌+◌, ◌≤◌, ◌↔◌, ◌++◌, [], length, map, vec_len, vec_capacity, IfSome, IsTrue, Contains};
+ghost use Rattle.std.specs.Option.{option_map};
+ghost use Rattle.docker_model.specs.Stamp.{ledger_item_cmp, IsKept};
+ghost use Rattle.docker_model.specs.Order.{IsStrictlyAscending};
+ghost use Rattle.docker_join.specs.Meaning.{file_stamp_meant};
+ghost use Rattle.docker_state.specs.Meaning.{item_meant};
+
+use crate::floor::is_kept;
+use crate::item::LedgerItem;
+use crate::push::push_within;
+use docker_join::FileStamp;
+use std::alloc::Global;
+use std::cmp::Ordering;
+
+/// An empty vector with room for the items of two ledgers. None where memory is wanting.
+pub(crate) fn room_for(alloc: Global, first: usize, second: usize) -> Option<Vec<LedgerItem>>
+    ensures empty { IfSome result (λ items. (items.items ≡ []) × (vec_len items ≡ 0)) }
+    ensures room { IfSome result (λ items. first + second ≤ vec_capacity items) }
+{
+    Vec::with_capacity(alloc, first.checked_add(second)?).ok()
+}
+
+/// The items of two ledgers, each once and ascending, in a vector that has room for the items of both.
+pub(crate) fn united(
+    mut first: &[LedgerItem],
+    mut second: &[LedgerItem],
+    mut items: Vec<LedgerItem>,
+) -> Vec<LedgerItem>
+    requires first { IsStrictlyAscending ledger_item_cmp (map item_meant first.now) }
+    requires second { IsStrictlyAscending ledger_item_cmp (map item_meant second.now) }
+    requires empty { items.items ≡ [] }
+    requires none { vec_len items ≡ 0 }
+    requires room { length first.now + length second.now ≤ vec_capacity items }
+    ensures ascending { IsStrictlyAscending ledger_item_cmp (map item_meant result.items) }
+    ensures members { (item : _) → Contains (map item_meant result.items) item ↔ Contains (map item_meant first.entry.now ++ map item_meant second.entry.now) item }
+{
+    loop {
+        let item = match (first, second) {
+            ([], []) => break,
+            ([one, others @ ..], []) => {
+                first = others;
+                one
+            }
+            ([], [one, others @ ..]) => {
+                second = others;
+                one
+            }
+            ([one, left @ ..], [other, right @ ..]) => match one.cmp(other) {
+                Ordering::Less => {
+                    first = left;
+                    one
+                }
+                Ordering::Equal => {
+                    first = left;
+                    second = right;
+                    one
+                }
+                Ordering::Greater => {
+                    second = right;
+                    other
+                }
+            },
+        };
+        push_within(&mut items, *item);
+    }
+    items
+}
+
+/// The items whose file stamps are kept under a floor.
+pub(crate) fn kept_items(mut items: Vec<LedgerItem>, floor: &Option<FileStamp>) -> Vec<LedgerItem>
+    requires { IsStrictlyAscending ledger_item_cmp (map item_meant items.items) }
+    ensures ascending { IsStrictlyAscending ledger_item_cmp (map item_meant result.items) }
+    ensures members { (item : _) → Contains (map item_meant result.items) item
+        ↔ (Contains (map item_meant items.items) item × IsKept (option_map file_stamp_meant floor.now) item.stamp) }
+{
+    items.retain(|item| is_kept_item(floor, item));
+    items
+}
+
+/// Whether an item is kept under a floor.
+fn is_kept_item(floor: &Option<FileStamp>, item: &LedgerItem) -> bool
+    ensures { IsTrue result ↔ IsKept (option_map file_stamp_meant floor.now) (item_meant item.now).stamp }
+{
+    is_kept(floor, &item.stamp())
+}

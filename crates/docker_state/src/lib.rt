@@ -1,0 +1,19 @@
+//! The state of what files say: which files are known, and of each key the greatest entry. States are joined in any order and however often.
+#![tactic(auto)]
+
+mod floor;
+mod item;
+mod ledger;
+mod live;
+mod parts;
+mod push;
+mod rows;
+mod state;
+
+pub use item::LedgerItem;
+pub use live::Live;
+pub use parts::Parts;
+pub use state::State;
+
+#[cfg(test)]
+mod tests;

@@ -1,0 +1,94 @@
+//! A state built from its parts, in their order.
+ghost use Rattle.std.specs.Prelude.{◌≡◌, ◌++◌, [], ◌∷◌, length, ◌-◌, map, slice_get, IsOk, IsErr, IfOk};
+ghost use Rattle.std.specs.Option.{option_copied, option_map};
+ghost use Rattle.docker_model.specs.State.{IsLedger, IsOpOf};
+ghost use Rattle.docker_model.specs.StateFault.{IsStampHere};
+ghost use Rattle.cif_file.specs.Meaning.{key_meant};
+ghost use Rattle.docker_join.specs.Meaning.{entry_meant};
+ghost use Rattle.docker_state.specs.Meaning.{item_meant};
+ghost use Rattle.docker_state.specs.Parts.{last_key};
+
+use crate::item::LedgerItem;
+use crate::state::State;
+use cif_file::Key;
+use cif_line::Memory;
+use docker_join::Entry;
+use std::alloc::Global;
+use std::marker::Model;
+
+/// The parts of a state that have been given so far: first its ledger items, then its entries, both in their order. What was given is a valid state as it stands.
+#[derive(Debug, Drop)]
+pub struct Parts {
+    ledger: Vec<LedgerItem>,
+    entries: Vec<(Key, Entry)>,
+}
+
+impl Model for Parts {
+    ghost use Rattle.docker_model.specs.State as states;
+    ghost use Rattle.docker_model.specs.State.{IsValid};
+    ghost use Rattle.docker_state.specs.Meaning.{state_meant};
+
+    ghost Value = { states.State };
+
+    ghost view = { λ parts. state_meant parts.ledger.items parts.entries.items };
+
+    ghost invariant = { λ parts. IsValid (state_meant parts.ledger.items parts.entries.items) };
+}
+
+impl Parts {
+    /// No part yet.
+    pub fn new(alloc: Global) -> Parts
+        ensures { result ≡ record { ledger = []; entries = [] } }
+    {
+        Parts {
+            ledger: Vec::new(alloc),
+            entries: Vec::new(alloc),
+        }
+    }
+
+    /// Gives the next ledger item. Want of memory leaves the parts as they were.
+    pub fn item(&mut self, item: LedgerItem) -> Result<(), Memory>
+        requires before_entries { self.old.entries ≡ [] }
+        requires ledger { IsLedger (self.old.ledger ++ item_meant item ∷ []) }
+        ensures ok { IsOk result → self.new ≡ record { ledger = self.old.ledger ++ item_meant item ∷ []; entries = [] } }
+        ensures err { IsErr result → self.new ≡ self.old }
+    {
+        self.ledger.push(item)?;
+        Ok(())
+    }
+
+    /// Gives the next entry, with its key. Want of memory leaves the parts as they were, without the entry.
+    pub fn entry(&mut self, key: Key, entry: Entry) -> Result<(), Memory>
+        requires here { IsStampHere self.old (key_meant key) (entry_meant entry).stamp }
+        requires op { IsOpOf (key_meant key) (entry_meant entry).op }
+        ensures ok { IsOk result → self.new ≡ record { ledger = self.old.ledger; entries = self.old.entries ++ (key_meant key, entry_meant entry) ∷ [] } }
+        ensures err { IsErr result → self.new ≡ self.old }
+    {
+        self.entries.push((key, entry))?;
+        Ok(())
+    }
+
+    /// The ledger items given so far, ascending.
+    pub fn ledger(&self) -> &[LedgerItem]
+        ensures { map item_meant result.now ≡ self.now.ledger }
+    {
+        self.ledger.as_slice()
+    }
+
+    /// The key of the last entry given. None where there is none yet.
+    pub fn last(&self) -> Option<&Key>
+        ensures { option_map key_meant (option_copied result) ≡ last_key self.now.entries }
+    {
+        match self.entries.last() {
+            Some(row) => Some(&row.0),
+            None => None,
+        }
+    }
+
+    /// The state of the parts. Want of memory lets go of them.
+    pub fn finish(self) -> Result<State, Memory>
+        ensures { IfOk result (λ state. state ≡ self) }
+    {
+        Ok(State::of_rows(self.ledger, self.entries))
+    }
+}

@@ -1,0 +1,194 @@
+//! The state of files.
+ghost use Rattle.std.specs.Prelude.{◌≡◌, ℕ, List, [], ◌∷◌, ◌++◌, ◌↔◌, map, Contains, IfOk, IfErr};
+ghost use Rattle.docker_model.specs.Change as model;
+ghost use Rattle.docker_model.specs.State.{entry_at, live_table, IsValid, IsJoin};
+ghost use Rattle.std.specs.Option.{option_copied, option_map};
+ghost use Rattle.cif_file.specs.Meaning.{key_meant};
+ghost use Rattle.docker_model.specs.Stamp.{IsFloor};
+ghost use Rattle.docker_join.specs.Meaning.{entry_meant, file_stamp_meant};
+ghost use Rattle.docker_model.specs.Summary.{IsSummary, HaveDistinctMoments};
+ghost use Rattle.docker_model.specs.Table.{IsPlainTable};
+ghost use Rattle.cif_file.specs.FileRead.{IsOfRecords};
+ghost use Rattle.docker_state.specs.Live.{live_rows, AreInKeyOrder};
+ghost use Rattle.docker_state.specs.Meaning.{item_meant, row_meant, state_meant};
+
+use crate::floor::{common_floor, first_full};
+use crate::item::{LedgerItem, item_of};
+use crate::ledger::{kept_items, room_for, united};
+use crate::live::Live;
+use crate::push::push_within;
+use crate::rows::{greatest_rows, kept_rows, made_rows};
+use cif_file::{CifFile, Key};
+use docker_join::{Entry, FileStamp, Merge, Table};
+use std::alloc::Global;
+use std::marker::Model;
+
+/// What files say: the ledger of those that are known, and of each key the greatest entry, from the newest full extract on. Always valid.
+#[derive(Debug, Drop)]
+pub struct State {
+    ledger: Vec<LedgerItem>,
+    entries: Table<Entry>,
+}
+
+impl Model for State {
+    ghost use Rattle.docker_model.specs.State as states;
+    ghost use Rattle.docker_model.specs.State.{IsValid};
+    ghost use Rattle.docker_state.specs.Meaning.{state_meant};
+
+    ghost Value = { states.State };
+
+    ghost view = { λ state. state_meant state.ledger.items state.entries };
+
+    ghost invariant = { λ state. IsValid (state_meant state.ledger.items state.entries) };
+}
+
+impl State {
+    /// The state of ledger items and rows that are valid.
+    pub(crate) fn of_rows(ledger: Vec<LedgerItem>, rows: Vec<(Key, Entry)>) -> State
+        requires { IsValid (state_meant ledger.items rows.items) }
+        ensures { result ≡ state_meant ledger.items rows.items }
+    {
+        State {
+            ledger,
+            entries: Table::from_rows(rows),
+        }
+    }
+
+    /// The state of no file.
+    pub fn empty(alloc: Global) -> State
+        ensures empty { result ≡ record { ledger = []; entries = [] } }
+        ensures summary { IsSummary [] result }
+    {
+        State {
+            ledger: Vec::new(alloc),
+            entries: Table::new(alloc),
+        }
+    }
+
+    /// The state of the one file. Want of memory, before the file was taken apart, hands it back as it was.
+    pub fn of_file(alloc: Global, file: CifFile) -> Result<State, CifFile>
+        ensures ok { (records : List (List ℕ)) → IsOfRecords file records → IfOk result (IsSummary (records ∷ [])) }
+        ensures err { IfErr result (λ back. back ≡ file) }
+    {
+        let count = file.changes().len();
+        let item = item_of(&file.header());
+        let Ok(mut ledger) = Vec::with_capacity(alloc, 1) else {
+            return Err(file);
+        };
+        let Ok(made) = Vec::with_capacity(alloc, count) else {
+            return Err(file);
+        };
+        let Ok(rows) = Vec::with_capacity(alloc, count) else {
+            return Err(file);
+        };
+        push_within(&mut ledger, item);
+        let made = made_rows(file.into_changes(), &item.stamp(), made);
+        let entries = Table::from_rows(greatest_rows(made, rows));
+        Ok(State { ledger, entries })
+    }
+
+    /// The ledger items, ascending.
+    pub fn ledger(&self) -> &[LedgerItem]
+        ensures items { map item_meant result.now ≡ self.now.ledger }
+        ensures valid { IsValid self.now }
+    {
+        self.ledger.as_slice()
+    }
+
+    /// Each key with its entry, in the order of the keys.
+    pub fn entries(&self) -> &[(Key, Entry)]
+        ensures rows { map row_meant result.now ≡ self.now.entries }
+        ensures valid { IsValid self.now }
+    {
+        self.entries.as_slice()
+    }
+
+    /// The entry of a key. None where the state does not have the key. By a binary search.
+    pub fn get(&self, key: &Key) -> Option<&Entry>
+        ensures { option_map entry_meant (option_copied result) ≡ entry_at self.now (key_meant key.now) }
+    {
+        self.entries.get(key)
+    }
+
+    /// The live table: the keys that are put, each with its body, in the order of the keys.
+    pub fn live(&self) -> Live<'_>
+        ensures rows { result ≡ live_rows self.now.entries }
+        ensures table { (key : model.Key) (body : model.Body) → Contains result (key, body) ↔ (live_table self.now key ≡ Some body) }
+        ensures ascending { AreInKeyOrder result }
+        ensures plain { (files : List (List (List ℕ))) → IsSummary files self.now → HaveDistinctMoments files → IsPlainTable files (live_table self.now) }
+    {
+        Live::of(self.entries.as_slice())
+    }
+
+    /// The file stamp of the newest full extract among the files that are known. None where there is none.
+    pub fn floor(&self) -> Option<FileStamp>
+        ensures { IsFloor self.now.ledger (option_map file_stamp_meant result) }
+    {
+        match first_full(self.ledger.as_slice()) {
+            Some(item) => Some(item.stamp()),
+            None => None,
+        }
+    }
+}
+
+impl Merge for State {
+    ghost use Rattle.docker_model.specs.State.{IsValid, IsJoin};
+    ghost use Rattle.docker_laws.proofs.JoinValid.{join_is_valid};
+    ghost use Rattle.docker_laws.proofs.Unique.{join_unique, join_commutes};
+    ghost use Rattle.docker_laws.proofs.JoinLaws.{join_associates, join_idempotent};
+
+    ghost is_valid = { IsValid };
+
+    ghost is_join = { IsJoin };
+
+    ghost closed = { join_is_valid };
+
+    ghost one = { λ a b c d _ _. join_unique a b c d };
+
+    ghost commutative = { λ a b c _ _. join_commutes a b c };
+
+    ghost associative = { λ a b c ab bc left right _ _ _. join_associates a b c ab bc left right };
+
+    ghost idempotent = { join_idempotent };
+
+    /// The join of two states: the union of their ledgers kept under its floor, and of each key the greater entry kept under the same floor. Want of memory, before anything was moved, hands both back as they were.
+    fn join(self, alloc: Global, other: State) -> Result<State, (State, State)>
+        ensures ok { IfOk result (IsJoin self other) }
+        ensures err { IfErr result (λ both. (both.0 ≡ self) × (both.1 ≡ other)) }
+        ensures summary { (files others : List (List (List ℕ))) → IsSummary files self → IsSummary others other
+            → IfOk result (IsSummary (files ++ others)) }
+    {
+        let Some(items) = room_for(alloc, self.ledger.len(), other.ledger.len()) else {
+            return Err((self, other));
+        };
+        let floor = common_floor(self.floor(), other.floor());
+        let State {
+            ledger: first,
+            entries: left,
+        } = self;
+        let State {
+            ledger: second,
+            entries: right,
+        } = other;
+        match left.join(alloc, right) {
+            Ok(joined) => {
+                let items = united(first.as_slice(), second.as_slice(), items);
+                let ledger = kept_items(items, &floor);
+                let rows = kept_rows(joined.into_rows(), &floor);
+                let entries = Table::from_rows(rows);
+                Ok(State { ledger, entries })
+            }
+            Err((left, right)) => {
+                let one = State {
+                    ledger: first,
+                    entries: left,
+                };
+                let two = State {
+                    ledger: second,
+                    entries: right,
+                };
+                Err((one, two))
+            }
+        }
+    }
+}

@@ -1,0 +1,548 @@
+use crate::{LedgerItem, Parts, State};
+use cif_file::{Body, Key, read_pieces};
+use cif_line::Tiploc;
+use docker_join::{Entry, FileStamp, Merge, Op};
+use std::alloc::{AllocError, Global};
+use std::process::Abort;
+use std::test::Fail;
+
+/// The header of an update of 9 June 2024, 21:00.
+const HD_9A: &[u8] =
+    b"HDTPS.UDFROC1.PD2406090906242100DFROC1ADFROC1ZUA                                ";
+
+/// The same of a full extract.
+const HD_9A_FULL: &[u8] =
+    b"HDTPS.UDFROC1.PD2406090906242100DFROC1ADFROC1ZFA                                ";
+
+/// The header of another update of that minute.
+const HD_9B: &[u8] =
+    b"HDTPS.UDFROC1.PD2406090906242100DFROC1BDFROC1AUA                                ";
+
+/// The header of a third update of that minute.
+const HD_9C: &[u8] =
+    b"HDTPS.UDFROC1.PD2406090906242100DFROC1CDFROC1BUA                                ";
+
+/// The header of an update a day later.
+const HD_10B: &[u8] =
+    b"HDTPS.UDFROC1.PD2406091006242100DFROC1BDFROC1AUA                                ";
+
+/// The header of an update of 5 June.
+const HD_5A: &[u8] =
+    b"HDTPS.UDFROC1.PD2406090506242100DFROC1ADFROC1ZUA                                ";
+
+/// The header of a full extract of 7 June.
+const HD_7B: &[u8] =
+    b"HDTPS.UDFROC1.PD2406090706242100DFROC1BDFROC1AFA                                ";
+
+/// The header of an update of 8 June.
+const HD_8A: &[u8] =
+    b"HDTPS.UDFROC1.PD2406090806242100DFROC1ADFROC1ZUA                                ";
+
+/// A new permanent schedule of C10001, from 10 to 14 June 2024.
+const BS: &[u8] =
+    b"BSNC100012406102406141111100 POO1A10                                           P";
+
+/// Its revision.
+const BS_REVISED: &[u8] =
+    b"BSRC100012406102406141111100 POO1A10                                           P";
+
+/// Its deletion.
+const BS_DELETED: &[u8] =
+    b"BSDC10001240610              POO                                               P";
+
+/// The same schedule to 21 June.
+const BS_LONGER: &[u8] =
+    b"BSNC100012406102406211111100 POO1A10                                           P";
+
+/// A schedule of C10002.
+const BS_C10002: &[u8] =
+    b"BSNC100022406102406141111100 POO1A20                                           P";
+
+/// The deletion of a schedule of C10003.
+const BS_C10003: &[u8] =
+    b"BSDC10003240610              POO                                               P";
+
+/// An origin: Ashfeld, 09:00.
+const LO: &[u8] =
+    b"LOASHFELD 0900 09001  SL                                                        ";
+
+/// The same at 08:50.
+const LO_0850: &[u8] =
+    b"LOASHFELD 0850 08501  SL                                                        ";
+
+/// The same at 09:05.
+const LO_0905: &[u8] =
+    b"LOASHFELD 0905 09051  SL                                                        ";
+
+/// The same at 10:00.
+const LO_1000: &[u8] =
+    b"LOASHFELD 1000 10001  SL                                                        ";
+
+/// The same at 11:00.
+const LO_1100: &[u8] =
+    b"LOASHFELD 1100 11001  SL                                                        ";
+
+/// A terminus: Brayton, 09:30.
+const LT: &[u8] =
+    b"LTBRAYTON 0930 09322  FL                                                        ";
+
+/// The same at 09:35.
+const LT_0935: &[u8] =
+    b"LTBRAYTON 0935 09372  FL                                                        ";
+
+/// The same at 10:30.
+const LT_1030: &[u8] =
+    b"LTBRAYTON 1030 10322  FL                                                        ";
+
+/// The same at 11:30.
+const LT_1130: &[u8] =
+    b"LTBRAYTON 1130 11322  FL                                                        ";
+
+/// The insertion of Ashfield Central.
+const TI: &[u8] =
+    b"TIASHFELD         ASHFIELD CENTRAL                                              ";
+
+/// Its amendment: another code and description.
+const TA: &[u8] =
+    b"TAASHFELD         ASHFIELD NEW                                          ASHFLDN ";
+
+/// A trailer.
+const ZZ: &[u8] =
+    b"ZZ                                                                              ";
+
+/// What the amendment says of the new code.
+const NEW: [u8; 63] = *b"         ASHFIELD NEW                                          ";
+
+/// The text of these records.
+fn text(alloc: Global, records: &[&[u8]]) -> Result<Vec<u8>, AllocError> {
+    let mut text = Vec::new(alloc);
+    for record in records {
+        text.extend_from_slice(record)?;
+        text.push(b'\n')?;
+    }
+    Ok(text)
+}
+
+/// The state of the file of these records.
+fn state(alloc: Global, records: &[&[u8]]) -> Result<State, Fail> {
+    let text = text(alloc, records)?;
+    let file = read_pieces(alloc, &[text.as_slice()], 1000)?;
+    match State::of_file(alloc, file) {
+        Ok(state) => Ok(state),
+        Err(_) => Err("memory")?,
+    }
+}
+
+/// The join of two states.
+fn joined(alloc: Global, one: State, other: State) -> Result<State, Fail> {
+    match one.join(alloc, other) {
+        Ok(joined) => Ok(joined),
+        Err(_) => Err("memory")?,
+    }
+}
+
+/// The join of the states of three files, the first two first.
+fn merged(
+    alloc: Global,
+    first: &[&[u8]],
+    second: &[&[u8]],
+    third: &[&[u8]],
+) -> Result<State, Fail> {
+    let both = joined(alloc, state(alloc, first)?, state(alloc, second)?)?;
+    joined(alloc, both, state(alloc, third)?)
+}
+
+/// Some bytes as text.
+fn word(bytes: &[u8]) -> Result<&str, Fail> {
+    Ok(str::from_utf8(bytes).ok().ok_or("a text")?)
+}
+
+/// A file stamp as text.
+fn stamp_text(alloc: Global, stamp: &FileStamp) -> Result<String, Fail> {
+    let day = stamp.day.number();
+    let minute = stamp.minute;
+    let reference = word(&stamp.reference)?;
+    Ok(format!(in alloc; "{day} {minute} {reference}")?)
+}
+
+/// A ledger item as text.
+fn item_text(alloc: Global, item: &LedgerItem) -> Result<String, Fail> {
+    let stamp = stamp_text(alloc, &item.stamp())?;
+    let stamp = stamp.as_str();
+    let indicator = char::from(item.indicator.letter());
+    let last = word(&item.last_reference)?;
+    Ok(format!(in alloc; "item {stamp} {indicator} {last}\n")?)
+}
+
+/// A key as text.
+fn key_text(alloc: Global, key: &Key) -> Result<String, Fail> {
+    match key {
+        Key::Tiploc(code) => {
+            let code = word(code.bytes())?;
+            Ok(format!(in alloc; "{code}")?)
+        }
+        Key::Assoc(key) => {
+            let base = word(key.base.bytes())?;
+            Ok(format!(in alloc; "{base}")?)
+        }
+        Key::Schedule(key) => {
+            let uid = word(key.uid.bytes())?;
+            let day = key.runs_from.number();
+            Ok(format!(in alloc; "{uid} {day}")?)
+        }
+    }
+}
+
+/// Adds the lines of a body to a text.
+fn add_body(text: &mut Vec<u8>, body: &Body) -> Result<(), Fail> {
+    match body {
+        Body::Tiploc(details) => text.extend_from_slice(details)?,
+        Body::Assoc(line) => text.extend_from_slice(line.bytes())?,
+        Body::Schedule(lines) => {
+            for line in lines.as_slice() {
+                text.extend_from_slice(line.bytes())?;
+                text.push(b'\n')?;
+            }
+            return Ok(());
+        }
+    }
+    text.push(b'\n')?;
+    Ok(())
+}
+
+/// Adds a row to a text.
+fn add_row(alloc: Global, text: &mut Vec<u8>, row: &(Key, Entry)) -> Result<(), Fail> {
+    let key = key_text(alloc, &row.0)?;
+    let stamp = stamp_text(alloc, &row.1.stamp.file)?;
+    let (key, stamp) = (key.as_str(), stamp.as_str());
+    let number = row.1.stamp.number;
+    let head = format!(in alloc; "{key}: record {number} of {stamp}\n")?;
+    text.extend_from_slice(head.as_bytes())?;
+    match &row.1.op {
+        Op::Deleted => text.extend_from_slice(b"deleted\n")?,
+        Op::Put(body) => add_body(text, body)?,
+    }
+    Ok(())
+}
+
+/// A state as text: its ledger, its floor, its entries and what is live.
+fn told(alloc: Global, state: &State) -> Result<Vec<u8>, Fail> {
+    let mut text = Vec::new(alloc);
+    for item in state.ledger() {
+        text.extend_from_slice(item_text(alloc, item)?.as_bytes())?;
+    }
+    if let Some(floor) = state.floor() {
+        text.extend_from_slice(b"floor ")?;
+        text.extend_from_slice(stamp_text(alloc, &floor)?.as_bytes())?;
+        text.push(b'\n')?;
+    }
+    for row in state.entries() {
+        add_row(alloc, &mut text, row)?;
+    }
+    for (key, body) in state.live() {
+        text.extend_from_slice(b"live ")?;
+        text.extend_from_slice(key_text(alloc, key)?.as_bytes())?;
+        text.push(b'\n')?;
+        add_body(&mut text, body)?;
+    }
+    Ok(text)
+}
+
+/// That a state is as these lines say, and answers the entry of each of its keys.
+fn check(
+    rt: &impl Abort,
+    alloc: Global,
+    state: &State,
+    lines: &[&[u8]],
+    name: &str,
+) -> Result<(), Fail> {
+    let told = told(alloc, state)?;
+    let wanted = text(alloc, lines)?;
+    assert_eq!(rt; told.as_slice(), wanted.as_slice(), "{name}");
+    for row in state.entries() {
+        assert_eq!(rt; state.get(&row.0), Some(&row.1), "{name}");
+    }
+    Ok(())
+}
+
+/// That the join of the states of two files is as these lines say in either order, and with either once more.
+fn check_pair(
+    rt: &impl Abort,
+    alloc: Global,
+    one: &[&[u8]],
+    other: &[&[u8]],
+    lines: &[&[u8]],
+    name: &str,
+) -> Result<(), Fail> {
+    let both = joined(alloc, state(alloc, one)?, state(alloc, other)?)?;
+    check(rt, alloc, &both, lines, name)?;
+    let both = joined(alloc, state(alloc, other)?, state(alloc, one)?)?;
+    check(rt, alloc, &both, lines, name)?;
+    let again = merged(alloc, one, other, one)?;
+    check(rt, alloc, &again, lines, name)?;
+    let again = joined(alloc, state(alloc, other)?, again)?;
+    check(rt, alloc, &again, lines, name)
+}
+
+#[test]
+fn no_file(rt: HostRuntime) -> Result<(), Fail> {
+    let empty = State::empty(rt.alloc());
+    check(&rt, rt.alloc(), &empty, &[], "no file")?;
+    let code = Tiploc::from_text("ASHFELD").ok_or("a TIPLOC")?;
+    assert_eq!(rt; empty.get(&Key::Tiploc(code)), None);
+    let twice = joined(rt.alloc(), empty, State::empty(rt.alloc()))?;
+    check(&rt, rt.alloc(), &twice, &[], "no file twice")?;
+    let one = state(rt.alloc(), &[HD_9A, TI, ZZ])?;
+    assert_eq!(rt; told(rt.alloc(), &one)?.is_empty(), false);
+    let same = told(rt.alloc(), &one)?;
+    let all = joined(rt.alloc(), twice, one)?;
+    assert_eq!(rt; told(rt.alloc(), &all)?.as_slice(), same.as_slice());
+    let other = Tiploc::from_text("ASHFLDN").ok_or("a TIPLOC")?;
+    assert_eq!(rt; all.get(&Key::Tiploc(other)), None);
+    Ok(())
+}
+
+#[test]
+fn one_file(rt: HostRuntime) -> Result<(), Fail> {
+    let cases: [(&[u8], &[&[u8]], &str); 2] = [
+        (
+            HD_9A,
+            &[
+                b"item 23536 1260 DFROC1A U DFROC1Z",
+                b"C10001 23537: record 5 of 23536 1260 DFROC1A",
+                b"deleted",
+            ],
+            "a deletion behind a put",
+        ),
+        (
+            HD_9A_FULL,
+            &[
+                b"item 23536 1260 DFROC1A F DFROC1Z",
+                b"floor 23536 1260 DFROC1A",
+                b"C10001 23537: record 5 of 23536 1260 DFROC1A",
+                b"deleted",
+            ],
+            "the same in a full extract",
+        ),
+    ];
+    for (header, lines, name) in cases {
+        let one = state(rt.alloc(), &[header, BS, LO, LT, BS_DELETED, ZZ])?;
+        check(&rt, rt.alloc(), &one, lines, name)?;
+    }
+    Ok(())
+}
+
+#[test]
+fn two_files(rt: HostRuntime) -> Result<(), Fail> {
+    let cases: [(&[&[u8]], &[&[u8]], &[&[u8]], &str); 4] = [
+        (
+            &[HD_9A, BS, LO, LT, ZZ],
+            &[HD_10B, BS_REVISED, LO_0905, LT_0935, ZZ],
+            &[
+                b"item 23536 1260 DFROC1A U DFROC1Z",
+                b"item 23537 1260 DFROC1B U DFROC1A",
+                b"C10001 23537: record 2 of 23537 1260 DFROC1B",
+                BS,
+                LO_0905,
+                LT_0935,
+                b"live C10001 23537",
+                BS,
+                LO_0905,
+                LT_0935,
+            ],
+            "a revision",
+        ),
+        (
+            &[HD_9B, BS_DELETED, ZZ],
+            &[HD_8A, BS, LO, LT, ZZ],
+            &[
+                b"item 23535 1260 DFROC1A U DFROC1Z",
+                b"item 23536 1260 DFROC1B U DFROC1A",
+                b"C10001 23537: record 2 of 23536 1260 DFROC1B",
+                b"deleted",
+            ],
+            "a deletion first",
+        ),
+        (
+            &[HD_9A, TI, ZZ],
+            &[HD_10B, TA, ZZ],
+            &[
+                b"item 23536 1260 DFROC1A U DFROC1Z",
+                b"item 23537 1260 DFROC1B U DFROC1A",
+                b"ASHFELD: record 2 of 23537 1260 DFROC1B",
+                b"deleted",
+                b"ASHFLDN: record 2 of 23537 1260 DFROC1B",
+                &NEW,
+                b"live ASHFLDN",
+                &NEW,
+            ],
+            "a new code",
+        ),
+        (
+            &[HD_9A, BS, LO, LT, ZZ],
+            &[HD_9A_FULL, BS, LO, LT, ZZ],
+            &[
+                b"item 23536 1260 DFROC1A F DFROC1Z",
+                b"item 23536 1260 DFROC1A U DFROC1Z",
+                b"floor 23536 1260 DFROC1A",
+                b"C10001 23537: record 2 of 23536 1260 DFROC1A",
+                BS,
+                LO,
+                LT,
+                b"live C10001 23537",
+                BS,
+                LO,
+                LT,
+            ],
+            "two items of one file stamp",
+        ),
+    ];
+    for (one, other, lines, name) in cases {
+        check_pair(&rt, rt.alloc(), one, other, lines, name)?;
+    }
+    Ok(())
+}
+
+#[test]
+fn equal_stamps(rt: HostRuntime) -> Result<(), Fail> {
+    let cases: [(&[&[u8]], &[u8], &[u8], &str); 3] = [
+        (
+            &[HD_9A, BS_LONGER, LO_0850, LT, ZZ],
+            BS_LONGER,
+            LO_0850,
+            "a later end",
+        ),
+        (&[HD_9A, BS, LO_0905, LT, ZZ], BS, LO_0905, "greater bytes"),
+        (&[HD_9A, BS_DELETED, ZZ], BS, LO, "a deletion"),
+    ];
+    for (other, basic, origin, name) in cases {
+        let lines: &[&[u8]] = &[
+            b"item 23536 1260 DFROC1A U DFROC1Z",
+            b"C10001 23537: record 2 of 23536 1260 DFROC1A",
+            basic,
+            origin,
+            LT,
+            b"live C10001 23537",
+            basic,
+            origin,
+            LT,
+        ];
+        let one: &[&[u8]] = &[HD_9A, BS, LO, LT, ZZ];
+        check_pair(&rt, rt.alloc(), one, other, lines, name)?;
+    }
+    Ok(())
+}
+
+#[test]
+fn a_late_full_extract(rt: HostRuntime) -> Result<(), Fail> {
+    let u5: &[&[u8]] = &[HD_5A, BS_C10003, BS, LO, LT, ZZ];
+    let f7: &[&[u8]] = &[HD_7B, BS_C10002, LO_1000, LT_1030, ZZ];
+    let u9: &[&[u8]] = &[HD_9C, BS, LO_1100, LT_1130, ZZ];
+    let lines: &[&[u8]] = &[
+        b"item 23534 1260 DFROC1B F DFROC1A",
+        b"item 23536 1260 DFROC1C U DFROC1B",
+        b"floor 23534 1260 DFROC1B",
+        b"C10001 23537: record 2 of 23536 1260 DFROC1C",
+        BS,
+        LO_1100,
+        LT_1130,
+        b"C10002 23537: record 2 of 23534 1260 DFROC1B",
+        BS_C10002,
+        LO_1000,
+        LT_1030,
+        b"live C10001 23537",
+        BS,
+        LO_1100,
+        LT_1130,
+        b"live C10002 23537",
+        BS_C10002,
+        LO_1000,
+        LT_1030,
+    ];
+    let orders = [
+        (u5, f7, u9),
+        (u5, u9, f7),
+        (f7, u5, u9),
+        (f7, u9, u5),
+        (u9, u5, f7),
+        (u9, f7, u5),
+    ];
+    for (first, second, third) in orders {
+        let all = merged(rt.alloc(), first, second, third)?;
+        check(&rt, rt.alloc(), &all, lines, "the first two first")?;
+        let rest = joined(
+            rt.alloc(),
+            state(rt.alloc(), second)?,
+            state(rt.alloc(), third)?,
+        )?;
+        let all = joined(rt.alloc(), state(rt.alloc(), first)?, rest)?;
+        check(&rt, rt.alloc(), &all, lines, "the last two first")?;
+    }
+    Ok(())
+}
+
+#[test]
+fn want_of_memory(rt: HostRuntime) -> Result<(), Fail> {
+    let one = state(rt.alloc(), &[HD_9A, BS, LO, LT, ZZ])?;
+    let other = state(rt.alloc(), &[HD_10B, TI, ZZ])?;
+    let before = told(rt.alloc(), &one)?;
+    let before_other = told(rt.alloc(), &other)?;
+    match one.join(rt.alloc(), other) {
+        Ok(joined) => assert_eq!(rt; joined.entries().len(), 2),
+        Err((one, other)) => {
+            assert_eq!(rt; told(rt.alloc(), &one)?.as_slice(), before.as_slice());
+            assert_eq!(rt;
+                told(rt.alloc(), &other)?.as_slice(),
+                before_other.as_slice()
+            );
+            let joined = joined(rt.alloc(), one, other)?;
+            assert_eq!(rt; joined.entries().len(), 2);
+        }
+    }
+    let text = text(rt.alloc(), &[HD_9A, BS, LO, LT, ZZ])?;
+    let file = read_pieces(rt.alloc(), &[text.as_slice()], 1000)?;
+    match State::of_file(rt.alloc(), file) {
+        Ok(state) => assert_eq!(rt; told(rt.alloc(), &state)?.as_slice(), before.as_slice()),
+        Err(file) => {
+            assert_eq!(rt; file.records(), 5);
+            assert_eq!(rt; file.changes().len(), 1);
+            let Ok(state) = State::of_file(rt.alloc(), file) else {
+                return Err("memory")?;
+            };
+            assert_eq!(rt; told(rt.alloc(), &state)?.as_slice(), before.as_slice());
+        }
+    }
+    Ok(())
+}
+
+/// The state of one deletion, built from its parts.
+fn rebuilt(rt: &impl Abort, alloc: Global, one: &State) -> Result<State, Fail> {
+    let (items, rows) = (one.ledger(), one.entries());
+    if items.len() != 1 {
+        return Err("one item")?;
+    }
+    if rows.len() != 1 {
+        return Err("one entry")?;
+    }
+    let (item, row) = (items[0], &rows[0]);
+    let mut parts = Parts::new(alloc);
+    assert_eq!(rt; parts.last(), None);
+    assert!(rt; parts.ledger().is_empty());
+    parts.item(item)?;
+    assert_eq!(rt; parts.last(), None);
+    assert_eq!(rt; parts.ledger(), items);
+    let stamp = row.1.stamp;
+    let op = Op::Deleted;
+    parts.entry(row.0, Entry { stamp, op })?;
+    assert_eq!(rt; parts.last(), Some(&row.0));
+    Ok(parts.finish()?)
+}
+
+#[test]
+fn parts(rt: HostRuntime) -> Result<(), Fail> {
+    let one = state(rt.alloc(), &[HD_9A, BS_DELETED, ZZ])?;
+    let again = rebuilt(&rt, rt.alloc(), &one)?;
+    let (one, again) = (told(rt.alloc(), &one)?, told(rt.alloc(), &again)?);
+    assert_eq!(rt; again.as_slice(), one.as_slice());
+    Ok(())
+}
