@@ -1,5 +1,5 @@
 //! What a job reads.
-ghost use Rattle.std.specs.Prelude.{◌≡◌, ◌≢◌, ◌+◌, ◌-◌, ◌^◌, ◌<◌, ◌↔◌, IfOk, IfErr, Err};
+ghost use Rattle.std.specs.Prelude.{◌≡◌, ◌≢◌, ◌+◌, ◌-◌, ◌^◌, ◌<◌, ◌↔◌, IfOk, Err};
 ghost use Rattle.docker_cmd.specs.Prepared.{HoldsOtherFile, IsFileRefused, ReadsFile, ReadsSchedule, content_meant};
 ghost use Rattle.docker_cmd.specs.declared.jobs.Subcommand.TheVariants.{Check as check_subcommand, Day as day_subcommand};
 

@@ -1,5 +1,5 @@
 //! The file that a source holds.
-ghost use Rattle.std.specs.Prelude.{◌≡◌, ◌≢◌, ℕ, ◌+◌, ◌-◌, ◌^◌, ◌<◌, ◌↔◌, List, IfOk, IfErr, Err};
+ghost use Rattle.std.specs.Prelude.{◌≡◌, ◌≢◌, ℕ, ◌+◌, ◌-◌, ◌^◌, ◌<◌, ◌↔◌, List, IfOk, Err};
 ghost use Rattle.cif_file.specs.ParserRead.{IsOfFileText, HasRead};
 ghost use Rattle.docker_cmd.specs.Prepared.{IsFaultOf, IsFileRefused, ReadsText, most_records};
 

@@ -272,6 +272,31 @@ fn accepted_files(rt: HostRuntime) -> Result<(), Fail> {
     Ok(())
 }
 
+#[test]
+fn a_file_of_more_than_one_piece(rt: HostRuntime) -> Result<(), Fail> {
+    let mut file = text(rt.alloc(), &EMPTY[..1])?;
+    let insert = text(rt.alloc(), &["TIASHFELD         ASHFIELD CENTRAL"])?;
+    for _ in 0..1000 {
+        file.extend_from_slice(insert.as_slice())?;
+    }
+    file.extend_from_slice(b"ZZ")?;
+    let words = ["check", "F"];
+    let (_, fault) = outcome(rt.alloc(), &words, file.as_slice(), 1 << 20)?;
+    let short = FileFault {
+        number: 1002,
+        cause: FileCause::Length,
+    };
+    assert_eq!(rt; fault, Some(OfficeFault::File(short)));
+    file.extend_from_slice(&[b' '; 78])?;
+    let (sink, fault) = outcome(rt.alloc(), &words, file.as_slice(), 1 << 20)?;
+    assert_eq!(rt; fault, None);
+    assert_eq!(rt;
+        sink.bytes(),
+        b"accepted: 1002 records, 1000 changes\n".as_slice()
+    );
+    Ok(())
+}
+
 /// That `check` and `day` refuse the text of these lines with these bytes behind them, for this cause, and write nothing.
 fn assert_refused(
     rt: &impl Abort,
