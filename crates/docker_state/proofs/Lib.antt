@@ -9,3 +9,4 @@ pub mod Greatest
 pub mod OfFile
 pub mod Given
 pub mod LiveTable
+pub mod OneOfEach
