@@ -1,5 +1,5 @@
 -- A valid state of one ledger item and one entry, given part by part.
-use Rattle.std.proofs.Common.{◌≡◌, ℕ, ◌<◌, List, [], ◌∷◌, ◌++◌, map, length, get_or, refl, ap, sym, ◌∙◌, subst, arith}
+use Rattle.std.proofs.Common.{◌≡◌, List, [], ◌∷◌, ◌++◌, map, length, get_or, ap, sym, ◌∙◌, subst, arith}
 use Rattle.docker_model.specs.Stamp as stamps
 use Rattle.docker_model.specs.State.{State, IsLedger, IsValid, IsGoodEntry}
 use Rattle.docker_model.specs.StateFault.{IsStampHere}
@@ -8,7 +8,7 @@ use Rattle.cif_file.specs.Meaning.{key_meant}
 use Rattle.docker_join.specs.declared.entry.Entry.{Entry}
 use Rattle.docker_join.specs.Meaning.{entry_meant}
 use Rattle.docker_state.specs.declared.item.LedgerItem.{LedgerItem}
-use Rattle.docker_state.specs.Meaning.{item_meant, row_meant, state_meant}
+use Rattle.docker_state.specs.Meaning.{item_meant, row_meant}
 
 -- the one element of a list
 only_element : {A : Type 0} (xs : List A) (x d : A) → length xs ≡ 1 → x ≡ get_or xs 0 d → xs ≡ x ∷ []

@@ -1,15 +1,14 @@
 -- What a state's fields say of the state that they mean.
 use Rattle.std.proofs.Common.{◌≡◌, List, [], ◌∷◌, map, refl, ap, sym, ◌∙◌, subst, Bool, true, false, cond, Some, None}
-use Rattle.std.specs.Prelude.{⊤, Option, find, option_and_then, ◌==◌}
+use Rattle.std.specs.Prelude.{Option, find, option_and_then, ◌==◌}
 use Rattle.std.specs.Option.{option_map}
 use Rattle.std.specs.Ordering.{is_eq}
 use Rattle.docker_model.specs.Change as model
 use Rattle.docker_model.specs.Stamp.{FileStamp, LedgerItem, IsFloor}
 use Rattle.docker_model.specs.Op as ops
 use Rattle.docker_model.specs.Op.{key_cmp}
-use Rattle.docker_model.specs.State.{IsValid, IsGoodItem, entry_at}
-use Rattle.docker_laws.proofs.Ascending.{nil-Contains}
-use Rattle.docker_laws.proofs.JoinValid.{all_members, floor_is_first_full}
+use Rattle.docker_model.specs.State.{IsValid, entry_at}
+use Rattle.docker_laws.proofs.JoinValid.{floor_is_first_full}
 use Rattle.cif_file.specs.declared.key.Key.{Key}
 use Rattle.cif_file.specs.Meaning.{key_meant}
 use Rattle.docker_join.specs.declared.entry.Entry.{Entry}
@@ -18,30 +17,11 @@ use Rattle.docker_join.specs.Rows.{value_at}
 use Rattle.docker_state.specs.declared.item.LedgerItem as item
 use Rattle.docker_state.specs.Meaning.{item_meant, row_meant, state_meant}
 
--- the empty state is valid
-pub empty_valid : IsValid (record { ledger = []; entries = [] })
-empty_valid = record {
-  ledger = record {
-    each = all_members IsGoodItem [] (λ item among. absurd (nil-Contains item among));
-    ascending = tt;
-    floor = None;
-    is_floor = λ item among. absurd (nil-Contains item among);
-    kept = all_members (λ (item : LedgerItem). ⊤) [] (λ item among. tt);
-  };
-  entries = (all_members _ [] (λ entry among. absurd (nil-Contains entry among)), tt);
-}
-
 -- what the rows have at a key is the state's entry of the key
 pub entry_of_rows : (ledger : List item.LedgerItem) (rows : List (Key × Entry)) (key : model.Key) → option_map entry_meant (value_at rows key) ≡ entry_at (state_meant ledger rows) key
 entry_of_rows ledger [] key = refl
 entry_of_rows ledger (row ∷ rows) key = by (is_eq (key_cmp (key_meant row.0) key)) (entry_of_rows ledger rows key)
   where
-    at : List (Key × Entry) → Option (Key × Entry)
-    at xs = find (λ (r : Key × Entry). is_eq (key_cmp (key_meant r.0) key)) xs
-
-    meant : List (Key × Entry) → Option (model.Key × ops.Entry)
-    meant xs = find (λ (entry : model.Key × ops.Entry). is_eq (key_cmp entry.0 key)) (map row_meant xs)
-
     by : (b : Bool) → option_map entry_meant (value_at rows key) ≡ entry_at (state_meant ledger rows) key
         → option_map entry_meant (option_map (λ (r : Key × Entry). r.1) (cond b (Some row) (find (λ (r : Key × Entry). is_eq (key_cmp (key_meant r.0) key)) rows)))
         ≡ option_and_then (λ (entry : model.Key × ops.Entry). Some entry.1) (cond b (Some (row_meant row)) (find (λ (entry : model.Key × ops.Entry). is_eq (key_cmp entry.0 key)) (map row_meant rows)))
