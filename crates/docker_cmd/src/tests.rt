@@ -474,6 +474,21 @@ fn a_source_without_end(rt: HostRuntime) {
     assert_eq!(rt; source.reads, 256);
 }
 
+#[test]
+fn a_file_without_end(rt: HostRuntime) -> Result<(), Fail> {
+    let job = job(rt.alloc(), &["check", "stdin"])?;
+    let mut source = Endless { reads: 0 };
+    let mut second = Bytes::new(b"", 1);
+    let fault = prepare(rt.alloc(), &job, &mut source, &mut second).err();
+    let long = FileFault {
+        number: 1,
+        cause: FileCause::Length,
+    };
+    assert_eq!(rt; fault, Some(OfficeFault::File(long)));
+    assert_eq!(rt; source.reads, 82);
+    Ok(())
+}
+
 // A source that can't tell its bytes. It gives one at a read, and its read 101 fails.
 #[derive(Drop)]
 struct FailsOnce<'a> {
