@@ -1,3 +1,5 @@
+ghost use Rattle.std.specs.Prelude.{◌<◌};
+
 use crate::{
     ReadFault, StateCause, StateFault, StateParser, Step, encoded_len, read_state, write_state,
 };
@@ -8,6 +10,9 @@ use docker_state::State;
 use std::alloc::{AllocError, Global};
 use std::process::Abort;
 use std::test::Fail;
+
+mod endless;
+mod merged;
 
 /// The header of an update of 9 June 2024, 21:00.
 const HD: &[u8] =
@@ -200,7 +205,33 @@ fn fault_of(rt: &impl Abort, alloc: Global, text: &[u8], limit: u64) -> Result<S
         Err(ReadFault::State(fault)) => assert_eq!(rt; fault, whole),
         _ => Err("no fault")?,
     }
+    assert_eq!(rt; told(alloc, text, limit, 4096)?, whole);
+    assert_eq!(rt; told(alloc, text, limit, 1)?, whole);
     Ok(whole)
+}
+
+/// The fault of a text, as a parser that is fed so many bytes at once tells it, and a byte behind the state where it is left.
+fn told(alloc: Global, text: &[u8], limit: u64, step: usize) -> Result<StateFault, Fail>
+    requires { 0 < step }
+{
+    let mut parser = StateParser::new(alloc, limit);
+    let mut at = 0u64;
+    for piece in text.chunks(step) {
+        match parser.feed(piece) {
+            Ok((used, _)) => {
+                at = at.saturating_add(used as u64);
+                if used < piece.len() {
+                    let cause = StateCause::Tail;
+                    return Ok(StateFault { at, cause });
+                }
+            }
+            Err(fault) => return Ok(fault),
+        }
+    }
+    match parser.finish() {
+        Err(fault) => Ok(fault),
+        Ok(_) => Err("no fault")?,
+    }
 }
 
 /// That a text of these pieces has this fault under this limit.

@@ -1,0 +1,106 @@
+//! Texts without end, and texts whose counts are huge.
+
+use super::{BS, HEAD, ITEM, LO, LT, MARK, MOST, ONE, joined_text, refused};
+use crate::{ReadFault, StateCause, StateFault, read_state};
+use cif_line::{Failed, Source};
+use std::test::Fail;
+
+/// A source that gives a front, and then one byte again and again. It can't tell its bytes.
+#[derive(Drop)]
+struct Endless<'a> {
+    front: &'a [u8],
+    again: u8,
+    step: usize,
+}
+
+impl Endless<'_> {
+    /// The next byte.
+    fn next(&mut self) -> u8 {
+        match self.front {
+            [byte, rest @ ..] => {
+                self.front = rest;
+                *byte
+            }
+            [] => self.again,
+        }
+    }
+}
+
+impl Source for Endless<'_> {
+    ghost use Rattle.std.specs.Prelude.{None};
+
+    ghost left = { λ _. None };
+
+    ghost failures = { λ _. 0 };
+
+    fn read(&mut self, into: &mut [u8]) -> Result<usize, Failed> {
+        let n = into.len().min(self.step).max(1).min(into.len());
+        for slot in into[..n].iter_mut() {
+            *slot = self.next();
+        }
+        Ok(n)
+    }
+
+    fn failures(&self) -> u64 {
+        0
+    }
+}
+
+#[test]
+fn texts_without_end(rt: HostRuntime) -> Result<(), Fail> {
+    let rows: [(&[u8], u8, u64, StateCause); 3] = [
+        (b"", 0, 0, StateCause::Mark),
+        (MARK, 0, 20, StateCause::Tail),
+        (MARK, 255, 12, StateCause::Item),
+    ];
+    for (front, again, at, cause) in rows {
+        for step in [1, 7, 4096] {
+            let mut source = Endless { front, again, step };
+            let fault = read_state(rt.alloc(), &mut source, 1_099_511_627_776).err();
+            let wanted = StateFault { at, cause };
+            assert_eq!(rt; fault, Some(ReadFault::State(wanted)));
+        }
+    }
+    Ok(())
+}
+
+#[test]
+fn huge_counts(rt: HostRuntime) -> Result<(), Fail> {
+    let alloc = rt.alloc();
+    refused(
+        &rt,
+        alloc,
+        &[MARK, MOST, ITEM, ONE, HEAD, BS, LO, LT],
+        1_000,
+        (31, StateCause::Item),
+    )?;
+    let most = b"\x03C10001\x5b\xf1P\x5b\xf0\x04\xecDFROC1A\x00\x00\x00\x02\x01\xff\xff\xff\xfe";
+    refused(
+        &rt,
+        alloc,
+        &[MARK, ONE, ITEM, ONE, most, BS, LO, LT],
+        1_000,
+        (39, StateCause::Short),
+    )?;
+    let above = b"\x03C10001\x5b\xf1P\x5b\xf0\x04\xecDFROC1A\x00\x00\x00\x02\x01\xff\xff\xff\xff";
+    refused(
+        &rt,
+        alloc,
+        &[MARK, ONE, ITEM, ONE, above, BS, LO, LT],
+        1_000,
+        (39, StateCause::Body),
+    )?;
+    let mut items = joined_text(alloc, &[MARK, MOST])?;
+    for minute in 0..60u16 {
+        items.extend_from_slice(b"\0\0")?;
+        items.extend_from_slice(&minute.to_be_bytes())?;
+        items.extend_from_slice(b"       U       ")?;
+    }
+    refused(
+        &rt,
+        alloc,
+        &[items.as_slice()],
+        1_000,
+        (1_000, StateCause::Long),
+    )
+}
