@@ -9,3 +9,4 @@ pub mod Stepping
 pub mod PartByPart
 pub mod WholeText
 pub mod SourceReading
+mod LineStays

@@ -6,7 +6,7 @@ ghost use Rattle.docker_bytes.specs.Reading.{before_of, text_of, IsReading, Read
 
 use crate::fault::{StateCause, StateFault, Step};
 use crate::place::Place;
-use crate::schedule::Gathered;
+use crate::schedule::{Gathered, judged_line};
 use crate::step::step;
 use arrayvec::ArrayVec;
 use docker_state::{Parts, State};
@@ -83,7 +83,17 @@ impl Reading {
         }
     }
 
-    /// Takes a whole part, of which nothing was kept.
+    /// The fault of a bad part, told at its item.
+    fn bad(&self, cause: StateCause) -> StateFault
+        ensures { result ≡ record { at = self.now.item_at; cause = cause } }
+    {
+        StateFault {
+            at: self.item_at,
+            cause,
+        }
+    }
+
+    /// Takes a whole part, of which nothing was kept. Behind a line with more to come the place stays as it is.
     fn judge(&mut self, bytes: &[u8]) -> Result<(), StateFault>
         requires reading { IsReading self.old }
         requires fresh { self.old.partial.items ≡ [] }
@@ -93,6 +103,17 @@ impl Reading {
         ensures ok { IsOk result → ReadsOn self.old self.new bytes.now }
         ensures err { IfErr result (λ fault. IsFaultTold self.old.limit (text_of self.old ++ bytes.now) fault) }
     {
+        if let Place::Line(_entries, key, _stamp, count) = self.place {
+            if self.lines.has_more(count) {
+                return match judged_line(&key, count, &mut self.lines, bytes) {
+                    Ok(()) => {
+                        self.reached += bytes.len() as u64;
+                        Ok(())
+                    }
+                    Err(cause) => Err(self.bad(cause)),
+                };
+            }
+        }
         match step(
             self.alloc,
             self.place,
@@ -108,10 +129,7 @@ impl Reading {
                 }
                 Ok(())
             }
-            Err(cause) => Err(StateFault {
-                at: self.item_at,
-                cause,
-            }),
+            Err(cause) => Err(self.bad(cause)),
         }
     }
 

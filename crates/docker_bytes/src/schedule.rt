@@ -1,5 +1,5 @@
 //! The lines of a schedule, as they are read.
-ghost use Rattle.std.specs.Prelude.{◌≡◌, ◌↔◌, ◌⊎◌, [], ◌∷◌, ◌++◌, length, false, IsTrue, IsOk, IfOk, IfErr};
+ghost use Rattle.std.specs.Prelude.{◌≡◌, ◌+◌, ◌<◌, ◌↔◌, ◌⊎◌, [], ◌∷◌, ◌++◌, length, false, IsTrue, IsOk, IfOk, IfErr};
 ghost use Rattle.docker_model.specs.File.{IsSchedule, BeginsSchedule};
 ghost use Rattle.docker_model.specs.StateFault.{AreLinesOf, AreLinesUpTo};
 ghost use Rattle.docker_bytes.specs.Place.{schedule_meant};
@@ -58,6 +58,16 @@ impl Gathered {
         self.lines.len()
     }
 
+    /// Whether of so many lines more are to come behind the next one.
+    pub(crate) fn has_more(&self, count: u32) -> bool
+        ensures { IsTrue result ↔ (length self.now + 1 < count) }
+    {
+        if count == 0 {
+            return false;
+        }
+        self.lines.len() < (count - 1) as usize
+    }
+
     /// Whether the lines are a schedule.
     pub(crate) fn is_complete(&self) -> bool
         ensures { IsTrue result ↔ IsSchedule self.now }
@@ -75,15 +85,15 @@ impl Gathered {
     }
 
     /// Takes the next line. `Body` where no schedule begins with the lines so far and this one. Want of memory lets go of all lines.
-    fn take(&mut self, line: Line) -> Result<(), StateCause>
-        ensures taken { IsOk result → self.new ≡ self.old ++ line ∷ [] }
-        ensures begin { IsOk result → BeginsSchedule (self.old ++ line ∷ []) }
-        ensures err { IfErr result (λ cause. IsLineRefusal self.old line (cause_meant cause)) }
+    fn take(&mut self, line: &Line) -> Result<(), StateCause>
+        ensures taken { IsOk result → self.new ≡ self.old ++ line.now ∷ [] }
+        ensures begin { IsOk result → BeginsSchedule (self.old ++ line.now ∷ []) }
+        ensures err { IfErr result (λ cause. IsLineRefusal self.old line.now (cause_meant cause)) }
     {
-        if self.journey.line(&line).is_err() {
+        if self.journey.line(line).is_err() {
             return Err(StateCause::Body);
         }
-        match self.lines.push(line) {
+        match self.lines.push(*line) {
             Ok(()) => Ok(()),
             Err(_) => {
                 self.journey = Journey::new();
@@ -123,7 +133,7 @@ pub(crate) fn judged_line(
     if !may_follow(key, lines, &line) {
         return Err(StateCause::Body);
     }
-    if let Err(cause) = lines.take(line) {
+    if let Err(cause) = lines.take(&line) {
         return Err(cause);
     }
     if lines.len() == count as usize {
