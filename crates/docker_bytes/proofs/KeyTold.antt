@@ -20,7 +20,7 @@ use Rattle.docker_model.specs.State.{State, AreAscending, IsGoodItem, IsLedger, 
 use Rattle.docker_model.specs.StateFault.{IsAboveEntries}
 use Rattle.docker_laws.proofs.Orders.{key_total, exact_key, file_stamp_total, exact_file_stamp}
 use Rattle.docker_laws.proofs.Unique.{Contains-map}
-use Rattle.docker_laws.proofs.StateWalk.{stamps_below}
+use Rattle.docker_laws.proofs.LedgerGrown.{stamps_below}
 use Rattle.docker_state.specs.Parts.{last_key}
 use Rattle.docker_bytes.proofs.LastAbove.{above_last, above_none}
 

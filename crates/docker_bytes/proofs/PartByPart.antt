@@ -3,16 +3,16 @@ use Rattle.std.proofs.Common.{◌≡◌, ℕ, zero, suc, ◌+◌, ◌-◌, ◌<�
 use Rattle.std.specs.Prelude.{Option, slice_index}
 use Rattle.std.specs.Int.{w32, w64, from_be_bytes}
 use Rattle.docker_model.specs.Change.{tiploc_key, association_key, schedule_key, tiploc_body, association_body, schedule_body, ScheduleKey}
-use Rattle.docker_model.specs.Op.{put_with, deleted}
+use Rattle.docker_model.specs.Op.{put_with, deleted, lapsed}
 use Rattle.docker_model.specs.Stamp.{Stamp, LedgerItem}
 use Rattle.docker_model.specs.State.{State}
-use Rattle.docker_model.specs.StateText.{item_in}
-use Rattle.docker_model.specs.StateFault.{StateCause, too_short, EntryPart, before_tag, before_key, before_stamp, before_op, before_body, before_line, Before, before_mark, before_ledger_count, before_item, before_entry_count, in_entry, at_end, items_before, parts_before, text_before, width, AreGood, IsBadPart}
+use Rattle.docker_model.specs.StateText.{item_in, dks_1}
+use Rattle.docker_model.specs.StateFault.{StateCause, too_short, EntryPart, before_tag, before_key, before_stamp, before_op, before_body, before_line, Before, before_mark, before_horizon, before_ledger_count, before_item, before_entry_count, in_entry, at_end, items_before, parts_before, text_before, width, AreGood, IsBadPart}
 use Rattle.docker_laws.proofs.StateBytes.{AreBytes}
 use Rattle.docker_laws.proofs.StateFaultStays.{bad_part_stays, long_stays}
 use Rattle.std.proofs.Math.Seq.{take-append_seam}
-use Rattle.docker_laws.proofs.StateRun.{next, after_items, after_entries, after_lines, after_op, with_entry}
-use Rattle.docker_laws.proofs.StateWalk.{Judged, Good, judge}
+use Rattle.docker_laws.proofs.StateRun.{advance, after_items, after_entries, after_lines, after_op, with_entry}
+use Rattle.docker_laws.proofs.StateJudged.{Judged, Good, judge}
 use Rattle.docker_bytes.specs.declared.reading.Reading.{Reading}
 use Rattle.docker_bytes.specs.FaultMeaning.{IsBadHere}
 use Rattle.docker_bytes.specs.Place.{begins_item, LeadsTo}
@@ -25,9 +25,10 @@ before_rest piece rest = take (length piece - length rest) piece
 -- the first part of an item stands behind whole items
 pub no_parts : (before : Before) → begins_item before ≡ true → parts_before before ≡ []
 no_parts before_mark is = refl
-no_parts before_ledger_count is = refl
-no_parts (before_item count ledger) is = refl
-no_parts (before_entry_count ledger) is = refl
+no_parts before_horizon is = refl
+no_parts (before_ledger_count horizon) is = refl
+no_parts (before_item horizon count ledger) is = refl
+no_parts (before_entry_count horizon ledger) is = refl
 no_parts (in_entry count state before_tag) is = refl
 no_parts (in_entry count state (before_key tag)) is = cc
 no_parts (in_entry count state (before_stamp key)) is = cc
@@ -38,7 +39,7 @@ no_parts (at_end state) is = refl
 
 -- within an item the items before stay
 
-begins : (before after : Before) → begins_item after ≡ true → begins_item after ≡ false → items_before after ≡ items_before before
+begins : (before after : Before) → begins_item after ≡ true → begins_item after ≡ false → items_before dks_1 after ≡ items_before dks_1 before
 begins before after first inner = let both : true ≡ false = sym first ∙ inner in cc
 
 entries_begin : (count : ℕ) (state : State) → begins_item (after_entries count state) ≡ true
@@ -48,41 +49,45 @@ entries_begin count state = by (nat_le count (length state.entries))
     by true = refl
     by false = refl
 
-items_begin : (count : ℕ) (ledger : List LedgerItem) → begins_item (after_items count ledger) ≡ true
-items_begin count ledger = by (nat_le count (length ledger))
+items_begin : (horizon count : ℕ) (ledger : List LedgerItem) → begins_item (after_items horizon count ledger) ≡ true
+items_begin horizon count ledger = by (nat_le count (length ledger))
   where
-    by : (b : Bool) → begins_item (cond b (before_entry_count ledger) (before_item count ledger)) ≡ true
+    by : (b : Bool) → begins_item (cond b (before_entry_count horizon ledger) (before_item horizon count ledger)) ≡ true
     by true = refl
     by false = refl
 
 lines_stay : (count : ℕ) (state : State) (key : ScheduleKey) (stamp : Stamp) (n : ℕ) (lines : List (List ℕ)) (part : EntryPart)
-    → begins_item (after_lines count state key stamp n lines) ≡ false → items_before (after_lines count state key stamp n lines) ≡ items_before (in_entry count state part)
+    → begins_item (after_lines count state key stamp n lines) ≡ false → items_before dks_1 (after_lines count state key stamp n lines) ≡ items_before dks_1 (in_entry count state part)
 lines_stay count state key stamp n lines part = by (nat_le n (length lines))
   where
     done : Before
     done = after_entries count (with_entry state (schedule_key key) stamp (put_with (schedule_body lines)))
 
     by : (b : Bool) → begins_item (cond b (after_entries count (with_entry state (schedule_key key) stamp (put_with (schedule_body lines)))) (in_entry count state (before_line key stamp n lines))) ≡ false
-        → items_before (cond b (after_entries count (with_entry state (schedule_key key) stamp (put_with (schedule_body lines)))) (in_entry count state (before_line key stamp n lines))) ≡ items_before (in_entry count state part)
+        → items_before dks_1 (cond b (after_entries count (with_entry state (schedule_key key) stamp (put_with (schedule_body lines)))) (in_entry count state (before_line key stamp n lines))) ≡ items_before dks_1 (in_entry count state part)
     by true within =
         begins (in_entry count state part) (after_entries count (with_entry state (schedule_key key) stamp (put_with (schedule_body lines))))
         (entries_begin count (with_entry state (schedule_key key) stamp (put_with (schedule_body lines)))) within
     by false within = refl
 
-pub items_stay : (before : Before) (bytes : List ℕ) → begins_item (next before bytes) ≡ false → items_before (next before bytes) ≡ items_before before
+pub items_stay : (before : Before) (bytes : List ℕ) → begins_item (advance dks_1 before bytes) ≡ false → items_before dks_1 (advance dks_1 before bytes) ≡ items_before dks_1 before
 items_stay before_mark bytes inner = cc
-items_stay before_ledger_count bytes inner = begins before_ledger_count (after_items (from_be_bytes w64 bytes) []) (items_begin (from_be_bytes w64 bytes) []) inner
-items_stay (before_item count ledger) bytes inner = begins (before_item count ledger) (after_items count (ledger ++ item_in bytes ∷ [])) (items_begin count (ledger ++ item_in bytes ∷ [])) inner
-items_stay (before_entry_count ledger) bytes inner =
-    begins (before_entry_count ledger) (after_entries (from_be_bytes w64 bytes) (record { ledger = ledger; entries = [] })) (entries_begin (from_be_bytes w64 bytes) (record { ledger = ledger; entries = [] })) inner
+items_stay before_horizon bytes inner = cc
+items_stay (before_ledger_count horizon) bytes inner = begins (before_ledger_count horizon) (after_items horizon (from_be_bytes w64 bytes) []) (items_begin horizon (from_be_bytes w64 bytes) []) inner
+items_stay (before_item horizon count ledger) bytes inner =
+    begins (before_item horizon count ledger) (after_items horizon count (ledger ++ item_in bytes ∷ [])) (items_begin horizon count (ledger ++ item_in bytes ∷ [])) inner
+items_stay (before_entry_count horizon ledger) bytes inner =
+    begins (before_entry_count horizon ledger) (after_entries (from_be_bytes w64 bytes) (record { horizon = horizon; ledger = ledger; entries = [] }))
+    (entries_begin (from_be_bytes w64 bytes) (record { horizon = horizon; ledger = ledger; entries = [] })) inner
 items_stay (in_entry count state before_tag) bytes inner = refl
 items_stay (in_entry count state (before_key tag)) bytes inner = refl
 items_stay (in_entry count state (before_stamp key)) bytes inner = refl
 items_stay (in_entry count state (before_op key stamp)) bytes inner = by (slice_index bytes 0) inner
   where
-    by : (op : ℕ) → begins_item (after_op count state key stamp op) ≡ false → items_before (after_op count state key stamp op) ≡ items_before (in_entry count state (before_op key stamp))
+    by : (op : ℕ) → begins_item (after_op count state key stamp op) ≡ false → items_before dks_1 (after_op count state key stamp op) ≡ items_before dks_1 (in_entry count state (before_op key stamp))
     by zero inner = begins (in_entry count state (before_op key stamp)) (after_entries count (with_entry state key stamp deleted)) (entries_begin count (with_entry state key stamp deleted)) inner
-    by (suc op) inner = refl
+    by (suc zero) inner = refl
+    by (suc (suc op)) inner = begins (in_entry count state (before_op key stamp)) (after_entries count (with_entry state key stamp lapsed)) (entries_begin count (with_entry state key stamp lapsed)) inner
 items_stay (in_entry count state (before_body (tiploc_key code) stamp)) bytes inner =
     begins (in_entry count state (before_body (tiploc_key code) stamp)) (after_entries count (with_entry state (tiploc_key code) stamp (put_with (tiploc_body bytes))))
     (entries_begin count (with_entry state (tiploc_key code) stamp (put_with (tiploc_body bytes)))) inner
@@ -99,11 +104,11 @@ bytes_are : (bytes : List ℕ) → ((i : ℕ) → get_or bytes i 0 < 256) → Ar
 bytes_are [] small = tt
 bytes_are (b ∷ bytes) small = (small 0, bytes_are bytes (λ i. small (suc i)))
 
-good_next : (before : Before) (bytes : List ℕ) → AreGood before → 0 < length bytes → length bytes ≡ width before → ((i : ℕ) → get_or bytes i 0 < 256)
-    → ((cause : StateCause) → ¬ IsBadPart before bytes cause) → Good before bytes
-good_next before bytes good some wide small not_bad = by (judge before bytes good (omega arith) wide (bytes_are bytes small))
+good_next : (before : Before) (bytes : List ℕ) → AreGood dks_1 before → 0 < length bytes → length bytes ≡ width before → ((i : ℕ) → get_or bytes i 0 < 256)
+    → ((cause : StateCause) → ¬ IsBadPart dks_1 before bytes cause) → Good dks_1 before bytes
+good_next before bytes good some wide small not_bad = by (judge dks_1 before bytes good (omega arith) wide (bytes_are bytes small))
   where
-    by : Judged before bytes → Good before bytes
+    by : Judged dks_1 before bytes → Good dks_1 before bytes
     by (inl bad) = absurd (not_bad bad.0 bad.1)
     by (inr fine) = fine
 
@@ -113,7 +118,7 @@ pub part_read : (old new : Reading) (bytes : List ℕ) → IsReading old → old
     → (begins_item (before_of new) ≡ true) × (new.item_at ≡ new.reached) ⊎ (begins_item (before_of new) ≡ false) × (new.item_at ≡ old.item_at) → ReadsOn old new bytes
 part_read old new bytes is none wide some small fits leads empty reached same at = record {
   reading = record {
-    ready = record { good = subst AreGood (sym leads.is) good.0; fresh = leads.fresh };
+    ready = record { good = subst (AreGood dks_1) (sym leads.is) good.0; fresh = leads.fresh };
     short = (let size = ap length empty in omega arith);
     reached_is = reached_now;
     item_is = item at;
@@ -123,30 +128,30 @@ part_read old new bytes is none wide some small fits leads empty reached same at
   limit = same;
 }
   where
-    good : Good (before_of old) bytes
+    good : Good dks_1 (before_of old) bytes
     good = good_next (before_of old) bytes is.ready.good some wide small leads.not_bad
 
-    text : text_before (before_of new) ≡ text_before (before_of old) ++ bytes
-    text = ap text_before leads.is ∙ good.1
+    text : text_before dks_1 (before_of new) ≡ text_before dks_1 (before_of old) ++ bytes
+    text = ap (text_before dks_1) leads.is ∙ good.1
 
-    reached_now : new.reached ≡ length (text_before (before_of new))
+    reached_now : new.reached ≡ length (text_before dks_1 (before_of new))
     reached_now =
-        let sizes = ap length text ∙ length-append (text_before (before_of old)) bytes in
+        let sizes = ap length text ∙ length-append (text_before dks_1 (before_of old)) bytes in
         let before = is.reached_is in
         let now = reached in
         omega arith
 
     whole : text_of new ≡ text_of old ++ bytes
     whole =
-        ap (λ xs. text_before (before_of new) ++ xs) empty ∙ append-nil (text_before (before_of new)) ∙ text
-        ∙ ap (λ xs. xs ++ bytes) (sym (append-nil (text_before (before_of old))) ∙ ap (λ xs. text_before (before_of old) ++ xs) (sym none))
+        ap (λ xs. text_before dks_1 (before_of new) ++ xs) empty ∙ append-nil (text_before dks_1 (before_of new)) ∙ text
+        ∙ ap (λ xs. xs ++ bytes) (sym (append-nil (text_before dks_1 (before_of old))) ∙ ap (λ xs. text_before dks_1 (before_of old) ++ xs) (sym none))
 
-    item : (begins_item (before_of new) ≡ true) × (new.item_at ≡ new.reached) ⊎ (begins_item (before_of new) ≡ false) × (new.item_at ≡ old.item_at) → new.item_at ≡ length (items_before (before_of new))
+    item : (begins_item (before_of new) ≡ true) × (new.item_at ≡ new.reached) ⊎ (begins_item (before_of new) ≡ false) × (new.item_at ≡ old.item_at) → new.item_at ≡ length (items_before dks_1 (before_of new))
     item (inl begun) =
-        begun.1 ∙ reached_now ∙ ap length (ap (λ xs. items_before (before_of new) ++ xs) (no_parts (before_of new) begun.0) ∙ append-nil (items_before (before_of new)))
+        begun.1 ∙ reached_now ∙ ap length (ap (λ xs. items_before dks_1 (before_of new) ++ xs) (no_parts (before_of new) begun.0) ∙ append-nil (items_before dks_1 (before_of new)))
     item (inr within) =
         within.1 ∙ is.item_is
-        ∙ ap length (sym (items_stay (before_of old) bytes (ap begins_item (sym leads.is) ∙ within.0)) ∙ ap items_before (sym leads.is))
+        ∙ ap length (sym (items_stay (before_of old) bytes (ap begins_item (sym leads.is) ∙ within.0)) ∙ ap (items_before dks_1) (sym leads.is))
 
 -- a part that is bad
 pub part_refused : (old : Reading) (bytes : List ℕ) (cause : Option StateCause) → IsReading old → old.partial.items ≡ [] → length bytes ≡ width (before_of old) → old.reached + length bytes ≤ old.limit
@@ -155,7 +160,7 @@ part_refused old bytes None is none wide fits bad = record {
   before = before_of old;
   good = is.ready.good;
   rest = bytes;
-  whole = ap (λ xs. (text_before (before_of old) ++ xs) ++ bytes) none ∙ ap (λ xs. xs ++ bytes) (append-nil (text_before (before_of old)));
+  whole = ap (λ xs. (text_before dks_1 (before_of old) ++ xs) ++ bytes) none ∙ ap (λ xs. xs ++ bytes) (append-nil (text_before dks_1 (before_of old)));
   there = omega arith;
   below_limit = (let reached = is.reached_is in omega arith);
   item_at = is.item_is;
@@ -166,7 +171,7 @@ part_refused old bytes (Some cause) is none wide fits bad =
       good = is.ready.good;
       bytes = bytes;
       rest = [];
-      whole = ap (λ xs. (text_before (before_of old) ++ xs) ++ bytes) none ∙ ap (λ xs. xs ++ bytes) (append-nil (text_before (before_of old))) ∙ sym (append-nil (text_before (before_of old) ++ bytes));
+      whole = ap (λ xs. (text_before dks_1 (before_of old) ++ xs) ++ bytes) none ∙ ap (λ xs. xs ++ bytes) (append-nil (text_before dks_1 (before_of old))) ∙ sym (append-nil (text_before dks_1 (before_of old) ++ bytes));
       size = wide;
       below_limit = (let reached = is.reached_is in omega arith);
       bad = bad;
@@ -180,13 +185,13 @@ told_stays limit text more at None wanting = record {
   before = wanting.before;
   good = wanting.good;
   rest = wanting.rest ++ more;
-  whole = ap (λ xs. xs ++ more) wanting.whole ∙ append_assoc (text_before wanting.before) wanting.rest more;
+  whole = ap (λ xs. xs ++ more) wanting.whole ∙ append_assoc (text_before dks_1 wanting.before) wanting.rest more;
   there = (let size = length-append wanting.rest more in let there = wanting.there in omega arith);
   below_limit = wanting.below_limit;
   item_at = wanting.item_at;
 }
-told_stays limit text more at (Some cause) (inl bad) = inl (bad_part_stays limit text more (record { at = at; cause = cause }) bad)
-told_stays limit text more at (Some cause) (inr long) = inr (long_stays limit text more (record { at = at; cause = cause }) long)
+told_stays limit text more at (Some cause) (inl bad) = inl (bad_part_stays dks_1 limit text more (record { at = at; cause = cause }) bad)
+told_stays limit text more at (Some cause) (inr long) = inr (long_stays dks_1 limit text more (record { at = at; cause = cause }) long)
 
 pub rest_more : (piece rest front behind : List ℕ) → before_rest piece rest ++ rest ≡ piece → rest ≡ front ++ behind
     → (before_rest piece behind ≡ before_rest piece rest ++ front) × (before_rest piece behind ++ behind ≡ piece)
@@ -232,15 +237,15 @@ module _ (initial now : Reading) (piece rest : List ℕ) (whole : before_rest pi
   open_text next short further =
       subst (λ n. IsOpen n (text_of initial ++ piece)) on.limit
       (subst (IsOpen now.limit) all_text (
-        record { at = length (items_before (before_of now)); cause = too_short },
+        record { at = length (items_before dks_1 (before_of now)); cause = too_short },
         record {
           before = before_of now;
           good = on.reading.ready.good;
           rest = now.partial.items ++ rest;
-          whole = append_assoc (text_before (before_of now)) now.partial.items rest;
+          whole = append_assoc (text_before dks_1 (before_of now)) now.partial.items rest;
           ends = (let size = length-append now.partial.items rest in omega arith);
           within =
-              (let sizes = sym (ap length further.text) ∙ length-append (text_before (before_of next)) next.partial.items in
+              (let sizes = sym (ap length further.text) ∙ length-append (text_before dks_1 (before_of next)) next.partial.items in
               let reached = further.reading.reached_is in
               let within = further.reading.within in
               let same = further.limit in

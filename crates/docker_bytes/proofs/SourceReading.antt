@@ -5,6 +5,7 @@ use Rattle.std.proofs.lemmas.List.{take-append-drop, take-append-le, take-take}
 use Rattle.std.proofs.lemmas.Result.{IfOk-weaker}
 use Rattle.cif_line.specs.Device.{Reads, IsEnd}
 use Rattle.docker_model.specs.State.{State}
+use Rattle.docker_model.specs.StateText.{dks_1}
 use Rattle.docker_model.specs.StateFault.{text_before, has_tail, IsStateFault, IsStateText, HasTail}
 use Rattle.docker_model.specs.StateFault as model
 use Rattle.docker_laws.proofs.StateFaultStays.{bad_part_stays, long_stays}
@@ -62,8 +63,8 @@ told_so_far limit text rest at c other = by (cause_meant c) refl
   where
     by : (o : Option model.StateCause) → cause_meant c ≡ o → IsToldSoFar limit text at o → IsCauseOf limit (text ++ rest) at o
     by None is told = other (none_is_memory c is)
-    by (Some k) is (inl bad) = inl (bad_part_stays limit text rest (record { at = at; cause = k }) bad)
-    by (Some k) is (inr long) = inr (inl (long_stays limit text rest (record { at = at; cause = k }) long))
+    by (Some k) is (inl bad) = inl (bad_part_stays dks_1 limit text rest (record { at = at; cause = k }) bad)
+    by (Some k) is (inr long) = inr (inl (long_stays dks_1 limit text rest (record { at = at; cause = k }) long))
 
 told_at_end : (limit : ℕ) (text : List ℕ) (at : ℕ) (c : StateCause) → c ≢ cause.Memory → IsToldAtEnd limit text at (cause_meant c) → IsCauseOf limit text at (cause_meant c)
 told_at_end limit text at c other = by (cause_meant c) refl
@@ -91,7 +92,7 @@ tail_of : (limit : ℕ) (text piece rest : List ℕ) (used : ℕ) (found : State
 tail_of limit text piece rest used found below whole at is =
     subst (λ c. IsCauseOf limit ((text ++ piece) ++ rest) found.at (cause_meant c)) (sym is) (inr (inr (inr (by (drop used piece) (take-append-drop used piece) (let size = length-drop used piece in omega arith)))))
   where
-    by : (behind : List ℕ) → take used piece ++ behind ≡ piece → 0 < length behind → HasTail limit ((text ++ piece) ++ rest) (record { at = found.at; cause = has_tail })
+    by : (behind : List ℕ) → take used piece ++ behind ≡ piece → 0 < length behind → HasTail dks_1 limit ((text ++ piece) ++ rest) (record { at = found.at; cause = has_tail })
     by [] split some = absurd (let none : 0 < length {A = ℕ} [] = some in omega arith)
     by (next ∷ behind) split some = record {
       state = whole.0;
@@ -161,7 +162,7 @@ fewer_left limit initial now before after piece at some read =
     let has = read at.text at.read in
     let old : length (text_of before.reading) ≡ length at.text = ap length was.text_is in
     let grown : length (text_of after.reading) ≡ length at.text + length piece = ap length has.text_is ∙ length-append at.text piece in
-    let size = length-append (text_before (before_of after.reading)) after.reading.partial.items in
+    let size = length-append (text_before dks_1 (before_of after.reading)) after.reading.partial.items in
     let reached = has.sound.reached_is in
     let within = has.sound.within in
     let same = has.limit_is in
@@ -176,7 +177,7 @@ held_all (Some told) (Some rest) text lost end =
     same ∙ ap (λ r. text ++ r) end ∙ append-nil text
 
 pub state_read : (limit : ℕ) (initial now : Option (List ℕ)) (parser : ParserState) (result : Result State ReadFault) → HasTurned limit initial parser now → IsEnd now
-    → ((text : List ℕ) → HasRead parser limit text → IfOk result (λ state. IsStateText limit text state)) → IfOk result (ReadsState limit initial)
+    → ((text : List ℕ) → HasRead parser limit text → IfOk result (λ state. IsStateText dks_1 limit text state)) → IfOk result (ReadsState limit initial)
 unfolding HasTurned
 state_read limit initial now parser result at end is =
     IfOk-weaker result _ (ReadsState limit initial) (λ state told. record { text = at.text; held = held_all initial now at.text at.lost end; is = told }) (is at.text at.read)

@@ -6,10 +6,10 @@ use Rattle.std.proofs.lemmas.List.{length-map}
 use Rattle.std.proofs.Math.ListN.{get_or-map}
 use Rattle.std.proofs.lemmas.List.Elements.{All-from_recursion, recursion_from_All}
 use Rattle.docker_model.specs.Change.{Key, tiploc_key, association_key, schedule_key, tiploc_body, association_body, schedule_body}
-use Rattle.docker_model.specs.Op.{Op, deleted, put_with, Entry, key_tag}
+use Rattle.docker_model.specs.Op.{Op, deleted, lapsed, put_with, Entry, key_tag}
 use Rattle.docker_model.specs.Stamp.{LedgerItem}
 use Rattle.docker_model.specs.State.{State, IsOpOf, IsGoodEntry, IsValid}
-use Rattle.docker_model.specs.StateText.{mark, item_bytes, key_bytes, stamp_bytes, entry_bytes, state_text}
+use Rattle.docker_model.specs.StateText.{dks_1, mark, item_bytes, key_bytes, stamp_bytes, entry_bytes, state_text}
 use Rattle.docker_bytes.specs.Entries.{entry_head, op_lines, HasFewLines}
 
 pub entry_text : (entry : Key × Entry) → entry_head entry ++ concat (op_lines entry.1.op) ≡ entry_bytes entry
@@ -20,12 +20,14 @@ entry_text entry = by entry.1.op
 
     by : (op : Op) → entry_head (entry.0, record { stamp = entry.1.stamp; op = op }) ++ concat (op_lines op) ≡ entry_bytes (entry.0, record { stamp = entry.1.stamp; op = op })
     by deleted = append-nil (front ++ 0 ∷ [])
+    by lapsed = append-nil (front ++ 2 ∷ [])
     by (put_with (tiploc_body bytes)) = append-nil (front ++ 1 ∷ bytes)
     by (put_with (association_body line)) = append-nil (front ++ 1 ∷ line)
     by (put_with (schedule_body lines)) = append_assoc front (1 ∷ to_be_bytes w32 (length lines)) (concat lines)
 
 few_lines : (key : Key) (op : Op) → IsOpOf key op → length (op_lines op) < 2 ^ 32
 few_lines key deleted is = lit< tt
+few_lines key lapsed is = lit< tt
 few_lines key (put_with (tiploc_body bytes)) is = lit< tt
 few_lines key (put_with (association_body line)) is = lit< tt
 few_lines (schedule_key key) (put_with (schedule_body lines)) is = let few = is.few in omega arith
@@ -46,8 +48,8 @@ at_mapped P m xs i x all below at =
 
 pub state_text_is : {A B : Type 0} (state : State) (item : A → LedgerItem) (row : B → Key × Entry) (items : List A) (rows : List B)
     → map item items ≡ state.ledger → map row rows ≡ state.entries
-    → (((mark ++ to_be_bytes w64 (length items)) ++ flat_map item_bytes (map item items)) ++ to_be_bytes w64 (length rows)) ++ flat_map entry_bytes (map row rows) ≡ state_text state
+    → (((mark dks_1 ++ to_be_bytes w64 (length items)) ++ flat_map item_bytes (map item items)) ++ to_be_bytes w64 (length rows)) ++ flat_map entry_bytes (map row rows) ≡ state_text dks_1 state
 state_text_is state item row items rows ledger entries =
     let first : length items ≡ length state.ledger = sym (length-map items item) ∙ ap length ledger in
     let second : length rows ≡ length state.entries = sym (length-map rows row) ∙ ap length entries in
-    λ i. (((mark ++ to_be_bytes w64 (first i)) ++ flat_map item_bytes (ledger i)) ++ to_be_bytes w64 (second i)) ++ flat_map entry_bytes (entries i)
+    λ i. (((mark dks_1 ++ to_be_bytes w64 (first i)) ++ flat_map item_bytes (ledger i)) ++ to_be_bytes w64 (second i)) ++ flat_map entry_bytes (entries i)

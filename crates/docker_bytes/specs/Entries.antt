@@ -2,7 +2,7 @@
 use Rattle.std.specs.Prelude.{◌≡◌, ℕ, ◌<◌, ◌^◌, List, [], ◌∷◌, ◌++◌, length}
 use Rattle.std.specs.Int.{w32, to_be_bytes}
 use Rattle.docker_model.specs.Change.{Key, Body, tiploc_body, association_body, schedule_body}
-use Rattle.docker_model.specs.Op.{Op, deleted, put_with, Entry, key_tag}
+use Rattle.docker_model.specs.Op.{Op, deleted, lapsed, put_with, Entry, key_tag}
 use Rattle.docker_model.specs.State.{IsGoodKey, IsOpOf}
 use Rattle.docker_model.specs.StateText.{key_bytes, stamp_bytes}
 
@@ -15,6 +15,7 @@ body_head (schedule_body lines) = to_be_bytes w32 (length lines)
 -- an op without its lines
 abbrev pub op_head : Op → List ℕ
 op_head deleted = 0 ∷ []
+op_head lapsed = 2 ∷ []
 op_head (put_with body) = 1 ∷ body_head body
 
 -- an entry without its lines
@@ -29,6 +30,7 @@ lines_in _ = []
 -- the lines of an op
 abbrev pub op_lines : Op → List (List ℕ)
 op_lines deleted = []
+op_lines lapsed = []
 op_lines (put_with body) = lines_in body
 
 -- four bytes can tell the number of its lines

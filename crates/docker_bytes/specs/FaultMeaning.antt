@@ -1,5 +1,6 @@
 -- What causes of the code mean, as the definitions name them.
 use Rattle.std.specs.Prelude.{ℕ, List, Option, Some, None, ⊤}
+use Rattle.docker_model.specs.StateText.{dks_1}
 use Rattle.docker_model.specs.StateFault.{bad_mark, bad_item, bad_order, bad_floor, bad_tag, bad_stamp, bad_body, too_short, has_tail, too_long, Before, IsBadPart}
 use Rattle.docker_model.specs.StateFault as model
 use Rattle.docker_bytes.specs.declared.fault.StateCause.{StateCause}
@@ -22,4 +23,4 @@ cause_meant cause.Memory = None
 -- the part is bad for this cause, or memory was wanting
 abbrev pub IsBadHere : Before → List ℕ → Option model.StateCause → Type 0
 IsBadHere before bytes None = ⊤
-IsBadHere before bytes (Some cause) = IsBadPart before bytes cause
+IsBadHere before bytes (Some cause) = IsBadPart dks_1 before bytes cause

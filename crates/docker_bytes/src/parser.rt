@@ -1,5 +1,6 @@
 //! A parser that is fed the text of a state piece by piece.
 ghost use Rattle.std.specs.Prelude.{◌≡◌, ℕ, ◌+◌, ◌≤◌, List, [], ◌++◌, length, take, IfOk, IfErr, Ok, Err};
+ghost use Rattle.docker_model.specs.StateText.{dks_1};
 ghost use Rattle.docker_model.specs.StateFault.{IsStateText};
 ghost use Rattle.docker_bytes.specs.Reading.{IsFaultTold, IsUnended, IsStep, IsWhole};
 ghost use Rattle.docker_bytes.specs.ParserRead.{HasRead, HasFailed};
@@ -77,7 +78,7 @@ impl StateParser {
 
     /// The state whose text was read. `Short` where the text ends before the state does, at the item that is not whole. After a fault of `feed` it is that fault.
     pub fn finish(self) -> Result<State, StateFault>
-        ensures ok { (limit : ℕ) (text : List ℕ) → HasRead self limit text → IfOk result (λ state. IsStateText limit text state) }
+        ensures ok { (limit : ℕ) (text : List ℕ) → HasRead self limit text → IfOk result (λ state. IsStateText dks_1 limit text state) }
         ensures err { (limit : ℕ) (text : List ℕ) → HasRead self limit text → IfErr result (λ fault. IsUnended limit text fault) }
         ensures again { (fault : _) → HasFailed self fault → result ≡ Err fault }
     {

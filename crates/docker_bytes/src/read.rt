@@ -1,5 +1,6 @@
 //! The state that a source holds.
 ghost use Rattle.std.specs.Prelude.{◌≡◌, ◌≢◌, ℕ, ◌+◌, ◌-◌, ◌^◌, ◌<◌, ◌↔◌, List, ◌++◌, length, IsOk, IfOk, Err};
+ghost use Rattle.docker_model.specs.StateText.{dks_1};
 ghost use Rattle.docker_model.specs.StateFault.{IsStateText};
 ghost use Rattle.docker_bytes.specs.ParserRead.{HasRead};
 ghost use Rattle.docker_bytes.specs.SourceRead.{ReadsState, RefusesState, IsFaultOf};
@@ -74,7 +75,7 @@ fn fed(parser: &mut StateParser, piece: &[u8]) -> Result<(), ReadFault>
 
 /// The state that a parser was fed.
 fn finished(parser: StateParser) -> Result<State, ReadFault>
-    ensures ok { (limit : ℕ) (text : List ℕ) → HasRead parser limit text → IfOk result (λ state. IsStateText limit text state) }
+    ensures ok { (limit : ℕ) (text : List ℕ) → HasRead parser limit text → IfOk result (λ state. IsStateText dks_1 limit text state) }
     ensures state { (limit : ℕ) (text : List ℕ) → HasRead parser limit text → (fault : _) → result ≡ Err (ReadFault.State fault) → IsFaultOf limit text fault }
     ensures source { result ≢ Err ReadFault.Source }
 {

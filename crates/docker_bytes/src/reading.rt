@@ -1,6 +1,7 @@
 //! The reading of a text in pieces, part by part.
 ghost use Rattle.std.specs.Prelude.{◌≡◌, ◌+◌, ◌-◌, ◌<◌, ◌≤◌, ◌↔◌, [], ◌++◌, length, take, IsTrue, IsOk, IfOk, IfErr};
 ghost use Rattle.arrayvec.specs.ArrayVec.{array_vec_len};
+ghost use Rattle.docker_model.specs.StateText.{dks_1};
 ghost use Rattle.docker_model.specs.StateFault.{width, IsStateText};
 ghost use Rattle.docker_bytes.specs.Reading.{before_of, text_of, IsReading, ReadsOn, IsFaultTold, IsUnended, IsStep};
 
@@ -198,7 +199,7 @@ impl Reading {
     /// The state whose text was read, or the fault of a text that ends before the state does.
     pub(crate) fn finish(self) -> Result<State, StateFault>
         requires { IsReading self }
-        ensures ok { IfOk result (λ state. IsStateText self.limit (text_of self) state) }
+        ensures ok { IfOk result (λ state. IsStateText dks_1 self.limit (text_of self) state) }
         ensures err { IfErr result (λ fault. IsUnended self.limit (text_of self) fault) }
     {
         let Reading {

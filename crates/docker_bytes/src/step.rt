@@ -4,7 +4,7 @@ ghost use Rattle.std.specs.Int.{w32, from_be_bytes};
 ghost use Rattle.docker_model.specs.Change.{tiploc_key, association_key, schedule_key};
 ghost use Rattle.docker_model.specs.State as states;
 ghost use Rattle.docker_model.specs.State.{IsOpOf};
-ghost use Rattle.docker_model.specs.StateText.{mark};
+ghost use Rattle.docker_model.specs.StateText.{dks_1, mark};
 ghost use Rattle.docker_model.specs.StateFault.{before_mark, before_item, in_entry, before_tag, before_key, before_stamp, before_op, before_body, before_line, AreGood, IsStampHere, IsLineCount, width, key_width};
 ghost use Rattle.docker_laws.proofs.StateRun.{after_items, after_entries, with_entry};
 ghost use Rattle.cif_file.specs.Meaning.{key_meant};
@@ -31,7 +31,7 @@ const MOST_LINES: u32 = 4_294_967_294;
 
 /// Whether bytes are the mark with which a text begins.
 fn is_mark(bytes: &[u8]) -> bool
-    ensures { IsTrue result ↔ (bytes.now ≡ mark) }
+    ensures { IsTrue result ↔ (bytes.now ≡ mark dks_1) }
 {
     match bytes {
         b"DKS1" => true,
@@ -53,8 +53,9 @@ fn after_mark(bytes: &[u8]) -> Result<Place, StateCause>
 
 /// The place behind the items so far, of so many.
 fn place_in_ledger(count: u64, parts: &Parts) -> Place
-    requires { parts.now.entries ≡ [] }
-    ensures is { (lines : List (List ℕ)) → place_meant result parts.now lines ≡ after_items count parts.now.ledger }
+    requires entries { parts.now.entries ≡ [] }
+    requires horizon { parts.now.horizon ≡ 0 }
+    ensures is { (lines : List (List ℕ)) → place_meant result parts.now lines ≡ after_items 0 count parts.now.ledger }
     ensures fresh { IsFresh result parts.now }
 {
     if parts.ledger().len() as u64 >= count {
@@ -78,11 +79,11 @@ fn place_in_entries(count: u64, parts: &Parts) -> Place
 
 /// Takes a ledger item.
 fn after_item(count: u64, parts: &mut Parts, bytes: &[u8]) -> Result<Place, StateCause>
-    requires good { AreGood (before_item count parts.old.ledger) }
+    requires good { AreGood dks_1 (before_item 0 count parts.old.ledger) }
     requires fresh { parts.old.entries ≡ [] }
     requires wide { length bytes.now ≡ 19 }
-    ensures ok { IfOk result (λ place. (lines : List (List ℕ)) → LeadsTo (before_item count parts.old.ledger) bytes.now place parts.new lines) }
-    ensures err { IfErr result (λ cause. IsBadHere (before_item count parts.old.ledger) bytes.now (cause_meant cause)) }
+    ensures ok { IfOk result (λ place. (lines : List (List ℕ)) → LeadsTo (before_item 0 count parts.old.ledger) bytes.now place parts.new lines) }
+    ensures err { IfErr result (λ cause. IsBadHere (before_item 0 count parts.old.ledger) bytes.now (cause_meant cause)) }
 {
     match judged_item(parts.ledger(), bytes) {
         Ok(item) => match parts.item(item) {
@@ -109,7 +110,7 @@ fn after_tag(count: u64, bytes: &[u8]) -> Result<Place, StateCause>
 
 /// Takes the key of an entry.
 fn after_key(count: u64, tag: Tag, parts: &Parts, bytes: &[u8]) -> Result<Place, StateCause>
-    requires good { AreGood (in_entry count parts.now (before_key (tag_meant tag))) }
+    requires good { AreGood dks_1 (in_entry count parts.now (before_key (tag_meant tag))) }
     requires wide { length bytes.now ≡ key_width (tag_meant tag) }
     ensures ok { IfOk result (λ place. (lines : List (List ℕ)) → LeadsTo (in_entry count parts.now (before_key (tag_meant tag))) bytes.now place parts.now lines) }
     ensures err { IfErr result (λ cause. IsBadHere (in_entry count parts.now (before_key (tag_meant tag))) bytes.now (cause_meant cause)) }
@@ -122,7 +123,7 @@ fn after_key(count: u64, tag: Tag, parts: &Parts, bytes: &[u8]) -> Result<Place,
 
 /// Takes the stamp of an entry.
 fn after_stamp(count: u64, key: Key, parts: &Parts, bytes: &[u8]) -> Result<Place, StateCause>
-    requires good { AreGood (in_entry count parts.now (before_stamp (key_meant key))) }
+    requires good { AreGood dks_1 (in_entry count parts.now (before_stamp (key_meant key))) }
     requires wide { length bytes.now ≡ 15 }
     ensures ok { IfOk result (λ place. (lines : List (List ℕ)) → LeadsTo (in_entry count parts.now (before_stamp (key_meant key))) bytes.now place parts.now lines) }
     ensures err { IfErr result (λ cause. IsBadHere (in_entry count parts.now (before_stamp (key_meant key))) bytes.now (cause_meant cause)) }
@@ -137,6 +138,7 @@ fn after_stamp(count: u64, key: Key, parts: &Parts, bytes: &[u8]) -> Result<Plac
 fn give(count: u64, parts: &mut Parts, key: Key, stamp: Stamp, op: Op) -> Result<Place, StateCause>
     requires here { IsStampHere parts.old (key_meant key) (stamp_meant stamp) }
     requires agrees { IsOpOf (key_meant key) (op_meant op) }
+    requires horizon { parts.old.horizon ≡ 0 }
     ensures ok { IfOk result (λ place. (lines : List (List ℕ)) → place_meant place parts.new lines ≡ after_entries count (with_entry parts.old (key_meant key) (stamp_meant stamp) (op_meant op))) }
     ensures fresh { IfOk result (λ place. IsFresh place parts.new) }
     ensures err { IfErr result (λ cause. cause ≡ StateCause.Memory) }
@@ -155,7 +157,7 @@ fn after_op(
     parts: &mut Parts,
     bytes: &[u8],
 ) -> Result<Place, StateCause>
-    requires good { AreGood (in_entry count parts.old (before_op (key_meant key) (stamp_meant stamp))) }
+    requires good { AreGood dks_1 (in_entry count parts.old (before_op (key_meant key) (stamp_meant stamp))) }
     requires wide { length bytes.now ≡ 1 }
     ensures ok { IfOk result (λ place. (lines : List (List ℕ)) → LeadsTo (in_entry count parts.old (before_op (key_meant key) (stamp_meant stamp))) bytes.now place parts.new lines) }
     ensures err { IfErr result (λ cause. IsBadHere (in_entry count parts.old (before_op (key_meant key) (stamp_meant stamp))) bytes.now (cause_meant cause)) }
@@ -175,7 +177,7 @@ fn after_tiploc_body(
     parts: &mut Parts,
     bytes: &[u8],
 ) -> Result<Place, StateCause>
-    requires good { AreGood (in_entry count parts.old (before_body (tiploc_key code) (stamp_meant stamp))) }
+    requires good { AreGood dks_1 (in_entry count parts.old (before_body (tiploc_key code) (stamp_meant stamp))) }
     requires wide { length bytes.now ≡ 63 }
     ensures ok { IfOk result (λ place. (lines : List (List ℕ)) → LeadsTo (in_entry count parts.old (before_body (tiploc_key code) (stamp_meant stamp))) bytes.now place parts.new lines) }
     ensures err { IfErr result (λ cause. IsBadHere (in_entry count parts.old (before_body (tiploc_key code) (stamp_meant stamp))) bytes.now (cause_meant cause)) }
@@ -194,7 +196,7 @@ fn after_assoc_body(
     parts: &mut Parts,
     bytes: &[u8],
 ) -> Result<Place, StateCause>
-    requires good { AreGood (in_entry count parts.old (before_body (association_key (assoc_meant key)) (stamp_meant stamp))) }
+    requires good { AreGood dks_1 (in_entry count parts.old (before_body (association_key (assoc_meant key)) (stamp_meant stamp))) }
     ensures ok { IfOk result (λ place. (lines : List (List ℕ)) → LeadsTo (in_entry count parts.old (before_body (association_key (assoc_meant key)) (stamp_meant stamp))) bytes.now place parts.new lines) }
     ensures err { IfErr result (λ cause. IsBadHere (in_entry count parts.old (before_body (association_key (assoc_meant key)) (stamp_meant stamp))) bytes.now (cause_meant cause)) }
 {
@@ -257,7 +259,7 @@ fn after_line(
     lines: &mut Gathered,
     bytes: &[u8],
 ) -> Result<Place, StateCause>
-    requires { AreGood (in_entry count parts.old (before_line (schedule_meant schedule.key) (stamp_meant schedule.stamp) schedule.count lines.old)) }
+    requires { AreGood dks_1 (in_entry count parts.old (before_line (schedule_meant schedule.key) (stamp_meant schedule.stamp) schedule.count lines.old)) }
     ensures ok { IfOk result (λ place. LeadsTo (in_entry count parts.old (before_line (schedule_meant schedule.key) (stamp_meant schedule.stamp) schedule.count lines.old)) bytes.now place parts.new lines.new) }
     ensures err { IfErr result (λ cause. IsBadHere (in_entry count parts.old (before_line (schedule_meant schedule.key) (stamp_meant schedule.stamp) schedule.count lines.old)) bytes.now (cause_meant cause)) }
 {

@@ -2,7 +2,7 @@
 use Rattle.std.specs.Prelude.{⊤, All}
 use Rattle.docker_model.specs.Record.{IsRecord}
 use Rattle.docker_model.specs.Change.{Body, tiploc_body, association_body, schedule_body}
-use Rattle.docker_model.specs.Op.{Op, deleted, put_with}
+use Rattle.docker_model.specs.Op.{Op, deleted, lapsed, put_with}
 
 -- the lines of the body are records
 abbrev pub IsOfRecords : Body → Type 0
@@ -13,4 +13,5 @@ IsOfRecords (schedule_body lines) = All IsRecord lines
 -- the body of the op, if it has one, is of records
 abbrev pub HasRecords : Op → Type 0
 HasRecords deleted = ⊤
+HasRecords lapsed = ⊤
 HasRecords (put_with body) = IsOfRecords body

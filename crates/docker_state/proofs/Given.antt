@@ -4,8 +4,9 @@ use Rattle.std.proofs.lemmas.List.{map-append}
 use Rattle.docker_model.specs.Change as model
 use Rattle.docker_model.specs.Op as ops
 use Rattle.docker_model.specs.State.{State, IsValid, IsOpOf}
+use Rattle.docker_laws.proofs.Raised.{none_has_to}
 use Rattle.docker_model.specs.StateFault.{IsStampHere}
-use Rattle.docker_laws.proofs.StateWalk.{one_entry_more}
+use Rattle.docker_laws.proofs.StateGrown.{valid_more}
 use Rattle.cif_file.specs.declared.key.Key.{Key}
 use Rattle.cif_file.specs.Meaning.{key_meant}
 use Rattle.docker_join.specs.declared.entry.Entry.{Entry}
@@ -17,7 +18,7 @@ pub entry_given : (ledger : List LedgerItem) (rows : List (Key × Entry)) (state
     → (key : Key) (entry : Entry) → IsStampHere state (key_meant key) (entry_meant entry).stamp → IsOpOf (key_meant key) (entry_meant entry).op
     → (after : List (Key × Entry)) → after ≡ rows ++ (key, entry) ∷ [] → IsValid (state_meant ledger after)
 entry_given ledger rows state view valid key entry here of after pushed =
-    subst (λ (all : List (model.Key × ops.Entry)). IsValid (record { ledger = map item_meant ledger; entries = all }))
+    subst (λ (all : List (model.Key × ops.Entry)). IsValid (record { horizon = 0; ledger = map item_meant ledger; entries = all }))
     (sym (ap (map row_meant) pushed ∙ map-append row_meant rows ((key, entry) ∷ [])))
-    (one_entry_more (state_meant ledger rows) (key_meant key) (entry_meant entry).stamp (entry_meant entry).op valid
-    (subst (λ (s : State). IsStampHere s (key_meant key) (entry_meant entry).stamp) (sym view) here) of)
+    (valid_more (state_meant ledger rows) (key_meant key) (entry_meant entry).stamp (entry_meant entry).op valid
+    (subst (λ (s : State). IsStampHere s (key_meant key) (entry_meant entry).stamp) (sym view) here) of (none_has_to (entry_meant entry).op))

@@ -10,3 +10,4 @@ pub mod OfFile
 pub mod Given
 pub mod LiveTable
 pub mod OneOfEach
+pub mod Told

@@ -4,7 +4,7 @@ use Rattle.std.specs.Prelude.{◌↔◌}
 use Rattle.std.specs.List.{AllByRecursion}
 use Rattle.std.specs.declared.cmp.Ordering.TheVariants.{Less}
 use Rattle.docker_model.specs.Change.{Key, Body}
-use Rattle.docker_model.specs.Op.{Op, deleted, put_with, Entry, key_cmp, body_of}
+use Rattle.docker_model.specs.Op.{Op, deleted, lapsed, put_with, Entry, key_cmp, body_of}
 use Rattle.docker_model.specs.State.{State, AreAscending, IsValid, live_table}
 use Rattle.docker_laws.proofs.Ascending.{Contains-cons, cons-Contains, cons-Contains-first, nil-Contains}
 use Rattle.docker_laws.proofs.PlainTable.{Found, NotFound, find_in, one_per_key, live_at, live_none}
@@ -36,6 +36,7 @@ from_live (first ∷ entries) key body among = by first.1.op refl (from_live ent
     by : (op : Op) → first.1.op ≡ op → (Contains (live_rows entries) (key, body) → PutThere entries key body)
         → Contains (put_before first.0 op (live_rows entries)) (key, body) → PutThere (first ∷ entries) key body
     by deleted is rest inside = later (rest inside)
+    by lapsed is rest inside = later (rest inside)
     by (put_with other) is rest inside = cases (Contains-cons (first.0, other) (live_rows entries) (key, body) inside)
       where
         cases : SameRow (first.0, other) (key, body) ⊎ Contains (live_rows entries) (key, body) → PutThere (first ∷ entries) key body
@@ -48,6 +49,7 @@ to_live (first ∷ entries) key entry body is among = by (to_live entries key en
   where
     before : (op : Op) → Contains (live_rows entries) (key, body) → Contains (put_before first.0 op (live_rows entries)) (key, body)
     before deleted inside = inside
+    before lapsed inside = inside
     before (put_with other) inside = cons-Contains (first.0, other) (live_rows entries) (key, body) inside
 
     by : (Contains entries (key, entry) → Contains (live_rows entries) (key, body)) → (first ≡ (key, entry)) ⊎ Contains entries (key, entry) → Contains (live_rows (first ∷ entries)) (key, body)
@@ -59,6 +61,7 @@ to_live (first ∷ entries) key entry body is among = by (to_live entries key en
 
 put_of : (op : Op) (body : Body) → body_of op ≡ Some body → op ≡ put_with body
 put_of deleted body is = cc
+put_of lapsed body is = cc
 put_of (put_with other) body is = let same : other ≡ body = cc in ap put_with same
 
 -- the walk has a key with a body exactly where the live table has that body there
@@ -87,6 +90,7 @@ live_above key (first ∷ entries) above = by first.1.op (live_above key entries
     by : (op : Op) → AllByRecursion (λ (row : Key × Body). key_cmp key row.0 ≡ Less) (live_rows entries)
         → AllByRecursion (λ (row : Key × Body). key_cmp key row.0 ≡ Less) (put_before first.0 op (live_rows entries))
     by deleted rest = rest
+    by lapsed rest = rest
     by (put_with body) rest = (above.0, rest)
 
 ascends : (entries : List (Key × Entry)) → AreAscending entries → AreInKeyOrder (live_rows entries)
@@ -95,6 +99,7 @@ ascends (first ∷ entries) up = by first.1.op (ascends entries up.1)
   where
     by : (op : Op) → AreInKeyOrder (live_rows entries) → AreInKeyOrder (put_before first.0 op (live_rows entries))
     by deleted rest = rest
+    by lapsed rest = rest
     by (put_with body) rest = (live_above first.0 entries up.0, rest)
 
 -- the walk goes up by key

@@ -1,5 +1,5 @@
 -- The state of one file, from its ledger item and the greatest of its rows.
-use Rattle.std.proofs.Common.{◌≡◌, ℕ, ◌≤◌, List, [], ◌∷◌, ◌++◌, map, length, refl, ap, sym, ◌∙◌, subst, inl, inr, ◌⊎◌, Contains, All, Bool, true, false, Some, None}
+use Rattle.std.proofs.Common.{◌≡◌, ℕ, ◌≤◌, List, [], ◌∷◌, ◌++◌, map, length, refl, ap, sym, ◌∙◌, subst, inl, inr, ◌⊎◌, Contains, All, Bool, true, false, Some, None, arith}
 use Rattle.std.specs.Prelude.{Option, ◌↔◌, slice_index_or, ◌==◌}
 use Rattle.std.specs.Cmp.{tied_itself}
 use Rattle.std.proofs.lemmas.Bool.Decides.{eqb_tells}
@@ -18,6 +18,7 @@ use Rattle.docker_laws.proofs.Ascending.{Contains-cons, cons-Contains-first, nil
 use Rattle.docker_laws.proofs.Unique.{Contains-map, map-Contains}
 use Rattle.docker_laws.proofs.JoinValid.{all_members}
 use Rattle.docker_laws.proofs.SummaryValid.{file_change, summary_is_valid}
+use Rattle.docker_laws.proofs.Raised.{plain_summary}
 use Rattle.cif_file.specs.declared.key.Key.{Key}
 use Rattle.cif_file.specs.declared.change.Change as change
 use Rattle.cif_file.specs.FileRead.{FileRead, IsOfRecords}
@@ -100,8 +101,9 @@ module _ (file : List (List ℕ)) (ledger : List LedgerItem) (ledger_is : map it
       let found = Contains-map (made_by (file_stamp_of file)) (changes file) (key, entry) (subst (λ (xs : List (model.Key × ops.Entry)). Contains xs (key, entry)) made_is among) in
       record { file = file; kept = kept_one f kept; change = found.0; among = found.1; key_is = (λ i. (found.2 i).0); entry_is = (λ i. (found.2 i).1) }
 
-  summary_under : (f : Option FileStamp) → IsFloor (ledger_item_of file ∷ []) f → IsKept f (file_stamp_of file) → IsSummary (file ∷ []) (state_meant ledger rows)
-  summary_under f is_floor kept = record {
+  summary_under : (f : Option FileStamp) → IsFloor (ledger_item_of file ∷ []) f → IsKept f (file_stamp_of file) → IsSummary (file ∷ []) 0 (state_meant ledger rows)
+  summary_under f is_floor kept = (plain_summary (file ∷ []) (state_meant ledger rows)).0 (record {
+    no_horizon = refl;
     floor = f;
     is_floor = is_floor;
     ledger_ascends = subst (IsStrictlyAscending ledger_item_cmp) (sym ledger_is) (tt, tt);
@@ -121,14 +123,14 @@ module _ (file : List (List ℕ)) (ledger : List LedgerItem) (ledger_is : map it
         greatest = λ other among. best.greatest other (from_made f kept key other among);
       }),
     );
-  }
+  })
 
-  pub file_summary : IsSummary (file ∷ []) (state_meant ledger rows)
+  pub file_summary : IsSummary (file ∷ []) 0 (state_meant ledger rows)
   file_summary = let told = one_floor (ledger_item_of file) in summary_under told.0 told.1 told.2
 
   pub file_valid : IsFile file → length file ≤ 4_294_967_294 → IsValid (state_meant ledger rows)
   file_valid is_file few =
-      summary_is_valid (file ∷ []) (state_meant ledger rows)
+      summary_is_valid (file ∷ []) 0 (state_meant ledger rows) (omega arith)
       (all_members IsFile (file ∷ []) (λ f among. subst IsFile (only file f among) is_file))
       (all_members (λ f. length f ≤ 4_294_967_294) (file ∷ []) (λ f among. subst (λ (x : List (List ℕ)). length x ≤ 4_294_967_294) (only file f among) few))
       file_summary

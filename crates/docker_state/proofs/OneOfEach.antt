@@ -26,14 +26,14 @@ one_item items item other one is state items_are valid before none =
 pub one_entry : (items : List LedgerItem) (item other : LedgerItem) → length items ≡ 1 → item ≡ get_or items 0 other
     → (rows : List (Key × Entry)) (row next : Key × Entry) → length rows ≡ 1 → row ≡ get_or rows 0 next
     → (state : State) → map item_meant items ≡ state.ledger → map row_meant rows ≡ state.entries → IsValid state
-    → (before : List stamps.LedgerItem) → before ≡ [] → (given : State) → given ≡ record { ledger = before ++ item_meant item ∷ []; entries = [] }
+    → (before : List stamps.LedgerItem) → before ≡ [] → (given : State) → given ≡ record { horizon = 0; ledger = before ++ item_meant item ∷ []; entries = [] }
     → IsStampHere given (key_meant row.0) (entry_meant row.1).stamp
 one_entry items item other one is rows row next single is_row state items_are rows_are valid before none given given_is =
     let ledger : state.ledger ≡ item_meant item ∷ [] = sym items_are ∙ ap (map item_meant) (only_element items item other one is) in
     let entries : state.entries ≡ row_meant row ∷ [] = sym rows_are ∙ ap (map row_meant) (only_element rows row next single is_row) in
-    let whole : state ≡ record { ledger = item_meant item ∷ []; entries = row_meant row ∷ [] } = (λ i. record { ledger = ledger i; entries = entries i }) in
-    let here : IsValid (record { ledger = item_meant item ∷ []; entries = row_meant row ∷ [] }) = subst IsValid whole valid in
+    let whole : state ≡ record { horizon = state.horizon; ledger = item_meant item ∷ []; entries = row_meant row ∷ [] } = (λ i. record { horizon = state.horizon; ledger = ledger i; entries = entries i }) in
+    let here : IsValid (record { horizon = state.horizon; ledger = item_meant item ∷ []; entries = row_meant row ∷ [] }) = subst IsValid whole valid in
     let good : IsGoodEntry (item_meant item ∷ []) (row_meant row) = here.entries.0 0 (row_meant row) (omega arith) in
     subst (λ (s : State). IsStampHere s (key_meant row.0) (entry_meant row.1).stamp)
-    (ap (λ (xs : List stamps.LedgerItem). record { ledger = xs ++ item_meant item ∷ []; entries = [] }) (sym none) ∙ sym given_is)
+    (ap (λ (xs : List stamps.LedgerItem). record { horizon = 0; ledger = xs ++ item_meant item ∷ []; entries = [] }) (sym none) ∙ sym given_is)
     ((good.key, λ k d below. absurd (omega arith)), good.stamp)

@@ -1,5 +1,5 @@
 -- The join of two states, from the union of their ledgers and the join of their rows.
-use Rattle.std.proofs.Common.{List, ◌++◌, map, inl, inr, ◌⊎◌, Contains}
+use Rattle.std.proofs.Common.{List, ◌++◌, map, refl, inl, inr, ◌⊎◌, Contains}
 use Rattle.std.specs.Prelude.{Option, ◌↔◌}
 use Rattle.std.specs.Ordering.{on, ord_max}
 use Rattle.std.proofs.lemmas.List.Elements.{All-contains, Contains-append_cases}
@@ -8,9 +8,10 @@ use Rattle.docker_model.specs.Change.{tiploc_key, association_key, schedule_key,
 use Rattle.docker_model.specs.Stamp as stamps
 use Rattle.docker_model.specs.Stamp.{ledger_item_cmp, IsFloor, IsKept}
 use Rattle.docker_model.specs.Op as ops
-use Rattle.docker_model.specs.Op.{key_cmp, entry_cmp, deleted, put_with}
+use Rattle.docker_model.specs.Op.{key_cmp, entry_cmp, deleted, lapsed, put_with}
 use Rattle.docker_model.specs.Order.{IsStrictlyAscending}
 use Rattle.docker_model.specs.State.{IsValid, IsGoodEntry, IsOpOf, IsJoin}
+use Rattle.docker_laws.proofs.Raised.{union_joined, none_to_lapse}
 use Rattle.cif_file.specs.declared.key.Key.{Key}
 use Rattle.docker_join.specs.declared.entry.Entry.{Entry}
 use Rattle.docker_join.specs.Meaning.{entry_meant}
@@ -24,6 +25,7 @@ use Rattle.docker_state.proofs.JoinStates.{joined_greatest, greatest_joined}
 -- an op that agrees with a key is of records
 pub op_records : (key : model.Key) (op : ops.Op) → IsOpOf key op → HasRecords op
 op_records key deleted good = tt
+op_records key lapsed good = tt
 op_records (tiploc_key code) (put_with (tiploc_body bytes)) good = tt
 op_records (tiploc_key code) (put_with (association_body line)) good = absurd good
 op_records (tiploc_key code) (put_with (schedule_body lines)) good = absurd good
@@ -56,7 +58,8 @@ module _ (items others : List LedgerItem) (first second : List (Key × Entry)) (
       → AreAscending rows
       → ((key : model.Key) (entry : ops.Entry) → Contains (map row_meant rows) (key, entry) ↔ (Contains (map row_meant joined) (key, entry) × IsKept floor entry.stamp.file))
       → IsJoin (state_meant items first) (state_meant others second) (state_meant ledger rows)
-  states_joined floor is_floor union ledger in_union up_ledger in_ledger joined rows is up_rows in_rows = record {
+  states_joined floor is_floor union ledger in_union up_ledger in_ledger joined rows is up_rows in_rows = union_joined (state_meant items first) (state_meant others second) (state_meant ledger rows) (record {
+    horizon = refl;
     floor = floor;
     is_floor = is_floor;
     ledger_ascends = up_ledger;
@@ -69,4 +72,4 @@ module _ (items others : List LedgerItem) (first second : List (Key × Entry)) (
       λ among. let told = (in_rows key entry).0 among in (joined_greatest first second joined up_first up_second is key entry told.0, told.1),
       λ told. (in_rows key entry).1 (greatest_joined first second joined up_first up_second is entry_records key entry told.0, told.1),
     );
-  }
+  }) (none_to_lapse (map row_meant rows))

@@ -3,11 +3,12 @@ use Rattle.std.specs.Prelude.{List, [], ◌∷◌}
 use Rattle.docker_model.specs.Change.{Key, Body}
 use Rattle.std.specs.Ordering.{on}
 use Rattle.docker_model.specs.Order.{IsStrictlyAscending}
-use Rattle.docker_model.specs.Op.{Op, deleted, put_with, Entry, key_cmp}
+use Rattle.docker_model.specs.Op.{Op, deleted, lapsed, put_with, Entry, key_cmp}
 
 -- a key with its body where the op is a put, before further ones
 abbrev pub put_before : Key → Op → List (Key × Body) → List (Key × Body)
 put_before key deleted rest = rest
+put_before key lapsed rest = rest
 put_before key (put_with body) rest = (key, body) ∷ rest
 
 -- of entries in key order, the keys that are put, in key order, each with its body

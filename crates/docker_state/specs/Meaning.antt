@@ -25,4 +25,4 @@ row_meant row = (key_meant row.0, entry_meant row.1)
 
 -- the state of a ledger and of rows
 abbrev pub state_meant : List LedgerItem → List (Key × Entry) → states.State
-state_meant ledger rows = record { ledger = map item_meant ledger; entries = map row_meant rows }
+state_meant ledger rows = record { horizon = 0; ledger = map item_meant ledger; entries = map row_meant rows }

@@ -38,7 +38,7 @@ impl Model for Parts {
 impl Parts {
     /// No part yet.
     pub fn new(alloc: Global) -> Parts
-        ensures { result ≡ record { ledger = []; entries = [] } }
+        ensures { result ≡ record { horizon = 0; ledger = []; entries = [] } }
     {
         Parts {
             ledger: Vec::new(alloc),
@@ -50,7 +50,7 @@ impl Parts {
     pub fn item(&mut self, item: LedgerItem) -> Result<(), Memory>
         requires before_entries { self.old.entries ≡ [] }
         requires ledger { IsLedger (self.old.ledger ++ item_meant item ∷ []) }
-        ensures ok { IsOk result → self.new ≡ record { ledger = self.old.ledger ++ item_meant item ∷ []; entries = [] } }
+        ensures ok { IsOk result → self.new ≡ record { horizon = 0; ledger = self.old.ledger ++ item_meant item ∷ []; entries = [] } }
         ensures err { IsErr result → self.new ≡ self.old }
     {
         self.ledger.push(item)?;
@@ -61,7 +61,7 @@ impl Parts {
     pub fn entry(&mut self, key: Key, entry: Entry) -> Result<(), Memory>
         requires here { IsStampHere self.old (key_meant key) (entry_meant entry).stamp }
         requires op { IsOpOf (key_meant key) (entry_meant entry).op }
-        ensures ok { IsOk result → self.new ≡ record { ledger = self.old.ledger; entries = self.old.entries ++ (key_meant key, entry_meant entry) ∷ [] } }
+        ensures ok { IsOk result → self.new ≡ record { horizon = 0; ledger = self.old.ledger; entries = self.old.entries ++ (key_meant key, entry_meant entry) ∷ [] } }
         ensures err { IsErr result → self.new ≡ self.old }
     {
         self.entries.push((key, entry))?;

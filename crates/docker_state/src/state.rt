@@ -1,6 +1,8 @@
 //! The state of files.
-ghost use Rattle.std.specs.Prelude.{◌≡◌, ℕ, List, [], ◌∷◌, ◌++◌, ◌↔◌, map, Contains, IfOk, IfErr};
+ghost use Rattle.std.specs.Prelude.{◌≡◌, ℕ, List, [], ◌∷◌, ◌++◌, ◌↔◌, map, max, Contains, IfOk, IfErr};
 ghost use Rattle.docker_model.specs.Change as model;
+ghost use Rattle.docker_model.specs.StateText.{dks_1};
+ghost use Rattle.docker_model.specs.StateFault.{IsToldState};
 ghost use Rattle.docker_model.specs.State.{entry_at, live_table, IsValid, IsJoin};
 ghost use Rattle.std.specs.Option.{option_copied, option_map};
 ghost use Rattle.cif_file.specs.Meaning.{key_meant};
@@ -56,8 +58,8 @@ impl State {
 
     /// The state of no file.
     pub fn empty(alloc: Global) -> State
-        ensures empty { result ≡ record { ledger = []; entries = [] } }
-        ensures summary { IsSummary [] result }
+        ensures empty { result ≡ record { horizon = 0; ledger = []; entries = [] } }
+        ensures summary { IsSummary [] 0 result }
     {
         State {
             ledger: Vec::new(alloc),
@@ -67,7 +69,7 @@ impl State {
 
     /// The state of the one file. Want of memory, before the file was taken apart, hands it back as it was.
     pub fn of_file(alloc: Global, file: CifFile) -> Result<State, CifFile>
-        ensures ok { (records : List (List ℕ)) → IsOfRecords file records → IfOk result (IsSummary (records ∷ [])) }
+        ensures ok { (records : List (List ℕ)) → IsOfRecords file records → IfOk result (IsSummary (records ∷ []) 0) }
         ensures err { IfErr result (λ back. back ≡ file) }
     {
         let count = file.changes().len();
@@ -99,6 +101,7 @@ impl State {
     pub fn entries(&self) -> &[(Key, Entry)]
         ensures rows { map row_meant result.now ≡ self.now.entries }
         ensures valid { IsValid self.now }
+        ensures told { IsToldState dks_1 self.now }
     {
         self.entries.as_slice()
     }
@@ -115,7 +118,7 @@ impl State {
         ensures rows { result ≡ live_rows self.now.entries }
         ensures table { (key : model.Key) (body : model.Body) → Contains result (key, body) ↔ (live_table self.now key ≡ Some body) }
         ensures ascending { AreInKeyOrder result }
-        ensures plain { (files : List (List (List ℕ))) → IsSummary files self.now → HaveDistinctMoments files → IsPlainTable files (live_table self.now) }
+        ensures plain { (files : List (List (List ℕ))) → IsSummary files 0 self.now → HaveDistinctMoments files → IsPlainTable files (live_table self.now) }
     {
         Live::of(self.entries.as_slice())
     }
@@ -134,7 +137,7 @@ impl State {
 impl Merge for State {
     ghost use Rattle.docker_model.specs.State.{IsValid, IsJoin};
     ghost use Rattle.docker_laws.proofs.JoinValid.{join_is_valid};
-    ghost use Rattle.docker_laws.proofs.Unique.{join_unique, join_commutes};
+    ghost use Rattle.docker_laws.proofs.JoinLaws.{join_unique, join_commutes};
     ghost use Rattle.docker_laws.proofs.JoinLaws.{join_associates, join_idempotent};
 
     ghost is_valid = { IsValid };
@@ -155,8 +158,8 @@ impl Merge for State {
     fn join(self, alloc: Global, other: State) -> Result<State, (State, State)>
         ensures ok { IfOk result (IsJoin self other) }
         ensures err { IfErr result (λ both. (both.0 ≡ self) × (both.1 ≡ other)) }
-        ensures summary { (files others : List (List (List ℕ))) → IsSummary files self → IsSummary others other
-            → IfOk result (IsSummary (files ++ others)) }
+        ensures summary { (files others : List (List (List ℕ))) (g h : ℕ) → IsSummary files g self → IsSummary others h other
+            → IfOk result (IsSummary (files ++ others) (max g h)) }
     {
         let Some(items) = room_for(alloc, self.ledger.len(), other.ledger.len()) else {
             return Err((self, other));

@@ -1,14 +1,18 @@
-use Rattle.std.proofs.Common.{refl, ◌∙◌, arith}
+use Rattle.std.proofs.Common.{◌≡◌, refl, [], ◌∷◌, ◌++◌, ◌∙◌, arith}
+use Rattle.std.proofs.lemmas.Result.{IfErr-weaker}
+use Rattle.docker_model.specs.StateFault.{in_entry, before_line}
 use Rattle.docker_join.specs.Meaning.{stamp_meant}
+use Rattle.docker_bytes.specs.declared.fault.StateCause.TheVariants as cause
+use Rattle.docker_bytes.specs.FaultMeaning.{cause_meant, IsBadHere}
 use Rattle.docker_bytes.specs.Place.{schedule_meant}
-use Rattle.docker_bytes.proofs.Stepping.{both_ok, more_to_come, all_there, whole_schedule}
+use Rattle.docker_bytes.proofs.Stepping.{both_ok, more_to_come, all_there, whole_schedule, need_not_lapse, wanting_here}
 use Rattle.docker_bytes.proofs.step.after_line.Goals as goal
 
 pub returns-then-len-schedule-clause-ok : goal.returns-then-len-schedule-clause-ok
 returns-then-len-schedule-clause-ok c = record {
   is = more_to_come c.args.count c.args.parts.now (schedule_meant c.args.schedule.key) (stamp_meant c.args.schedule.stamp) c.args.schedule.count c.args.lines.now c.args.bytes.now
       c.judged_line.new.lines c.requires.4 (c.in_default.ensures.taken refl) (omega (arith, c.len.ensures, c.if-len-schedule.true));
-  not_bad = λ cause bad. bad.1 (c.in_default.ensures.up_to refl);
+  not_bad = λ cause bad. bad.1 (c.in_default.ensures.up_to refl, need_not_lapse c.args.parts.now (c.args.lines.now ++ c.args.bytes.now ∷ []) c.requires.0);
   fresh = tt;
 }
 
@@ -24,7 +28,12 @@ returns-in-Ok-clause-ok c =
       is = is c.judged_line.new.lines
           ∙ all_there c.args.count c.args.parts.now (schedule_meant c.args.schedule.key) (stamp_meant c.args.schedule.stamp) c.args.schedule.count c.args.lines.now c.args.bytes.now
           c.judged_line.new.lines c.requires.4 (c.in_default.ensures.taken refl) c.in-Ok.body c.in-Ok.ensures (omega (arith, c.len.ensures, c.if-len-schedule.false));
-      not_bad = λ cause bad. bad.1 (c.in_default.ensures.up_to refl);
+      not_bad = λ cause bad. bad.1 (c.in_default.ensures.up_to refl, need_not_lapse c.args.parts.now (c.args.lines.now ++ c.args.bytes.now ∷ []) c.requires.0);
       fresh = fresh;
     })
     c.give.ensures.ok c.give.ensures.fresh
+
+pub returns-in-Ok-clause-err : goal.returns-in-Ok-clause-err
+returns-in-Ok-clause-err c =
+    let before = in_entry c.args.count c.args.parts.now (before_line (schedule_meant c.args.schedule.key) (stamp_meant c.args.schedule.stamp) c.args.schedule.count c.args.lines.now) in
+    IfErr-weaker c.give.result (λ told. told ≡ cause.Memory) (λ told. IsBadHere before c.args.bytes.now (cause_meant told)) (λ told is. wanting_here before c.args.bytes.now told is) c.give.ensures.err

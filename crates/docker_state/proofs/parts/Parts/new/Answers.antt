@@ -1,6 +1,7 @@
-use Rattle.std.proofs.Common.{[]}
-use Rattle.docker_laws.proofs.StateWalk.{no_items, no_entries}
+use Rattle.std.proofs.Common.{[], arith}
+use Rattle.docker_laws.proofs.LedgerGrown.{no_items}
+use Rattle.docker_laws.proofs.StateGrown.{valid_without}
 use Rattle.docker_state.proofs.parts.Parts.new.Goals as goal
 
 pub invariant_of-result : goal.invariant_of-result
-invariant_of-result c = rw (c.new.ensures.items, c.new-2.ensures.items) (no_entries [] no_items)
+invariant_of-result c = rw (c.new.ensures.items, c.new-2.ensures.items) (valid_without 0 [] (omega arith) no_items)

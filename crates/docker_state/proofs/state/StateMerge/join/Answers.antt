@@ -7,7 +7,7 @@ use Rattle.docker_model.specs.Stamp.{IsFloor, IsKept}
 use Rattle.docker_model.specs.Op as ops
 use Rattle.docker_model.specs.State.{State, IsJoin}
 use Rattle.docker_laws.proofs.JoinValid.{join_is_valid}
-use Rattle.docker_laws.proofs.UnionSummary.{join_is_summary}
+use Rattle.docker_laws.proofs.SummaryLaws.{join_is_summary}
 use Rattle.cif_file.specs.declared.key.Key.{Key}
 use Rattle.docker_join.specs.declared.entry.Entry.{Entry}
 use Rattle.docker_join.specs.Meaning.{file_stamp_meant}
@@ -58,5 +58,5 @@ returns-in-Ok-clause-ok c =
     c.kept_rows-rows.ensures.members))))
 
 pub returns-in-Ok-clause-summary : goal.returns-in-Ok-clause-summary
-returns-in-Ok-clause-summary c = λ files others one two.
-    join_is_summary files others c.args.self c.args.other (state_meant c.kept_items-ledger.result.items c.from_rows-entries.result) one two (returns-in-Ok-clause-ok c)
+returns-in-Ok-clause-summary c = λ files others g h one two.
+    join_is_summary files others g h c.args.self c.args.other (state_meant c.kept_items-ledger.result.items c.from_rows-entries.result) one two (returns-in-Ok-clause-ok c)

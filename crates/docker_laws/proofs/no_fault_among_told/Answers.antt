@@ -1,8 +1,0 @@
-use Rattle.docker_laws.proofs.ToldFaults.{fault_so_far_or_passes, passes_no_fault}
-use Rattle.docker_laws.proofs.no_fault_among_told.Goals as goal
-
-pub returns-clause-either : goal.returns-clause-either
-returns-clause-either c = fault_so_far_or_passes
-
-pub returns-clause-none : goal.returns-clause-none
-returns-clause-none c = passes_no_fault
