@@ -23,7 +23,6 @@ use Rattle.docker_laws.proofs.FileCauses.{end_cause, length_cause, is_after_end}
 use Rattle.docker_laws.proofs.ToldLines.{HasNoFeed, told_lines, open_line, line_left, lines_of_told, lines_of_ended, lines_of_open, told_lines_plain, open_line_plain, told_lines_ended, open_line_ended, told_lines_stay, lines_told_grow}
 use Rattle.docker_laws.proofs.ToldFaults.{cause_of_long, cause_of_length, not_80, no_next_place, lines_told_short, length_at_end, fault_at_feed, fault_at_long, fault_at_end, fault_stays, no_fault_told}
 use Rattle.cif_file.specs.declared.fault.FileCause.{FileCause}
-use Rattle.cif_file.specs.declared.fault.FileCause.TheVariants.{Memory}
 use Rattle.cif_file.specs.declared.fault.FileFault.{FileFault}
 use Rattle.cif_file.specs.declared.front.Front.{Front}
 use Rattle.cif_file.specs.declared.records.Records.{Records}
