@@ -14,14 +14,14 @@ use Rattle.std.proofs.lemmas.Bool.{leb-true, leb-false, lt-leb, le-leb, eqb-fals
 use Rattle.docker_model.specs.Record.{IsRecord}
 use Rattle.docker_model.specs.Text.{lines_of}
 use Rattle.docker_model.specs.File.{IsFile, BeginsFile}
-use Rattle.docker_model.specs.FaultSoFar.{IsFaultSoFar}
+use Rattle.docker_model.specs.FaultSoFar.{IsFaultSoFar, lines_told}
 use Rattle.docker_model.specs.FileFault.{IsFileFault, IsUnended, too_many, after_trailer, bad_byte, bad_length, no_end}
 use Rattle.docker_model.specs.FileFault as model
 use Rattle.docker_laws.proofs.RecordTests.{is_record, has_good_fields}
 use Rattle.docker_laws.proofs.FilePlace.{Place, after_end, place_at, next_by_test, next_place, file_iff_place, begins_iff_place}
 use Rattle.docker_laws.proofs.FileCauses.{end_cause, length_cause, is_after_end}
-use Rattle.docker_laws.proofs.ToldLines.{HasNoFeed, told_lines, open_line, line_left, lines_of_told, lines_of_ended, lines_of_open, told_lines_plain, open_line_plain, told_lines_ended, open_line_ended, told_lines_stay}
-use Rattle.docker_laws.proofs.ToldFaults.{cause_of_long, cause_of_length, not_80, no_next_place, fault_at_feed, fault_at_long, fault_at_end, fault_stays, no_fault_told}
+use Rattle.docker_laws.proofs.ToldLines.{HasNoFeed, told_lines, open_line, line_left, lines_of_told, lines_of_ended, lines_of_open, told_lines_plain, open_line_plain, told_lines_ended, open_line_ended, told_lines_stay, lines_told_grow}
+use Rattle.docker_laws.proofs.ToldFaults.{cause_of_long, cause_of_length, not_80, no_next_place, lines_told_short, length_at_end, fault_at_feed, fault_at_long, fault_at_end, fault_stays, no_fault_told}
 use Rattle.cif_file.specs.declared.fault.FileCause.{FileCause}
 use Rattle.cif_file.specs.declared.fault.FileFault.{FileFault}
 use Rattle.cif_file.specs.declared.front.Front.{Front}
@@ -31,7 +31,7 @@ use Rattle.cif_file.specs.Cut.{IsCut}
 use Rattle.cif_file.specs.Meaning.{cause_meant}
 use Rattle.cif_file.specs.FileRead.{FileRead, IsOfRecords}
 use Rattle.cif_file.specs.RecordsRead.{HasRecords, GoesOnWith, IsNoNextTold}
-use Rattle.cif_file.specs.ParserRead.{IsOfFileText, ParserState, HasRead, IsReadingOrFault, HasCounted, IsCauseNext, IsCauseTold, IsFaultNext, IsLongNext, IsReading, IsMemoryTold, IsToldSoFar, IsFaultTold, IsToldOf, IsRefused}
+use Rattle.cif_file.specs.ParserRead.{IsOfFileText, ParserState, HasRead, IsReadingOrFault, HasCounted, IsCauseNext, IsCauseTold, IsFaultNext, IsLongNext, IsReading, IsMemoryTold, IsToldSoFar, IsFaultTold, IsToldOf, IsRefused, HasNotFailed, IsLater, NamesLater, IsLast, NamesLast}
 
 abbrev Lines : Type 0
 Lines = List (List ℕ)
@@ -187,7 +187,7 @@ told_stays limit text more fault told = by (cause_meant fault.cause) told
 
 -- ---- the end
 
-pub counted_open : (records : Records) (limit : ℕ) (text : List ℕ) → 0 < length (open_line text) → HasCounted records limit (told_lines text ++ strip_carriage_return (open_line text) ∷ []) → HasCounted records limit (lines_of text)
+counted_open : (records : Records) (limit : ℕ) (text : List ℕ) → 0 < length (open_line text) → HasCounted records limit (told_lines text ++ strip_carriage_return (open_line text) ∷ []) → HasCounted records limit (lines_of text)
 counted_open records limit text some counted = subst (HasCounted records limit) (sym (lines_of_open text some)) counted
 
 pub counted_ended : (reading : Reading) (limit : ℕ) (text : List ℕ) → IsReading reading limit text → reading.partial.items ≡ [] → HasCounted reading.records limit (lines_of text)
@@ -304,6 +304,13 @@ some_is_open old limit text reading some =
     let not_none = eqb-false (length old.partial.items) 0 (sym some) in
     above 0 (length (open_line text)) (λ none. not_none (omega (arith, size)))
 
+-- the last line, which no line feed ended, was taken
+pub counted_last : (old : Reading) (records : Records) (limit : ℕ) (text raw line : List ℕ) → IsReading old limit text → false ≡ (length old.partial.items == 0) → raw ≡ old.partial.items
+    → line ≡ strip_carriage_return raw → HasCounted records limit (told_lines text ++ line ∷ []) → HasCounted records limit (lines_of text)
+counted_last old records limit text raw line reading some same strip counted =
+    counted_open records limit text (some_is_open old limit text reading some)
+    (subst (λ l. HasCounted records limit (told_lines text ++ l ∷ [])) (strip ∙ ap strip_carriage_return (same ∙ reading.partial_is)) counted)
+
 -- ---- bytes cut at a line feed
 
 -- the first line feed is the first place that passes
@@ -397,3 +404,70 @@ reading_at_none parser limit text at has = subst (IsReadingOrFault parser.readin
 
 pub none_at_reading : (parser : ParserState) (limit : ℕ) (text : List ℕ) → parser.fault ≡ None → IsReading parser.reading limit text → HasRead parser limit text
 none_at_reading parser limit text at is = subst (IsReadingOrFault parser.reading limit text) (sym at) is
+
+-- a parser that told a fault is none that told no fault
+pub had_failed : (parser : ParserState) (fault : FileFault) → parser.fault ≡ Some fault → ¬ HasNotFailed parser
+had_failed parser fault at none = none fault at
+
+-- ---- a fault of a record that wasn't told before
+
+later_than : (reading : Reading) (limit : ℕ) (text : List ℕ) (fault : FileFault) → IsReading reading limit text → fault.number ≡ length (told_lines text) + 1 → lines_told text < fault.number
+later_than reading limit text fault is number = let same = lines_told_short text is.short in omega arith
+
+-- that of a line behind the text
+pub later_next : (reading : Reading) (line : List ℕ) (fault : FileFault) → ((limit : ℕ) (text : List ℕ) → IsReading reading limit text → IsFaultNext limit (told_lines text) line fault) → IsLater reading fault
+later_next reading line fault told = λ limit text is. later_than reading limit text fault is (told limit text is).number
+
+pub later_line : {A : Type 0} (answer : Result A FileFault) (reading : Reading) (line : List ℕ)
+    → ((limit : ℕ) (text : List ℕ) → IsReading reading limit text → IfErr answer (λ fault. IsFaultNext limit (told_lines text) line fault)) → IfErr answer (IsLater reading)
+later_line (Ok value) reading line told = tt
+later_line (Err fault) reading line told = later_next reading line fault told
+
+-- that of a line that is too long
+pub later_long : (reading : Reading) (fault : FileFault) → ((limit : ℕ) (text : List ℕ) → IsReading reading limit text → IsLongNext limit (told_lines text) fault) → IsLater reading fault
+later_long reading fault told = λ limit text is. later_than reading limit text fault is (told limit text is).number
+
+-- that of a record behind the first bytes of a piece
+later_front : (text more : List ℕ) (fault : FileFault) → lines_told (text ++ more) < fault.number → lines_told text < fault.number
+later_front text more fault later = let grown = lines_told_grow text more in omega arith
+
+pub later_piece : (old new : Reading) (front : List ℕ) (fault : FileFault) → ((limit : ℕ) (text : List ℕ) → IsReading old limit text → IsReading new limit (text ++ front)) → IsLater new fault → IsLater old fault
+later_piece old new front fault read later = λ limit text is. later_front text front fault (later limit (text ++ front) (read limit text is))
+
+pub later_piece_err : {A : Type 0} (answer : Result A FileFault) (old new : Reading) (front : List ℕ) → ((limit : ℕ) (text : List ℕ) → IsReading old limit text → IsReading new limit (text ++ front))
+    → IfErr answer (IsLater new) → IfErr answer (IsLater old)
+later_piece_err (Ok value) old new front read told = told
+later_piece_err (Err fault) old new front read told = later_piece old new front fault read told
+
+-- that behind the last record, of a text with no end
+abbrev pub IsNoEnd : List ℕ → FileFault → Type 0
+IsNoEnd text fault = (fault.number ≡ length (lines_of text) + 1) × (cause_meant fault.cause ≡ Some no_end) × (¬ IsFile (lines_of text))
+
+pub later_end : (answer : Result FileRead FileFault) (reading : Reading) → ((limit : ℕ) (text : List ℕ) → IsReading reading limit text → IfErr answer (IsNoEnd text)) → IfErr answer (IsLater reading)
+later_end (Ok file) reading told = tt
+later_end (Err fault) reading told = λ limit text is.
+    let same = lines_told_short text is.short in
+    let size = ap (λ (l : Lines). length l) (lines_of_told text) ∙ length-append (told_lines text) (line_left (open_line text)) in
+    let number = (told limit text is).0 in
+    omega arith
+
+pub last_end : (answer : Result FileRead FileFault) (reading : Reading) → ((limit : ℕ) (text : List ℕ) → IsReading reading limit text → IfErr answer (IsNoEnd text)) → IfErr answer (IsLast reading)
+last_end (Ok file) reading told = tt
+last_end (Err fault) reading told = λ memory limit text is. let bad : ◌≡◌ {A = Option model.FileCause} None (Some no_end) = sym (ap cause_meant memory) ∙ (told limit text is).1 in absurd cc
+
+-- the open line is the last
+pub last_open : (reading : Reading) (line : List ℕ) (fault : FileFault) → false ≡ (length reading.partial.items == 0)
+    → ((limit : ℕ) (text : List ℕ) → IsReading reading limit text → IsFaultNext limit (told_lines text) line fault) → IsLast reading fault
+last_open reading line fault some told = λ _ limit text is. (told limit text is).number ∙ sym (length_at_end text (some_is_open reading limit text is some))
+
+-- a parser that told no fault is one that reads
+pub names_later : (parser : ParserState) (reading : Reading) (fault : FileFault) → parser.fault ≡ None → parser.reading ≡ reading → IsLater reading fault → NamesLater parser fault
+names_later parser reading fault none same told = λ _ limit text has. told limit text (subst (λ r. IsReading r limit text) same (reading_at_none parser limit text none has))
+
+pub names_later_err : {A : Type 0} (answer : Result A FileFault) (parser : ParserState) (reading : Reading) → parser.fault ≡ None → parser.reading ≡ reading → IfErr answer (IsLater reading) → IfErr answer (NamesLater parser)
+names_later_err (Ok value) parser reading none same told = told
+names_later_err (Err fault) parser reading none same told = names_later parser reading fault none same told
+
+pub names_last_err : {A : Type 0} (answer : Result A FileFault) (parser : ParserState) (reading : Reading) → parser.fault ≡ None → parser.reading ≡ reading → IfErr answer (IsLast reading) → IfErr answer (NamesLast parser)
+names_last_err (Ok value) parser reading none same told = told
+names_last_err (Err fault) parser reading none same told = λ _ memory limit text has. told memory limit text (subst (λ r. IsReading r limit text) same (reading_at_none parser limit text none has))

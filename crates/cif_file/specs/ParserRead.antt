@@ -1,7 +1,7 @@
 -- What a parser of files was fed.
 use Rattle.std.specs.Prelude.{◌≡◌, ℕ, ◌+◌, ◌<◌, ◌≤◌, ◌⊎◌, List, length, take, Option, Some, None}
 use Rattle.docker_model.specs.Text.{lines_of}
-use Rattle.docker_model.specs.FaultSoFar.{IsFaultSoFar}
+use Rattle.docker_model.specs.FaultSoFar.{IsFaultSoFar, lines_told}
 use Rattle.docker_model.specs.File.{BeginsFile}
 use Rattle.docker_model.specs.FileFault.{IsFileFault, IsFileText}
 use Rattle.docker_model.specs.FileFault as model
@@ -11,6 +11,7 @@ use Rattle.docker_laws.proofs.FileCauses.{cause_of}
 use Rattle.docker_laws.proofs.ToldLines.{told_lines, open_line}
 use Rattle.docker_laws.proofs.ToldFaults.{cause_of_long}
 use Rattle.cif_file.specs.declared.fault.FileFault.{FileFault}
+use Rattle.cif_file.specs.declared.fault.FileCause.TheVariants.{Memory}
 use Rattle.cif_file.specs.declared.records.Records.{Records}
 use Rattle.cif_file.specs.declared.parser.Reading.{Reading}
 use Rattle.cif_file.specs.Meaning.{cause_meant}
@@ -120,3 +121,23 @@ pub record IsOfFileText (file : FileRead) (limit : ℕ) (text : List ℕ) : Type
 -- the parser told this fault
 abbrev pub HasFailed : ParserState → FileFault → Type 0
 HasFailed parser fault = parser.fault ≡ Some fault
+
+-- the parser told no fault
+abbrev pub HasNotFailed : ParserState → Type 0
+HasNotFailed parser = (fault : FileFault) → ¬ HasFailed parser fault
+
+-- no text that was read tells the record of the fault
+abbrev pub IsLater : Reading → FileFault → Type 0
+IsLater reading fault = (limit : ℕ) (text : List ℕ) → IsReading reading limit text → lines_told text < fault.number
+
+-- the same of a parser that told no fault: the record is none of those that the texts before this call told
+abbrev pub NamesLater : ParserState → FileFault → Type 0
+NamesLater parser fault = HasNotFailed parser → (limit : ℕ) (text : List ℕ) → HasRead parser limit text → lines_told text < fault.number
+
+-- where memory was wanting, it was at the last record of the text that was read
+abbrev pub IsLast : Reading → FileFault → Type 0
+IsLast reading fault = fault.cause ≡ Memory → (limit : ℕ) (text : List ℕ) → IsReading reading limit text → fault.number ≡ length (lines_of text)
+
+-- the same of a parser that told no fault
+abbrev pub NamesLast : ParserState → FileFault → Type 0
+NamesLast parser fault = HasNotFailed parser → fault.cause ≡ Memory → (limit : ℕ) (text : List ℕ) → HasRead parser limit text → fault.number ≡ length (lines_of text)

@@ -3,7 +3,7 @@ ghost use Rattle.std.specs.Prelude.{◌≡◌, ℕ, ◌+◌, ◌≤◌, ◌↔�
 ghost use Rattle.docker_model.specs.FaultSoFar.{IsFaultSoFar};
 ghost use Rattle.docker_model.specs.FileFault as model;
 ghost use Rattle.docker_laws.proofs.ToldLines.{HasNoFeed};
-ghost use Rattle.cif_file.specs.ParserRead.{IsOfFileText, HasRead, HasFailed, IsReading, IsReadingSome, IsFaultTold, IsRefused};
+ghost use Rattle.cif_file.specs.ParserRead.{IsOfFileText, HasRead, HasFailed, HasNotFailed, IsReading, IsReadingSome, IsFaultTold, IsRefused, IsLater, NamesLater, IsLast, NamesLast};
 
 use crate::fault::FileFault;
 use crate::file::CifFile;
@@ -37,6 +37,7 @@ impl Reading {
         requires { HasNoFeed front.now }
         ensures read { (limit : ℕ) (text : List ℕ) → IsReading self.old limit text → IsOk result → IsReading self.new limit (text ++ (front.now ++ 10 ∷ [])) }
         ensures err { (limit : ℕ) (text : List ℕ) → IsReading self.old limit text → IfErr result (λ fault. IsFaultTold limit (text ++ (front.now ++ 10 ∷ [])) fault) }
+        ensures later { IfErr result (IsLater self.old) }
     {
         if self.partial.is_empty() {
             return self.records.take(without_return(front));
@@ -54,6 +55,7 @@ impl Reading {
         requires { HasNoFeed more.now }
         ensures read { (limit : ℕ) (text : List ℕ) → IsReading self.old limit text → IsOk result → IsReading self.new limit (text ++ more.now) }
         ensures err { (limit : ℕ) (text : List ℕ) → IsReading self.old limit text → IfErr result (λ fault. IsFaultTold limit (text ++ more.now) fault) }
+        ensures later { IfErr result (IsLater self.old) }
     {
         if !extend(&mut self.partial, more) {
             return Err(self.records.too_long());
@@ -65,6 +67,7 @@ impl Reading {
     fn read(&mut self, piece: &[u8]) -> Result<(), FileFault>
         ensures read { (limit : ℕ) (text : List ℕ) → IsReading self.old limit text → IsOk result → IsReading self.new limit (text ++ piece.now) }
         ensures err { (limit : ℕ) (text : List ℕ) → IsReading self.old limit text → IfErr result (λ fault. IsFaultTold limit (text ++ piece.now) fault) }
+        ensures later { IfErr result (IsLater self.old) }
     {
         let mut rest = piece;
         while let Some((front, behind)) = split_line(rest) {
@@ -81,6 +84,8 @@ impl Reading {
         requires { IsReadingSome self }
         ensures ok { (limit : ℕ) (text : List ℕ) → IsReading self limit text → IfOk result (λ file. IsOfFileText file limit text) }
         ensures err { (limit : ℕ) (text : List ℕ) → IsReading self limit text → IfErr result (λ fault. IsRefused limit text fault) }
+        ensures later { IfErr result (IsLater self) }
+        ensures last { IfErr result (IsLast self) }
     {
         let Reading {
             mut records,
@@ -129,13 +134,17 @@ impl FileParser {
     }
 
     /// Takes the next bytes of the file. It is refused once they have a record at fault whose line feed or 82nd byte came, and it tells that fault; or where
-    /// memory is wanting, at that record, and then no record up to it is at fault. Each later call answers the same fault.
+    /// memory is wanting, at that record, and then no record up to it is at fault. The record is one that these bytes are the first to tell. Each later call
+    /// answers the same fault and takes nothing.
     pub fn feed(&mut self, piece: &[u8]) -> Result<(), FileFault>
         ensures read { (limit : ℕ) (text : List ℕ) → HasRead self.old limit text → HasRead self.new limit (text ++ piece.now) }
         ensures ok { (limit : ℕ) (text : List ℕ) → HasRead self.old limit text → IsOk result → (fault : model.FileFault) → ¬ IsFaultSoFar limit (text ++ piece.now) fault }
         ensures err { (limit : ℕ) (text : List ℕ) → HasRead self.old limit text → IfErr result (λ fault. IsFaultTold limit (text ++ piece.now) fault) }
+        ensures later { IfErr result (NamesLater self.old) }
+        ensures clean { IsOk result → HasNotFailed self.new }
         ensures failed { IfErr result (λ fault. HasFailed self.new fault) }
         ensures again { (fault : _) → HasFailed self.old fault → result ≡ Err fault }
+        ensures unchanged { (fault : _) → HasFailed self.old fault → self.new ≡ self.old }
     {
         if let Some(fault) = self.fault {
             return Err(fault);
@@ -149,10 +158,12 @@ impl FileParser {
         }
     }
 
-    /// The file that the bytes are, or their fault; or want of memory, at a record up to which none is at fault. After a fault of `feed` it is that fault.
+    /// The file that the bytes are, or their fault; or want of memory, at the last record where none is at fault. After a fault of `feed` it is that fault.
     pub fn finish(self) -> Result<CifFile, FileFault>
         ensures ok { (limit : ℕ) (text : List ℕ) → HasRead self limit text → IfOk result (λ file. IsOfFileText file limit text) }
         ensures err { (limit : ℕ) (text : List ℕ) → HasRead self limit text → IfErr result (λ fault. IsRefused limit text fault) }
+        ensures later { IfErr result (NamesLater self) }
+        ensures last { IfErr result (NamesLast self) }
         ensures again { (fault : _) → HasFailed self fault → result ≡ Err fault }
     {
         match self.fault {

@@ -1,7 +1,7 @@
 -- A fault stays, and else the piece is read.
 use Rattle.std.proofs.Common.{◌++◌, sym, ap, subst, ◌∙◌, refl}
 use Rattle.cif_file.specs.ParserRead.{ParserState, IsReading}
-use Rattle.cif_file.proofs.Parsing.{told_stays, reading_tells_none, read_at_fault, fault_at_read, reading_at_none, none_at_reading}
+use Rattle.cif_file.proofs.Parsing.{told_stays, reading_tells_none, read_at_fault, fault_at_read, reading_at_none, none_at_reading, had_failed, names_later}
 use Rattle.cif_file.proofs.parser.FileParser.feed.Goals as goal
 
 pub returns-in-Some-clause-read : goal.returns-in-Some-clause-read
@@ -54,3 +54,10 @@ invariant_of-self-in-Err c =
       text = fed.text ++ c.args.piece.now;
       read = c.in-Err.ensures.err fed.limit fed.text (reading_at_none (record { reading = c.self.inside.reading; fault = c.self.inside.fault }) fed.limit fed.text c.in_default.is fed.read);
     }
+
+pub returns-in-Some-clause-later : goal.returns-in-Some-clause-later
+returns-in-Some-clause-later c = λ none. absurd (had_failed c.args.self.now c.in-Some.fault (ap (λ (p : ParserState). p.fault) (sym c.self.view_is) ∙ c.in-Some.is) none)
+
+pub returns-in-Err-clause-later : goal.returns-in-Err-clause-later
+returns-in-Err-clause-later c =
+    names_later c.args.self.now c.self.inside.reading c.in-Err.fault (ap (λ (p : ParserState). p.fault) (sym c.self.view_is) ∙ c.in_default.is) (ap (λ (p : ParserState). p.reading) (sym c.self.view_is)) c.in-Err.ensures.later

@@ -2,7 +2,7 @@
 use Rattle.std.proofs.Common.{◌++◌, sym, ap, ◌∙◌}
 use Rattle.std.proofs.lemmas.Bool.{false≢true}
 use Rattle.docker_laws.proofs.ToldLines.{told_lines}
-use Rattle.cif_file.proofs.Parsing.{ended_ok, ended_err, ended_long, ended_many, taken_is, empty_is}
+use Rattle.cif_file.proofs.Parsing.{ended_ok, ended_err, ended_long, ended_many, taken_is, empty_is, later_line, later_long}
 use Rattle.cif_file.proofs.parser.Reading.end_line.Goals as goal
 
 pub returns-then-is_empty-clause-read : goal.returns-then-is_empty-clause-read
@@ -35,3 +35,12 @@ returns-clause-err c = λ limit text reading.
     ended_err c.take-taken.result c.args.self.now limit text c.args.front.now c.without_return-2.result.now reading c.requires
     (taken_is c.args.self.now limit text c.args.front.now c.as_slice.result.now c.without_return-2.result.now reading (c.as_slice.ensures.value ∙ c.extend.ensures.items c.if-not-extend.false) c.without_return-2.ensures.line)
     (c.take-taken.ensures.err limit (told_lines text) reading.counted)
+
+pub returns-then-is_empty-clause-later : goal.returns-then-is_empty-clause-later
+returns-then-is_empty-clause-later c = later_line c.take.result c.args.self.now c.without_return.result.now (λ limit text reading. c.take.ensures.err limit (told_lines text) reading.counted)
+
+pub returns-then-not-extend-clause-later : goal.returns-then-not-extend-clause-later
+returns-then-not-extend-clause-later c = later_long c.args.self.now c.too_long.result (λ limit text reading. c.too_long.ensures limit (told_lines text) reading.counted)
+
+pub returns-clause-later : goal.returns-clause-later
+returns-clause-later c = later_line c.take-taken.result c.args.self.now c.without_return-2.result.now (λ limit text reading. c.take-taken.ensures.err limit (told_lines text) reading.counted)

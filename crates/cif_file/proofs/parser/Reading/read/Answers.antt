@@ -2,7 +2,7 @@
 use Rattle.std.proofs.Common.{◌++◌, refl, sym, subst, append-nil}
 use Rattle.std.specs.Prelude.{IfErr}
 use Rattle.cif_file.specs.ParserRead.{IsReading, IsFaultTold}
-use Rattle.cif_file.proofs.Parsing.{before_rest, cut_first, cut_more, told_of_piece, read_on, whole_read}
+use Rattle.cif_file.proofs.Parsing.{before_rest, cut_first, cut_more, told_of_piece, read_on, whole_read, later_piece, later_piece_err}
 use Rattle.cif_file.proofs.parser.Reading.read.Goals as goal
 
 pub loop-front-init : goal.loop-front-init
@@ -32,3 +32,11 @@ pub returns-clause-err : goal.returns-clause-err
 returns-clause-err c = λ limit text is.
     subst (λ t. IfErr c.keep.result (λ fault. IsFaultTold limit t fault)) (whole_read text c.args.piece.now c.loop-front.rest.now c.loop-front.invariant.whole)
     (c.keep.ensures.err limit (text ++ before_rest c.args.piece.now c.loop-front.rest.now) (c.loop-front.invariant.are limit text is))
+
+pub returns-in-Err-clause-later : goal.returns-in-Err-clause-later
+returns-in-Err-clause-later c =
+    later_piece c.args.self.now c.loop-front.self (before_rest c.args.piece.now c.loop-front.rest.now) c.in-Err.fault c.loop-front.invariant.are c.in-Err.ensures.later
+
+pub returns-clause-later : goal.returns-clause-later
+returns-clause-later c =
+    later_piece_err c.keep.result c.args.self.now c.loop-front.self (before_rest c.args.piece.now c.loop-front.rest.now) c.loop-front.invariant.are c.keep.ensures.later
