@@ -11,5 +11,5 @@ mod telling;
 
 pub use files::Files;
 pub use performing::perform;
-pub use running::run;
+pub use running::{run, run_words};
 pub use telling::tell;

@@ -13,21 +13,26 @@ pub fn run(rt: &HostRuntime) -> ExitCode {
     ExitCode::from(with_words(rt))
 }
 
-/// Does what the program's words ask for, where they can be had.
+/// Runs the program with these words in place of its own.
+pub fn run_words(rt: &HostRuntime, words: &[&str]) -> u8 {
+    perform(
+        rt.alloc(),
+        words,
+        &mut Input::stdin(rt),
+        &mut Input::closed(rt),
+        &mut Output::stdout(rt),
+        &mut Output::stderr(rt),
+    )
+}
+
+/// Does what the program's own words ask for, where they can be had.
 fn with_words(rt: &HostRuntime) -> u8 {
     let words = match words(rt) {
         Ok(words) => words,
         Err(fault) => return told(rt, fault),
     };
     match lent(rt, words.as_slice()) {
-        Ok(words) => perform(
-            rt.alloc(),
-            words.as_slice(),
-            &mut Input::stdin(rt),
-            &mut Input::closed(rt),
-            &mut Output::stdout(rt),
-            &mut Output::stderr(rt),
-        ),
+        Ok(words) => run_words(rt, words.as_slice()),
         Err(_) => told(rt, JobFault::Memory),
     }
 }
