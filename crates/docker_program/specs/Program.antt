@@ -5,8 +5,8 @@ use Rattle.std.specs.Str.{bytes_eq}
 use Rattle.cif_line.specs.Device.{Takes, TakesPart}
 use Rattle.docker_cmd.specs.Words.{Text}
 use Rattle.docker_cmd.specs.Job.{JobView, IsJobOf, NameNoJob}
-use Rattle.docker_cmd.specs.JobLine.{ReadsJob, HasJob, HasNoJob}
-use Rattle.docker_cmd.specs.Prepared.{PreparedView, ReadsFile, ReadsSchedule, IsFileRefused, HoldsOtherFile, GainsOutput, GainsPart}
+use Rattle.docker_cmd.specs.JobLine.{ReadsAtMost, ReadsJob, HasJob, HasNoJob}
+use Rattle.docker_cmd.specs.Prepared.{PreparedView, ReadsFile, ReadsSchedule, IsFileRefused, HoldsOtherFile, ReadsNoFurther, GainsOutput, GainsPart}
 use Rattle.docker_cmd.specs.FaultLine.{fault_line, status_of}
 use Rattle.docker_cmd.specs.declared.fault.Fault.{Fault}
 use Rattle.docker_cmd.specs.declared.fault.Fault.TheVariants.{Job, Office}
@@ -18,15 +18,16 @@ use Rattle.docker_cmd.specs.declared.jobs.Subcommand.TheVariants.{Check, Day}
 abbrev pub Told : Type 0
 Told = Option (List ℕ)
 
--- its words, what standard input holds, and what the file of each name holds
+-- its words, what standard input held and has left, and what the file of each name holds
 pub record Given : Type 0 where
   pub words : List Text
   pub input : Told
+  pub left : Told
   pub files : Text → Told
 
 -- the same, of its parts
-abbrev pub given : List Text → Told → (Text → Told) → Given
-given words input files = record { words = words; input = input; files = files }
+abbrev pub given : List Text → Told → Told → (Text → Told) → Given
+given words input left files = record { words = words; input = input; left = left; files = files }
 
 -- the words name this job; where there are none the first line of standard input does, and the rest of that is left
 abbrev pub AsksFor : List Text → Told → JobView → Told → Type 0
@@ -43,6 +44,11 @@ abbrev pub AskForSome : List Text → Told → Type 0
 AskForSome [] input = HasJob input
 AskForSome (word ∷ words) input = ¬ NameNoJob (word ∷ words)
 
+-- where there are words none of standard input was read; else its first line was, to the 256th byte at most
+abbrev pub AsksAtMost : List Text → Told → Told → Type 0
+AsksAtMost [] input rest = ReadsAtMost 256 input rest
+AsksAtMost (word ∷ words) input rest = rest ≡ input
+
 -- the name of the file that a job of these words reads; the word stdin names standard input
 abbrev pub named_file : List Text → Option Text
 named_file [] = None
@@ -52,12 +58,23 @@ named_file (name ∷ words) = if bytes_eq name (codes "stdin") then None else So
 abbrev pub source_held : List Text → Told → (Text → Told) → Told
 source_held words rest files = option_map_or files (named_file words) rest
 
+-- a job that reads a file leaves standard input as it is, and a job that reads standard input reads it no further than the piece that tells its fault
+abbrev pub LeavesInput : Option Text → Told → Told → Type 0
+LeavesInput (Some name) rest left = left ≡ rest
+LeavesInput None rest left = ReadsNoFurther rest left
+
+-- the same, of a job
+abbrev pub held_for : JobView → Told → (Text → Told) → Told
+held_for job rest files = source_held job.words rest files
+
 -- a job is asked for, and this holds of it and of what its source holds
 pub record IsAsked (given : Given) (Holds : JobView → Told → Type 0) : Type 0 where
   pub job : JobView
   pub rest : Told
   pub asks : AsksFor given.words given.input job rest
-  pub holds : Holds job (source_held job.words rest given.files)
+  pub at_most : AsksAtMost given.words given.input rest
+  pub leaves : LeavesInput (named_file job.words) rest given.left
+  pub holds : Holds job (held_for job rest given.files)
 
 -- what the job reads of its source
 pub record IsPrepared (job : JobView) (held : Told) (prepared : PreparedView) : Type 0 where
@@ -75,9 +92,9 @@ WritesPart old new job held = (prepared : PreparedView) × (IsPrepared job held 
 
 -- what holds where the program ends by this fault before it writes
 abbrev pub IsWhy : Given → Fault → Type 0
-IsWhy given (Job job.Usage) = AskForNone given.words given.input
-IsWhy given (Job job.Memory) = AskForSome given.words given.input
-IsWhy given (Job job.Source) = given.words ≡ []
+IsWhy given (Job job.Usage) = AskForNone given.words given.input × AsksAtMost given.words given.input given.left
+IsWhy given (Job job.Memory) = AskForSome given.words given.input × AsksAtMost given.words given.input given.left
+IsWhy given (Job job.Source) = (given.words ≡ []) × AsksAtMost given.words given.input given.left
 IsWhy given (Office (office.File fault)) = IsAsked given (λ job held. IsFileRefused held fault)
 IsWhy given (Office office.NotYet) = IsAsked given (λ job held. (job.subcommand ≡ Day) × HoldsOtherFile held)
 IsWhy given (Office office.Source) = IsAsked given (λ job held. ⊤)

@@ -22,11 +22,15 @@ fn work<S: Source, F: Files, K: Sink>(
     requires stdin { S.failures stdin.old < 2 ^ 64 - 1 }
     requires file { F.failures file.old < 2 ^ 64 - 1 }
     requires output { K.failures output.old < 2 ^ 64 - 1 }
-    ensures ends { EndsBy (given (texts words.now) (S.left stdin.old) (F.held file.old)) (K.taken output.old) (K.taken output.new) (fault_in result) }
+    ensures ends { EndsBy
+        (given (texts words.now) (S.left stdin.old) (S.left stdin.new) (F.held file.old))
+        (K.taken output.old) (K.taken output.new) (fault_in result) }
     ensures device { (ending_status (fault_in result) ≡ 4)
-        ↔ (S.failures stdin.new + F.failures file.new + K.failures output.new ≡ S.failures stdin.old + F.failures file.old + K.failures output.old + 1) }
+        ↔ (S.failures stdin.new + F.failures file.new + K.failures output.new
+        ≡ S.failures stdin.old + F.failures file.old + K.failures output.old + 1) }
     ensures no_device { ending_status (fault_in result) ≢ 4
-        → S.failures stdin.new + F.failures file.new + K.failures output.new ≡ S.failures stdin.old + F.failures file.old + K.failures output.old }
+        → S.failures stdin.new + F.failures file.new + K.failures output.new
+        ≡ S.failures stdin.old + F.failures file.old + K.failures output.old }
 {
     let job = match asked(alloc, words, stdin) {
         Ok(job) => job,
@@ -56,12 +60,16 @@ pub fn perform<S: Source, F: Files, K: Sink, L: Sink>(
     requires file { F.failures file.old < 2 ^ 64 - 1 }
     requires output { K.failures output.old < 2 ^ 64 - 1 }
     requires faults { L.failures faults.old < 2 ^ 64 - 1 }
-    ensures performs { Performs (given (texts words.now) (S.left stdin.old) (F.held file.old)) result (K.taken output.old) (K.taken output.new)
-        (L.taken faults.old) (L.taken faults.new) (L.failures faults.old) (L.failures faults.new) }
+    ensures performs { Performs
+        (given (texts words.now) (S.left stdin.old) (S.left stdin.new) (F.held file.old)) result
+        (K.taken output.old) (K.taken output.new) (L.taken faults.old) (L.taken faults.new)
+        (L.failures faults.old) (L.failures faults.new) }
     ensures device { (result ≡ 4)
-        ↔ (S.failures stdin.new + F.failures file.new + K.failures output.new ≡ S.failures stdin.old + F.failures file.old + K.failures output.old + 1) }
+        ↔ (S.failures stdin.new + F.failures file.new + K.failures output.new
+        ≡ S.failures stdin.old + F.failures file.old + K.failures output.old + 1) }
     ensures no_device { result ≢ 4
-        → S.failures stdin.new + F.failures file.new + K.failures output.new ≡ S.failures stdin.old + F.failures file.old + K.failures output.old }
+        → S.failures stdin.new + F.failures file.new + K.failures output.new
+        ≡ S.failures stdin.old + F.failures file.old + K.failures output.old }
 {
     match work(alloc, words, stdin, file, output) {
         Ok(()) => 0,

@@ -2,7 +2,7 @@
 ghost use Rattle.std.specs.Prelude.{◌≡◌, ◌≢◌, ◌+◌, ◌-◌, ◌^◌, ◌<◌, ◌↔◌, IfOk, Err, option_map};
 ghost use Rattle.docker_cmd.specs.Prepared.{HoldsOtherFile, IsFileRefused};
 ghost use Rattle.docker_cmd.specs.declared.jobs.Subcommand.TheVariants.{Day as day_subcommand};
-ghost use Rattle.docker_program.specs.Program.{IsPrepared, named_file, source_held};
+ghost use Rattle.docker_program.specs.Program.{IsPrepared, LeavesInput, held_for, named_file};
 
 use crate::files::Files;
 use cif_line::{Bytes, Source};
@@ -35,15 +35,20 @@ pub(crate) fn read<'a, S: Source, F: Files>(
 ) -> Result<Prepared<'a>, OfficeFault>
     requires stdin { S.failures stdin.old < 2 ^ 64 - 1 }
     requires file { F.failures file.old < 2 ^ 64 - 1 }
-    ensures prepared { IfOk result (IsPrepared job.now (source_held job.now.words (S.left stdin.old) (F.held file.old))) }
+    ensures prepared { IfOk result (IsPrepared job.now
+        (held_for job.now (S.left stdin.old) (F.held file.old))) }
+    ensures leaves { LeavesInput (named_file job.now.words)
+        (S.left stdin.old) (S.left stdin.new) }
     ensures refused { (fault : _) → result ≡ Err (OfficeFault.File fault)
-        → IsFileRefused (source_held job.now.words (S.left stdin.old) (F.held file.old)) fault }
-    ensures not_yet { result ≡ Err OfficeFault.NotYet
-        → (job.now.subcommand ≡ day_subcommand) × HoldsOtherFile (source_held job.now.words (S.left stdin.old) (F.held file.old)) }
+        → IsFileRefused (held_for job.now (S.left stdin.old) (F.held file.old)) fault }
+    ensures not_yet { result ≡ Err OfficeFault.NotYet → (job.now.subcommand ≡ day_subcommand)
+        × HoldsOtherFile (held_for job.now (S.left stdin.old) (F.held file.old)) }
     ensures source { (result ≡ Err OfficeFault.Source)
-        ↔ (S.failures stdin.new + F.failures file.new ≡ S.failures stdin.old + F.failures file.old + 1) }
+        ↔ (S.failures stdin.new + F.failures file.new
+        ≡ S.failures stdin.old + F.failures file.old + 1) }
     ensures no_failure { result ≢ Err OfficeFault.Source
-        → S.failures stdin.new + F.failures file.new ≡ S.failures stdin.old + F.failures file.old }
+        → S.failures stdin.new + F.failures file.new
+        ≡ S.failures stdin.old + F.failures file.old }
     ensures sink { result ≢ Err OfficeFault.Sink }
 {
     let mut other = Bytes::new(&[], 1);

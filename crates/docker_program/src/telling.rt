@@ -10,7 +10,8 @@ use docker_cmd::{Fault, fault_text, status};
 pub fn tell<L: Sink>(fault: &Fault, faults: &mut L) -> u8
     requires { L.failures faults.old < 2 ^ 64 - 1 }
     ensures status { result ≡ status_of fault.now }
-    ensures line { Tells (Some fault.now) (L.taken faults.old) (L.taken faults.new) (L.failures faults.old) (L.failures faults.new) }
+    ensures line { Tells (Some fault.now) (L.taken faults.old) (L.taken faults.new)
+        (L.failures faults.old) (L.failures faults.new) }
 {
     let text = fault_text(fault);
     match write_all(faults, text.as_slice()) {
