@@ -1,7 +1,7 @@
 -- Reading a file: what the parser was fed is what the source had.
-use Rattle.std.proofs.Common.{◌≡◌, ℕ, ◌+◌, ◌<◌, ◌≤◌, List, [], ◌++◌, length, Some, None, refl, sym, ◌∙◌, ap, subst, arith, append_assoc, append-nil, length-append, ◌≢◌, Err, Result}
+use Rattle.std.proofs.Common.{◌≡◌, ℕ, ◌+◌, ◌<◌, ◌≤◌, List, [], ◌∷◌, ◌++◌, length, Some, None, refl, sym, ◌∙◌, ap, subst, arith, append_assoc, append-nil, length-append, ◌≢◌, Err, Result}
 use Rattle.std.specs.Prelude.{Option, option_map, ◌↔◌, take, drop}
-use Rattle.std.proofs.lemmas.List.{take-append-le, take-take}
+use Rattle.std.proofs.lemmas.List.{length-take-le, take-append-le, take-take}
 use Rattle.cif_line.specs.Device.{Reads, IsEnd}
 use Rattle.cif_file.specs.FileRead.{FileRead, IsOfRecords}
 use Rattle.cif_file.specs.ParserRead.{ParserState, HasRead, IsOfFileText, IsToldSoFar, IsFaultTold, IsToldOf, IsRefused}
@@ -19,7 +19,7 @@ use Rattle.docker_laws.proofs.ToldBound.{text_without_fault_is_bounded}
 use Rattle.docker_cmd.specs.declared.fault.OfficeFault.{OfficeFault}
 use Rattle.docker_cmd.specs.declared.fault.OfficeFault.TheVariants as office
 use Rattle.docker_cmd.specs.OneSchedule.{IsOneSchedule}
-use Rattle.docker_cmd.specs.Prepared.{Held, ReadsText, ReadsSchedule, IsFaultOf, IsFileRefused, IsPreparedOf, PreparedView, most_records}
+use Rattle.docker_cmd.specs.Prepared.{Held, ReadsText, ReadsSchedule, IsFaultOf, IsFileRefused, IsPreparedOf, PreparedView, ReadsNoFurther, most_at_once, most_records}
 
 -- after so many turns the parser was fed a text, which is what the source lost
 pub record IsAtTurn (initial : Option (List ℕ)) (parser : ParserState) (now : Option (List ℕ)) (turn : ℕ) : Type 0 where
@@ -28,35 +28,69 @@ pub record IsAtTurn (initial : Option (List ℕ)) (parser : ParserState) (now : 
   pub lost : Reads initial text now
   pub grown : turn ≤ length text
   pub within : length text ≤ 352187318189
+  pub sound : (fault : model.FileFault) → ¬ IsFaultSoFar most_records text fault
+
+-- nothing was read
+unread : (left : Option (List ℕ)) → Reads left [] left
+unread None = refl
+unread (Some bytes) = refl
+
+-- a text of no bytes has no fault
+sound_at_start : (fault : model.FileFault) → ¬ IsFaultSoFar most_records [] fault
+sound_at_start fault told = let number = told.is.number in let none : fault.number ≤ 0 = told.told in absurd (omega (arith, number, none))
 
 -- at first
 pub at_start : (left : Option (List ℕ)) (parser : ParserState) → HasRead parser most_records [] → IsAtTurn left parser left 0
-at_start left parser read = record { text = []; read = read; lost = by left; grown = omega arith; within = omega arith }
-  where
-    by : (left : Option (List ℕ)) → Reads left [] left
-    by None = refl
-    by (Some bytes) = refl
+at_start left parser read = record { text = []; read = read; lost = unread left; grown = omega arith; within = omega arith; sound = sound_at_start }
 
 -- a text without a fault so far is no longer than this
 pub bounded : (text : List ℕ) → ((fault : model.FileFault) → ¬ IsFaultSoFar most_records text fault) → length text ≤ 352187318189
 bounded text never = text_without_fault_is_bounded most_records text never
 
 -- what is read behind what was read
-lost_more : (initial now next : Option (List ℕ)) (text piece : List ℕ) → Reads initial text now → Reads now piece next → Reads initial (text ++ piece) next
+pub lost_more : (initial now next : Option (List ℕ)) (text piece : List ℕ) → Reads initial text now → Reads now piece next → Reads initial (text ++ piece) next
 lost_more initial now None text piece first more = first ∙ ap (option_map (λ rest. text ++ rest)) more
 lost_more initial now (Some rest) text piece first more =
     first ∙ ap (option_map (λ r. text ++ r)) more ∙ ap Some (sym (append_assoc text piece rest))
 
 -- a piece more
 pub next_turn : (initial now next : Option (List ℕ)) (before after : ParserState) (turn : ℕ) (piece : List ℕ) → (at : IsAtTurn initial before now turn)
-    → 0 < length piece → Reads now piece next → HasRead after most_records (at.text ++ piece) → length (at.text ++ piece) ≤ 352187318189 → IsAtTurn initial after next (turn + 1)
-next_turn initial now next before after turn piece at some more read within = record {
+    → 0 < length piece → Reads now piece next → HasRead after most_records (at.text ++ piece)
+    → ((fault : model.FileFault) → ¬ IsFaultSoFar most_records (at.text ++ piece) fault) → IsAtTurn initial after next (turn + 1)
+next_turn initial now next before after turn piece at some more read sound = record {
   text = at.text ++ piece;
   read = read;
   lost = lost_more initial now next at.text piece at.lost more;
   grown = (let grown = at.grown in omega (arith, length-append at.text piece));
-  within = within;
+  within = bounded (at.text ++ piece) sound;
+  sound = sound;
 }
+
+-- a source is left where it was, or one piece further
+pub no_further : (initial now next : Option (List ℕ)) (parser : ParserState) (turn : ℕ) (piece : List ℕ) → (at : IsAtTurn initial parser now turn) → Reads now piece next
+    → length piece ≤ most_at_once → ReadsNoFurther initial next
+no_further initial now next parser turn piece at more few =
+    record { before = at.text; piece = piece; sound = at.sound; at_once = few; read = lost_more initial now next at.text piece at.lost more }
+
+-- it was left where it was
+pub not_further : (initial now next : Option (List ℕ)) (parser : ParserState) (turn : ℕ) → IsAtTurn initial parser now turn → next ≡ now → ReadsNoFurther initial next
+not_further initial now next parser turn at same =
+    no_further initial now next parser turn [] at (subst (λ left. Reads now [] left) (sym same) (unread now)) (omega arith)
+
+-- nothing was read of it
+pub nothing_read : (left : Option (List ℕ)) → ReadsNoFurther left left
+nothing_read left = record { before = []; piece = []; sound = sound_at_start; at_once = omega arith; read = unread left }
+
+-- what one read gives is no longer than what it was read into
+pub at_once : (n len : ℕ) (into : List ℕ) → length into ≡ len → len ≡ 65536 → n ≤ length into → length (take n into) ≤ most_at_once
+at_once n len into long room within = let size = length-take-le n into within in omega arith
+
+-- behind the end nothing is left
+pub end_stays : (now next : Option (List ℕ)) (piece : List ℕ) → Reads now piece next → IsEnd now → IsEnd next
+end_stays now None piece more end = tt
+end_stays None (Some rest) piece more end = cc
+end_stays (Some left) (Some rest) [] more end = cc
+end_stays (Some left) (Some rest) (byte ∷ piece) more end = let none : ⊥ = cc in absurd none
 
 -- what was read to the end is what the source held
 pub held_all : (initial now : Option (List ℕ)) (text : List ℕ) → Reads initial text now → IsEnd now → Held initial text

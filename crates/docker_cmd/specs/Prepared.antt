@@ -1,14 +1,16 @@
 -- What a job has read, and what it writes.
-use Rattle.std.specs.Prelude.{◌≡◌, ℕ, List, [], ◌∷◌, length, Option, Some, None, ⊤}
+use Rattle.std.specs.Prelude.{◌≡◌, ℕ, ◌≤◌, List, [], ◌∷◌, ◌++◌, length, Option, Some, None, ⊤}
 use Rattle.docker_model.specs.Change.{changes}
 use Rattle.docker_model.specs.Table.{Table, IsPlainTable}
 use Rattle.docker_model.specs.DockerText.{IsDockerText}
 use Rattle.docker_model.specs.FileFault.{FileCause, IsFileFault, IsFileText}
+use Rattle.docker_model.specs.FileFault as model
+use Rattle.docker_model.specs.FaultSoFar.{IsFaultSoFar}
 use Rattle.cif_file.specs.Meaning.{cause_meant}
 use Rattle.cif_file.specs.FileRead.{FileRead, IsOfRecords}
 use Rattle.cif_file.specs.ParserRead.{IsOfFileText}
 use Rattle.cif_file.specs.declared.fault.FileFault.{FileFault}
-use Rattle.cif_line.specs.Device.{Takes, TakesPart}
+use Rattle.cif_line.specs.Device.{Reads, Takes, TakesPart}
 use Rattle.docker_cmd.specs.CheckLine.{check_line}
 use Rattle.docker_cmd.specs.Job.{JobView}
 use Rattle.docker_cmd.specs.OneSchedule.{IsOneSchedule, IsOneScheduleText}
@@ -19,6 +21,18 @@ use Rattle.docker_cmd.specs.declared.preparing.Content.TheVariants.{File, Schedu
 -- the most records that a file may have
 abbrev pub most_records : ℕ
 most_records = 4294967294
+
+-- the most bytes that are read at once
+abbrev pub most_at_once : ℕ
+most_at_once = 65536
+
+-- what was read has no record at fault so far before its last piece, which was read at once
+pub record ReadsNoFurther (old new : Option (List ℕ)) : Type 0 where
+  pub before : List ℕ
+  pub piece : List ℕ
+  pub sound : (fault : model.FileFault) → ¬ IsFaultSoFar most_records before fault
+  pub at_once : length piece ≤ most_at_once
+  pub read : Reads old (before ++ piece) new
 
 -- what a job has read: a file, or the records of a schedule, which are its basic schedule, its origin and its terminus
 pub data ReadView : Type 0 where

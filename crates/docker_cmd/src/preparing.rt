@@ -1,6 +1,7 @@
 //! What a job reads.
-ghost use Rattle.std.specs.Prelude.{◌≡◌, ◌≢◌, ◌+◌, ◌-◌, ◌^◌, ◌<◌, ◌↔◌, IfOk, Err};
-ghost use Rattle.docker_cmd.specs.Prepared.{HoldsOtherFile, IsFileRefused, ReadsFile, ReadsSchedule, content_meant};
+ghost use Rattle.std.specs.Prelude.{◌≡◌, ◌≢◌, ◌+◌, ◌-◌, ◌^◌, ◌<◌, ◌↔◌, IfOk, IsOk, Err};
+ghost use Rattle.docker_cmd.specs.Prepared.{HoldsOtherFile, IsFileRefused, ReadsFile, ReadsNoFurther, ReadsSchedule, content_meant};
+ghost use Rattle.cif_line.specs.Device.{IsEnd};
 ghost use Rattle.docker_cmd.specs.declared.jobs.Subcommand.TheVariants.{Check as check_subcommand, Day as day_subcommand};
 
 use crate::fault::OfficeFault;
@@ -60,8 +61,8 @@ impl<'a> Prepared<'a> {
     }
 }
 
-/// Reads what the job reads: `check` and `day` read the file that their first word names, from the first source to its end or its first fault. `day`
-/// is refused as not yet where the file is of another shape than that of one permanent schedule with two stops. No job reads a second source yet.
+/// Reads what the job reads: `check` and `day` read the file that their first word names, from the first source to its end, or to the piece of at most
+/// 65,536 bytes that tells its first fault and not a byte behind that piece. `day` is refused as not yet where the file is of another shape than that of one permanent schedule with two stops. No job reads a second source yet.
 pub fn prepare<'a, S: Source, T: Source>(
     alloc: Global,
     job: &'a Job,
@@ -74,6 +75,8 @@ pub fn prepare<'a, S: Source, T: Source>(
     ensures day { (job.now.subcommand ≡ day_subcommand) → IfOk result (ReadsSchedule (S.left first.old)) }
     ensures file { (fault : _) → result ≡ Err (OfficeFault.File fault) → IsFileRefused (S.left first.old) fault }
     ensures not_yet { result ≡ Err OfficeFault.NotYet → (job.now.subcommand ≡ day_subcommand) × HoldsOtherFile (S.left first.old) }
+    ensures end { IsOk result → IsEnd (S.left first.new) }
+    ensures no_further { ReadsNoFurther (S.left first.old) (S.left first.new) }
     ensures source { (result ≡ Err OfficeFault.Source) ↔ (S.failures first.new ≡ S.failures first.old + 1) }
     ensures no_failure { result ≢ Err OfficeFault.Source → S.failures first.new ≡ S.failures first.old }
     ensures sink { result ≢ Err OfficeFault.Sink }

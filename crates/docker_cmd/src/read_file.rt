@@ -1,7 +1,8 @@
 //! The file that a source holds.
-ghost use Rattle.std.specs.Prelude.{◌≡◌, ◌≢◌, ℕ, ◌+◌, ◌-◌, ◌^◌, ◌<◌, ◌↔◌, List, IfOk, Err};
+ghost use Rattle.std.specs.Prelude.{◌≡◌, ◌≢◌, ℕ, ◌+◌, ◌-◌, ◌^◌, ◌<◌, ◌↔◌, List, IfOk, IsOk, Err};
 ghost use Rattle.cif_file.specs.ParserRead.{IsOfFileText, HasRead};
-ghost use Rattle.docker_cmd.specs.Prepared.{IsFaultOf, IsFileRefused, ReadsText, most_records};
+ghost use Rattle.docker_cmd.specs.Prepared.{IsFaultOf, IsFileRefused, ReadsNoFurther, ReadsText, most_records};
+ghost use Rattle.cif_line.specs.Device.{IsEnd};
 
 use crate::fault::OfficeFault;
 use cif_file::{CifFile, FileCause, FileFault, FileParser};
@@ -17,11 +18,13 @@ const PIECE: usize = 65_536;
 /// The most bytes that a text without a fault has, of so many records: 82 for each of them, and 81 behind them.
 const MOST_BYTES: usize = 352_187_318_189;
 
-/// Reads a file to the end of its source, or to the first fault.
+/// Reads a file to the end of its source, or to the piece that tells the first fault, and no further.
 pub(crate) fn read_file<S: Source>(alloc: Global, source: &mut S) -> Result<CifFile, OfficeFault>
     requires { S.failures source.old < 2 ^ 64 - 1 }
     ensures ok { IfOk result (ReadsText (S.left source.old)) }
     ensures file { (fault : _) → result ≡ Err (OfficeFault.File fault) → IsFileRefused (S.left source.old) fault }
+    ensures end { IsOk result → IsEnd (S.left source.new) }
+    ensures no_further { ReadsNoFurther (S.left source.old) (S.left source.new) }
     ensures source { (result ≡ Err OfficeFault.Source) ↔ (S.failures source.new ≡ S.failures source.old + 1) }
     ensures no_failure { result ≢ Err OfficeFault.Source → S.failures source.new ≡ S.failures source.old }
     ensures sink { result ≢ Err OfficeFault.Sink }

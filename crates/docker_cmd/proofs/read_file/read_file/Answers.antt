@@ -4,8 +4,10 @@ use Rattle.std.proofs.lemmas.List.{length-take-le}
 use Rattle.std.proofs.lemmas.Result.{IfOk-weaker}
 use Rattle.cif_file.specs.ParserRead.{HasRead, IsFaultTold}
 use Rattle.cif_line.specs.Device.{IsEnd}
+use Rattle.docker_model.specs.FaultSoFar.{IsFaultSoFar}
+use Rattle.docker_model.specs.FileFault.{FileFault}
 use Rattle.docker_cmd.specs.Prepared.{most_records}
-use Rattle.docker_cmd.proofs.Reading.{at_start, next_turn, file_read, refused_at_end, refused_before, same_front, bounded, told_apart, told_apart_from_source}
+use Rattle.docker_cmd.proofs.Reading.{at_start, next_turn, file_read, refused_at_end, refused_before, same_front, at_once, end_stays, no_further, not_further, nothing_read, told_apart, told_apart_from_source}
 use Rattle.docker_cmd.proofs.read_file.read_file.Goals as goal
 
 pub loop-init : goal.loop-init
@@ -58,13 +60,39 @@ loop-preserved g c =
     same_front c.in-Ok-read.n c.loop.piece.len c.deref.result.now c.read.new.into c.loop.piece.items c.deref.ensures.value long c.in-Ok-read.ensures.within in
     let size : length (take c.in-Ok-read.n c.read.new.into) ≡ c.in-Ok-read.n = length-take-le c.in-Ok-read.n c.read.new.into c.in-Ok-read.ensures.within in
     let some : 0 < length (take c.in-Ok-read.n c.read.new.into) = omega (arith, size, c.if-n-eq0.false) in
-    let within : length (at.text ++ take c.in-Ok-read.n c.read.new.into) ≤ 352187318189 =
-    subst (λ piece. length (at.text ++ piece) ≤ 352187318189) same
-    (bounded (at.text ++ take c.in-Ok-read.n c.deref.result.now) (c.feed.ensures.ok most_records at.text at.read (ap is_ok c.in_default-feed.is))) in
+    let sound : (fault : FileFault) → ¬ IsFaultSoFar most_records (at.text ++ take c.in-Ok-read.n c.read.new.into) fault =
+    subst (λ piece. (fault : FileFault) → ¬ IsFaultSoFar most_records (at.text ++ piece) fault) same
+    (c.feed.ensures.ok most_records at.text at.read (ap is_ok c.in_default-feed.is)) in
     record {
       turn = next_turn (g.S.Source.left c.args.source.now) (g.S.Source.left c.loop.source) (g.S.Source.left c.read.new.self) c.loop.parser c.feed.new.self c.loop.counter
           (take c.in-Ok-read.n c.read.new.into) at some c.in-Ok-read.ensures.moved
-          (subst (λ piece. HasRead c.feed.new.self most_records (at.text ++ piece)) same (c.feed.ensures.read most_records at.text at.read)) within;
+          (subst (λ piece. HasRead c.feed.new.self most_records (at.text ++ piece)) same (c.feed.ensures.read most_records at.text at.read)) sound;
       no_failure = c.in-Ok-read.ensures.no_failure ∙ c.loop.invariant.no_failure;
       room = c.loop.invariant.room;
     }
+
+pub returns-in_default-clause-no_further : goal.returns-in_default-clause-no_further
+returns-in_default-clause-no_further g c = nothing_read (g.S.Source.left c.args.source.now)
+
+pub returns-in_default-read-clause-no_further : goal.returns-in_default-read-clause-no_further
+returns-in_default-read-clause-no_further g c =
+    not_further (g.S.Source.left c.args.source.now) (g.S.Source.left c.loop.source) (g.S.Source.left c.read.new.self) c.loop.parser c.loop.counter c.loop.invariant.turn
+    c.in_default-read.ensures.unmoved
+
+pub returns-then-n-eq0-clause-end : goal.returns-then-n-eq0-clause-end
+returns-then-n-eq0-clause-end g c = λ ok.
+    let room : 0 < length c.read.new.into = omega (arith, c.loop.invariant.room, c.as_mut_slice.ensures.len, c.read.auto.into) in
+    let end : IsEnd (g.S.Source.left c.loop.source) = c.in-Ok-read.ensures.end c.if-n-eq0.true room in
+    end_stays (g.S.Source.left c.loop.source) (g.S.Source.left c.read.new.self) (take c.in-Ok-read.n c.read.new.into) c.in-Ok-read.ensures.moved end
+
+pub returns-then-n-eq0-clause-no_further : goal.returns-then-n-eq0-clause-no_further
+returns-then-n-eq0-clause-no_further g c =
+    no_further (g.S.Source.left c.args.source.now) (g.S.Source.left c.loop.source) (g.S.Source.left c.read.new.self) c.loop.parser c.loop.counter
+    (take c.in-Ok-read.n c.read.new.into) c.loop.invariant.turn c.in-Ok-read.ensures.moved
+    (at_once c.in-Ok-read.n c.loop.piece.len c.read.new.into (c.read.auto.into ∙ c.as_mut_slice.ensures.len) c.loop.invariant.room c.in-Ok-read.ensures.within)
+
+pub returns-in-Err-clause-no_further : goal.returns-in-Err-clause-no_further
+returns-in-Err-clause-no_further g c =
+    no_further (g.S.Source.left c.args.source.now) (g.S.Source.left c.loop.source) (g.S.Source.left c.read.new.self) c.loop.parser c.loop.counter
+    (take c.in-Ok-read.n c.read.new.into) c.loop.invariant.turn c.in-Ok-read.ensures.moved
+    (at_once c.in-Ok-read.n c.loop.piece.len c.read.new.into (c.read.auto.into ∙ c.as_mut_slice.ensures.len) c.loop.invariant.room c.in-Ok-read.ensures.within)

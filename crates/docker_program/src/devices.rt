@@ -1,0 +1,150 @@
+//! The real devices: standard input, a file that is opened, standard output and standard error. They can't tell their bytes.
+ghost use Rattle.std.specs.Prelude.{◌≡◌, ◌<◌, ◌^◌, ◌-◌, None};
+
+use crate::files::Files;
+use cif_line::{Failed, Sink, Source};
+use std::fs::File;
+use std::io::{Read, Stderr, Stdin, Stdout, Write};
+
+/// Standard input, or a file.
+#[derive(Drop)]
+enum From {
+    Stdin(Stdin),
+    File(File),
+    /// A file that isn't opened yet.
+    Closed,
+}
+
+/// A source of real bytes.
+#[derive(Drop)]
+pub(crate) struct Input {
+    rt: HostRuntime,
+    from: From,
+    pub(crate) failures: u64,
+}
+
+impl Input {
+    /// Standard input.
+    pub(crate) fn stdin(rt: &HostRuntime) -> Input
+        ensures { result.failures ≡ 0 }
+    {
+        Input {
+            rt: *rt,
+            from: From::Stdin(rt.stdin()),
+            failures: 0,
+        }
+    }
+
+    /// No file yet.
+    pub(crate) fn closed(rt: &HostRuntime) -> Input
+        ensures { result.failures ≡ 0 }
+    {
+        Input {
+            rt: *rt,
+            from: From::Closed,
+            failures: 0,
+        }
+    }
+}
+
+impl Source for Input {
+    ghost left = { λ _. None };
+
+    ghost failures = { λ input. input.failures };
+
+    fn read(&mut self, into: &mut [u8]) -> Result<usize, Failed> {
+        let read = match &mut self.from {
+            From::Stdin(stdin) => stdin.read(into).ok(),
+            From::File(file) => file.read(into).ok(),
+            From::Closed => None,
+        };
+        match read {
+            Some(n) => Ok(n),
+            None => {
+                self.failures += 1;
+                Err(Failed)
+            }
+        }
+    }
+
+    fn failures(&self) -> u64 {
+        self.failures
+    }
+}
+
+impl Files for Input {
+    ghost held = { λ _ _. None };
+
+    fn open(&mut self, name: &str) -> Result<(), Failed> {
+        match File::open(&self.rt, name) {
+            Ok(file) => {
+                self.from = From::File(file);
+                Ok(())
+            }
+            Err(_) => {
+                self.failures += 1;
+                Err(Failed)
+            }
+        }
+    }
+}
+
+/// Standard output or standard error.
+#[derive(Drop)]
+enum To {
+    Stdout(Stdout),
+    Stderr(Stderr),
+}
+
+/// A sink of real bytes. It isn't buffered: what it takes is written.
+#[derive(Drop)]
+pub(crate) struct Output {
+    to: To,
+    pub(crate) failures: u64,
+}
+
+impl Output {
+    /// Standard output.
+    pub(crate) fn stdout(rt: &HostRuntime) -> Output
+        ensures { result.failures ≡ 0 }
+    {
+        Output {
+            to: To::Stdout(rt.stdout()),
+            failures: 0,
+        }
+    }
+
+    /// Standard error.
+    pub(crate) fn stderr(rt: &HostRuntime) -> Output
+        ensures { result.failures ≡ 0 }
+    {
+        Output {
+            to: To::Stderr(rt.stderr()),
+            failures: 0,
+        }
+    }
+}
+
+impl Sink for Output {
+    ghost taken = { λ _. None };
+
+    ghost failures = { λ output. output.failures };
+
+    fn write(&mut self, piece: &[u8]) -> Result<usize, Failed> {
+        let written = match &mut self.to {
+            To::Stdout(stdout) => stdout.write(piece),
+            To::Stderr(stderr) => stderr.write(piece),
+        };
+        match written {
+            Ok(n) if n > 0 || piece.is_empty() => Ok(n),
+            _ => {
+                self.failures += 1;
+                Err(Failed)
+            }
+        }
+    }
+
+    fn failures(&self) -> u64 {
+        self.failures
+    }
+}
