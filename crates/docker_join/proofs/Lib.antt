@@ -1,2 +1,4 @@
 pub mod Merged
 pub mod Lookup
+pub mod Along
+pub mod LapsedRows

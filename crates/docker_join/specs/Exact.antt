@@ -73,8 +73,13 @@ exact_body a b good_a good_b tied =
 -- ops of records that tie are equal
 exact_op : (a b : Op) → HasRecords (op_meant a) → HasRecords (op_meant b) → op_cmp (op_meant a) (op_meant b) ≡ Equal → a ≡ b
 exact_op op.Deleted op.Deleted good_a good_b tied = refl
+exact_op op.Deleted op.Lapsed good_a good_b tied = cc
 exact_op op.Deleted (op.Put b) good_a good_b tied = cc
+exact_op op.Lapsed op.Deleted good_a good_b tied = cc
+exact_op op.Lapsed op.Lapsed good_a good_b tied = refl
+exact_op op.Lapsed (op.Put b) good_a good_b tied = cc
 exact_op (op.Put a) op.Deleted good_a good_b tied = cc
+exact_op (op.Put a) op.Lapsed good_a good_b tied = cc
 exact_op (op.Put a) (op.Put b) good_a good_b tied = ap op.Put (exact_body a b good_a good_b tied)
 
 -- entries of records that tie are equal

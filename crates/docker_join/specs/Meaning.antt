@@ -1,8 +1,10 @@
 -- What stamps, ops and entries of the code mean, as the definitions name them.
+use Rattle.docker_model.specs.Change as changes
 use Rattle.docker_model.specs.Stamp as model
 use Rattle.docker_model.specs.Op as ops
-use Rattle.docker_model.specs.Op.{deleted, put_with}
-use Rattle.cif_file.specs.Meaning.{body_meant}
+use Rattle.docker_model.specs.Op.{deleted, lapsed, put_with}
+use Rattle.cif_file.specs.Meaning.{body_meant, key_meant}
+use Rattle.cif_file.specs.declared.key.Key.{Key}
 use Rattle.docker_join.specs.declared.stamp.FileStamp.{FileStamp}
 use Rattle.docker_join.specs.declared.stamp.Stamp.{Stamp}
 use Rattle.docker_join.specs.declared.entry.Op.{Op}
@@ -23,8 +25,13 @@ stamp_meant stamp = record { file = file_stamp_meant stamp.file; number = stamp.
 -- an op
 abbrev pub op_meant : Op → ops.Op
 op_meant op.Deleted = deleted
+op_meant op.Lapsed = lapsed
 op_meant (op.Put body) = put_with (body_meant body)
 
 -- an entry
 abbrev pub entry_meant : Entry → ops.Entry
 entry_meant entry = record { stamp = stamp_meant entry.stamp; op = op_meant entry.op }
+
+-- a key with its entry
+abbrev pub row_meant : Key × Entry → changes.Key × ops.Entry
+row_meant row = (key_meant row.0, entry_meant row.1)

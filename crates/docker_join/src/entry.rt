@@ -1,9 +1,10 @@
 //! What is known of a key, and since when.
-ghost use Rattle.std.specs.Prelude.{IfOk, IsOk};
+ghost use Rattle.std.specs.Prelude.{◌≡◌, IfOk, IsOk, if◌then◌else◌};
 ghost use Rattle.std.specs.Ordering.{on, as_partial_cmp, eq_by_cmp, ord_max};
 ghost use Rattle.std.specs.Cmp.{partial_equiv_from_equiv, on_equiv, on_total, eq_by_cmp_equiv, partial_order_from_total};
 ghost use Rattle.std.proofs.Common.{refl};
-ghost use Rattle.docker_model.specs.Op.{op_cmp, entry_cmp};
+ghost use Rattle.docker_model.specs.Op.{lapsed, op_cmp, entry_cmp};
+ghost use Rattle.docker_model.specs.Lapse.{lapse, lapse_entry};
 ghost use Rattle.docker_laws.proofs.Orders.{op_total, entry_total};
 ghost use Rattle.docker_join.specs.Meaning.{op_meant, entry_meant};
 ghost use Rattle.docker_join.specs.Greater.{IsGreater};
@@ -11,19 +12,46 @@ ghost use Rattle.docker_join.specs.GreaterLaws.{greater_closed, greater_one, gre
 ghost use Rattle.docker_join.specs.Records.{HasRecords};
 ghost use Rattle.docker_join.specs.Exact.{exact_entry};
 
+use crate::end::end_number;
 use crate::merge::{Merge, Pick};
 use crate::stamp::Stamp;
 use cif_file::Body;
 use std::alloc::Global;
 use std::cmp::Ordering;
 
-/// What is known of a key. A deletion is below each put; of two puts the order is that of their bodies.
+/// What is known of a key. A deletion is below what has lapsed, and that below each put; of two puts the order is that of their bodies.
 #[derive(Debug, Drop)]
 pub enum Op {
     /// The key is deleted.
     Deleted,
+    /// The key was put with a body that ended before a horizon, and which is no longer known.
+    Lapsed,
     /// The key is there with this body.
     Put(Body),
+}
+
+impl Op {
+    /// The op under a horizon, a day number: a put whose end number is below it has lapsed, and its body goes. Nothing else changes: a deletion, what has lapsed, a TIPLOC and what has no end stay under each.
+    pub fn lapse(self, horizon: u16) -> Op
+        ensures { op_meant result ≡ lapse horizon (op_meant self) }
+    {
+        if self.ends_before(horizon) {
+            Op::Lapsed
+        } else {
+            self
+        }
+    }
+
+    /// Whether it is a put whose end number is below a horizon.
+    fn ends_before(&self, horizon: u16) -> bool
+        ensures { lapse horizon (op_meant self.now) ≡ (if result then lapsed else op_meant self.now) }
+    {
+        match self {
+            Op::Deleted => false,
+            Op::Lapsed => false,
+            Op::Put(body) => end_number(body) < horizon,
+        }
+    }
 }
 
 impl PartialEq for Op {
@@ -62,8 +90,13 @@ impl Ord for Op {
     fn cmp(&self, other: &Op) -> Ordering {
         match (self, other) {
             (Op::Deleted, Op::Deleted) => Ordering::Equal,
+            (Op::Deleted, Op::Lapsed) => Ordering::Less,
             (Op::Deleted, Op::Put(_)) => Ordering::Less,
+            (Op::Lapsed, Op::Deleted) => Ordering::Greater,
+            (Op::Lapsed, Op::Lapsed) => Ordering::Equal,
+            (Op::Lapsed, Op::Put(_)) => Ordering::Less,
             (Op::Put(_), Op::Deleted) => Ordering::Greater,
+            (Op::Put(_), Op::Lapsed) => Ordering::Greater,
             (Op::Put(a), Op::Put(b)) => a.cmp(b),
         }
     }
@@ -76,6 +109,17 @@ pub struct Entry {
     pub stamp: Stamp,
     /// What it said.
     pub op: Op,
+}
+
+impl Entry {
+    /// Lapses its op under a horizon, where it is. Its stamp stays, so that no older entry wins over it.
+    pub fn lapse(&mut self, horizon: u16)
+        ensures { entry_meant self.new ≡ lapse_entry horizon (entry_meant self.old) }
+    {
+        if self.op.ends_before(horizon) {
+            self.op = Op::Lapsed;
+        }
+    }
 }
 
 impl PartialEq for Entry {

@@ -1,9 +1,12 @@
 //! Tables of what is known of keys.
-ghost use Rattle.std.specs.Prelude.{◌≡◌, ◌==◌, ◌+◌, ◌<◌, ◌≤◌, ◌++◌, [], ◌∷◌, length, vec_len, vec_capacity, IfSome};
+ghost use Rattle.std.specs.Prelude.{◌≡◌, ◌==◌, ◌+◌, ◌≤◌, [], length, map, vec_len, vec_capacity, IfSome};
 ghost use Rattle.std.specs.Option.{option_copied};
 ghost use Rattle.cif_file.specs.Meaning.{key_meant};
+ghost use Rattle.docker_model.specs.Lapse.{lapse_entries};
+ghost use Rattle.docker_join.specs.Meaning.{row_meant};
 ghost use Rattle.docker_join.specs.Rows.{AreAscending, value_at, IsJoinOfRows};
 
+use crate::entry::Entry;
 use crate::merge::{Merge, Pick};
 use cif_file::Key;
 use std::alloc::Global;
@@ -89,6 +92,17 @@ impl<E> Table<E> {
     }
 }
 
+impl Table<Entry> {
+    /// Lapses what is known of each key under a horizon. The keys and the stamps stay, and the bodies of what lapses go.
+    pub fn lapse(&mut self, horizon: u16)
+        ensures { map row_meant self.new ≡ lapse_entries horizon (map row_meant self.old) }
+    {
+        for row in self.rows.iter_mut() {
+            row.1.lapse(horizon);
+        }
+    }
+}
+
 impl<E: Pick> Merge for Table<E> {
     ghost use Rattle.docker_join.specs.Rows.{AreValidRows, IsJoinOfRows};
     ghost use Rattle.docker_join.specs.RowLaws.{pick_laws, joins_closed, joins_one, joins_commute, joins_associate, joins_itself};
@@ -146,24 +160,24 @@ fn joined<E: Pick>(
         (left, right) = match (left, right) {
             (None, None) => break,
             (Some(one), None) => {
-                put(&mut rows, one);
+                rows.push_reserved(one);
                 (first.next(), None)
             }
             (None, Some(other)) => {
-                put(&mut rows, other);
+                rows.push_reserved(other);
                 (None, second.next())
             }
             (Some(one), Some(other)) => match one.0.cmp(&other.0) {
                 Ordering::Less => {
-                    put(&mut rows, one);
+                    rows.push_reserved(one);
                     (first.next(), Some(other))
                 }
                 Ordering::Greater => {
-                    put(&mut rows, other);
+                    rows.push_reserved(other);
                     (Some(one), second.next())
                 }
                 Ordering::Equal => {
-                    put(&mut rows, (one.0, one.1.pick(other.1)));
+                    rows.push_reserved((one.0, one.1.pick(other.1)));
                     (first.next(), second.next())
                 }
             },
@@ -172,17 +186,4 @@ fn joined<E: Pick>(
     first.destroy_empty();
     second.destroy_empty();
     rows
-}
-
-/// Appends a row, for which there is room.
-fn put<E>(rows: &mut Vec<(Key, E)>, row: (Key, E))
-    requires { vec_len rows.old < vec_capacity rows.old }
-    ensures items { rows.new.items ≡ rows.old.items ++ row ∷ [] }
-    ensures len { vec_len rows.new ≡ vec_len rows.old + 1 }
-    ensures capacity { vec_capacity rows.old ≤ vec_capacity rows.new }
-{
-    match rows.push(row) {
-        Ok(()) => {}
-        Err(_) => unreachable!(),
-    }
 }

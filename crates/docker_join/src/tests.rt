@@ -38,11 +38,12 @@ fn entry(place: u8) -> Result<Entry, Fail> {
     let (number, op) = match place {
         0 => (2, put(JOIN)?),
         1 => (3, Op::Deleted),
-        2 => (3, put(ENDS_1960)?),
-        3 => (3, put(ENDS_2059)?),
-        4 => (3, Op::Put(Body::Tiploc([b' '; 63]))),
-        5 => (3, put(JOIN)?),
-        6 => (3, put(DIVIDE)?),
+        2 => (3, Op::Lapsed),
+        3 => (3, put(ENDS_1960)?),
+        4 => (3, put(ENDS_2059)?),
+        5 => (3, Op::Put(Body::Tiploc([b' '; 63]))),
+        6 => (3, put(JOIN)?),
+        7 => (3, put(DIVIDE)?),
         _ => (4, Op::Deleted),
     };
     let file = file(23536, 1260, b"DFROC1A")?;
@@ -112,7 +113,7 @@ fn stamps(rt: HostRuntime) -> Result<(), Fail> {
 
 #[test]
 fn entries(rt: HostRuntime) -> Result<(), Fail> {
-    for place in 1..8 {
+    for place in 1..9 {
         let (low, high) = (place - 1, place);
         assert!(rt; entry(low)? < entry(high)?, "of {place}");
         assert_eq!(rt; entry(low)?.pick(entry(high)?), entry(high)?);
@@ -125,16 +126,16 @@ fn entries(rt: HostRuntime) -> Result<(), Fail> {
 
 #[test]
 fn tables(rt: HostRuntime) -> Result<(), Fail> {
-    let one = table(&rt, &[("BRAYTON", 5), ("ASHFELD", 1)])?;
-    let other = table(&rt, &[("COLWELL", 3), ("ASHFELD", 6)])?;
-    let wanted = table(&rt, &[("ASHFELD", 6), ("BRAYTON", 5), ("COLWELL", 3)])?;
+    let one = table(&rt, &[("BRAYTON", 6), ("ASHFELD", 1)])?;
+    let other = table(&rt, &[("COLWELL", 4), ("ASHFELD", 7)])?;
+    let wanted = table(&rt, &[("ASHFELD", 7), ("BRAYTON", 6), ("COLWELL", 4)])?;
     let Ok(joined) = one.join(rt.alloc(), other) else {
         return Err("memory")?;
     };
     assert_eq!(rt; joined.as_slice(), wanted.as_slice());
     assert_eq!(rt; joined.len(), 3);
     assert!(rt; !joined.is_empty());
-    let winner = entry(6)?;
+    let winner = entry(7)?;
     assert_eq!(rt; joined.get(&key("ASHFELD")?), Some(&winner));
     assert_eq!(rt; joined.get(&key("DENHAM")?), None);
     let rows = joined.into_rows();
@@ -147,10 +148,10 @@ fn tables(rt: HostRuntime) -> Result<(), Fail> {
 
 #[test]
 fn want_of_memory_hands_both_back(rt: HostRuntime) -> Result<(), Fail> {
-    let one = table(&rt, &[("ASHFELD", 1), ("BRAYTON", 5)])?;
-    let other = table(&rt, &[("ASHFELD", 6)])?;
-    let same_one = table(&rt, &[("ASHFELD", 1), ("BRAYTON", 5)])?;
-    let same_other = table(&rt, &[("ASHFELD", 6)])?;
+    let one = table(&rt, &[("ASHFELD", 1), ("BRAYTON", 6)])?;
+    let other = table(&rt, &[("ASHFELD", 7)])?;
+    let same_one = table(&rt, &[("ASHFELD", 1), ("BRAYTON", 6)])?;
+    let same_other = table(&rt, &[("ASHFELD", 7)])?;
     match one.join(rt.alloc(), other) {
         Ok(joined) => assert_eq!(rt; joined.len(), 2),
         Err((one, other)) => {
@@ -158,5 +159,50 @@ fn want_of_memory_hands_both_back(rt: HostRuntime) -> Result<(), Fail> {
             assert_eq!(rt; other.as_slice(), same_other.as_slice());
         }
     }
+    Ok(())
+}
+
+/// The day of the horizon that follows 31 December 2059, the last day there is.
+const AFTER_2059: u16 = 36525;
+
+#[test]
+fn ops_lapse(rt: HostRuntime) -> Result<(), Fail> {
+    let stay = [
+        (1, 65535),
+        (2, 65535),
+        (3, 0),
+        (4, AFTER_2059 - 1),
+        (5, 65535),
+        (6, 65535),
+    ];
+    for (place, horizon) in stay {
+        let op = entry(place)?.op.lapse(horizon);
+        assert_eq!(rt; op, entry(place)?.op, "of {place}");
+    }
+    for (place, horizon) in [(3, 1), (4, AFTER_2059)] {
+        assert_eq!(rt; entry(place)?.op.lapse(horizon), Op::Lapsed, "of {place}");
+    }
+    Ok(())
+}
+
+#[test]
+fn what_ended_lapses(rt: HostRuntime) -> Result<(), Fail> {
+    let rows = [
+        ("ASHFELD", 1),
+        ("BRAYTON", 3),
+        ("COLWELL", 4),
+        ("DENHAM", 5),
+    ];
+    let mut all = table(&rt, &rows)?;
+    all.lapse(1);
+    let mut lapsed = entry(3)?;
+    lapsed.lapse(1);
+    assert_eq!(rt; lapsed, entry(2)?);
+    assert_eq!(rt; all.get(&key("BRAYTON")?), Some(&lapsed));
+    for (code, place) in [rows[0], rows[2], rows[3]] {
+        let same = entry(place)?;
+        assert_eq!(rt; all.get(&key(code)?), Some(&same), "{code}");
+    }
+    assert_eq!(rt; all.len(), 4);
     Ok(())
 }

@@ -14,11 +14,11 @@ use Rattle.docker_join.specs.Meaning.{entry_meant}
 use Rattle.docker_state.specs.declared.item.LedgerItem.{LedgerItem}
 use Rattle.docker_state.specs.Meaning.{item_meant, row_meant, state_meant}
 
-pub entry_given : (ledger : List LedgerItem) (rows : List (Key × Entry)) (state : State) → state_meant ledger rows ≡ state → IsValid (state_meant ledger rows)
+pub entry_given : (ledger : List LedgerItem) (rows : List (Key × Entry)) (state : State) → state_meant 0 ledger rows ≡ state → IsValid (state_meant 0 ledger rows)
     → (key : Key) (entry : Entry) → IsStampHere state (key_meant key) (entry_meant entry).stamp → IsOpOf (key_meant key) (entry_meant entry).op
-    → (after : List (Key × Entry)) → after ≡ rows ++ (key, entry) ∷ [] → IsValid (state_meant ledger after)
+    → (after : List (Key × Entry)) → after ≡ rows ++ (key, entry) ∷ [] → IsValid (state_meant 0 ledger after)
 entry_given ledger rows state view valid key entry here of after pushed =
     subst (λ (all : List (model.Key × ops.Entry)). IsValid (record { horizon = 0; ledger = map item_meant ledger; entries = all }))
     (sym (ap (map row_meant) pushed ∙ map-append row_meant rows ((key, entry) ∷ [])))
-    (valid_more (state_meant ledger rows) (key_meant key) (entry_meant entry).stamp (entry_meant entry).op valid
+    (valid_more (state_meant 0 ledger rows) (key_meant key) (entry_meant entry).stamp (entry_meant entry).op valid
     (subst (λ (s : State). IsStampHere s (key_meant key) (entry_meant entry).stamp) (sym view) here) of (none_has_to (entry_meant entry).op))

@@ -7,7 +7,6 @@ use Rattle.std.specs.List.{AllByRecursion, items_where_true}
 use Rattle.std.specs.List.Retain.{IsFiltered, ReturnsInTurn}
 use Rattle.std.specs.declared.cmp.Ordering.{Ordering}
 use Rattle.docker_model.specs.Order.{IsBelow, IsStrictlyAscending}
-use Rattle.docker_laws.proofs.Pairs.{all_map}
 use Rattle.docker_laws.proofs.Ascending.{Contains-cons, cons-Contains, cons-Contains-first, nil-Contains}
 
 -- what a test that stays as it is leaves of a list
@@ -115,19 +114,6 @@ says_kept floor stamp false told = by (keeps floor stamp) refl
     by : (b : Bool) → keeps floor stamp ≡ b → false ≡ b
     by false h = refl
     by true h = told.1 (keeps_is floor stamp h)
-
--- an order of what a function makes of the elements
-pub ascending_meant : {A B : Type 0} (f : A → B) (cmp : B → B → Ordering) (xs : List A) → IsStrictlyAscending (λ a b. cmp (f a) (f b)) xs → IsStrictlyAscending cmp (map f xs)
-ascending_meant f cmp [] up = tt
-ascending_meant f cmp (x ∷ xs) up = (all_map f (IsBelow cmp (f x)) xs up.0, ascending_meant f cmp xs up.1)
-
-all_back : {A B : Type 0} (f : A → B) (P : B → Type 0) (xs : List A) → AllByRecursion P (map f xs) → AllByRecursion (λ x. P (f x)) xs
-all_back f P [] all = tt
-all_back f P (x ∷ xs) all = (all.0, all_back f P xs all.1)
-
-pub meant_ascending : {A B : Type 0} (f : A → B) (cmp : B → B → Ordering) (xs : List A) → IsStrictlyAscending cmp (map f xs) → IsStrictlyAscending (λ a b. cmp (f a) (f b)) xs
-meant_ascending f cmp [] up = tt
-meant_ascending f cmp (x ∷ xs) up = (all_back f (IsBelow cmp (f x)) xs up.0, meant_ascending f cmp xs up.1)
 
 -- what is kept of elements by what they mean: it ascends, and its members are those that are kept
 module _ {A B : Type 0} (f : A → B) (cmp : B → B → Ordering) (floor : Option FileStamp) (stamp : B → FileStamp) (xs ys : List A) (is : ys ≡ filter (λ x. keeps floor (stamp (f x))) xs) where

@@ -1,5 +1,6 @@
 pub mod United
 pub mod Kept
+pub mod KeptLapsed
 pub mod States
 pub mod Floors
 pub mod JoinStates
@@ -9,5 +10,5 @@ pub mod Greatest
 pub mod OfFile
 pub mod Given
 pub mod LiveTable
+pub mod HorizonSet
 pub mod OneOfEach
-pub mod Told

@@ -31,7 +31,7 @@ use Rattle.docker_join.specs.Rows.{AreAscending}
 use Rattle.docker_state.specs.declared.item.LedgerItem.{LedgerItem}
 use Rattle.docker_state.specs.Meaning.{item_meant, row_meant, state_meant}
 use Rattle.docker_state.specs.Rows.{made_by}
-use Rattle.docker_state.proofs.Kept.{ascending_meant}
+use Rattle.docker_join.proofs.Along.{ascending_meant}
 use Rattle.docker_state.proofs.StatesJoined.{op_records}
 
 -- the first of some lines, however it is named
@@ -101,8 +101,8 @@ module _ (file : List (List ℕ)) (ledger : List LedgerItem) (ledger_is : map it
       let found = Contains-map (made_by (file_stamp_of file)) (changes file) (key, entry) (subst (λ (xs : List (model.Key × ops.Entry)). Contains xs (key, entry)) made_is among) in
       record { file = file; kept = kept_one f kept; change = found.0; among = found.1; key_is = (λ i. (found.2 i).0); entry_is = (λ i. (found.2 i).1) }
 
-  summary_under : (f : Option FileStamp) → IsFloor (ledger_item_of file ∷ []) f → IsKept f (file_stamp_of file) → IsSummary (file ∷ []) 0 (state_meant ledger rows)
-  summary_under f is_floor kept = (plain_summary (file ∷ []) (state_meant ledger rows)).0 (record {
+  summary_under : (f : Option FileStamp) → IsFloor (ledger_item_of file ∷ []) f → IsKept f (file_stamp_of file) → IsSummary (file ∷ []) 0 (state_meant 0 ledger rows)
+  summary_under f is_floor kept = (plain_summary (file ∷ []) (state_meant 0 ledger rows)).0 (record {
     no_horizon = refl;
     floor = f;
     is_floor = is_floor;
@@ -125,12 +125,12 @@ module _ (file : List (List ℕ)) (ledger : List LedgerItem) (ledger_is : map it
     );
   })
 
-  pub file_summary : IsSummary (file ∷ []) 0 (state_meant ledger rows)
+  pub file_summary : IsSummary (file ∷ []) 0 (state_meant 0 ledger rows)
   file_summary = let told = one_floor (ledger_item_of file) in summary_under told.0 told.1 told.2
 
-  pub file_valid : IsFile file → length file ≤ 4_294_967_294 → IsValid (state_meant ledger rows)
+  pub file_valid : IsFile file → length file ≤ 4_294_967_294 → IsValid (state_meant 0 ledger rows)
   file_valid is_file few =
-      summary_is_valid (file ∷ []) 0 (state_meant ledger rows) (omega arith)
+      summary_is_valid (file ∷ []) 0 (state_meant 0 ledger rows) (omega arith)
       (all_members IsFile (file ∷ []) (λ f among. subst IsFile (only file f among) is_file))
       (all_members (λ f. length f ≤ 4_294_967_294) (file ∷ []) (λ f among. subst (λ (x : List (List ℕ)). length x ≤ 4_294_967_294) (only file f among) few))
       file_summary

@@ -1,5 +1,5 @@
 -- What a state's fields say of the state that they mean.
-use Rattle.std.proofs.Common.{◌≡◌, List, [], ◌∷◌, map, refl, ap, sym, ◌∙◌, subst, Bool, true, false, cond, Some, None}
+use Rattle.std.proofs.Common.{◌≡◌, ℕ, List, [], ◌∷◌, map, refl, ap, sym, ◌∙◌, subst, Bool, true, false, cond, Some, None}
 use Rattle.std.specs.Prelude.{Option, find, option_and_then, ◌==◌}
 use Rattle.std.specs.Option.{option_map}
 use Rattle.std.specs.Ordering.{is_eq}
@@ -18,11 +18,11 @@ use Rattle.docker_state.specs.declared.item.LedgerItem as item
 use Rattle.docker_state.specs.Meaning.{item_meant, row_meant, state_meant}
 
 -- what the rows have at a key is the state's entry of the key
-pub entry_of_rows : (ledger : List item.LedgerItem) (rows : List (Key × Entry)) (key : model.Key) → option_map entry_meant (value_at rows key) ≡ entry_at (state_meant ledger rows) key
-entry_of_rows ledger [] key = refl
-entry_of_rows ledger (row ∷ rows) key = by (is_eq (key_cmp (key_meant row.0) key)) (entry_of_rows ledger rows key)
+pub entry_of_rows : (horizon : ℕ) (ledger : List item.LedgerItem) (rows : List (Key × Entry)) (key : model.Key) → option_map entry_meant (value_at rows key) ≡ entry_at (state_meant horizon ledger rows) key
+entry_of_rows horizon ledger [] key = refl
+entry_of_rows horizon ledger (row ∷ rows) key = by (is_eq (key_cmp (key_meant row.0) key)) (entry_of_rows horizon ledger rows key)
   where
-    by : (b : Bool) → option_map entry_meant (value_at rows key) ≡ entry_at (state_meant ledger rows) key
+    by : (b : Bool) → option_map entry_meant (value_at rows key) ≡ entry_at (state_meant horizon ledger rows) key
         → option_map entry_meant (option_map (λ (r : Key × Entry). r.1) (cond b (Some row) (find (λ (r : Key × Entry). is_eq (key_cmp (key_meant r.0) key)) rows)))
         ≡ option_and_then (λ (entry : model.Key × ops.Entry). Some entry.1) (cond b (Some (row_meant row)) (find (λ (entry : model.Key × ops.Entry). is_eq (key_cmp entry.0 key)) (map row_meant rows)))
     by true same = refl
@@ -40,13 +40,13 @@ find_meant (head ∷ items) = by ((item_meant head).indicator == 70) (find_meant
     by false same = same
 
 -- the floor of a valid state, by the first full item that was found
-pub floor_found : (items : List item.LedgerItem) (rows : List (Key × Entry)) → IsValid (state_meant items rows)
+pub floor_found : (horizon : ℕ) (items : List item.LedgerItem) (rows : List (Key × Entry)) → IsValid (state_meant horizon items rows)
     → (found : Option item.LedgerItem) → found ≡ find (λ (i : item.LedgerItem). (item_meant i).indicator == 70) items
     → (floor : Option FileStamp) → floor ≡ option_map (λ (i : item.LedgerItem). (item_meant i).stamp) found → IsFloor (map item_meant items) floor
-floor_found items rows valid found is floor floor_is =
+floor_found horizon items rows valid found is floor floor_is =
     subst (IsFloor (map item_meant items))
     (ap (option_map (λ (i : LedgerItem). i.stamp)) (find_meant items) ∙ composed (find (λ (i : item.LedgerItem). (item_meant i).indicator == 70) items) ∙ ap (option_map (λ (i : item.LedgerItem). (item_meant i).stamp)) (sym is) ∙ sym floor_is)
-    (floor_is_first_full (state_meant items rows) valid)
+    (floor_is_first_full (state_meant horizon items rows) valid)
   where
     composed : (o : Option item.LedgerItem) → option_map (λ (i : LedgerItem). i.stamp) (option_map item_meant o) ≡ option_map (λ (i : item.LedgerItem). (item_meant i).stamp) o
     composed None = refl

@@ -1,6 +1,7 @@
 -- The join of two states, from the union of their ledgers and the join of their rows.
-use Rattle.std.proofs.Common.{List, ◌++◌, map, refl, inl, inr, ◌⊎◌, Contains}
-use Rattle.std.specs.Prelude.{Option, ◌↔◌}
+use Rattle.std.proofs.Common.{◌≡◌, ℕ, List, ◌++◌, map, refl, ap, sym, ◌∙◌, subst, inl, inr, ◌⊎◌, Contains, Bool, true, false, cond, eqb-true, arith}
+use Rattle.std.specs.Prelude.{Option, ◌↔◌, ◌==◌, if◌then◌else◌, max}
+use Rattle.std.proofs.Math.Nat.{max-eq_left}
 use Rattle.std.specs.Ordering.{on, ord_max}
 use Rattle.std.proofs.lemmas.List.Elements.{All-contains, Contains-append_cases}
 use Rattle.docker_model.specs.Change as model
@@ -11,7 +12,9 @@ use Rattle.docker_model.specs.Op as ops
 use Rattle.docker_model.specs.Op.{key_cmp, entry_cmp, deleted, lapsed, put_with}
 use Rattle.docker_model.specs.Order.{IsStrictlyAscending}
 use Rattle.docker_model.specs.State.{IsValid, IsGoodEntry, IsOpOf, IsJoin}
-use Rattle.docker_laws.proofs.Raised.{union_joined, none_to_lapse}
+use Rattle.docker_model.specs.Lapse.{lapse_entry, HasNotToLapse}
+use Rattle.docker_laws.proofs.Lapsing.{entry_stays}
+use Rattle.docker_laws.proofs.Raised.{none_has_to}
 use Rattle.cif_file.specs.declared.key.Key.{Key}
 use Rattle.docker_join.specs.declared.entry.Entry.{Entry}
 use Rattle.docker_join.specs.Meaning.{entry_meant}
@@ -19,7 +22,8 @@ use Rattle.docker_join.specs.Records.{HasRecords}
 use Rattle.docker_join.specs.Rows.{AreAscending, IsJoinOfRows}
 use Rattle.docker_state.specs.declared.item.LedgerItem.{LedgerItem}
 use Rattle.docker_state.specs.Meaning.{item_meant, row_meant, state_meant}
-use Rattle.docker_state.proofs.Kept.{ascending_meant, meant_ascending}
+use Rattle.docker_state.specs.Rows.{LapsesTo}
+use Rattle.docker_join.proofs.Along.{ascending_meant, meant_ascending}
 use Rattle.docker_state.proofs.JoinStates.{joined_greatest, greatest_joined}
 
 -- an op that agrees with a key is of records
@@ -36,13 +40,30 @@ op_records (schedule_key key) (put_with (tiploc_body bytes)) good = absurd good
 op_records (schedule_key key) (put_with (association_body line)) good = absurd good
 op_records (schedule_key key) (put_with (schedule_body lines)) good = good.schedule.records
 
-module _ (items others : List LedgerItem) (first second : List (Key × Entry)) (one : IsValid (state_meant items first)) (two : IsValid (state_meant others second)) where
+module _ (g h : ℕ) (items others : List LedgerItem) (first second : List (Key × Entry)) (one : IsValid (state_meant g items first)) (two : IsValid (state_meant h others second)) where
   entry_records : (pair : model.Key × ops.Entry) → Contains (map row_meant first ++ map row_meant second) pair → HasRecords pair.1.op
   entry_records pair among = by (Contains-append_cases (map row_meant first) (map row_meant second) pair among)
     where
       by : Contains (map row_meant first) pair ⊎ Contains (map row_meant second) pair → HasRecords pair.1.op
       by (inl inside) = op_records pair.0 pair.1.op (All-contains (IsGoodEntry (map item_meant items)) (map row_meant first) pair one.entries.0 inside).op
       by (inr inside) = op_records pair.0 pair.1.op (All-contains (IsGoodEntry (map item_meant others)) (map row_meant second) pair two.entries.0 inside).op
+
+  -- under one horizon the entries of both have lapsed already
+  as_if_all : (pair : model.Key × ops.Entry) → Contains (map row_meant first ++ map row_meant second) pair → lapse_entry (max g h) pair.1 ≡ lapse_entry (if g == h then 0 else max g h) pair.1
+  as_if_all pair among = by (g == h) refl (Contains-append_cases (map row_meant first) (map row_meant second) pair among)
+    where
+      stay : HasNotToLapse g pair.1.op → g ≡ h → lapse_entry (max g h) pair.1 ≡ lapse_entry 0 pair.1
+      stay has_not one_horizon =
+          ap (λ n. lapse_entry n pair.1) (max-eq_left (omega arith)) ∙ entry_stays g pair.1 has_not ∙ sym (entry_stays 0 pair.1 (none_has_to pair.1.op))
+
+      by : (b : Bool) → (g == h) ≡ b → Contains (map row_meant first) pair ⊎ Contains (map row_meant second) pair → lapse_entry (max g h) pair.1 ≡ lapse_entry (cond b 0 (max g h)) pair.1
+      by false is there = refl
+      by true is (inl inside) =
+          stay (All-contains (λ (entry : model.Key × ops.Entry). HasNotToLapse g entry.1.op) (map row_meant first) pair one.have_lapsed inside) (eqb-true g h is)
+      by true is (inr inside) =
+          let one_horizon : g ≡ h = eqb-true g h is in
+          stay (subst (λ n. HasNotToLapse n pair.1.op) (sym one_horizon)
+          (All-contains (λ (entry : model.Key × ops.Entry). HasNotToLapse h entry.1.op) (map row_meant second) pair two.have_lapsed inside)) one_horizon
 
   up_first : AreAscending first
   up_first = meant_ascending row_meant (λ (a b : model.Key × ops.Entry). key_cmp a.0 b.0) first one.entries.1
@@ -54,12 +75,13 @@ module _ (items others : List LedgerItem) (first second : List (Key × Entry)) (
       → (union ledger : List LedgerItem) → ((item : stamps.LedgerItem) → Contains (map item_meant union) item ↔ Contains (map item_meant items ++ map item_meant others) item)
       → IsStrictlyAscending ledger_item_cmp (map item_meant ledger)
       → ((item : stamps.LedgerItem) → Contains (map item_meant ledger) item ↔ (Contains (map item_meant union) item × IsKept floor item.stamp))
+      → (horizon lapsing : ℕ) → horizon ≡ max g h → lapsing ≡ (if g == h then 0 else max g h)
       → (joined rows : List (Key × Entry)) → IsJoinOfRows (ord_max (on entry_meant entry_cmp)) first second joined
       → AreAscending rows
-      → ((key : model.Key) (entry : ops.Entry) → Contains (map row_meant rows) (key, entry) ↔ (Contains (map row_meant joined) (key, entry) × IsKept floor entry.stamp.file))
-      → IsJoin (state_meant items first) (state_meant others second) (state_meant ledger rows)
-  states_joined floor is_floor union ledger in_union up_ledger in_ledger joined rows is up_rows in_rows = union_joined (state_meant items first) (state_meant others second) (state_meant ledger rows) (record {
-    horizon = refl;
+      → ((key : model.Key) (entry : ops.Entry) → Contains (map row_meant rows) (key, entry) ↔ LapsesTo (map row_meant joined) floor lapsing key entry)
+      → IsJoin (state_meant g items first) (state_meant h others second) (state_meant horizon ledger rows)
+  states_joined floor is_floor union ledger in_union up_ledger in_ledger horizon lapsing horizon_is lapsing_is joined rows is up_rows in_rows = record {
+    horizon = horizon_is;
     floor = floor;
     is_floor = is_floor;
     ledger_ascends = up_ledger;
@@ -69,7 +91,14 @@ module _ (items others : List LedgerItem) (first second : List (Key × Entry)) (
     );
     entries_ascend = ascending_meant row_meant (λ (a b : model.Key × ops.Entry). key_cmp a.0 b.0) rows up_rows;
     entries = λ key entry. (
-      λ among. let told = (in_rows key entry).0 among in (joined_greatest first second joined up_first up_second is key entry told.0, told.1),
-      λ told. (in_rows key entry).1 (greatest_joined first second joined up_first up_second is entry_records key entry told.0, told.1),
+      λ among.
+          let told = (in_rows key entry).0 among in
+          let best = joined_greatest first second joined up_first up_second is key told.0 told.1 in
+          (told.0, best, told.2, under_both (key, told.0) best.among ∙ told.3),
+      λ told. (in_rows key entry).1
+          (told.0, greatest_joined first second joined up_first up_second is entry_records key told.0 told.1, told.2, sym (under_both (key, told.0) told.1.among) ∙ told.3),
     );
-  }) (none_to_lapse (map row_meant rows))
+  }
+    where
+      under_both : (pair : model.Key × ops.Entry) → Contains (map row_meant first ++ map row_meant second) pair → lapse_entry horizon pair.1 ≡ lapse_entry lapsing pair.1
+      under_both pair among = ap (λ n. lapse_entry n pair.1) horizon_is ∙ as_if_all pair among ∙ sym (ap (λ n. lapse_entry n pair.1) lapsing_is)

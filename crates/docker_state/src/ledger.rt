@@ -8,7 +8,6 @@ ghost use Rattle.docker_state.specs.Meaning.{item_meant};
 
 use crate::floor::is_kept;
 use crate::item::LedgerItem;
-use crate::push::push_within;
 use docker_join::FileStamp;
 use std::alloc::Global;
 use std::cmp::Ordering;
@@ -62,7 +61,7 @@ pub(crate) fn united(
                 }
             },
         };
-        push_within(&mut items, *item);
+        items.push_reserved(*item);
     }
     items
 }

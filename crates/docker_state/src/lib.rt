@@ -1,4 +1,4 @@
-//! The state of what files say: which files are known, and of each key the greatest entry. States are joined in any order and however often.
+//! The state of what files say: which files are known, and of each key the greatest entry, lapsed under a horizon. States are joined in any order and however often.
 #![tactic(auto)]
 
 mod floor;
@@ -6,7 +6,6 @@ mod item;
 mod ledger;
 mod live;
 mod parts;
-mod push;
 mod rows;
 mod state;
 

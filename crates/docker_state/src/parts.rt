@@ -30,9 +30,9 @@ impl Model for Parts {
 
     ghost Value = { states.State };
 
-    ghost view = { λ parts. state_meant parts.ledger.items parts.entries.items };
+    ghost view = { λ parts. state_meant 0 parts.ledger.items parts.entries.items };
 
-    ghost invariant = { λ parts. IsValid (state_meant parts.ledger.items parts.entries.items) };
+    ghost invariant = { λ parts. IsValid (state_meant 0 parts.ledger.items parts.entries.items) };
 }
 
 impl Parts {

@@ -1,14 +1,14 @@
 //! The state of files.
-ghost use Rattle.std.specs.Prelude.{◌≡◌, ℕ, List, [], ◌∷◌, ◌++◌, ◌↔◌, map, max, Contains, IfOk, IfErr};
+ghost use Rattle.std.specs.Prelude.{◌≡◌, ℕ, List, [], ◌∷◌, ◌++◌, ◌↔◌, map, max, ◌==◌, if◌then◌else◌, Contains, IfOk, IfErr};
 ghost use Rattle.docker_model.specs.Change as model;
-ghost use Rattle.docker_model.specs.StateText.{dks_1};
-ghost use Rattle.docker_model.specs.StateFault.{IsToldState};
-ghost use Rattle.docker_model.specs.State.{entry_at, live_table, IsValid, IsJoin};
+ghost use Rattle.docker_model.specs.State.{entry_at, live_table, raise_horizon, IsDay, IsValid, IsJoin};
+ghost use Rattle.docker_model.specs.Lapse.{lapse_table};
 ghost use Rattle.std.specs.Option.{option_copied, option_map};
 ghost use Rattle.cif_file.specs.Meaning.{key_meant};
 ghost use Rattle.docker_model.specs.Stamp.{IsFloor};
 ghost use Rattle.docker_join.specs.Meaning.{entry_meant, file_stamp_meant};
 ghost use Rattle.docker_model.specs.Summary.{IsSummary, HaveDistinctMoments};
+ghost use Rattle.docker_model.specs.Table as tables;
 ghost use Rattle.docker_model.specs.Table.{IsPlainTable};
 ghost use Rattle.cif_file.specs.FileRead.{IsOfRecords};
 ghost use Rattle.docker_state.specs.Live.{live_rows, AreInKeyOrder};
@@ -18,9 +18,9 @@ use crate::floor::{common_floor, first_full};
 use crate::item::{LedgerItem, item_of};
 use crate::ledger::{kept_items, room_for, united};
 use crate::live::Live;
-use crate::push::push_within;
 use crate::rows::{greatest_rows, kept_rows, made_rows};
 use cif_file::{CifFile, Key};
+use cif_line::Day;
 use docker_join::{Entry, FileStamp, Merge, Table};
 use std::alloc::Global;
 use std::marker::Model;
@@ -28,6 +28,7 @@ use std::marker::Model;
 /// What files say: the ledger of those that are known, and of each key the greatest entry, from the newest full extract on. Always valid.
 #[derive(Debug, Drop)]
 pub struct State {
+    horizon: u16,
     ledger: Vec<LedgerItem>,
     entries: Table<Entry>,
 }
@@ -39,18 +40,19 @@ impl Model for State {
 
     ghost Value = { states.State };
 
-    ghost view = { λ state. state_meant state.ledger.items state.entries };
+    ghost view = { λ state. state_meant state.horizon state.ledger.items state.entries };
 
-    ghost invariant = { λ state. IsValid (state_meant state.ledger.items state.entries) };
+    ghost invariant = { λ state. IsValid (state_meant state.horizon state.ledger.items state.entries) };
 }
 
 impl State {
-    /// The state of ledger items and rows that are valid.
+    /// The state of ledger items and rows that are valid, without a horizon.
     pub(crate) fn of_rows(ledger: Vec<LedgerItem>, rows: Vec<(Key, Entry)>) -> State
-        requires { IsValid (state_meant ledger.items rows.items) }
-        ensures { result ≡ state_meant ledger.items rows.items }
+        requires { IsValid (state_meant 0 ledger.items rows.items) }
+        ensures { result ≡ state_meant 0 ledger.items rows.items }
     {
         State {
+            horizon: 0,
             ledger,
             entries: Table::from_rows(rows),
         }
@@ -62,6 +64,7 @@ impl State {
         ensures summary { IsSummary [] 0 result }
     {
         State {
+            horizon: 0,
             ledger: Vec::new(alloc),
             entries: Table::new(alloc),
         }
@@ -83,10 +86,35 @@ impl State {
         let Ok(rows) = Vec::with_capacity(alloc, count) else {
             return Err(file);
         };
-        push_within(&mut ledger, item);
+        ledger.push_reserved(item);
         let made = made_rows(file.into_changes(), &item.stamp(), made);
         let entries = Table::from_rows(greatest_rows(made, rows));
-        Ok(State { ledger, entries })
+        Ok(State {
+            horizon: 0,
+            ledger,
+            entries,
+        })
+    }
+
+    /// The number of the day before whose end nothing has ended that is put, from 0 for 1960-01-01. 0 where no day was set.
+    pub fn horizon(&self) -> u16
+        ensures horizon { result ≡ self.now.horizon }
+        ensures day { IsDay result }
+    {
+        self.horizon
+    }
+
+    /// Sets a horizon: what is put and ends before this day lapses. Its body goes and its stamp stays, so that no older file brings it back. A day that is not after the horizon changes nothing.
+    pub fn set_horizon(&mut self, day: Day)
+        ensures raised { self.new ≡ raise_horizon day self.old }
+        ensures summary { (files : List (List (List ℕ))) (horizon : ℕ) → IsSummary files horizon self.old
+            → IsSummary files (max horizon day) self.new }
+    {
+        let horizon = day.number();
+        if self.horizon < horizon {
+            self.horizon = horizon;
+            self.entries.lapse(horizon);
+        }
     }
 
     /// The ledger items, ascending.
@@ -101,7 +129,6 @@ impl State {
     pub fn entries(&self) -> &[(Key, Entry)]
         ensures rows { map row_meant result.now ≡ self.now.entries }
         ensures valid { IsValid self.now }
-        ensures told { IsToldState dks_1 self.now }
     {
         self.entries.as_slice()
     }
@@ -119,6 +146,8 @@ impl State {
         ensures table { (key : model.Key) (body : model.Body) → Contains result (key, body) ↔ (live_table self.now key ≡ Some body) }
         ensures ascending { AreInKeyOrder result }
         ensures plain { (files : List (List (List ℕ))) → IsSummary files 0 self.now → HaveDistinctMoments files → IsPlainTable files (live_table self.now) }
+        ensures lapsed { (files : List (List (List ℕ))) (horizon : ℕ) (table : tables.Table) → IsSummary files horizon self.now
+            → IsPlainTable files table → live_table self.now ≡ lapse_table horizon table }
     {
         Live::of(self.entries.as_slice())
     }
@@ -154,7 +183,7 @@ impl Merge for State {
 
     ghost idempotent = { join_idempotent };
 
-    /// The join of two states: the union of their ledgers kept under its floor, and of each key the greater entry kept under the same floor. Want of memory, before anything was moved, hands both back as they were.
+    /// The join of two states: the union of their ledgers kept under its floor, and of each key the greater entry kept under the same floor and lapsed under the greater horizon. Want of memory, before anything was moved, hands both back as they were.
     fn join(self, alloc: Global, other: State) -> Result<State, (State, State)>
         ensures ok { IfOk result (IsJoin self other) }
         ensures err { IfErr result (λ both. (both.0 ≡ self) × (both.1 ≡ other)) }
@@ -166,10 +195,12 @@ impl Merge for State {
         };
         let floor = common_floor(self.floor(), other.floor());
         let State {
+            horizon: own,
             ledger: first,
             entries: left,
         } = self;
         let State {
+            horizon: theirs,
             ledger: second,
             entries: right,
         } = other;
@@ -177,16 +208,22 @@ impl Merge for State {
             Ok(joined) => {
                 let items = united(first.as_slice(), second.as_slice(), items);
                 let ledger = kept_items(items, &floor);
-                let rows = kept_rows(joined.into_rows(), &floor);
+                let rows = kept_rows(joined.into_rows(), &floor, yet_to_lapse(own, theirs));
                 let entries = Table::from_rows(rows);
-                Ok(State { ledger, entries })
+                Ok(State {
+                    horizon: own.max(theirs),
+                    ledger,
+                    entries,
+                })
             }
             Err((left, right)) => {
                 let one = State {
+                    horizon: own,
                     ledger: first,
                     entries: left,
                 };
                 let two = State {
+                    horizon: theirs,
                     ledger: second,
                     entries: right,
                 };
@@ -194,4 +231,11 @@ impl Merge for State {
             }
         }
     }
+}
+
+/// The horizon under which entries of states with these two have yet to lapse: the greater, or none where both are one.
+fn yet_to_lapse(own: u16, theirs: u16) -> u16
+    ensures { result ≡ (if own == theirs then 0 else max own theirs) }
+{
+    if own == theirs { 0 } else { own.max(theirs) }
 }

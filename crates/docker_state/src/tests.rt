@@ -1,6 +1,6 @@
 use crate::{LedgerItem, Parts, State};
 use cif_file::{Body, Key, read_pieces};
-use cif_line::Tiploc;
+use cif_line::{Day, Tiploc};
 use docker_join::{Entry, FileStamp, Merge, Op};
 use std::alloc::{AllocError, Global};
 use std::process::Abort;
@@ -53,6 +53,18 @@ const BS_DELETED: &[u8] =
 /// The same schedule to 21 June.
 const BS_LONGER: &[u8] =
     b"BSNC100012406102406211111100 POO1A10                                           P";
+
+/// The same schedule to 31 July.
+const BS_JULY: &[u8] =
+    b"BSNC100012406102407311111100 POO1A10                                           P";
+
+/// The same schedule without an end.
+const BS_NO_END: &[u8] =
+    b"BSNC100012406109999991111100 POO1A10                                           P";
+
+/// An association of C10001 and C20001 at Colwell without an end.
+const AA_NO_END: &[u8] =
+    b"AANC10001C200012406109999991111100JJSCOLWELL  TP                               P";
 
 /// A schedule of C10002.
 const BS_C10002: &[u8] =
@@ -112,6 +124,9 @@ const ZZ: &[u8] =
 
 /// What the amendment says of the new code.
 const NEW: [u8; 63] = *b"         ASHFIELD NEW                                          ";
+
+/// What the insertion of Ashfield Central says.
+const CENTRAL: [u8; 63] = *b"         ASHFIELD CENTRAL                                      ";
 
 /// The text of these records.
 fn text(alloc: Global, records: &[&[u8]]) -> Result<Vec<u8>, AllocError> {
@@ -220,14 +235,20 @@ fn add_row(alloc: Global, text: &mut Vec<u8>, row: &(Key, Entry)) -> Result<(), 
     text.extend_from_slice(head.as_bytes())?;
     match &row.1.op {
         Op::Deleted => text.extend_from_slice(b"deleted\n")?,
+        Op::Lapsed => text.extend_from_slice(b"lapsed\n")?,
         Op::Put(body) => add_body(text, body)?,
     }
     Ok(())
 }
 
-/// A state as text: its ledger, its floor, its entries and what is live.
+/// A state as text: its horizon, its ledger, its floor, its entries and what is live.
 fn told(alloc: Global, state: &State) -> Result<Vec<u8>, Fail> {
     let mut text = Vec::new(alloc);
+    if state.horizon() > 0 {
+        let horizon = state.horizon();
+        let line = format!(in alloc; "horizon {horizon}\n")?;
+        text.extend_from_slice(line.as_bytes())?;
+    }
     for item in state.ledger() {
         text.extend_from_slice(item_text(alloc, item)?.as_bytes())?;
     }
@@ -513,6 +534,108 @@ fn want_of_memory(rt: HostRuntime) -> Result<(), Fail> {
         }
     }
     Ok(())
+}
+
+/// A state with this day set as its horizon.
+fn under(mut state: State, day: &str) -> Result<State, Fail> {
+    state.set_horizon(Day::from_iso(day).ok_or("a day")?);
+    Ok(state)
+}
+
+#[test]
+fn a_horizon(rt: HostRuntime) -> Result<(), Fail> {
+    let one = state(rt.alloc(), &[HD_9A, BS, LO, LT, ZZ])?;
+    assert_eq!(rt; one.horizon(), 0);
+    let one = under(one, "2024-06-14")?;
+    let live: &[&[u8]] = &[
+        b"horizon 23541",
+        b"item 23536 1260 DFROC1A U DFROC1Z",
+        b"C10001 23537: record 2 of 23536 1260 DFROC1A",
+        BS,
+        LO,
+        LT,
+        b"live C10001 23537",
+        BS,
+        LO,
+        LT,
+    ];
+    check(&rt, rt.alloc(), &one, live, "its last day")?;
+    let one = under(one, "2024-06-15")?;
+    let lapsed: &[&[u8]] = &[
+        b"horizon 23542",
+        b"item 23536 1260 DFROC1A U DFROC1Z",
+        b"C10001 23537: record 2 of 23536 1260 DFROC1A",
+        b"lapsed",
+    ];
+    check(&rt, rt.alloc(), &one, lapsed, "the day after")?;
+    let one = under(one, "2024-06-10")?;
+    check(&rt, rt.alloc(), &one, lapsed, "an earlier day")?;
+    let again = state(rt.alloc(), &[HD_9A, BS, LO, LT, ZZ])?;
+    let both = joined(rt.alloc(), again, one)?;
+    check(&rt, rt.alloc(), &both, lapsed, "the same file again")
+}
+
+#[test]
+fn a_horizon_between_two_files(rt: HostRuntime) -> Result<(), Fail> {
+    let revision: &[&[u8]] = &[HD_10B, BS_REVISED, LO_0905, LT_0935, ZZ];
+    let older: &[&[u8]] = &[HD_8A, BS_JULY, LO, LT, ZZ];
+    let lines: &[&[u8]] = &[
+        b"horizon 23542",
+        b"item 23535 1260 DFROC1A U DFROC1Z",
+        b"item 23537 1260 DFROC1B U DFROC1A",
+        b"C10001 23537: record 2 of 23537 1260 DFROC1B",
+        b"lapsed",
+    ];
+    let day = "2024-06-15";
+    for (first, second) in [(revision, older), (older, revision)] {
+        let set = under(state(rt.alloc(), first)?, day)?;
+        let between = joined(rt.alloc(), set, state(rt.alloc(), second)?)?;
+        check(&rt, rt.alloc(), &between, lines, "between the files")?;
+        let set = under(state(rt.alloc(), first)?, day)?;
+        let turned = joined(rt.alloc(), state(rt.alloc(), second)?, set)?;
+        check(&rt, rt.alloc(), &turned, lines, "of the other")?;
+        let both = joined(
+            rt.alloc(),
+            state(rt.alloc(), first)?,
+            state(rt.alloc(), second)?,
+        )?;
+        let last = under(both, day)?;
+        check(&rt, rt.alloc(), &last, lines, "behind both")?;
+        let one = under(state(rt.alloc(), first)?, day)?;
+        let other = under(state(rt.alloc(), second)?, day)?;
+        let all = joined(rt.alloc(), one, other)?;
+        check(&rt, rt.alloc(), &all, lines, "of both")?;
+    }
+    Ok(())
+}
+
+#[test]
+fn what_has_no_end_stays(rt: HostRuntime) -> Result<(), Fail> {
+    let files: &[&[u8]] = &[HD_9A, TI, AA_NO_END, BS_NO_END, LO, LT, BS_C10003, ZZ];
+    let one = under(state(rt.alloc(), files)?, "2059-12-31")?;
+    let lines: &[&[u8]] = &[
+        b"horizon 36524",
+        b"item 23536 1260 DFROC1A U DFROC1Z",
+        b"ASHFELD: record 2 of 23536 1260 DFROC1A",
+        &CENTRAL,
+        b"C10001: record 3 of 23536 1260 DFROC1A",
+        AA_NO_END,
+        b"C10001 23537: record 4 of 23536 1260 DFROC1A",
+        BS_NO_END,
+        LO,
+        LT,
+        b"C10003 23537: record 7 of 23536 1260 DFROC1A",
+        b"deleted",
+        b"live ASHFELD",
+        &CENTRAL,
+        b"live C10001",
+        AA_NO_END,
+        b"live C10001 23537",
+        BS_NO_END,
+        LO,
+        LT,
+    ];
+    check(&rt, rt.alloc(), &one, lines, "the last day there is")
 }
 
 /// The state of one deletion, built from its parts.

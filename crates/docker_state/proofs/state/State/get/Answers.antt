@@ -8,4 +8,4 @@ use Rattle.docker_state.proofs.state.State.get.Goals as goal
 pub returns : goal.returns
 returns c =
     rw (← c.self.view_is)
-    (ap (option_map entry_meant) c.get.ensures ∙ entry_of_rows c.self.inside.ledger.items c.self.inside.entries (key_meant c.args.key.now))
+    (ap (option_map entry_meant) c.get.ensures ∙ entry_of_rows c.self.inside.horizon c.self.inside.ledger.items c.self.inside.entries (key_meant c.args.key.now))

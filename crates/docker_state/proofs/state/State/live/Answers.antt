@@ -1,6 +1,6 @@
 use Rattle.std.proofs.Common.{map, ap, ◌∙◌, subst}
 use Rattle.docker_model.specs.State.{State, IsValid}
-use Rattle.docker_laws.proofs.PrintedDocker.{live_table_is_plain}
+use Rattle.docker_laws.proofs.PrintedDocker.{live_table_is_plain, live_is_lapsed_plain}
 use Rattle.docker_state.specs.Live.{live_rows}
 use Rattle.docker_state.specs.Meaning.{row_meant}
 use Rattle.docker_state.proofs.LiveTable.{live_walks, live_ascends}
@@ -18,3 +18,6 @@ returns-clause-ascending c =
 
 pub returns-clause-plain : goal.returns-clause-plain
 returns-clause-plain c = λ files summary distinct. live_table_is_plain files c.args.self.now summary distinct
+
+pub returns-clause-lapsed : goal.returns-clause-lapsed
+returns-clause-lapsed c = λ files horizon table summary plain. live_is_lapsed_plain files horizon c.args.self.now table summary plain

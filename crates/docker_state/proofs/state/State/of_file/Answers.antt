@@ -39,9 +39,9 @@ greatest_rows-requires-clause-room c =
 
 pub invariant_of-result : goal.invariant_of-result
 invariant_of-result c =
-    file_valid c.changes-count.ensures.read.records c.push_within.new.items.items
+    file_valid c.changes-count.ensures.read.records c.push_reserved.new.self.items
     (ledger_of_file c.args.file c.header.result c.header.ensures c.item_of-item.result c.item_of-item.ensures c.changes-count.ensures.read.records c.changes-count.ensures.read.of_records
-    c.in-Ok.ledger.items c.push_within.new.items.items c.in-Ok.ensures.items c.push_within.ensures.items)
+    c.in-Ok.ledger.items c.push_reserved.new.self.items c.in-Ok.ensures.items c.push_reserved.ensures.items)
     c.made_rows-made.result.items c.from_rows-entries.result
     (made_of_file c.args.file c.header.result c.header.ensures c.item_of-item.result c.item_of-item.ensures c.changes-count.ensures.read.records c.changes-count.ensures.read.of_records
     c.stamp.result c.stamp.ensures c.into_changes.result.items c.into_changes.ensures c.made_rows-made.result.items c.made_rows-made.ensures.made)
@@ -52,9 +52,9 @@ invariant_of-result c =
 
 pub returns-clause-ok : goal.returns-clause-ok
 returns-clause-ok c = λ records of.
-    file_summary records c.push_within.new.items.items
+    file_summary records c.push_reserved.new.self.items
     (ledger_of_file c.args.file c.header.result c.header.ensures c.item_of-item.result c.item_of-item.ensures records of
-    c.in-Ok.ledger.items c.push_within.new.items.items c.in-Ok.ensures.items c.push_within.ensures.items)
+    c.in-Ok.ledger.items c.push_reserved.new.self.items c.in-Ok.ensures.items c.push_reserved.ensures.items)
     c.made_rows-made.result.items c.from_rows-entries.result
     (made_of_file c.args.file c.header.result c.header.ensures c.item_of-item.result c.item_of-item.ensures records of
     c.stamp.result c.stamp.ensures c.into_changes.result.items c.into_changes.ensures c.made_rows-made.result.items c.made_rows-made.ensures.made)

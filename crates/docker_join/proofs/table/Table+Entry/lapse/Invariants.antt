@@ -1,0 +1,8 @@
+use Rattle.std.proofs.Common.{◌≡◌, map}
+use Rattle.docker_model.specs.Lapse.{lapse_entries}
+use Rattle.docker_join.specs.Meaning.{row_meant}
+use Rattle.docker_join.proofs.LapsedRows.{lapsed_from}
+use Rattle.docker_join.proofs.table.Table+Entry.lapse.Given as goal
+
+abbrev pub invariant-loop-row : goal.invariant-loop-row
+invariant-loop-row l = lapsed_from l.horizon l.row-index l.row-items ≡ lapse_entries l.horizon (map row_meant l.initial.row-items)
