@@ -208,8 +208,13 @@ pub finish_ok : (answer : Result FileRead FileFault) (records : Records) (limit 
 finish_ok (Ok file) records limit text counted told = record { records = lines_of text; is_text = record { lines = refl; is = told.0; within = counted.within }; of_records = told.1 }
 finish_ok (Err fault) records limit text counted told = told
 
+-- the fault behind the last record of a text with no end
+abbrev pub IsNoEnd : List ℕ → FileFault → Type 0
+IsNoEnd text fault = (fault.number ≡ length (lines_of text) + 1) × (cause_meant fault.cause ≡ Some no_end) × (¬ IsFile (lines_of text))
+
+-- it is the text's
 pub finish_err : (answer : Result FileRead FileFault) (records : Records) (limit : ℕ) (text : List ℕ) → HasCounted records limit (lines_of text)
-    → IfErr answer (λ fault. (fault.number ≡ length (lines_of text) + 1) × (cause_meant fault.cause ≡ Some no_end) × (¬ IsFile (lines_of text))) → IfErr answer (λ fault. IsRefused limit text fault)
+    → IfErr answer (IsNoEnd text) → IfErr answer (λ fault. IsRefused limit text fault)
 finish_err (Ok file) records limit text counted told = told
 finish_err (Err fault) records limit text counted told = subst (IsToldOf limit text fault.number) (sym told.1) (inr (record {
   within = counted.within;
@@ -418,6 +423,7 @@ later_than reading limit text fault is number = let same = lines_told_short text
 pub later_next : (reading : Reading) (line : List ℕ) (fault : FileFault) → ((limit : ℕ) (text : List ℕ) → IsReading reading limit text → IsFaultNext limit (told_lines text) line fault) → IsLater reading fault
 later_next reading line fault told = λ limit text is. later_than reading limit text fault is (told limit text is).number
 
+-- the same of an answer
 pub later_line : {A : Type 0} (answer : Result A FileFault) (reading : Reading) (line : List ℕ)
     → ((limit : ℕ) (text : List ℕ) → IsReading reading limit text → IfErr answer (λ fault. IsFaultNext limit (told_lines text) line fault)) → IfErr answer (IsLater reading)
 later_line (Ok value) reading line told = tt
@@ -427,22 +433,21 @@ later_line (Err fault) reading line told = later_next reading line fault told
 pub later_long : (reading : Reading) (fault : FileFault) → ((limit : ℕ) (text : List ℕ) → IsReading reading limit text → IsLongNext limit (told_lines text) fault) → IsLater reading fault
 later_long reading fault told = λ limit text is. later_than reading limit text fault is (told limit text is).number
 
--- that of a record behind the first bytes of a piece
+-- what a longer text doesn't tell, its front doesn't
 later_front : (text more : List ℕ) (fault : FileFault) → lines_told (text ++ more) < fault.number → lines_told text < fault.number
 later_front text more fault later = let grown = lines_told_grow text more in omega arith
 
+-- what is behind a front that was read is behind what was read before it
 pub later_piece : (old new : Reading) (front : List ℕ) (fault : FileFault) → ((limit : ℕ) (text : List ℕ) → IsReading old limit text → IsReading new limit (text ++ front)) → IsLater new fault → IsLater old fault
 later_piece old new front fault read later = λ limit text is. later_front text front fault (later limit (text ++ front) (read limit text is))
 
+-- the same of an answer
 pub later_piece_err : {A : Type 0} (answer : Result A FileFault) (old new : Reading) (front : List ℕ) → ((limit : ℕ) (text : List ℕ) → IsReading old limit text → IsReading new limit (text ++ front))
     → IfErr answer (IsLater new) → IfErr answer (IsLater old)
 later_piece_err (Ok value) old new front read told = told
 later_piece_err (Err fault) old new front read told = later_piece old new front fault read told
 
--- that behind the last record, of a text with no end
-abbrev pub IsNoEnd : List ℕ → FileFault → Type 0
-IsNoEnd text fault = (fault.number ≡ length (lines_of text) + 1) × (cause_meant fault.cause ≡ Some no_end) × (¬ IsFile (lines_of text))
-
+-- such a fault is behind what the text tells
 pub later_end : (answer : Result FileRead FileFault) (reading : Reading) → ((limit : ℕ) (text : List ℕ) → IsReading reading limit text → IfErr answer (IsNoEnd text)) → IfErr answer (IsLater reading)
 later_end (Ok file) reading told = tt
 later_end (Err fault) reading told = λ limit text is.
@@ -451,6 +456,7 @@ later_end (Err fault) reading told = λ limit text is.
     let number = (told limit text is).0 in
     omega arith
 
+-- and is no want of memory
 pub last_end : (answer : Result FileRead FileFault) (reading : Reading) → ((limit : ℕ) (text : List ℕ) → IsReading reading limit text → IfErr answer (IsNoEnd text)) → IfErr answer (IsLast reading)
 last_end (Ok file) reading told = tt
 last_end (Err fault) reading told = λ memory limit text is. let bad : ◌≡◌ {A = Option model.FileCause} None (Some no_end) = sym (ap cause_meant memory) ∙ (told limit text is).1 in absurd cc
@@ -460,14 +466,16 @@ pub last_open : (reading : Reading) (line : List ℕ) (fault : FileFault) → fa
     → ((limit : ℕ) (text : List ℕ) → IsReading reading limit text → IsFaultNext limit (told_lines text) line fault) → IsLast reading fault
 last_open reading line fault some told = λ _ limit text is. (told limit text is).number ∙ sym (length_at_end text (some_is_open reading limit text is some))
 
--- a parser that told no fault is one that reads
+-- what is later than what was read is later than what a parser was fed that told no fault
 pub names_later : (parser : ParserState) (reading : Reading) (fault : FileFault) → parser.fault ≡ None → parser.reading ≡ reading → IsLater reading fault → NamesLater parser fault
 names_later parser reading fault none same told = λ _ limit text has. told limit text (subst (λ r. IsReading r limit text) same (reading_at_none parser limit text none has))
 
+-- the same of an answer
 pub names_later_err : {A : Type 0} (answer : Result A FileFault) (parser : ParserState) (reading : Reading) → parser.fault ≡ None → parser.reading ≡ reading → IfErr answer (IsLater reading) → IfErr answer (NamesLater parser)
 names_later_err (Ok value) parser reading none same told = told
 names_later_err (Err fault) parser reading none same told = names_later parser reading fault none same told
 
+-- and of the last record
 pub names_last_err : {A : Type 0} (answer : Result A FileFault) (parser : ParserState) (reading : Reading) → parser.fault ≡ None → parser.reading ≡ reading → IfErr answer (IsLast reading) → IfErr answer (NamesLast parser)
 names_last_err (Ok value) parser reading none same told = told
 names_last_err (Err fault) parser reading none same told = λ _ memory limit text has. told memory limit text (subst (λ r. IsReading r limit text) same (reading_at_none parser limit text none has))
