@@ -96,7 +96,7 @@ impl State {
         })
     }
 
-    /// The number of the day before whose end nothing has ended that is put, from 0 for 1960-01-01. 0 where no day was set.
+    /// The horizon, a day number from 0 for 1960-01-01: nothing that is put ends before that day. 0 where none was set.
     pub fn horizon(&self) -> u16
         ensures horizon { result ≡ self.now.horizon }
         ensures day { IsDay result }

@@ -536,17 +536,21 @@ fn want_of_memory(rt: HostRuntime) -> Result<(), Fail> {
     Ok(())
 }
 
-/// A state with this day set as its horizon.
-fn under(mut state: State, day: &str) -> Result<State, Fail> {
-    state.set_horizon(Day::from_iso(day).ok_or("a day")?);
+/// A state with these days set as its horizon, in turn.
+fn set(mut state: State, days: &[&str]) -> Result<State, Fail> {
+    for day in days {
+        state.set_horizon(Day::from_iso(day).ok_or("a day")?);
+    }
     Ok(state)
+}
+
+/// The state of a file with these days set.
+fn set_on(alloc: Global, file: &[&[u8]], days: &[&str]) -> Result<State, Fail> {
+    set(state(alloc, file)?, days)
 }
 
 #[test]
 fn a_horizon(rt: HostRuntime) -> Result<(), Fail> {
-    let one = state(rt.alloc(), &[HD_9A, BS, LO, LT, ZZ])?;
-    assert_eq!(rt; one.horizon(), 0);
-    let one = under(one, "2024-06-14")?;
     let live: &[&[u8]] = &[
         b"horizon 23541",
         b"item 23536 1260 DFROC1A U DFROC1Z",
@@ -559,20 +563,22 @@ fn a_horizon(rt: HostRuntime) -> Result<(), Fail> {
         LO,
         LT,
     ];
-    check(&rt, rt.alloc(), &one, live, "its last day")?;
-    let one = under(one, "2024-06-15")?;
     let lapsed: &[&[u8]] = &[
         b"horizon 23542",
         b"item 23536 1260 DFROC1A U DFROC1Z",
         b"C10001 23537: record 2 of 23536 1260 DFROC1A",
         b"lapsed",
     ];
-    check(&rt, rt.alloc(), &one, lapsed, "the day after")?;
-    let one = under(one, "2024-06-10")?;
-    check(&rt, rt.alloc(), &one, lapsed, "an earlier day")?;
-    let again = state(rt.alloc(), &[HD_9A, BS, LO, LT, ZZ])?;
-    let both = joined(rt.alloc(), again, one)?;
-    check(&rt, rt.alloc(), &both, lapsed, "the same file again")
+    let cases: [(&[&str], &[&[u8]], &str); 3] = [
+        (&["2024-06-14"], live, "its last day"),
+        (&["2024-06-14", "2024-06-15"], lapsed, "the day after"),
+        (&["2024-06-15", "2024-06-10"], lapsed, "an earlier day"),
+    ];
+    for (days, lines, name) in cases {
+        let one = set_on(rt.alloc(), &[HD_9A, BS, LO, LT, ZZ], days)?;
+        check(&rt, rt.alloc(), &one, lines, name)?;
+    }
+    Ok(())
 }
 
 #[test]
@@ -586,33 +592,27 @@ fn a_horizon_between_two_files(rt: HostRuntime) -> Result<(), Fail> {
         b"C10001 23537: record 2 of 23537 1260 DFROC1B",
         b"lapsed",
     ];
-    let day = "2024-06-15";
-    for (first, second) in [(revision, older), (older, revision)] {
-        let set = under(state(rt.alloc(), first)?, day)?;
-        let between = joined(rt.alloc(), set, state(rt.alloc(), second)?)?;
-        check(&rt, rt.alloc(), &between, lines, "between the files")?;
-        let set = under(state(rt.alloc(), first)?, day)?;
-        let turned = joined(rt.alloc(), state(rt.alloc(), second)?, set)?;
-        check(&rt, rt.alloc(), &turned, lines, "of the other")?;
-        let both = joined(
-            rt.alloc(),
-            state(rt.alloc(), first)?,
-            state(rt.alloc(), second)?,
-        )?;
-        let last = under(both, day)?;
-        check(&rt, rt.alloc(), &last, lines, "behind both")?;
-        let one = under(state(rt.alloc(), first)?, day)?;
-        let other = under(state(rt.alloc(), second)?, day)?;
-        let all = joined(rt.alloc(), one, other)?;
-        check(&rt, rt.alloc(), &all, lines, "of both")?;
+    let none: &[&str] = &[];
+    let day: &[&str] = &["2024-06-15"];
+    let cases = [
+        (revision, day, older, none, none, "the revision first"),
+        (older, day, revision, none, none, "the older file first"),
+        (older, none, revision, day, none, "of the other"),
+        (older, day, revision, day, none, "of both"),
+        (revision, none, older, none, day, "behind both"),
+    ];
+    for (one, its, other, theirs, last, name) in cases {
+        let first = set_on(rt.alloc(), one, its)?;
+        let both = joined(rt.alloc(), first, set_on(rt.alloc(), other, theirs)?)?;
+        check(&rt, rt.alloc(), &set(both, last)?, lines, name)?;
     }
     Ok(())
 }
 
 #[test]
 fn what_has_no_end_stays(rt: HostRuntime) -> Result<(), Fail> {
-    let files: &[&[u8]] = &[HD_9A, TI, AA_NO_END, BS_NO_END, LO, LT, BS_C10003, ZZ];
-    let one = under(state(rt.alloc(), files)?, "2059-12-31")?;
+    let file: &[&[u8]] = &[HD_9A, TI, AA_NO_END, BS_NO_END, LO, LT, BS_C10003, ZZ];
+    let one = set_on(rt.alloc(), file, &["2059-12-31"])?;
     let lines: &[&[u8]] = &[
         b"horizon 36524",
         b"item 23536 1260 DFROC1A U DFROC1Z",
