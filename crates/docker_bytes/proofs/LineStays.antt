@@ -32,16 +32,19 @@ line_leads at entries key stamp n is state lines taken line good taken_is below 
       refl,
     )
 
--- a line that does not go on is a bad part
+-- a line that does not go on is a bad part, and one that does is none for which memory was wanting
 pub line_bad : (at : Place) (entries : ℕ) (key : ScheduleKey) (stamp : Stamp) (n : ℕ) → at ≡ place.Line entries key stamp n
     → (state : State) (lines : List (List ℕ)) (line : List ℕ) (cause : Option StateCause) → IsUpToRefusal (schedule_meant key) n lines line cause
-    → IsBadHere (place_meant at state lines) line cause
-line_bad at entries key stamp n is state lines line cause refused =
-    subst (λ (p : Place). IsBadHere (place_meant p state lines) line cause) (sym is) (by cause refused)
+    → AreGood dks_1 (place_meant at state lines) → IsBadHere dks_1 (place_meant at state lines) line cause
+line_bad at entries key stamp n is state lines line cause refused good =
+    subst (λ (p : Place). IsBadHere dks_1 (place_meant p state lines) line cause) (sym is) (by cause refused)
   where
+    here : AreGood dks_1 (in_entry entries state (before_line (schedule_meant key) (stamp_meant stamp) n lines))
+    here = subst (λ (p : Place). AreGood dks_1 (place_meant p state lines)) is good
+
     by : (cause : Option StateCause) → IsUpToRefusal (schedule_meant key) n lines line cause
-        → IsBadHere (in_entry entries state (before_line (schedule_meant key) (stamp_meant stamp) n lines)) line cause
-    by None r = tt
+        → IsBadHere dks_1 (in_entry entries state (before_line (schedule_meant key) (stamp_meant stamp) n lines)) line cause
+    by None r = record { takes = tt; not_bad = λ cause bad. bad.1 (r, need_not_lapse state (lines ++ line ∷ []) here.0) }
     by (Some bad_body) r = (refl, λ both. r both.0)
     by (Some bad_mark) r = absurd r
     by (Some bad_item) r = absurd r

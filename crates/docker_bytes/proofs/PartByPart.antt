@@ -6,8 +6,8 @@ use Rattle.docker_model.specs.Change.{tiploc_key, association_key, schedule_key,
 use Rattle.docker_model.specs.Op.{put_with, deleted, lapsed}
 use Rattle.docker_model.specs.Stamp.{Stamp, LedgerItem}
 use Rattle.docker_model.specs.State.{State}
-use Rattle.docker_model.specs.StateText.{item_in, dks_1}
-use Rattle.docker_model.specs.StateFault.{StateCause, too_short, EntryPart, before_tag, before_key, before_stamp, before_op, before_body, before_line, Before, before_mark, before_horizon, before_ledger_count, before_item, before_entry_count, in_entry, at_end, items_before, parts_before, text_before, width, AreGood, IsBadPart}
+use Rattle.docker_model.specs.StateText.{Format, item_in, dks_1}
+use Rattle.docker_model.specs.StateFault.{StateCause, too_short, EntryPart, before_tag, before_key, before_stamp, before_op, before_body, before_line, Before, before_mark, before_horizon, before_ledger_count, before_item, before_entry_count, in_entry, at_end, items_before, parts_before, text_before, width, AreGood, IsBadPart, HasBadPart, IsLong}
 use Rattle.docker_laws.proofs.StateBytes.{AreBytes}
 use Rattle.docker_laws.proofs.StateFaultStays.{bad_part_stays, long_stays}
 use Rattle.std.proofs.Math.Seq.{take-append_seam}
@@ -153,45 +153,75 @@ part_read old new bytes is none wide some small fits leads empty reached same at
         within.1 ∙ is.item_is
         ∙ ap length (sym (items_stay (before_of old) bytes (ap begins_item (sym leads.is) ∙ within.0)) ∙ ap (items_before dks_1) (sym leads.is))
 
--- a part that is bad
-pub part_refused : (old : Reading) (bytes : List ℕ) (cause : Option StateCause) → IsReading old → old.partial.items ≡ [] → length bytes ≡ width (before_of old) → old.reached + length bytes ≤ old.limit
-    → IsBadHere (before_of old) bytes cause → IsToldSoFar old.limit (text_of old ++ bytes) old.item_at cause
-part_refused old bytes None is none wide fits bad = record {
-  before = before_of old;
-  good = is.ready.good;
-  rest = bytes;
-  whole = ap (λ xs. (text_before dks_1 (before_of old) ++ xs) ++ bytes) none ∙ ap (λ xs. xs ++ bytes) (append-nil (text_before dks_1 (before_of old)));
-  there = omega arith;
-  below_limit = (let reached = is.reached_is in omega arith);
-  item_at = is.item_is;
-}
-part_refused old bytes (Some cause) is none wide fits bad =
-    inl (record {
+-- a part that is bad, or for which memory was wanting: its last bytes are these
+pub part_refused : (old : Reading) (front bytes : List ℕ) (at : ℕ) (cause : Option StateCause) → IsReading old → bytes ≡ old.partial.items ++ front → length bytes ≡ width (before_of old)
+    → 0 < length front → old.reached + length bytes ≤ old.limit → at ≡ old.item_at → IsBadHere dks_1 (before_of old) bytes cause → IsToldSoFar dks_1 old.limit (text_of old) front at cause
+part_refused old front bytes at cause is split wide some fits same bad = by cause bad
+  where
+    whole : text_of old ++ front ≡ text_before dks_1 (before_of old) ++ bytes ++ []
+    whole =
+        append_assoc (text_before dks_1 (before_of old)) old.partial.items front
+        ∙ ap (λ xs. text_before dks_1 (before_of old) ++ xs) (sym split) ∙ sym (append-nil (text_before dks_1 (before_of old) ++ bytes))
+
+    below : length (text_before dks_1 (before_of old)) + width (before_of old) ≤ old.limit
+    below = let reached = is.reached_is in omega arith
+
+    by : (cause : Option StateCause) → IsBadHere dks_1 (before_of old) bytes cause → IsToldSoFar dks_1 old.limit (text_of old) front at cause
+    by None wanting = record {
       before = before_of old;
       good = is.ready.good;
       bytes = bytes;
       rest = [];
-      whole = ap (λ xs. (text_before dks_1 (before_of old) ++ xs) ++ bytes) none ∙ ap (λ xs. xs ++ bytes) (append-nil (text_before dks_1 (before_of old))) ∙ sym (append-nil (text_before dks_1 (before_of old) ++ bytes));
+      whole = whole;
       size = wide;
-      below_limit = (let reached = is.reached_is in omega arith);
-      bad = bad;
-      item_at = is.item_is;
-    })
+      below_limit = below;
+      here = wanting;
+      ends_in_piece =
+          (let sizes = length-append (text_before dks_1 (before_of old)) old.partial.items in
+          let all = ap length split ∙ length-append old.partial.items front in
+          omega arith);
+      item_at = same ∙ is.item_is;
+    }
+    by (Some told) bad =
+        inl (record {
+          before = before_of old;
+          good = is.ready.good;
+          bytes = bytes;
+          rest = [];
+          whole = whole;
+          size = wide;
+          below_limit = below;
+          bad = bad;
+          item_at = same ∙ is.item_is;
+        })
 
 -- ---- a piece
 
-pub told_stays : (limit : ℕ) (text more : List ℕ) (at : ℕ) (cause : Option StateCause) → IsToldSoFar limit text at cause → IsToldSoFar limit (text ++ more) at cause
-told_stays limit text more at None wanting = record {
-  before = wanting.before;
-  good = wanting.good;
-  rest = wanting.rest ++ more;
-  whole = ap (λ xs. xs ++ more) wanting.whole ∙ append_assoc (text_before dks_1 wanting.before) wanting.rest more;
-  there = (let size = length-append wanting.rest more in let there = wanting.there in omega arith);
-  below_limit = wanting.below_limit;
-  item_at = wanting.item_at;
-}
-told_stays limit text more at (Some cause) (inl bad) = inl (bad_part_stays dks_1 limit text more (record { at = at; cause = cause }) bad)
-told_stays limit text more at (Some cause) (inr long) = inr (long_stays dks_1 limit text more (record { at = at; cause = cause }) long)
+-- a fault that a part of a piece tells is that of the piece
+pub told_stays : (format : Format) (limit : ℕ) (text read front behind : List ℕ) (at : ℕ) (cause : Option StateCause) → IsToldSoFar format limit (text ++ read) front at cause
+    → IsToldSoFar format limit text ((read ++ front) ++ behind) at cause
+told_stays format limit text read front behind at cause = by cause
+  where
+    whole : text ++ ((read ++ front) ++ behind) ≡ ((text ++ read) ++ front) ++ behind
+    whole = sym (append_assoc text (read ++ front) behind) ∙ ap (λ xs. xs ++ behind) (sym (append_assoc text read front))
+
+    by : (cause : Option StateCause) → IsToldSoFar format limit (text ++ read) front at cause → IsToldSoFar format limit text ((read ++ front) ++ behind) at cause
+    by None wanting = record {
+      before = wanting.before;
+      good = wanting.good;
+      bytes = wanting.bytes;
+      rest = wanting.rest ++ behind;
+      whole = whole ∙ ap (λ xs. xs ++ behind) wanting.whole ∙ append_assoc (text_before format wanting.before ++ wanting.bytes) wanting.rest behind;
+      size = wanting.size;
+      below_limit = wanting.below_limit;
+      here = wanting.here;
+      ends_in_piece = (let size = length-append text read in let ends = wanting.ends_in_piece in omega arith);
+      item_at = wanting.item_at;
+    }
+    by (Some told) (inl bad) =
+        inl (subst (λ xs. HasBadPart format limit xs (record { at = at; cause = told })) (sym whole) (bad_part_stays format limit ((text ++ read) ++ front) behind (record { at = at; cause = told }) bad))
+    by (Some told) (inr long) =
+        inr (subst (λ xs. IsLong format limit xs (record { at = at; cause = told })) (sym whole) (long_stays format limit ((text ++ read) ++ front) behind (record { at = at; cause = told }) long))
 
 pub rest_more : (piece rest front behind : List ℕ) → before_rest piece rest ++ rest ≡ piece → rest ≡ front ++ behind
     → (before_rest piece behind ≡ before_rest piece rest ++ front) × (before_rest piece behind ++ behind ≡ piece)
@@ -217,13 +247,15 @@ module _ (initial now : Reading) (piece rest : List ℕ) (whole : before_rest pi
   pub all_text : text_of now ++ rest ≡ text_of initial ++ piece
   all_text = ap (λ xs. xs ++ rest) on.text ∙ append_assoc (text_of initial) (before_rest piece rest) rest ∙ ap (λ xs. text_of initial ++ xs) whole
 
-  pub told_of_piece : (front behind : List ℕ) (at : ℕ) (cause : Option StateCause) → rest ≡ front ++ behind → IsToldSoFar now.limit (text_of now ++ front) at cause
-      → IsToldSoFar initial.limit (text_of initial ++ piece) at cause
+  pub told_of_piece : (front behind : List ℕ) (at : ℕ) (cause : Option StateCause) → rest ≡ front ++ behind → IsToldSoFar dks_1 now.limit (text_of now) front at cause
+      → IsToldSoFar dks_1 initial.limit (text_of initial) piece at cause
   told_of_piece front behind at cause split told =
-      subst (λ n. IsToldSoFar n (text_of initial ++ piece) at cause) on.limit
-      (subst (λ xs. IsToldSoFar now.limit xs at cause)
-      (append_assoc (text_of now) front behind ∙ ap (λ xs. text_of now ++ xs) (sym split) ∙ all_text)
-      (told_stays now.limit (text_of now ++ front) behind at cause told))
+      let all = rest_more piece rest front behind whole split in
+      let parted : (before_rest piece rest ++ front) ++ behind ≡ piece = ap (λ xs. xs ++ behind) (sym all.0) ∙ all.1 in
+      subst (λ xs. IsToldSoFar dks_1 initial.limit (text_of initial) xs at cause) parted
+      (told_stays dks_1 initial.limit (text_of initial) (before_rest piece rest) front behind at cause
+      (subst (λ n. IsToldSoFar dks_1 n (text_of initial ++ before_rest piece rest) front at cause) on.limit
+      (subst (λ xs. IsToldSoFar dks_1 now.limit xs front at cause) on.text told)))
 
   pub reads_further : (next : Reading) (front behind : List ℕ) → rest ≡ front ++ behind → ReadsOn now next front → ReadsOn initial next (before_rest piece behind)
   reads_further next front behind split further = record {
@@ -233,10 +265,10 @@ module _ (initial now : Reading) (piece rest : List ℕ) (whole : before_rest pi
     limit = further.limit ∙ on.limit;
   }
 
-  pub open_text : (next : Reading) → length now.partial.items + length rest < width (before_of now) → ReadsOn now next rest → IsOpen initial.limit (text_of initial ++ piece)
+  pub open_text : (next : Reading) → length now.partial.items + length rest < width (before_of now) → ReadsOn now next rest → IsOpen dks_1 initial.limit (text_of initial ++ piece)
   open_text next short further =
-      subst (λ n. IsOpen n (text_of initial ++ piece)) on.limit
-      (subst (IsOpen now.limit) all_text (
+      subst (λ n. IsOpen dks_1 n (text_of initial ++ piece)) on.limit
+      (subst (IsOpen dks_1 now.limit) all_text (
         record { at = length (items_before dks_1 (before_of now)); cause = too_short },
         record {
           before = before_of now;

@@ -6,7 +6,7 @@ use Rattle.std.proofs.lemmas.Result.{IfOk-weaker}
 use Rattle.cif_line.specs.Device.{Reads, IsEnd}
 use Rattle.docker_model.specs.State.{State}
 use Rattle.docker_model.specs.StateText.{dks_1}
-use Rattle.docker_model.specs.StateFault.{text_before, has_tail, IsStateFault, IsStateText, HasTail}
+use Rattle.docker_model.specs.StateFault.{text_before, before_mark, too_short, has_tail, IsStateFault, IsStateText, HasTail}
 use Rattle.docker_model.specs.StateFault as model
 use Rattle.docker_laws.proofs.StateFaultStays.{bad_part_stays, long_stays}
 use Rattle.docker_bytes.specs.declared.fault.StateCause.{StateCause}
@@ -17,9 +17,10 @@ use Rattle.docker_bytes.specs.declared.fault.Step.TheVariants.{Done, More}
 use Rattle.docker_bytes.specs.declared.read.ReadFault.{ReadFault}
 use Rattle.docker_bytes.specs.declared.read.ReadFault.TheVariants as fault
 use Rattle.docker_bytes.specs.FaultMeaning.{cause_meant}
-use Rattle.docker_bytes.specs.Reading.{before_of, text_of, IsToldSoFar, IsFaultTold, IsToldAtEnd, IsUnended, IsWhole, IsStep}
+use Rattle.docker_bytes.specs.Reading.{before_of, text_of, IsToldSoFar, IsFaultTold, IsToldAtEnd, IsUnended, IsWhole, IsOpen, IsWanting, IsStep}
 use Rattle.docker_bytes.specs.ParserRead.{ParserState, HasRead}
-use Rattle.docker_bytes.specs.SourceRead.{Held, ReadsState, IsCauseOf, IsFaultOf, RefusesState}
+use Rattle.docker_bytes.specs.SourceRead.{Held, ReadsState, IsCauseOf, IsFaultOf, RefusesState, ReadsOnePieceMore, WantsPart, WantsMemory}
+use Rattle.docker_bytes.proofs.WholeText.{sound_text}
 
 -- ---- causes
 
@@ -58,36 +59,57 @@ not_memory found told result memory state is = by (memory_or_not found.cause)
     by (inl wanting) = absurd (let from = memory wanting in cc)
     by (inr other) = (let from = state other in cc, other)
 
-told_so_far : (limit : ℕ) (text rest : List ℕ) (at : ℕ) (c : StateCause) → c ≢ cause.Memory → IsToldSoFar limit text at (cause_meant c) → IsCauseOf limit (text ++ rest) at (cause_meant c)
-told_so_far limit text rest at c other = by (cause_meant c) refl
+told_so_far : (limit : ℕ) (text piece rest : List ℕ) (at : ℕ) (c : StateCause) → c ≢ cause.Memory → IsToldSoFar dks_1 limit text piece at (cause_meant c)
+    → IsCauseOf limit ((text ++ piece) ++ rest) at (cause_meant c)
+told_so_far limit text piece rest at c other = by (cause_meant c) refl
   where
-    by : (o : Option model.StateCause) → cause_meant c ≡ o → IsToldSoFar limit text at o → IsCauseOf limit (text ++ rest) at o
+    by : (o : Option model.StateCause) → cause_meant c ≡ o → IsToldSoFar dks_1 limit text piece at o → IsCauseOf limit ((text ++ piece) ++ rest) at o
     by None is told = other (none_is_memory c is)
-    by (Some k) is (inl bad) = inl (bad_part_stays dks_1 limit text rest (record { at = at; cause = k }) bad)
-    by (Some k) is (inr long) = inr (inl (long_stays dks_1 limit text rest (record { at = at; cause = k }) long))
+    by (Some k) is (inl bad) = inl (bad_part_stays dks_1 limit (text ++ piece) rest (record { at = at; cause = k }) bad)
+    by (Some k) is (inr long) = inr (inl (long_stays dks_1 limit (text ++ piece) rest (record { at = at; cause = k }) long))
 
-told_at_end : (limit : ℕ) (text : List ℕ) (at : ℕ) (c : StateCause) → c ≢ cause.Memory → IsToldAtEnd limit text at (cause_meant c) → IsCauseOf limit text at (cause_meant c)
+told_at_end : (limit : ℕ) (text : List ℕ) (at : ℕ) (c : StateCause) → c ≢ cause.Memory → IsToldAtEnd dks_1 limit text at (cause_meant c) → IsCauseOf limit text at (cause_meant c)
 told_at_end limit text at c other = by (cause_meant c) refl
   where
-    by : (o : Option model.StateCause) → cause_meant c ≡ o → IsToldAtEnd limit text at o → IsCauseOf limit text at o
+    by : (o : Option model.StateCause) → cause_meant c ≡ o → IsToldAtEnd dks_1 limit text at o → IsCauseOf limit text at o
     by None is told = other (none_is_memory c is)
     by (Some k) is short = inr (inr (inl short))
 
-pub told_as_state : {A : Type 0} (limit : ℕ) (text rest : List ℕ) (found told : StateFault) (result : ReadFault) → IsFaultTold limit text found → (found.cause ≡ cause.Memory → result ≡ fault.Memory)
-    → (found.cause ≢ cause.Memory → result ≡ fault.State found) → ◌≡◌ {A = Result A ReadFault} (Err result) (Err (fault.State told)) → IsFaultOf limit (text ++ rest) told
-told_as_state limit text rest found told result so_far memory state is =
+pub told_as_state : {A : Type 0} (limit : ℕ) (text piece rest : List ℕ) (found told : StateFault) (result : ReadFault) → IsFaultTold dks_1 limit text piece found → (found.cause ≡ cause.Memory → result ≡ fault.Memory)
+    → (found.cause ≢ cause.Memory → result ≡ fault.State found) → ◌≡◌ {A = Result A ReadFault} (Err result) (Err (fault.State told)) → IsFaultOf limit ((text ++ piece) ++ rest) told
+told_as_state limit text piece rest found told result so_far memory state is =
     let same = not_memory found told result memory state is in
-    subst (IsFaultOf limit (text ++ rest)) same.0 (told_so_far limit text rest found.at found.cause same.1 so_far)
+    subst (IsFaultOf limit ((text ++ piece) ++ rest)) same.0 (told_so_far limit text piece rest found.at found.cause same.1 so_far)
 
-pub ended_as_state : {A : Type 0} (limit : ℕ) (text : List ℕ) (found told : StateFault) (result : ReadFault) → IsUnended limit text found → (found.cause ≡ cause.Memory → result ≡ fault.Memory)
+pub ended_as_state : {A : Type 0} (limit : ℕ) (text : List ℕ) (found told : StateFault) (result : ReadFault) → IsUnended dks_1 limit text found → (found.cause ≡ cause.Memory → result ≡ fault.Memory)
     → (found.cause ≢ cause.Memory → result ≡ fault.State found) → ◌≡◌ {A = Result A ReadFault} (Err result) (Err (fault.State told)) → IsFaultOf limit text told
 ended_as_state limit text found told result at_end memory state is =
     let same = not_memory found told result memory state is in
     subst (IsFaultOf limit text) same.0 (told_at_end limit text found.at found.cause same.1 at_end)
 
+-- want of memory is told where it was found
+is_memory : {A : Type 0} (found : StateFault) (result : ReadFault) → (found.cause ≢ cause.Memory → result ≡ fault.State found) → ◌≡◌ {A = Result A ReadFault} (Err result) (Err fault.Memory)
+    → found.cause ≡ cause.Memory
+is_memory found result state is = by (memory_or_not found.cause)
+  where
+    by : (found.cause ≡ cause.Memory) ⊎ (found.cause ≢ cause.Memory) → found.cause ≡ cause.Memory
+    by (inl wanting) = wanting
+    by (inr other) = absurd (let from = state other in cc)
+
+pub told_as_memory : {A : Type 0} (limit : ℕ) (text piece : List ℕ) (found : StateFault) (result : ReadFault) → IsFaultTold dks_1 limit text piece found
+    → (found.cause ≢ cause.Memory → result ≡ fault.State found) → ◌≡◌ {A = Result A ReadFault} (Err result) (Err fault.Memory) → (at : ℕ) × IsWanting dks_1 limit text piece at
+told_as_memory limit text piece found result so_far state is =
+    (found.at, subst (λ c. IsToldSoFar dks_1 limit text piece found.at (cause_meant c)) (is_memory found result state is) so_far)
+
+pub ended_as_memory : {A : Type 0} (limit : ℕ) (text : List ℕ) (found : StateFault) (result : ReadFault) → IsUnended dks_1 limit text found
+    → (found.cause ≢ cause.Memory → result ≡ fault.State found) → ◌≡◌ {A = Result A ReadFault} (Err result) (Err fault.Memory) → IsWhole dks_1 limit text
+ended_as_memory limit text found result at_end state is =
+    let wanting = subst (λ c. IsToldAtEnd dks_1 limit text found.at (cause_meant c)) (is_memory found result state is) at_end in
+    wanting.0
+
 -- ---- bytes behind the state
 
-tail_of : (limit : ℕ) (text piece rest : List ℕ) (used : ℕ) (found : StateFault) → used < length piece → IsWhole limit (text ++ take used piece) → found.at ≡ length (text ++ take used piece)
+tail_of : (limit : ℕ) (text piece rest : List ℕ) (used : ℕ) (found : StateFault) → used < length piece → IsWhole dks_1 limit (text ++ take used piece) → found.at ≡ length (text ++ take used piece)
     → found.cause ≡ cause.Tail → IsFaultOf limit ((text ++ piece) ++ rest) found
 tail_of limit text piece rest used found below whole at is =
     subst (λ c. IsCauseOf limit ((text ++ piece) ++ rest) found.at (cause_meant c)) (sym is) (inr (inr (inr (by (drop used piece) (take-append-drop used piece) (let size = length-drop used piece in omega arith)))))
@@ -108,7 +130,7 @@ tail_of limit text piece rest used found below whole at is =
       end_at = at ∙ ap length whole.1.is;
     }
 
-pub tail_told : (limit : ℕ) (text piece rest : List ℕ) (used : ℕ) (step : Step) (found : StateFault) → used < length piece → IsStep limit text piece (used, step)
+pub tail_told : (limit : ℕ) (text piece rest : List ℕ) (used : ℕ) (step : Step) (found : StateFault) → used < length piece → IsStep dks_1 limit text piece (used, step)
     → found.at ≡ length (text ++ take used piece) → found.cause ≡ cause.Tail → IsFaultOf limit ((text ++ piece) ++ rest) found
 tail_told limit text piece rest used Done found below whole at is = tail_of limit text piece rest used found below whole at is
 tail_told limit text piece rest used More found below more at is = absurd (let all = more.0 in omega arith)
@@ -125,14 +147,15 @@ record IsAtTurn (limit : ℕ) (initial : Option (List ℕ)) (parser : ParserStat
 pub HasTurned : ℕ → Option (List ℕ) → ParserState → Option (List ℕ) → Type 0
 HasTurned limit initial parser now = IsAtTurn limit initial parser now
 
+-- nothing is lost before the first read
+pub lost_nothing : (left : Option (List ℕ)) → Reads left [] left
+lost_nothing None = refl
+lost_nothing (Some bytes) = refl
+
 -- at first
 pub at_start : (limit : ℕ) (left : Option (List ℕ)) (parser : ParserState) → HasRead parser limit [] → HasTurned limit left parser left
 unfolding HasTurned
-at_start limit left parser read = record { text = []; read = read; lost = by left }
-  where
-    by : (left : Option (List ℕ)) → Reads left [] left
-    by None = refl
-    by (Some bytes) = refl
+at_start limit left parser read = record { text = []; read = read; lost = lost_nothing left }
 
 -- what is read behind what was read
 lost_more : (initial now next : Option (List ℕ)) (text piece : List ℕ) → Reads initial text now → Reads now piece next → Reads initial (text ++ piece) next
@@ -197,6 +220,49 @@ refused_within limit initial now next parser found piece at more is = by initial
     by None next lost = record { text = (at.text ++ piece) ++ []; held = tt; is = is at.text at.read [] }
     by (Some told) None lost = cc
     by (Some told) (Some rest) lost = record { text = (at.text ++ piece) ++ rest; held = cc; is = is at.text at.read rest }
+
+pub stops_at_first : (most limit : ℕ) (left : Option (List ℕ)) → ReadsOnePieceMore most limit left left
+stops_at_first most limit left = record {
+  text = [];
+  piece = [];
+  lost = lost_nothing left;
+  few = omega arith;
+  sound = inl (
+    record { at = 0; cause = too_short },
+    record { before = before_mark; good = tt; rest = []; whole = refl; ends = omega arith; within = omega arith; cause = refl; item_at = refl },
+  );
+}
+
+-- nothing is read behind a piece
+pub stops_behind : (most limit : ℕ) (initial now next : Option (List ℕ)) (parser : ParserState) (piece : List ℕ) → HasTurned limit initial parser now → Reads now piece next → length piece ≤ most
+    → ReadsOnePieceMore most limit initial next
+unfolding HasTurned
+stops_behind most limit initial now next parser piece at more few = record {
+  text = at.text;
+  piece = piece;
+  lost = lost_more initial now next at.text piece at.lost more;
+  few = few;
+  sound = sound_text parser limit at.text at.read;
+}
+
+-- a source that failed lost nothing more
+pub stops_where_failed : (most limit : ℕ) (initial now next : Option (List ℕ)) (parser : ParserState) → HasTurned limit initial parser now → next ≡ now → ReadsOnePieceMore most limit initial next
+stops_where_failed most limit initial now next parser at same =
+    stops_behind most limit initial now next parser [] at (subst (Reads now []) (sym same) (lost_nothing now)) (omega arith)
+
+pub wants_part : (most limit : ℕ) (initial now next : Option (List ℕ)) (parser : ParserState) (piece : List ℕ) → HasTurned limit initial parser now → Reads now piece next → length piece ≤ most
+    → ((text : List ℕ) → HasRead parser limit text → (at : ℕ) × IsWanting dks_1 limit text piece at) → WantsMemory most limit initial next
+unfolding HasTurned
+wants_part most limit initial now next parser piece at more few is =
+    let wanting = is at.text at.read in
+    inr (inl (record { text = at.text; piece = piece; lost = lost_more initial now next at.text piece at.lost more; few = few; at = wanting.0; wanting = wanting.1 }))
+
+pub wants_at_end : (most limit : ℕ) (initial now next : Option (List ℕ)) (parser : ParserState) → HasTurned limit initial parser now → IsEnd now
+    → ((text : List ℕ) → HasRead parser limit text → IsWhole dks_1 limit text) → WantsMemory most limit initial next
+unfolding HasTurned
+wants_at_end most limit initial now next parser at end is =
+    let whole = is at.text at.read in
+    inr (inr (whole.0, record { text = at.text; held = held_all initial now at.text at.lost end; is = whole.1 }))
 
 -- the bytes of a buffer that were read
 pub same_front : (n len : ℕ) (piece into items : List ℕ) → piece ≡ take len (into ++ drop (length into) items) → length into ≡ len → n ≤ length into → take n piece ≡ take n into

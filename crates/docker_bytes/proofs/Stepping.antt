@@ -1,6 +1,7 @@
 -- From a part to the next: ledger items and lines.
-use Rattle.std.proofs.Common.{◌≡◌, ℕ, ◌-◌, ◌<◌, ◌≤◌, ◌^◌, List, [], ◌∷◌, ◌++◌, length, ap, sym, ◌∙◌, subst, arith, length-append, Ok, Err}
-use Rattle.std.specs.Prelude.{Result, IfOk}
+use Rattle.std.proofs.Common.{◌≡◌, ℕ, ◌+◌, ◌-◌, ◌<◌, ◌≤◌, ◌^◌, List, [], ◌∷◌, ◌++◌, length, ap, sym, ◌∙◌, subst, arith, length-append, Ok, Err}
+use Rattle.std.specs.Prelude.{Result, IfOk, IfErr}
+use Rattle.std.proofs.lemmas.Result.{IfErr-weaker}
 use Rattle.docker_model.specs.Change.{ScheduleKey, schedule_key, schedule_body}
 use Rattle.docker_model.specs.Stamp.{LedgerItem, Stamp}
 use Rattle.docker_model.specs.Op.{put_with, body_end}
@@ -12,7 +13,7 @@ use Rattle.docker_laws.proofs.StateTexts.{more_lines, all_lines}
 use Rattle.docker_laws.proofs.LedgerGrown.{one_item_more}
 use Rattle.docker_bytes.specs.declared.fault.StateCause.{StateCause}
 use Rattle.docker_bytes.specs.declared.fault.StateCause.TheVariants as cause
-use Rattle.docker_bytes.specs.FaultMeaning.{cause_meant, IsBadHere}
+use Rattle.docker_bytes.specs.FaultMeaning.{cause_meant, IsWantingHere, IsBadHere}
 use Rattle.docker_bytes.specs.Judged.{MayFollow}
 
 pub item_follows : (ledger told : List LedgerItem) (item meant : LedgerItem) → told ≡ ledger → IsLedger ledger → meant ≡ item → MayFollow told item → IsLedger (ledger ++ meant ∷ [])
@@ -24,9 +25,19 @@ pub both_ok : {T E : Type 0} (r : Result T E) (P Q R : T → Type 0) → ((x : T
 both_ok (Ok x) P Q R f p q = f x p q
 both_ok (Err e) P Q R f p q = tt
 
--- want of memory is no fault of the text
-pub wanting_here : (before : Before) (bytes : List ℕ) (told : StateCause) → told ≡ cause.Memory → IsBadHere before bytes (cause_meant told)
-wanting_here before bytes told is = subst (λ (k : StateCause). IsBadHere before bytes (cause_meant k)) (sym is) tt
+-- with the last line there are as many as were told
+pub taken_all : (lines : List (List ℕ)) (line : List ℕ) (taken : List (List ℕ)) (n : ℕ) → taken ≡ lines ++ line ∷ [] → n ≤ length lines + 1 → n ≤ length taken
+taken_all lines line taken n is last =
+    let size = length-append lines (line ∷ []) in
+    let same : length taken ≡ length (lines ++ line ∷ []) = ap (λ (ls : List (List ℕ)). length ls) is in
+    omega arith
+
+-- want of memory for a part that is not bad
+pub wanting_here : {A : Type 0} (result : Result A StateCause) (before : Before) (bytes : List ℕ) → IsWantingHere dks_1 before bytes → IfErr result (λ told. told ≡ cause.Memory)
+    → IfErr result (λ told. IsBadHere dks_1 before bytes (cause_meant told))
+wanting_here result before bytes here =
+    IfErr-weaker result (λ told. told ≡ cause.Memory) (λ told. IsBadHere dks_1 before bytes (cause_meant told))
+    (λ told is. subst (λ (k : StateCause). IsBadHere dks_1 before bytes (cause_meant k)) (sym is) here)
 
 -- under no horizon no lines have to lapse
 pub need_not_lapse : (state : State) (lines : List (List ℕ)) → IsToldState dks_1 state → HaveNotToLapse state lines

@@ -2,6 +2,8 @@ pub mod Written
 pub mod Entries
 pub mod Place
 pub mod FaultMeaning
+pub mod FaultText
+pub mod ReadFaultText
 pub mod Judged
 pub mod Lines
 pub mod Reading

@@ -1,5 +1,5 @@
 -- What a place of the code means: what stands before the next part, of these parts of a state and these lines of an open schedule.
-use Rattle.std.specs.Prelude.{◌≡◌, ℕ, Bool, true, false, List, [], ⊤}
+use Rattle.std.specs.Prelude.{◌≡◌, ℕ, ◌+◌, ◌≤◌, Bool, true, false, List, [], length, ⊤}
 use Rattle.docker_model.specs.Change.{schedule_key}
 use Rattle.docker_model.specs.Change as model
 use Rattle.docker_model.specs.State.{State}
@@ -60,6 +60,11 @@ IsFresh place.LedgerCount state = (state.ledger ≡ []) × (state.entries ≡ []
 IsFresh (place.Item count) state = (state.entries ≡ []) × (state.horizon ≡ 0)
 IsFresh place.EntryCount state = (state.entries ≡ []) × (state.horizon ≡ 0)
 IsFresh _ state = ⊤
+
+-- the part is no line with more lines to come
+abbrev pub IsLast : Place → List (List ℕ) → Type 0
+IsLast (place.Line count key stamp n) lines = n ≤ length lines + 1
+IsLast _ lines = ⊤
 
 -- a place has been come to by good parts
 pub record IsReady (place : Place) (state : State) (lines : List (List ℕ)) : Type 0 where

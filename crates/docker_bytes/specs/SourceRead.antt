@@ -1,11 +1,13 @@
 -- What a source held.
-use Rattle.std.specs.Prelude.{◌≡◌, ℕ, List, Option, Some, None, ⊤}
+use Rattle.std.specs.Prelude.{◌≡◌, ℕ, ◌≤◌, ◌⊎◌, List, [], ◌++◌, length, Option, Some, None, ⊤}
+use Rattle.cif_line.specs.Device.{Reads}
 use Rattle.docker_model.specs.State.{State}
 use Rattle.docker_model.specs.StateText.{dks_1}
 use Rattle.docker_model.specs.StateFault.{IsStateFault, IsStateText}
 use Rattle.docker_model.specs.StateFault as model
 use Rattle.docker_bytes.specs.declared.fault.StateFault.{StateFault}
 use Rattle.docker_bytes.specs.FaultMeaning.{cause_meant}
+use Rattle.docker_bytes.specs.Reading.{IsWhole, IsOpen, IsWanting}
 
 -- a source that tells its bytes held this text
 abbrev pub Held : Option (List ℕ) → List ℕ → Type 0
@@ -31,3 +33,24 @@ pub record RefusesState (limit : ℕ) (left : Option (List ℕ)) (fault : StateF
   pub text : List ℕ
   pub held : Held left text
   pub is : IsFaultOf limit text fault
+
+-- behind a text that is not at fault, whole or not, a source lost one piece of at most so many bytes
+pub record ReadsOnePieceMore (most limit : ℕ) (old new : Option (List ℕ)) : Type 0 where
+  pub text : List ℕ
+  pub piece : List ℕ
+  pub lost : Reads old (text ++ piece) new
+  pub few : length piece ≤ most
+  pub sound : IsOpen dks_1 limit text ⊎ IsWhole dks_1 limit text
+
+-- memory was wanting for a part that ends in the last piece of at most so many bytes that a source lost
+pub record WantsPart (most limit : ℕ) (old new : Option (List ℕ)) : Type 0 where
+  pub text : List ℕ
+  pub piece : List ℕ
+  pub lost : Reads old (text ++ piece) new
+  pub few : length piece ≤ most
+  pub at : ℕ
+  pub wanting : IsWanting dks_1 limit text piece at
+
+-- memory was wanting: before a byte was read, for a part up to which none is bad, or at the end of a state's text
+abbrev pub WantsMemory : ℕ → ℕ → Option (List ℕ) → Option (List ℕ) → Type 0
+WantsMemory most limit old new = Reads old [] new ⊎ WantsPart most limit old new ⊎ ((state : State) × ReadsState limit old state)

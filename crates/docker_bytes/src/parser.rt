@@ -41,13 +41,13 @@ impl StateParser {
 
     /// Takes the next bytes of the text, and tells how many of them it used: at `More` all, and more are to come; at `Done` those up to the last byte of the
     /// state, and from then on none. It is refused once a bad part is there, or a byte at the limit that the state needs, and it tells that fault; or where
-    /// memory is wanting, at the item that is being read. Each later call answers the same fault.
+    /// memory is wanting for a part whose last byte it takes, at that part's item, and then no part up to it is bad. Each later call answers the same fault.
     pub fn feed(&mut self, piece: &[u8]) -> Result<(usize, Step), StateFault>
         ensures within { IfOk result (λ answer. answer.0 ≤ length piece.now) }
         ensures read { (limit : ℕ) (text : List ℕ) → HasRead self.old limit text → IfOk result (λ answer. HasRead self.new limit (text ++ take answer.0 piece.now)) }
-        ensures step { (limit : ℕ) (text : List ℕ) → HasRead self.old limit text → IfOk result (IsStep limit text piece.now) }
-        ensures done { (limit : ℕ) (text : List ℕ) → HasRead self.old limit text → IsWhole limit text → result ≡ Ok (0, Step.Done) }
-        ensures err { (limit : ℕ) (text : List ℕ) → HasRead self.old limit text → IfErr result (λ fault. IsFaultTold limit (text ++ piece.now) fault) }
+        ensures step { (limit : ℕ) (text : List ℕ) → HasRead self.old limit text → IfOk result (IsStep dks_1 limit text piece.now) }
+        ensures done { (limit : ℕ) (text : List ℕ) → HasRead self.old limit text → IsWhole dks_1 limit text → result ≡ Ok (0, Step.Done) }
+        ensures err { (limit : ℕ) (text : List ℕ) → HasRead self.old limit text → IfErr result (λ fault. IsFaultTold dks_1 limit text piece.now fault) }
         ensures failed { IfErr result (λ fault. HasFailed self.new fault) }
         ensures again { (fault : _) → HasFailed self.old fault → result ≡ Err fault }
     {
@@ -76,10 +76,11 @@ impl StateParser {
         self.reading.offset()
     }
 
-    /// The state whose text was read. `Short` where the text ends before the state does, at the item that is not whole. After a fault of `feed` it is that fault.
+    /// The state whose text was read. `Short` where the text ends before the state does, at the item that is not whole; want of memory only of a whole text, at
+    /// its end. After a fault of `feed` it is that fault.
     pub fn finish(self) -> Result<State, StateFault>
         ensures ok { (limit : ℕ) (text : List ℕ) → HasRead self limit text → IfOk result (λ state. IsStateText dks_1 limit text state) }
-        ensures err { (limit : ℕ) (text : List ℕ) → HasRead self limit text → IfErr result (λ fault. IsUnended limit text fault) }
+        ensures err { (limit : ℕ) (text : List ℕ) → HasRead self limit text → IfErr result (λ fault. IsUnended dks_1 limit text fault) }
         ensures again { (fault : _) → HasFailed self fault → result ≡ Err fault }
     {
         match self.fault {

@@ -1,40 +1,56 @@
 //! The state that a source holds.
-ghost use Rattle.std.specs.Prelude.{◌≡◌, ◌≢◌, ℕ, ◌+◌, ◌-◌, ◌^◌, ◌<◌, ◌↔◌, List, ◌++◌, length, IsOk, IfOk, Err};
+ghost use Rattle.std.specs.Prelude.{◌≡◌, ◌≢◌, ℕ, ◌+◌, ◌-◌, ◌^◌, ◌<◌, ◌↔◌, List, ◌++◌, length, IsOk, IfOk, Err, Some};
 ghost use Rattle.docker_model.specs.StateText.{dks_1};
 ghost use Rattle.docker_model.specs.StateFault.{IsStateText};
 ghost use Rattle.docker_bytes.specs.ParserRead.{HasRead};
-ghost use Rattle.docker_bytes.specs.SourceRead.{ReadsState, RefusesState, IsFaultOf};
+ghost use Rattle.docker_bytes.specs.ReadFaultText.{read_fault_text};
+ghost use Rattle.docker_bytes.specs.SourceRead.{ReadsState, RefusesState, IsFaultOf, ReadsOnePieceMore, WantsMemory};
+ghost use Rattle.docker_bytes.specs.Reading.{IsWhole, IsWanting};
 
 use crate::fault::{StateCause, StateFault};
 use crate::parser::StateParser;
 use cif_line::Source;
 use docker_state::State;
 use std::alloc::Global;
-use thiserror::Error;
+use std::error::Error;
+use std::fmt;
 
 /// How many bytes are read at once.
 const PIECE: usize = 65_536;
 
 /// Why no state was read.
-#[derive(Clone, Copy, PartialEq, Eq, Debug, Error)]
+#[derive(Clone, Copy, PartialEq, Eq, Debug)]
 pub enum ReadFault {
     /// The source failed.
-    #[error("the source failed")]
     Source,
     /// What the source holds is no text of a state: never `Memory`.
-    #[error("{0}")]
     State(StateFault),
-    /// A growth was refused: want of memory.
-    #[error("want of memory")]
+    /// A growth was refused: want of memory. No part that was judged before is bad.
     Memory,
 }
 
-/// Reads a source to its end, or to the first fault, and answers the state whose text it held. A source that never ends is read to the byte at the limit at
-/// the latest, and that piece of 65,536 bytes to its end.
+impl fmt::Display for ReadFault {
+    ghost output = { λ fault. Some (read_fault_text fault) };
+
+    fn fmt<W: fmt::Write>(&self, f: &mut fmt::Formatter<W>) -> fmt::Result {
+        match self {
+            ReadFault::Source => f.write_str("the source failed"),
+            ReadFault::State(fault) => write!(f, "{fault}"),
+            ReadFault::Memory => f.write_str("want of memory"),
+        }
+    }
+}
+
+impl Error for ReadFault {}
+
+/// Reads a source to its end, or to the first fault, and answers the state whose text it held. Nothing is read behind the piece, of at most 65,536 bytes, that
+/// decides the answer: so a source that never ends is read to the piece with the byte at the limit at the latest.
 pub fn read_state<S: Source>(alloc: Global, source: &mut S, limit: u64) -> Result<State, ReadFault>
     requires { S.failures source.old < 2 ^ 64 - 1 }
     ensures ok { IfOk result (ReadsState limit (S.left source.old)) }
     ensures state { (fault : _) → result ≡ Err (ReadFault.State fault) → RefusesState limit (S.left source.old) fault }
+    ensures memory { result ≡ Err ReadFault.Memory → WantsMemory 65536 limit (S.left source.old) (S.left source.new) }
+    ensures few { ReadsOnePieceMore 65536 limit (S.left source.old) (S.left source.new) }
     ensures source { (result ≡ Err ReadFault.Source) ↔ (S.failures source.new ≡ S.failures source.old + 1) }
     ensures no_failure { result ≢ Err ReadFault.Source → S.failures source.new ≡ S.failures source.old }
 {
@@ -60,6 +76,8 @@ fn fed(parser: &mut StateParser, piece: &[u8]) -> Result<(), ReadFault>
     ensures read { (limit : ℕ) (text : List ℕ) → HasRead parser.old limit text → IsOk result → HasRead parser.new limit (text ++ piece.now) }
     ensures state { (limit : ℕ) (text : List ℕ) → HasRead parser.old limit text → (fault : _) → result ≡ Err (ReadFault.State fault)
         → (rest : List ℕ) → IsFaultOf limit ((text ++ piece.now) ++ rest) fault }
+    ensures memory { (limit : ℕ) (text : List ℕ) → HasRead parser.old limit text → result ≡ Err ReadFault.Memory
+        → (at : ℕ) × IsWanting dks_1 limit text piece.now at }
     ensures source { result ≢ Err ReadFault.Source }
 {
     match parser.feed(piece) {
@@ -77,6 +95,7 @@ fn fed(parser: &mut StateParser, piece: &[u8]) -> Result<(), ReadFault>
 fn finished(parser: StateParser) -> Result<State, ReadFault>
     ensures ok { (limit : ℕ) (text : List ℕ) → HasRead parser limit text → IfOk result (λ state. IsStateText dks_1 limit text state) }
     ensures state { (limit : ℕ) (text : List ℕ) → HasRead parser limit text → (fault : _) → result ≡ Err (ReadFault.State fault) → IsFaultOf limit text fault }
+    ensures memory { (limit : ℕ) (text : List ℕ) → HasRead parser limit text → result ≡ Err ReadFault.Memory → IsWhole dks_1 limit text }
     ensures source { result ≢ Err ReadFault.Source }
 {
     match parser.finish() {

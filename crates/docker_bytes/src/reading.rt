@@ -3,7 +3,7 @@ ghost use Rattle.std.specs.Prelude.{◌≡◌, ◌+◌, ◌-◌, ◌<◌, ◌≤
 ghost use Rattle.arrayvec.specs.ArrayVec.{array_vec_len};
 ghost use Rattle.docker_model.specs.StateText.{dks_1};
 ghost use Rattle.docker_model.specs.StateFault.{width, IsStateText};
-ghost use Rattle.docker_bytes.specs.Reading.{before_of, text_of, IsReading, ReadsOn, IsFaultTold, IsUnended, IsStep};
+ghost use Rattle.docker_bytes.specs.Reading.{before_of, text_of, IsReading, ReadsOn, IsPartRefused, IsFaultTold, IsUnended, IsStep};
 
 use crate::fault::{StateCause, StateFault, Step};
 use crate::place::Place;
@@ -102,7 +102,7 @@ impl Reading {
         requires some { 0 < length bytes.now }
         requires fits { self.old.reached + length bytes.now ≤ self.old.limit }
         ensures ok { IsOk result → ReadsOn self.old self.new bytes.now }
-        ensures err { IfErr result (λ fault. IsFaultTold self.old.limit (text_of self.old ++ bytes.now) fault) }
+        ensures err { IfErr result (λ fault. IsPartRefused self.old bytes.now fault) }
     {
         if let Place::Line(_entries, key, _stamp, count) = self.place {
             if self.lines.has_more(count) {
@@ -140,7 +140,7 @@ impl Reading {
         requires wide { length self.old.partial.items + length front.now ≡ width (before_of self.old) }
         requires some { 0 < length front.now }
         ensures ok { IsOk result → ReadsOn self.old self.new front.now }
-        ensures err { IfErr result (λ fault. IsFaultTold self.old.limit (text_of self.old ++ front.now) fault) }
+        ensures err { IfErr result (λ fault. IsFaultTold dks_1 self.old.limit (text_of self.old) front.now fault) }
     {
         if (self.partial.len() + front.len()) as u64 > self.limit - self.reached {
             return Err(self.long());
@@ -158,7 +158,7 @@ impl Reading {
         requires reading { IsReading self.old }
         requires short { length self.old.partial.items + length more.now < width (before_of self.old) }
         ensures ok { IsOk result → ReadsOn self.old self.new more.now }
-        ensures err { IfErr result (λ fault. IsFaultTold self.old.limit (text_of self.old ++ more.now) fault) }
+        ensures err { IfErr result (λ fault. IsFaultTold dks_1 self.old.limit (text_of self.old) more.now fault) }
     {
         if (self.partial.len() + more.len()) as u64 > self.limit - self.reached {
             return Err(self.long());
@@ -172,8 +172,8 @@ impl Reading {
         requires { IsReading self.old }
         ensures within { IfOk result (λ answer. answer.0 ≤ length piece.now) }
         ensures on { IfOk result (λ answer. ReadsOn self.old self.new (take answer.0 piece.now)) }
-        ensures step { IfOk result (IsStep self.old.limit (text_of self.old) piece.now) }
-        ensures err { IfErr result (λ fault. IsFaultTold self.old.limit (text_of self.old ++ piece.now) fault) }
+        ensures step { IfOk result (IsStep dks_1 self.old.limit (text_of self.old) piece.now) }
+        ensures err { IfErr result (λ fault. IsFaultTold dks_1 self.old.limit (text_of self.old) piece.now fault) }
     {
         let mut rest = piece;
         'parts: loop {
@@ -200,7 +200,7 @@ impl Reading {
     pub(crate) fn finish(self) -> Result<State, StateFault>
         requires { IsReading self }
         ensures ok { IfOk result (λ state. IsStateText dks_1 self.limit (text_of self) state) }
-        ensures err { IfErr result (λ fault. IsUnended self.limit (text_of self) fault) }
+        ensures err { IfErr result (λ fault. IsUnended dks_1 self.limit (text_of self) fault) }
     {
         let Reading {
             alloc: _,

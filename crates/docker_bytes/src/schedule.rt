@@ -2,10 +2,11 @@
 ghost use Rattle.std.specs.Prelude.{◌≡◌, ◌+◌, ◌<◌, ◌↔◌, ◌⊎◌, [], ◌∷◌, ◌++◌, length, false, IsTrue, IsOk, IfOk, IfErr};
 ghost use Rattle.docker_model.specs.File.{IsSchedule, BeginsSchedule};
 ghost use Rattle.docker_model.specs.StateFault.{AreLinesOf, AreLinesUpTo};
+ghost use Rattle.cif_file.specs.JourneyRead.{HasLines};
 ghost use Rattle.docker_bytes.specs.Place.{schedule_meant};
 ghost use Rattle.docker_bytes.specs.Judged.{IsFirstOf};
 ghost use Rattle.docker_bytes.specs.FaultMeaning.{cause_meant};
-ghost use Rattle.docker_bytes.specs.Lines.{IsLineRefusal, IsUpToRefusal};
+ghost use Rattle.docker_bytes.specs.Lines.{BeginUpTo, IsLineRefusal, IsUpToRefusal};
 
 use crate::body::is_first_of;
 use crate::fault::StateCause;
@@ -32,6 +33,15 @@ impl Model for Gathered {
     ghost invariant = { λ gathered. HasLines gathered.journey gathered.lines.items };
 }
 
+/// Lets go of lines, and keeps their buffer.
+fn let_go(journey: &mut Journey, lines: &mut Vec<Line>)
+    ensures none { lines.new.items ≡ [] }
+    ensures reader { HasLines journey.new lines.new.items }
+{
+    *journey = Journey::new();
+    lines.clear();
+}
+
 impl Gathered {
     /// No line yet.
     pub(crate) fn new(alloc: Global) -> Gathered
@@ -43,12 +53,11 @@ impl Gathered {
         }
     }
 
-    /// Lets go of the lines, and keeps the buffer.
+    /// Lets go of the lines.
     pub(crate) fn clear(&mut self)
         ensures { self.new ≡ [] }
     {
-        self.journey = Journey::new();
-        self.lines.clear();
+        let_go(&mut self.journey, &mut self.lines);
     }
 
     /// How many lines there are.
@@ -84,20 +93,25 @@ impl Gathered {
         Ok(Lines::of(body))
     }
 
-    /// Takes the next line. `Body` where no schedule begins with the lines so far and this one. Want of memory lets go of all lines.
-    fn take(&mut self, line: &Line) -> Result<(), StateCause>
+    /// Takes the next of so many lines. `Body` where they are none of a schedule with this one. A line that is refused lets go of all lines.
+    fn take(&mut self, line: &Line, count: u32) -> Result<(), StateCause>
+        requires { length self.old < count }
         ensures taken { IsOk result → self.new ≡ self.old ++ line.now ∷ [] }
-        ensures begin { IsOk result → BeginsSchedule (self.old ++ line.now ∷ []) }
-        ensures err { IfErr result (λ cause. IsLineRefusal self.old line.now (cause_meant cause)) }
+        ensures goes_on { IsOk result → BeginUpTo count (self.old ++ line.now ∷ []) }
+        ensures err { IfErr result (λ cause. IsLineRefusal count self.old line.now (cause_meant cause)) }
     {
+        let is_last = !self.has_more(count);
         if self.journey.line(line).is_err() {
+            return Err(StateCause::Body);
+        }
+        if is_last && !self.journey.complete() {
+            let_go(&mut self.journey, &mut self.lines);
             return Err(StateCause::Body);
         }
         match self.lines.push(*line) {
             Ok(()) => Ok(()),
             Err(_) => {
-                self.journey = Journey::new();
-                self.lines.clear();
+                let_go(&mut self.journey, &mut self.lines);
                 Err(StateCause::Memory)
             }
         }
@@ -122,7 +136,8 @@ pub(crate) fn judged_line(
     lines: &mut Gathered,
     bytes: &[u8],
 ) -> Result<(), StateCause>
-    requires { (lines.old ≡ []) ⊎ AreLinesOf (schedule_meant key.now) lines.old }
+    requires lines_of { (lines.old ≡ []) ⊎ AreLinesOf (schedule_meant key.now) lines.old }
+    requires more { length lines.old < count }
     ensures taken { IsOk result → lines.new ≡ lines.old ++ bytes.now ∷ [] }
     ensures up_to { IsOk result → AreLinesUpTo (schedule_meant key.now) count (lines.old ++ bytes.now ∷ []) }
     ensures err { IfErr result (λ cause. IsUpToRefusal (schedule_meant key.now) count lines.old bytes.now (cause_meant cause)) }
@@ -133,13 +148,5 @@ pub(crate) fn judged_line(
     if !may_follow(key, lines, &line) {
         return Err(StateCause::Body);
     }
-    if let Err(cause) = lines.take(&line) {
-        return Err(cause);
-    }
-    if lines.len() == count as usize {
-        if !lines.is_complete() {
-            return Err(StateCause::Body);
-        }
-    }
-    Ok(())
+    lines.take(&line, count)
 }

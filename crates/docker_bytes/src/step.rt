@@ -1,5 +1,5 @@
 //! From a part of the text to the next.
-ghost use Rattle.std.specs.Prelude.{◌≡◌, ◌<◌, ◌↔◌, ℕ, List, [], length, IsTrue, IfOk, IfErr, MatchOption};
+ghost use Rattle.std.specs.Prelude.{◌≡◌, ◌+◌, ◌<◌, ◌≤◌, ◌↔◌, ℕ, List, [], length, IsTrue, IfOk, IfErr, MatchOption};
 ghost use Rattle.std.specs.Int.{w32, from_be_bytes};
 ghost use Rattle.docker_model.specs.Change.{tiploc_key, association_key, schedule_key};
 ghost use Rattle.docker_model.specs.State as states;
@@ -10,7 +10,7 @@ ghost use Rattle.docker_laws.proofs.StateRun.{after_items, after_entries, with_e
 ghost use Rattle.cif_file.specs.Meaning.{key_meant};
 ghost use Rattle.docker_join.specs.Meaning.{stamp_meant, op_meant};
 ghost use Rattle.docker_bytes.specs.FaultMeaning.{cause_meant, IsBadHere};
-ghost use Rattle.docker_bytes.specs.Place.{tag_meant, assoc_meant, schedule_meant, place_meant, IsReady, LeadsTo, IsFresh};
+ghost use Rattle.docker_bytes.specs.Place.{tag_meant, assoc_meant, schedule_meant, place_meant, IsReady, IsLast, LeadsTo, IsFresh};
 
 use crate::body::{assoc_body, tiploc_body};
 use crate::fault::StateCause;
@@ -42,7 +42,7 @@ fn is_mark(bytes: &[u8]) -> bool
 /// Takes the mark.
 fn after_mark(bytes: &[u8]) -> Result<Place, StateCause>
     ensures ok { IfOk result (λ place. (state : states.State) (lines : List (List ℕ)) → IsFresh Place.Mark state → LeadsTo before_mark bytes.now place state lines) }
-    ensures err { IfErr result (λ cause. IsBadHere before_mark bytes.now (cause_meant cause)) }
+    ensures err { IfErr result (λ cause. IsBadHere dks_1 before_mark bytes.now (cause_meant cause)) }
 {
     if is_mark(bytes) {
         Ok(Place::LedgerCount)
@@ -83,7 +83,7 @@ fn after_item(count: u64, parts: &mut Parts, bytes: &[u8]) -> Result<Place, Stat
     requires fresh { parts.old.entries ≡ [] }
     requires wide { length bytes.now ≡ 19 }
     ensures ok { IfOk result (λ place. (lines : List (List ℕ)) → LeadsTo (before_item 0 count parts.old.ledger) bytes.now place parts.new lines) }
-    ensures err { IfErr result (λ cause. IsBadHere (before_item 0 count parts.old.ledger) bytes.now (cause_meant cause)) }
+    ensures err { IfErr result (λ cause. IsBadHere dks_1 (before_item 0 count parts.old.ledger) bytes.now (cause_meant cause)) }
 {
     match judged_item(parts.ledger(), bytes) {
         Ok(item) => match parts.item(item) {
@@ -98,7 +98,7 @@ fn after_item(count: u64, parts: &mut Parts, bytes: &[u8]) -> Result<Place, Stat
 fn after_tag(count: u64, bytes: &[u8]) -> Result<Place, StateCause>
     requires { length bytes.now ≡ 1 }
     ensures ok { IfOk result (λ place. (state : states.State) (lines : List (List ℕ)) → LeadsTo (in_entry count state before_tag) bytes.now place state lines) }
-    ensures err { IfErr result (λ cause. (state : states.State) → IsBadHere (in_entry count state before_tag) bytes.now (cause_meant cause)) }
+    ensures err { IfErr result (λ cause. (state : states.State) → IsBadHere dks_1 (in_entry count state before_tag) bytes.now (cause_meant cause)) }
 {
     match bytes[0] {
         1 => Ok(Place::Key(count, Tag::Tiploc)),
@@ -113,7 +113,7 @@ fn after_key(count: u64, tag: Tag, parts: &Parts, bytes: &[u8]) -> Result<Place,
     requires good { AreGood dks_1 (in_entry count parts.now (before_key (tag_meant tag))) }
     requires wide { length bytes.now ≡ key_width (tag_meant tag) }
     ensures ok { IfOk result (λ place. (lines : List (List ℕ)) → LeadsTo (in_entry count parts.now (before_key (tag_meant tag))) bytes.now place parts.now lines) }
-    ensures err { IfErr result (λ cause. IsBadHere (in_entry count parts.now (before_key (tag_meant tag))) bytes.now (cause_meant cause)) }
+    ensures err { IfErr result (λ cause. IsBadHere dks_1 (in_entry count parts.now (before_key (tag_meant tag))) bytes.now (cause_meant cause)) }
 {
     match judged_key(tag, parts, bytes) {
         Ok(key) => Ok(Place::Stamp(count, key)),
@@ -126,7 +126,7 @@ fn after_stamp(count: u64, key: Key, parts: &Parts, bytes: &[u8]) -> Result<Plac
     requires good { AreGood dks_1 (in_entry count parts.now (before_stamp (key_meant key))) }
     requires wide { length bytes.now ≡ 15 }
     ensures ok { IfOk result (λ place. (lines : List (List ℕ)) → LeadsTo (in_entry count parts.now (before_stamp (key_meant key))) bytes.now place parts.now lines) }
-    ensures err { IfErr result (λ cause. IsBadHere (in_entry count parts.now (before_stamp (key_meant key))) bytes.now (cause_meant cause)) }
+    ensures err { IfErr result (λ cause. IsBadHere dks_1 (in_entry count parts.now (before_stamp (key_meant key))) bytes.now (cause_meant cause)) }
 {
     match judged_stamp(parts.ledger(), bytes) {
         Some(stamp) => Ok(Place::Op(count, key, stamp)),
@@ -160,7 +160,7 @@ fn after_op(
     requires good { AreGood dks_1 (in_entry count parts.old (before_op (key_meant key) (stamp_meant stamp))) }
     requires wide { length bytes.now ≡ 1 }
     ensures ok { IfOk result (λ place. (lines : List (List ℕ)) → LeadsTo (in_entry count parts.old (before_op (key_meant key) (stamp_meant stamp))) bytes.now place parts.new lines) }
-    ensures err { IfErr result (λ cause. IsBadHere (in_entry count parts.old (before_op (key_meant key) (stamp_meant stamp))) bytes.now (cause_meant cause)) }
+    ensures err { IfErr result (λ cause. IsBadHere dks_1 (in_entry count parts.old (before_op (key_meant key) (stamp_meant stamp))) bytes.now (cause_meant cause)) }
 {
     match bytes[0] {
         0 => give(count, parts, key, stamp, Op::Deleted),
@@ -180,7 +180,7 @@ fn after_tiploc_body(
     requires good { AreGood dks_1 (in_entry count parts.old (before_body (tiploc_key code) (stamp_meant stamp))) }
     requires wide { length bytes.now ≡ 63 }
     ensures ok { IfOk result (λ place. (lines : List (List ℕ)) → LeadsTo (in_entry count parts.old (before_body (tiploc_key code) (stamp_meant stamp))) bytes.now place parts.new lines) }
-    ensures err { IfErr result (λ cause. IsBadHere (in_entry count parts.old (before_body (tiploc_key code) (stamp_meant stamp))) bytes.now (cause_meant cause)) }
+    ensures err { IfErr result (λ cause. IsBadHere dks_1 (in_entry count parts.old (before_body (tiploc_key code) (stamp_meant stamp))) bytes.now (cause_meant cause)) }
 {
     match tiploc_body(bytes) {
         Some(body) => give(count, parts, Key::Tiploc(code), stamp, Op::Put(body)),
@@ -198,7 +198,7 @@ fn after_assoc_body(
 ) -> Result<Place, StateCause>
     requires good { AreGood dks_1 (in_entry count parts.old (before_body (association_key (assoc_meant key)) (stamp_meant stamp))) }
     ensures ok { IfOk result (λ place. (lines : List (List ℕ)) → LeadsTo (in_entry count parts.old (before_body (association_key (assoc_meant key)) (stamp_meant stamp))) bytes.now place parts.new lines) }
-    ensures err { IfErr result (λ cause. IsBadHere (in_entry count parts.old (before_body (association_key (assoc_meant key)) (stamp_meant stamp))) bytes.now (cause_meant cause)) }
+    ensures err { IfErr result (λ cause. IsBadHere dks_1 (in_entry count parts.old (before_body (association_key (assoc_meant key)) (stamp_meant stamp))) bytes.now (cause_meant cause)) }
 {
     match assoc_body(&key, bytes) {
         Some(body) => give(count, parts, Key::Assoc(key), stamp, Op::Put(body)),
@@ -231,7 +231,7 @@ fn after_line_count(
 ) -> Result<Place, StateCause>
     requires { length bytes.now ≡ 4 }
     ensures ok { IfOk result (λ place. (state : states.State) → LeadsTo (in_entry count state (before_body (schedule_key (schedule_meant key)) (stamp_meant stamp))) bytes.now place state lines.new) }
-    ensures err { IfErr result (λ cause. (state : states.State) → IsBadHere (in_entry count state (before_body (schedule_key (schedule_meant key)) (stamp_meant stamp))) bytes.now (cause_meant cause)) }
+    ensures err { IfErr result (λ cause. (state : states.State) → IsBadHere dks_1 (in_entry count state (before_body (schedule_key (schedule_meant key)) (stamp_meant stamp))) bytes.now (cause_meant cause)) }
 {
     match line_count(bytes) {
         Some(told) => {
@@ -250,8 +250,8 @@ struct Schedule {
     count: u32,
 }
 
-/// Takes a line of a schedule.
-fn after_line(
+/// Takes the last line of a schedule.
+fn after_last_line(
     alloc: Global,
     count: u64,
     schedule: Schedule,
@@ -259,15 +259,13 @@ fn after_line(
     lines: &mut Gathered,
     bytes: &[u8],
 ) -> Result<Place, StateCause>
-    requires { AreGood dks_1 (in_entry count parts.old (before_line (schedule_meant schedule.key) (stamp_meant schedule.stamp) schedule.count lines.old)) }
+    requires good { AreGood dks_1 (in_entry count parts.old (before_line (schedule_meant schedule.key) (stamp_meant schedule.stamp) schedule.count lines.old)) }
+    requires last { schedule.count ≤ length lines.old + 1 }
     ensures ok { IfOk result (λ place. LeadsTo (in_entry count parts.old (before_line (schedule_meant schedule.key) (stamp_meant schedule.stamp) schedule.count lines.old)) bytes.now place parts.new lines.new) }
-    ensures err { IfErr result (λ cause. IsBadHere (in_entry count parts.old (before_line (schedule_meant schedule.key) (stamp_meant schedule.stamp) schedule.count lines.old)) bytes.now (cause_meant cause)) }
+    ensures err { IfErr result (λ cause. IsBadHere dks_1 (in_entry count parts.old (before_line (schedule_meant schedule.key) (stamp_meant schedule.stamp) schedule.count lines.old)) bytes.now (cause_meant cause)) }
 {
     if let Err(cause) = judged_line(&schedule.key, schedule.count, lines, bytes) {
         return Err(cause);
-    }
-    if lines.len() < schedule.count as usize {
-        return Ok(Place::Line(count, schedule.key, schedule.stamp, schedule.count));
     }
     match lines.body(alloc) {
         Ok(body) => {
@@ -284,7 +282,7 @@ fn after_line(
     }
 }
 
-/// Takes the part that comes next, and tells the place behind it, or why the part is bad.
+/// Takes the part that comes next, which is no line with more lines to come, and tells the place behind it, or why the part is bad.
 pub(crate) fn step(
     alloc: Global,
     place: Place,
@@ -295,8 +293,9 @@ pub(crate) fn step(
     requires ready { IsReady place parts.old lines.old }
     requires wide { length bytes.now ≡ width (place_meant place parts.old lines.old) }
     requires some { 0 < length bytes.now }
+    requires last { IsLast place lines.old }
     ensures ok { IfOk result (λ after. LeadsTo (place_meant place parts.old lines.old) bytes.now after parts.new lines.new) }
-    ensures err { IfErr result (λ cause. IsBadHere (place_meant place parts.old lines.old) bytes.now (cause_meant cause)) }
+    ensures err { IfErr result (λ cause. IsBadHere dks_1 (place_meant place parts.old lines.old) bytes.now (cause_meant cause)) }
 {
     match place {
         Place::Mark => after_mark(bytes),
@@ -314,7 +313,7 @@ pub(crate) fn step(
         },
         Place::Line(entries, key, stamp, count) => {
             let schedule = Schedule { key, stamp, count };
-            after_line(alloc, entries, schedule, parts, lines, bytes)
+            after_last_line(alloc, entries, schedule, parts, lines, bytes)
         }
         Place::End => unreachable!(),
     }

@@ -13,6 +13,7 @@ use std::test::Fail;
 
 mod endless;
 mod merged;
+mod parts;
 
 /// The header of an update of 9 June 2024, 21:00.
 const HD: &[u8] =

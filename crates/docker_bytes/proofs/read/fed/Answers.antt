@@ -2,7 +2,7 @@ use Rattle.std.proofs.Common.{◌≡◌, ◌++◌, subst, arith, take}
 use Rattle.std.proofs.lemmas.List.{take_all}
 use Rattle.docker_bytes.specs.ParserRead.{HasRead}
 use Rattle.docker_bytes.specs.SourceRead.{IsFaultOf}
-use Rattle.docker_bytes.proofs.SourceReading.{tail_told, told_as_state}
+use Rattle.docker_bytes.proofs.SourceReading.{tail_told, told_as_state, told_as_memory}
 use Rattle.docker_bytes.proofs.read.fed.Goals as goal
 
 pub returns-then-used-piece-clause-state : goal.returns-then-used-piece-clause-state
@@ -19,4 +19,8 @@ returns-else-used-piece-clause-read c = λ limit text has ok.
 
 pub returns-in-Err-clause-state : goal.returns-in-Err-clause-state
 returns-in-Err-clause-state c = λ limit text has told is rest.
-    told_as_state limit (text ++ c.args.piece.now) rest c.in-Err.fault told c.fault_of.result (c.in-Err.ensures.err limit text has) c.fault_of.ensures.memory c.fault_of.ensures.state is
+    told_as_state limit text c.args.piece.now rest c.in-Err.fault told c.fault_of.result (c.in-Err.ensures.err limit text has) c.fault_of.ensures.memory c.fault_of.ensures.state is
+
+pub returns-in-Err-clause-memory : goal.returns-in-Err-clause-memory
+returns-in-Err-clause-memory c = λ limit text has is.
+    told_as_memory limit text c.args.piece.now c.in-Err.fault c.fault_of.result (c.in-Err.ensures.err limit text has) c.fault_of.ensures.state is

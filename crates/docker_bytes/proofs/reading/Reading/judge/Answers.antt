@@ -1,7 +1,7 @@
-use Rattle.std.proofs.Common.{refl, sym, subst, ◌∙◌, ◌++◌, inl, inr, arith}
-use Rattle.docker_bytes.specs.Reading.{text_of, IsFaultTold}
+use Rattle.std.proofs.Common.{refl, sym, subst, ◌∙◌, inl, inr, arith}
+use Rattle.docker_bytes.specs.Reading.{IsPartRefused}
 use Rattle.docker_bytes.specs.FaultMeaning.{cause_meant}
-use Rattle.docker_bytes.proofs.PartByPart.{part_read, part_refused}
+use Rattle.docker_bytes.proofs.PartByPart.{part_read}
 use Rattle.docker_bytes.proofs.LineStays.{line_leads, line_bad}
 use Rattle.docker_bytes.proofs.reading.Reading.judge.Goals as goal
 
@@ -24,12 +24,11 @@ returns-in-Ok-clause-ok c = λ ok.
 
 pub returns-in-Err-clause-err : goal.returns-in-Err-clause-err
 returns-in-Err-clause-err c =
-    subst (IsFaultTold c.args.self.now.limit (text_of c.args.self.now ++ c.args.bytes.now)) (sym c.bad.ensures)
-    (part_refused c.args.self.now c.args.bytes.now (cause_meant c.in-Err.cause) c.requires.reading c.requires.fresh c.requires.wide c.requires.fits
-    (line_bad c.args.self.now.place c.in-Line._entries c.in-Line.key c.in-Line._stamp c.in-Line.count c.in-Line.is c.args.self.now.parts c.args.self.now.lines c.args.bytes.now
-    (cause_meant c.in-Err.cause) c.in-Err.ensures.err))
+    subst (IsPartRefused c.args.self.now c.args.bytes.now) (sym c.bad.ensures) (
+      refl,
+      line_bad c.args.self.now.place c.in-Line._entries c.in-Line.key c.in-Line._stamp c.in-Line.count c.in-Line.is c.args.self.now.parts c.args.self.now.lines c.args.bytes.now
+          (cause_meant c.in-Err.cause) c.in-Err.ensures.err c.requires.reading.ready.good,
+    )
 
 pub returns-in-Err-step-clause-err : goal.returns-in-Err-step-clause-err
-returns-in-Err-step-clause-err c =
-    subst (IsFaultTold c.args.self.now.limit (text_of c.args.self.now ++ c.args.bytes.now)) (sym c.bad-in-Err-step.ensures)
-    (part_refused c.args.self.now c.args.bytes.now (cause_meant c.in-Err-step.cause) c.requires.reading c.requires.fresh c.requires.wide c.requires.fits c.in-Err-step.ensures.err)
+returns-in-Err-step-clause-err c = subst (IsPartRefused c.args.self.now c.args.bytes.now) (sym c.bad-in-Err-step.ensures) (refl, c.in-Err-step.ensures.err)
