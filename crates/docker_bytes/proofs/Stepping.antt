@@ -6,7 +6,7 @@ use Rattle.docker_model.specs.Change.{ScheduleKey, schedule_key, schedule_body}
 use Rattle.docker_model.specs.Stamp.{LedgerItem, Stamp}
 use Rattle.docker_model.specs.Op.{put_with, body_end}
 use Rattle.docker_model.specs.State.{State, IsLedger, IsScheduleOf}
-use Rattle.docker_model.specs.StateText.{dks_1}
+use Rattle.docker_model.specs.StateText.{Format}
 use Rattle.docker_model.specs.StateFault.{Before, in_entry, before_line, AreLinesUpTo, HaveNotToLapse, IsPartHere, IsToldState}
 use Rattle.docker_laws.proofs.StateRun.{advance, after_lines, after_entries, with_entry}
 use Rattle.docker_laws.proofs.StateTexts.{more_lines, all_lines}
@@ -33,21 +33,15 @@ taken_all lines line taken n is last =
     omega arith
 
 -- want of memory for a part that is not bad
-pub wanting_here : {A : Type 0} (result : Result A StateCause) (before : Before) (bytes : List ℕ) → IsWantingHere dks_1 before bytes → IfErr result (λ told. told ≡ cause.Memory)
-    → IfErr result (λ told. IsBadHere dks_1 before bytes (cause_meant told))
-wanting_here result before bytes here =
-    IfErr-weaker result (λ told. told ≡ cause.Memory) (λ told. IsBadHere dks_1 before bytes (cause_meant told))
-    (λ told is. subst (λ (k : StateCause). IsBadHere dks_1 before bytes (cause_meant k)) (sym is) here)
+pub wanting_here : (format : Format) {A : Type 0} (result : Result A StateCause) (before : Before) (bytes : List ℕ) → IsWantingHere format before bytes → IfErr result (λ told. told ≡ cause.Memory)
+    → IfErr result (λ told. IsBadHere format before bytes (cause_meant told))
+wanting_here format result before bytes here =
+    IfErr-weaker result (λ told. told ≡ cause.Memory) (λ told. IsBadHere format before bytes (cause_meant told))
+    (λ told is. subst (λ (k : StateCause). IsBadHere format before bytes (cause_meant k)) (sym is) here)
 
--- under no horizon no lines have to lapse
-pub need_not_lapse : (state : State) (lines : List (List ℕ)) → IsToldState dks_1 state → HaveNotToLapse state lines
-need_not_lapse state lines told =
-    let none : state.horizon ≡ 0 = told.horizon in
-    subst (λ (n : ℕ). n ≤ body_end (schedule_body lines)) (sym none) (omega arith)
-
-module _ (count : ℕ) (state : State) (key : ScheduleKey) (stamp : Stamp) (n : ℕ) (lines : List (List ℕ)) (line : List ℕ) (taken : List (List ℕ))
+module _ (format : Format) (count : ℕ) (state : State) (key : ScheduleKey) (stamp : Stamp) (n : ℕ) (lines : List (List ℕ)) (line : List ℕ) (taken : List (List ℕ))
     (here : IsPartHere state (before_line key stamp n lines)) (is : taken ≡ lines ++ line ∷ []) where
-  pub more_to_come : length taken < n → in_entry count state (before_line key stamp n taken) ≡ advance dks_1 (in_entry count state (before_line key stamp n lines)) line
+  pub more_to_come : length taken < n → in_entry count state (before_line key stamp n taken) ≡ advance format (in_entry count state (before_line key stamp n lines)) line
   more_to_come below =
       ap (λ ls. in_entry count state (before_line key stamp n ls)) is ∙ sym (more_lines count state key stamp n (lines ++ line ∷ []) (subst (λ (ls : List (List ℕ)). length ls < n) is below))
 
@@ -59,7 +53,7 @@ module _ (count : ℕ) (state : State) (key : ScheduleKey) (stamp : Stamp) (n : 
       omega arith
 
   pub all_there : (body : List (List ℕ)) → body ≡ taken → n ≤ length taken
-      → after_entries count (with_entry state (schedule_key key) stamp (put_with (schedule_body body))) ≡ advance dks_1 (in_entry count state (before_line key stamp n lines)) line
+      → after_entries count (with_entry state (schedule_key key) stamp (put_with (schedule_body body))) ≡ advance format (in_entry count state (before_line key stamp n lines)) line
   all_there body same enough =
       ap (λ ls. after_entries count (with_entry state (schedule_key key) stamp (put_with (schedule_body ls)))) (same ∙ is)
       ∙ sym (all_lines count state key stamp (lines ++ line ∷ []))

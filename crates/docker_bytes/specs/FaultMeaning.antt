@@ -2,7 +2,7 @@
 use Rattle.std.specs.Prelude.{◌≢◌, ℕ, List, Option, Some, None, slice_index, ⊤}
 use Rattle.docker_model.specs.Change.{tiploc_key, association_key, schedule_key}
 use Rattle.docker_model.specs.StateText.{Format}
-use Rattle.docker_model.specs.StateFault.{bad_mark, bad_item, bad_order, bad_floor, bad_tag, bad_stamp, bad_body, too_short, has_tail, too_long, EntryPart, before_tag, before_key, before_stamp, before_op, before_body, before_line, Before, before_item, in_entry, IsBadPart}
+use Rattle.docker_model.specs.StateFault.{bad_mark, bad_item, bad_order, bad_floor, bad_tag, bad_stamp, bad_body, too_short, has_tail, too_long, bad_horizon, EntryPart, before_tag, before_key, before_stamp, before_op, before_body, before_line, Before, before_item, in_entry, IsBadPart}
 use Rattle.docker_model.specs.StateFault as model
 use Rattle.docker_bytes.specs.declared.fault.StateCause.{StateCause}
 use Rattle.docker_bytes.specs.declared.fault.StateCause.TheVariants as cause
@@ -20,6 +20,7 @@ cause_meant cause.Short = Some too_short
 cause_meant cause.Tail = Some has_tail
 cause_meant cause.Long = Some too_long
 cause_meant cause.Memory = None
+cause_meant cause.Horizon = Some bad_horizon
 
 -- memory is taken for a part of an entry: for a line, and for what ends an entry. The op of a put, which is 1, ends none
 abbrev pub PartTakesMemory : EntryPart → List ℕ → Type 0

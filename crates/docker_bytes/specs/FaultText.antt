@@ -1,7 +1,7 @@
 -- The texts of faults.
 use Rattle.std.specs.Prelude.{ℕ, List, ◌++◌, codes, decimal}
 use Rattle.docker_bytes.specs.declared.fault.StateCause.{StateCause}
-use Rattle.docker_bytes.specs.declared.fault.StateCause.TheVariants.{Mark, Item, Order, Floor, Tag, Stamp, Body, Short, Tail, Long, Memory}
+use Rattle.docker_bytes.specs.declared.fault.StateCause.TheVariants.{Mark, Item, Order, Floor, Tag, Stamp, Body, Short, Tail, Long, Memory, Horizon}
 use Rattle.docker_bytes.specs.declared.fault.StateFault.{StateFault}
 
 -- a cause by its name
@@ -17,6 +17,7 @@ cause_text Short = codes "Short"
 cause_text Tail = codes "Tail"
 cause_text Long = codes "Long"
 cause_text Memory = codes "Memory"
+cause_text Horizon = codes "Horizon"
 
 -- a fault by its offset and its cause
 abbrev pub fault_text : StateFault → List ℕ

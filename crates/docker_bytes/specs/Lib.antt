@@ -1,5 +1,7 @@
 pub mod Written
 pub mod Entries
+pub mod FormatMeaning
+pub mod Told
 pub mod Place
 pub mod FaultMeaning
 pub mod FaultText

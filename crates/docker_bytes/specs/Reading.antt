@@ -1,7 +1,7 @@
 -- What a reader of a state's text has read.
 use Rattle.std.specs.Prelude.{◌≡◌, ℕ, ◌+◌, ◌-◌, ◌<◌, ◌≤◌, ◌⊎◌, List, ◌++◌, length, take, Option, Some, None}
 use Rattle.docker_model.specs.State.{State}
-use Rattle.docker_model.specs.StateText.{Format, dks_1}
+use Rattle.docker_model.specs.StateText.{Format}
 use Rattle.docker_model.specs.StateFault.{Before, items_before, text_before, width, AreGood, HasBadPart, IsLong, IsShort, IsStateText}
 use Rattle.docker_model.specs.StateFault as model
 use Rattle.docker_bytes.specs.declared.fault.StateFault.{StateFault}
@@ -9,7 +9,12 @@ use Rattle.docker_bytes.specs.declared.fault.Step.{Step}
 use Rattle.docker_bytes.specs.declared.fault.Step.TheVariants.{Done, More}
 use Rattle.docker_bytes.specs.declared.reading.Reading.{Reading}
 use Rattle.docker_bytes.specs.FaultMeaning.{cause_meant, IsWantingHere, IsBadHere}
+use Rattle.docker_bytes.specs.FormatMeaning.{format_meant}
 use Rattle.docker_bytes.specs.Place.{place_meant, IsReady}
+
+-- the format of the text
+abbrev pub format_of : Reading → Format
+format_of reading = format_meant reading.format
 
 -- what stands before the part that is being read
 abbrev pub before_of : Reading → Before
@@ -17,14 +22,14 @@ before_of reading = place_meant reading.place reading.parts reading.lines
 
 -- the bytes that were read
 abbrev pub text_of : Reading → List ℕ
-text_of reading = text_before dks_1 (before_of reading) ++ reading.partial.items
+text_of reading = text_before (format_of reading) (before_of reading) ++ reading.partial.items
 
 -- all parts before are good, and of the next one a front was read, within the limit
 pub record IsReading (reading : Reading) : Type 0 where
-  pub ready : IsReady reading.place reading.parts reading.lines
+  pub ready : IsReady (format_of reading) reading.place reading.parts reading.lines
   pub short : length reading.partial.items ≤ width (before_of reading) - 1
-  pub reached_is : reading.reached ≡ length (text_before dks_1 (before_of reading))
-  pub item_is : reading.item_at ≡ length (items_before dks_1 (before_of reading))
+  pub reached_is : reading.reached ≡ length (text_before (format_of reading) (before_of reading))
+  pub item_is : reading.item_at ≡ length (items_before (format_of reading) (before_of reading))
   pub within : reading.reached + length reading.partial.items ≤ reading.limit
 
 -- the reader goes on reading with these bytes behind what it had read
@@ -32,10 +37,11 @@ pub record ReadsOn (old new : Reading) (bytes : List ℕ) : Type 0 where
   pub reading : IsReading new
   pub text : text_of new ≡ text_of old ++ bytes
   pub limit : new.limit ≡ old.limit
+  pub format : format_of new ≡ format_of old
 
 -- the part that is next is bad, or memory was wanting for it; the offset is that of its item
 abbrev pub IsPartRefused : Reading → List ℕ → StateFault → Type 0
-IsPartRefused reading bytes fault = (fault.at ≡ reading.item_at) × IsBadHere dks_1 (before_of reading) bytes (cause_meant fault.cause)
+IsPartRefused reading bytes fault = (fault.at ≡ reading.item_at) × IsBadHere (format_of reading) (before_of reading) bytes (cause_meant fault.cause)
 
 -- memory was wanting for a part whose last byte stands in a piece behind a text, and no part up to it is bad; the offset is that of its item
 pub record IsWanting (format : Format) (limit : ℕ) (text piece : List ℕ) (at : ℕ) : Type 0 where

@@ -30,6 +30,8 @@ pub enum StateCause {
     Long,
     /// A growth was refused: want of memory.
     Memory,
+    /// The horizon is no day number: it is above 36524.
+    Horizon,
 }
 
 impl fmt::Display for StateCause {
@@ -48,6 +50,7 @@ impl fmt::Display for StateCause {
             StateCause::Tail => "Tail",
             StateCause::Long => "Long",
             StateCause::Memory => "Memory",
+            StateCause::Horizon => "Horizon",
         })
     }
 }
