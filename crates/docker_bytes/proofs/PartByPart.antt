@@ -6,12 +6,12 @@ use Rattle.docker_model.specs.Change.{tiploc_key, association_key, schedule_key,
 use Rattle.docker_model.specs.Op.{put_with, deleted, lapsed}
 use Rattle.docker_model.specs.Stamp.{Stamp, LedgerItem}
 use Rattle.docker_model.specs.State.{State}
-use Rattle.docker_model.specs.StateText.{Format, item_in}
+use Rattle.docker_model.specs.StateText.{Format, dks_1, dks_2, item_in}
 use Rattle.docker_model.specs.StateFault.{StateCause, too_short, EntryPart, before_tag, before_key, before_stamp, before_op, before_body, before_line, Before, before_mark, before_horizon, before_ledger_count, before_item, before_entry_count, in_entry, at_end, items_before, parts_before, text_before, width, AreGood, IsBadPart, HasBadPart, IsLong}
 use Rattle.docker_laws.proofs.StateBytes.{AreBytes}
 use Rattle.docker_laws.proofs.StateFaultStays.{bad_part_stays, long_stays}
 use Rattle.std.proofs.Math.Seq.{take-append_seam}
-use Rattle.docker_laws.proofs.StateRun.{advance, after_items, after_entries, after_lines, after_op, with_entry}
+use Rattle.docker_laws.proofs.StateRun.{advance, after_mark, after_items, after_entries, after_lines, after_op, with_entry}
 use Rattle.docker_laws.proofs.StateJudged.{Judged, Good, judge}
 use Rattle.docker_bytes.specs.declared.reading.Reading.{Reading}
 use Rattle.docker_bytes.specs.FaultMeaning.{IsBadHere}
@@ -42,6 +42,10 @@ no_parts (at_end state) is = refl
 begins : (format : Format) (before after : Before) → begins_item after ≡ true → begins_item after ≡ false → items_before format after ≡ items_before format before
 begins format before after first inner = let both : true ≡ false = sym first ∙ inner in cc
 
+mark_begins : (format : Format) → begins_item (after_mark format) ≡ true
+mark_begins dks_1 = refl
+mark_begins dks_2 = refl
+
 entries_begin : (count : ℕ) (state : State) → begins_item (after_entries count state) ≡ true
 entries_begin count state = by (nat_le count (length state.entries))
   where
@@ -71,7 +75,7 @@ lines_stay format count state key stamp n lines part = by (nat_le n (length line
     by false within = refl
 
 pub items_stay : (format : Format) (before : Before) (bytes : List ℕ) → begins_item (advance format before bytes) ≡ false → items_before format (advance format before bytes) ≡ items_before format before
-items_stay format before_mark bytes inner = cc
+items_stay format before_mark bytes inner = begins format before_mark (after_mark format) (mark_begins format) inner
 items_stay format before_horizon bytes inner = cc
 items_stay format (before_ledger_count horizon) bytes inner = begins format (before_ledger_count horizon) (after_items horizon (from_be_bytes w64 bytes) []) (items_begin horizon (from_be_bytes w64 bytes) []) inner
 items_stay format (before_item horizon count ledger) bytes inner =

@@ -6,7 +6,7 @@ use Rattle.docker_bytes.proofs.read.read_format.Given as goal
 
 abbrev pub invariant-pieces : goal.invariant-pieces
 invariant-pieces g l = record {
-  turn : HasTurned (format_meant l.format) l.limit (g.S.Source.left l.fn.source) l.parser (g.S.Source.left l.source);
+  turn : HasTurned (format_meant l.fn.format) l.limit (g.S.Source.left l.fn.source) l.parser (g.S.Source.left l.source);
   no_failure : g.S.Source.failures l.source ≡ g.S.Source.failures l.fn.source;
   room : vec_len l.piece ≡ 65536;
 }
