@@ -104,10 +104,6 @@ pub added_part : (a : Option (List ℕ)) (b : List ℕ) (c : Option (List ℕ)) 
     → Gathers a b [] c d → f ≡ d ++ piece → TakesPart c (f ++ q) e → TakesPart a (b ++ (piece ++ q)) e
 added_part a b c d piece f q e room is part = gathers_part a b piece c f q e (room_then_add a b c d piece f room is) part
 
--- two pieces in an empty buffer
-pub two_added : (b0 b1 b2 first second : List ℕ) → b0 ≡ [] → b1 ≡ b0 ++ first → b2 ≡ b1 ++ second → b2 ≡ first ++ second
-two_added b0 b1 b2 first second empty one two = two ∙ ap (λ xs. xs ++ second) (one ∙ ap (λ xs. xs ++ first) empty)
-
 -- pieces that were given from an empty buffer on
 module _ (a : Option (List ℕ)) (front first second third whole : List ℕ) (is : ((front ++ first) ++ second) ++ third ≡ whole) where
   part_whole : (e : Option (List ℕ)) → TakesPart a (((front ++ first) ++ second) ++ third) e → TakesPart a whole e

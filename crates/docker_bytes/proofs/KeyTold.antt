@@ -9,12 +9,12 @@ use Rattle.std.specs.declared.cmp.Ordering.{Ordering}
 use Rattle.std.specs.declared.cmp.Ordering.TheVariants.{Less, Equal, Greater}
 use Rattle.std.proofs.lemmas.Bool.{cases_lt}
 use Rattle.std.proofs.lemmas.List.{length-map}
-use Rattle.docker_model.specs.Record.{IsRecord, HasKind, association}
+use Rattle.docker_model.specs.Record.{IsRecord, HasKind, association, basic_schedule, columns}
 use Rattle.docker_model.specs.Field.{HasGoodFields}
 use Rattle.docker_model.specs.Date.{last_day}
-use Rattle.docker_model.specs.Change.{Key, AssociationKey, association_key, association_named}
+use Rattle.docker_model.specs.Change.{Key, AssociationKey, association_key, association_named, ScheduleKey, schedule_key, schedule_named}
 use Rattle.docker_model.specs.Stamp.{FileStamp, Stamp, LedgerItem, file_stamp_cmp, ledger_item_cmp}
-use Rattle.docker_model.specs.Op.{Entry, key_cmp}
+use Rattle.docker_model.specs.Op.{Entry, key_cmp, readable_end}
 use Rattle.docker_model.specs.Order.{IsBelow, IsAtMost, IsStrictlyAscending}
 use Rattle.docker_model.specs.State.{State, AreAscending, IsGoodItem, IsLedger, IsStampIn, HasNewTransaction, IsAssociationOf}
 use Rattle.docker_model.specs.StateFault.{IsAboveEntries}
@@ -22,6 +22,7 @@ use Rattle.docker_laws.proofs.Orders.{key_total, exact_key, file_stamp_total, ex
 use Rattle.docker_laws.proofs.Unique.{Contains-map}
 use Rattle.docker_laws.proofs.LedgerGrown.{stamps_below}
 use Rattle.docker_state.specs.Parts.{last_key}
+use Rattle.docker_bytes.specs.Judged.{IsFirstOf}
 use Rattle.docker_bytes.proofs.LastAbove.{above_last, above_none}
 
 -- ---- keys
@@ -63,6 +64,17 @@ association_test key line view test is kind fields same tested = (
       let told = subst (λ l. HasNewTransaction l × (association_named l ≡ association_key key)) same (tested.0 yes) in
       record { is_record = is; kind = kind; fields = fields; new = told.0; key_is = told.1 }),
   (λ of. tested.1 (subst (λ l. HasNewTransaction l × (association_named l ≡ association_key key)) (sym same) (of.new, of.key_is))),
+)
+
+-- ---- first lines
+
+pub first_test : (horizon : ℕ) (key : ScheduleKey) (line view : List ℕ) (test : Bool) → HasKind basic_schedule line → HasGoodFields line → horizon ≤ readable_end (columns 16 21 line) → view ≡ line
+    → IsTrue test ↔ (HasNewTransaction view × (schedule_named view ≡ schedule_key key)) → IsTrue test ↔ IsFirstOf horizon key line
+first_test horizon key line view test kind fields stays same tested = (
+  (λ yes.
+      let told = subst (λ l. HasNewTransaction l × (schedule_named l ≡ schedule_key key)) same (tested.0 yes) in
+      record { kind = kind; fields = fields; new = told.0; key_is = told.1; stays = stays }),
+  (λ first. tested.1 (subst (λ l. HasNewTransaction l × (schedule_named l ≡ schedule_key key)) (sym same) (first.new, first.key_is))),
 )
 
 -- ---- stamps

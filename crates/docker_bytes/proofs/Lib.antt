@@ -10,3 +10,5 @@ pub mod PartByPart
 pub mod WholeText
 pub mod SourceReading
 mod LineStays
+
+pub mod UnderHorizon

@@ -6,17 +6,17 @@ use Rattle.docker_model.specs.Change.{tiploc_key, association_key, schedule_key,
 use Rattle.docker_model.specs.Op.{put_with, deleted, lapsed}
 use Rattle.docker_model.specs.Stamp.{Stamp, LedgerItem}
 use Rattle.docker_model.specs.State.{State}
-use Rattle.docker_model.specs.StateText.{item_in, dks_1}
-use Rattle.docker_model.specs.StateFault.{StateCause, too_short, EntryPart, before_tag, before_key, before_stamp, before_op, before_body, before_line, Before, before_mark, before_horizon, before_ledger_count, before_item, before_entry_count, in_entry, at_end, items_before, parts_before, text_before, width, AreGood, IsBadPart}
+use Rattle.docker_model.specs.StateText.{Format, dks_1, dks_2, item_in}
+use Rattle.docker_model.specs.StateFault.{StateCause, too_short, EntryPart, before_tag, before_key, before_stamp, before_op, before_body, before_line, Before, before_mark, before_horizon, before_ledger_count, before_item, before_entry_count, in_entry, at_end, items_before, parts_before, text_before, width, AreGood, IsBadPart, HasBadPart, IsLong}
 use Rattle.docker_laws.proofs.StateBytes.{AreBytes}
 use Rattle.docker_laws.proofs.StateFaultStays.{bad_part_stays, long_stays}
 use Rattle.std.proofs.Math.Seq.{take-append_seam}
-use Rattle.docker_laws.proofs.StateRun.{advance, after_items, after_entries, after_lines, after_op, with_entry}
+use Rattle.docker_laws.proofs.StateRun.{advance, after_mark, after_items, after_entries, after_lines, after_op, with_entry}
 use Rattle.docker_laws.proofs.StateJudged.{Judged, Good, judge}
 use Rattle.docker_bytes.specs.declared.reading.Reading.{Reading}
 use Rattle.docker_bytes.specs.FaultMeaning.{IsBadHere}
 use Rattle.docker_bytes.specs.Place.{begins_item, LeadsTo}
-use Rattle.docker_bytes.specs.Reading.{before_of, text_of, IsReading, ReadsOn, IsToldSoFar, IsOpen}
+use Rattle.docker_bytes.specs.Reading.{format_of, before_of, text_of, IsReading, ReadsOn, IsToldSoFar, IsOpen}
 
 -- what of a piece stands before a rest of it
 abbrev pub before_rest : List ℕ → List ℕ → List ℕ
@@ -39,8 +39,12 @@ no_parts (at_end state) is = refl
 
 -- within an item the items before stay
 
-begins : (before after : Before) → begins_item after ≡ true → begins_item after ≡ false → items_before dks_1 after ≡ items_before dks_1 before
-begins before after first inner = let both : true ≡ false = sym first ∙ inner in cc
+begins : (format : Format) (before after : Before) → begins_item after ≡ true → begins_item after ≡ false → items_before format after ≡ items_before format before
+begins format before after first inner = let both : true ≡ false = sym first ∙ inner in cc
+
+mark_begins : (format : Format) → begins_item (after_mark format) ≡ true
+mark_begins dks_1 = refl
+mark_begins dks_2 = refl
 
 entries_begin : (count : ℕ) (state : State) → begins_item (after_entries count state) ≡ true
 entries_begin count state = by (nat_le count (length state.entries))
@@ -56,47 +60,47 @@ items_begin horizon count ledger = by (nat_le count (length ledger))
     by true = refl
     by false = refl
 
-lines_stay : (count : ℕ) (state : State) (key : ScheduleKey) (stamp : Stamp) (n : ℕ) (lines : List (List ℕ)) (part : EntryPart)
-    → begins_item (after_lines count state key stamp n lines) ≡ false → items_before dks_1 (after_lines count state key stamp n lines) ≡ items_before dks_1 (in_entry count state part)
-lines_stay count state key stamp n lines part = by (nat_le n (length lines))
+lines_stay : (format : Format) (count : ℕ) (state : State) (key : ScheduleKey) (stamp : Stamp) (n : ℕ) (lines : List (List ℕ)) (part : EntryPart)
+    → begins_item (after_lines count state key stamp n lines) ≡ false → items_before format (after_lines count state key stamp n lines) ≡ items_before format (in_entry count state part)
+lines_stay format count state key stamp n lines part = by (nat_le n (length lines))
   where
     done : Before
     done = after_entries count (with_entry state (schedule_key key) stamp (put_with (schedule_body lines)))
 
     by : (b : Bool) → begins_item (cond b (after_entries count (with_entry state (schedule_key key) stamp (put_with (schedule_body lines)))) (in_entry count state (before_line key stamp n lines))) ≡ false
-        → items_before dks_1 (cond b (after_entries count (with_entry state (schedule_key key) stamp (put_with (schedule_body lines)))) (in_entry count state (before_line key stamp n lines))) ≡ items_before dks_1 (in_entry count state part)
+        → items_before format (cond b (after_entries count (with_entry state (schedule_key key) stamp (put_with (schedule_body lines)))) (in_entry count state (before_line key stamp n lines))) ≡ items_before format (in_entry count state part)
     by true within =
-        begins (in_entry count state part) (after_entries count (with_entry state (schedule_key key) stamp (put_with (schedule_body lines))))
+        begins format (in_entry count state part) (after_entries count (with_entry state (schedule_key key) stamp (put_with (schedule_body lines))))
         (entries_begin count (with_entry state (schedule_key key) stamp (put_with (schedule_body lines)))) within
     by false within = refl
 
-pub items_stay : (before : Before) (bytes : List ℕ) → begins_item (advance dks_1 before bytes) ≡ false → items_before dks_1 (advance dks_1 before bytes) ≡ items_before dks_1 before
-items_stay before_mark bytes inner = cc
-items_stay before_horizon bytes inner = cc
-items_stay (before_ledger_count horizon) bytes inner = begins (before_ledger_count horizon) (after_items horizon (from_be_bytes w64 bytes) []) (items_begin horizon (from_be_bytes w64 bytes) []) inner
-items_stay (before_item horizon count ledger) bytes inner =
-    begins (before_item horizon count ledger) (after_items horizon count (ledger ++ item_in bytes ∷ [])) (items_begin horizon count (ledger ++ item_in bytes ∷ [])) inner
-items_stay (before_entry_count horizon ledger) bytes inner =
-    begins (before_entry_count horizon ledger) (after_entries (from_be_bytes w64 bytes) (record { horizon = horizon; ledger = ledger; entries = [] }))
+pub items_stay : (format : Format) (before : Before) (bytes : List ℕ) → begins_item (advance format before bytes) ≡ false → items_before format (advance format before bytes) ≡ items_before format before
+items_stay format before_mark bytes inner = begins format before_mark (after_mark format) (mark_begins format) inner
+items_stay format before_horizon bytes inner = cc
+items_stay format (before_ledger_count horizon) bytes inner = begins format (before_ledger_count horizon) (after_items horizon (from_be_bytes w64 bytes) []) (items_begin horizon (from_be_bytes w64 bytes) []) inner
+items_stay format (before_item horizon count ledger) bytes inner =
+    begins format (before_item horizon count ledger) (after_items horizon count (ledger ++ item_in bytes ∷ [])) (items_begin horizon count (ledger ++ item_in bytes ∷ [])) inner
+items_stay format (before_entry_count horizon ledger) bytes inner =
+    begins format (before_entry_count horizon ledger) (after_entries (from_be_bytes w64 bytes) (record { horizon = horizon; ledger = ledger; entries = [] }))
     (entries_begin (from_be_bytes w64 bytes) (record { horizon = horizon; ledger = ledger; entries = [] })) inner
-items_stay (in_entry count state before_tag) bytes inner = refl
-items_stay (in_entry count state (before_key tag)) bytes inner = refl
-items_stay (in_entry count state (before_stamp key)) bytes inner = refl
-items_stay (in_entry count state (before_op key stamp)) bytes inner = by (slice_index bytes 0) inner
+items_stay format (in_entry count state before_tag) bytes inner = refl
+items_stay format (in_entry count state (before_key tag)) bytes inner = refl
+items_stay format (in_entry count state (before_stamp key)) bytes inner = refl
+items_stay format (in_entry count state (before_op key stamp)) bytes inner = by (slice_index bytes 0) inner
   where
-    by : (op : ℕ) → begins_item (after_op count state key stamp op) ≡ false → items_before dks_1 (after_op count state key stamp op) ≡ items_before dks_1 (in_entry count state (before_op key stamp))
-    by zero inner = begins (in_entry count state (before_op key stamp)) (after_entries count (with_entry state key stamp deleted)) (entries_begin count (with_entry state key stamp deleted)) inner
+    by : (op : ℕ) → begins_item (after_op count state key stamp op) ≡ false → items_before format (after_op count state key stamp op) ≡ items_before format (in_entry count state (before_op key stamp))
+    by zero inner = begins format (in_entry count state (before_op key stamp)) (after_entries count (with_entry state key stamp deleted)) (entries_begin count (with_entry state key stamp deleted)) inner
     by (suc zero) inner = refl
-    by (suc (suc op)) inner = begins (in_entry count state (before_op key stamp)) (after_entries count (with_entry state key stamp lapsed)) (entries_begin count (with_entry state key stamp lapsed)) inner
-items_stay (in_entry count state (before_body (tiploc_key code) stamp)) bytes inner =
-    begins (in_entry count state (before_body (tiploc_key code) stamp)) (after_entries count (with_entry state (tiploc_key code) stamp (put_with (tiploc_body bytes))))
+    by (suc (suc op)) inner = begins format (in_entry count state (before_op key stamp)) (after_entries count (with_entry state key stamp lapsed)) (entries_begin count (with_entry state key stamp lapsed)) inner
+items_stay format (in_entry count state (before_body (tiploc_key code) stamp)) bytes inner =
+    begins format (in_entry count state (before_body (tiploc_key code) stamp)) (after_entries count (with_entry state (tiploc_key code) stamp (put_with (tiploc_body bytes))))
     (entries_begin count (with_entry state (tiploc_key code) stamp (put_with (tiploc_body bytes)))) inner
-items_stay (in_entry count state (before_body (association_key key) stamp)) bytes inner =
-    begins (in_entry count state (before_body (association_key key) stamp)) (after_entries count (with_entry state (association_key key) stamp (put_with (association_body bytes))))
+items_stay format (in_entry count state (before_body (association_key key) stamp)) bytes inner =
+    begins format (in_entry count state (before_body (association_key key) stamp)) (after_entries count (with_entry state (association_key key) stamp (put_with (association_body bytes))))
     (entries_begin count (with_entry state (association_key key) stamp (put_with (association_body bytes)))) inner
-items_stay (in_entry count state (before_body (schedule_key key) stamp)) bytes inner = lines_stay count state key stamp (from_be_bytes w32 bytes) [] (before_body (schedule_key key) stamp) inner
-items_stay (in_entry count state (before_line key stamp n lines)) bytes inner = lines_stay count state key stamp n (lines ++ bytes ∷ []) (before_line key stamp n lines) inner
-items_stay (at_end state) bytes inner = cc
+items_stay format (in_entry count state (before_body (schedule_key key) stamp)) bytes inner = lines_stay format count state key stamp (from_be_bytes w32 bytes) [] (before_body (schedule_key key) stamp) inner
+items_stay format (in_entry count state (before_line key stamp n lines)) bytes inner = lines_stay format count state key stamp n (lines ++ bytes ∷ []) (before_line key stamp n lines) inner
+items_stay format (at_end state) bytes inner = cc
 
 -- ---- one part
 
@@ -104,21 +108,21 @@ bytes_are : (bytes : List ℕ) → ((i : ℕ) → get_or bytes i 0 < 256) → Ar
 bytes_are [] small = tt
 bytes_are (b ∷ bytes) small = (small 0, bytes_are bytes (λ i. small (suc i)))
 
-good_next : (before : Before) (bytes : List ℕ) → AreGood dks_1 before → 0 < length bytes → length bytes ≡ width before → ((i : ℕ) → get_or bytes i 0 < 256)
-    → ((cause : StateCause) → ¬ IsBadPart dks_1 before bytes cause) → Good dks_1 before bytes
-good_next before bytes good some wide small not_bad = by (judge dks_1 before bytes good (omega arith) wide (bytes_are bytes small))
+good_next : (format : Format) (before : Before) (bytes : List ℕ) → AreGood format before → 0 < length bytes → length bytes ≡ width before → ((i : ℕ) → get_or bytes i 0 < 256)
+    → ((cause : StateCause) → ¬ IsBadPart format before bytes cause) → Good format before bytes
+good_next format before bytes good some wide small not_bad = by (judge format before bytes good (omega arith) wide (bytes_are bytes small))
   where
-    by : Judged dks_1 before bytes → Good dks_1 before bytes
+    by : Judged format before bytes → Good format before bytes
     by (inl bad) = absurd (not_bad bad.0 bad.1)
     by (inr fine) = fine
 
 -- the reading behind a part that is not bad
 pub part_read : (old new : Reading) (bytes : List ℕ) → IsReading old → old.partial.items ≡ [] → length bytes ≡ width (before_of old) → 0 < length bytes → ((i : ℕ) → get_or bytes i 0 < 256)
-    → old.reached + length bytes ≤ old.limit → LeadsTo (before_of old) bytes new.place new.parts new.lines → new.partial.items ≡ [] → new.reached ≡ old.reached + length bytes → new.limit ≡ old.limit
+    → old.reached + length bytes ≤ old.limit → LeadsTo (format_of old) (before_of old) bytes new.place new.parts new.lines → new.partial.items ≡ [] → new.reached ≡ old.reached + length bytes → new.limit ≡ old.limit → format_of new ≡ format_of old
     → (begins_item (before_of new) ≡ true) × (new.item_at ≡ new.reached) ⊎ (begins_item (before_of new) ≡ false) × (new.item_at ≡ old.item_at) → ReadsOn old new bytes
-part_read old new bytes is none wide some small fits leads empty reached same at = record {
+part_read old new bytes is none wide some small fits leads empty reached same kept at = record {
   reading = record {
-    ready = record { good = subst (AreGood dks_1) (sym leads.is) good.0; fresh = leads.fresh };
+    ready = record { good = subst (λ f. AreGood f (before_of new)) (sym kept) (subst (AreGood (format_of old)) (sym leads.is) good.0); fresh = leads.fresh };
     short = (let size = ap length empty in omega arith);
     reached_is = reached_now;
     item_is = item at;
@@ -126,72 +130,103 @@ part_read old new bytes is none wide some small fits leads empty reached same at
   };
   text = whole;
   limit = same;
+  format = kept;
 }
   where
-    good : Good dks_1 (before_of old) bytes
-    good = good_next (before_of old) bytes is.ready.good some wide small leads.not_bad
+    good : Good (format_of old) (before_of old) bytes
+    good = good_next (format_of old) (before_of old) bytes is.ready.good some wide small leads.not_bad
 
-    text : text_before dks_1 (before_of new) ≡ text_before dks_1 (before_of old) ++ bytes
-    text = ap (text_before dks_1) leads.is ∙ good.1
+    text : text_before (format_of new) (before_of new) ≡ text_before (format_of old) (before_of old) ++ bytes
+    text = ap (λ f. text_before f (before_of new)) kept ∙ ap (text_before (format_of old)) leads.is ∙ good.1
 
-    reached_now : new.reached ≡ length (text_before dks_1 (before_of new))
+    reached_now : new.reached ≡ length (text_before (format_of new) (before_of new))
     reached_now =
-        let sizes = ap length text ∙ length-append (text_before dks_1 (before_of old)) bytes in
+        let sizes = ap length text ∙ length-append (text_before (format_of old) (before_of old)) bytes in
         let before = is.reached_is in
         let now = reached in
         omega arith
 
     whole : text_of new ≡ text_of old ++ bytes
     whole =
-        ap (λ xs. text_before dks_1 (before_of new) ++ xs) empty ∙ append-nil (text_before dks_1 (before_of new)) ∙ text
-        ∙ ap (λ xs. xs ++ bytes) (sym (append-nil (text_before dks_1 (before_of old))) ∙ ap (λ xs. text_before dks_1 (before_of old) ++ xs) (sym none))
+        ap (λ xs. text_before (format_of new) (before_of new) ++ xs) empty ∙ append-nil (text_before (format_of new) (before_of new)) ∙ text
+        ∙ ap (λ xs. xs ++ bytes) (sym (append-nil (text_before (format_of old) (before_of old))) ∙ ap (λ xs. text_before (format_of old) (before_of old) ++ xs) (sym none))
 
-    item : (begins_item (before_of new) ≡ true) × (new.item_at ≡ new.reached) ⊎ (begins_item (before_of new) ≡ false) × (new.item_at ≡ old.item_at) → new.item_at ≡ length (items_before dks_1 (before_of new))
+    item : (begins_item (before_of new) ≡ true) × (new.item_at ≡ new.reached) ⊎ (begins_item (before_of new) ≡ false) × (new.item_at ≡ old.item_at) → new.item_at ≡ length (items_before (format_of new) (before_of new))
     item (inl begun) =
-        begun.1 ∙ reached_now ∙ ap length (ap (λ xs. items_before dks_1 (before_of new) ++ xs) (no_parts (before_of new) begun.0) ∙ append-nil (items_before dks_1 (before_of new)))
+        begun.1 ∙ reached_now ∙ ap length (ap (λ xs. items_before (format_of new) (before_of new) ++ xs) (no_parts (before_of new) begun.0) ∙ append-nil (items_before (format_of new) (before_of new)))
     item (inr within) =
         within.1 ∙ is.item_is
-        ∙ ap length (sym (items_stay (before_of old) bytes (ap begins_item (sym leads.is) ∙ within.0)) ∙ ap (items_before dks_1) (sym leads.is))
+        ∙ ap length (sym (items_stay (format_of old) (before_of old) bytes (ap begins_item (sym leads.is) ∙ within.0)) ∙ ap (items_before (format_of old)) (sym leads.is) ∙ ap (λ f. items_before f (before_of new)) (sym kept))
 
--- a part that is bad
-pub part_refused : (old : Reading) (bytes : List ℕ) (cause : Option StateCause) → IsReading old → old.partial.items ≡ [] → length bytes ≡ width (before_of old) → old.reached + length bytes ≤ old.limit
-    → IsBadHere (before_of old) bytes cause → IsToldSoFar old.limit (text_of old ++ bytes) old.item_at cause
-part_refused old bytes None is none wide fits bad = record {
-  before = before_of old;
-  good = is.ready.good;
-  rest = bytes;
-  whole = ap (λ xs. (text_before dks_1 (before_of old) ++ xs) ++ bytes) none ∙ ap (λ xs. xs ++ bytes) (append-nil (text_before dks_1 (before_of old)));
-  there = omega arith;
-  below_limit = (let reached = is.reached_is in omega arith);
-  item_at = is.item_is;
-}
-part_refused old bytes (Some cause) is none wide fits bad =
-    inl (record {
+-- a part that is bad, or for which memory was wanting: its last bytes are these
+pub part_refused : (old : Reading) (front bytes : List ℕ) (at : ℕ) (cause : Option StateCause) → IsReading old → bytes ≡ old.partial.items ++ front → length bytes ≡ width (before_of old)
+    → 0 < length front → old.reached + length bytes ≤ old.limit → at ≡ old.item_at → IsBadHere (format_of old) (before_of old) bytes cause → IsToldSoFar (format_of old) old.limit (text_of old) front at cause
+part_refused old front bytes at cause is split wide some fits same bad = by cause bad
+  where
+    whole : text_of old ++ front ≡ text_before (format_of old) (before_of old) ++ bytes ++ []
+    whole =
+        append_assoc (text_before (format_of old) (before_of old)) old.partial.items front
+        ∙ ap (λ xs. text_before (format_of old) (before_of old) ++ xs) (sym split) ∙ sym (append-nil (text_before (format_of old) (before_of old) ++ bytes))
+
+    below : length (text_before (format_of old) (before_of old)) + width (before_of old) ≤ old.limit
+    below = let reached = is.reached_is in omega arith
+
+    by : (cause : Option StateCause) → IsBadHere (format_of old) (before_of old) bytes cause → IsToldSoFar (format_of old) old.limit (text_of old) front at cause
+    by None wanting = record {
       before = before_of old;
       good = is.ready.good;
       bytes = bytes;
       rest = [];
-      whole = ap (λ xs. (text_before dks_1 (before_of old) ++ xs) ++ bytes) none ∙ ap (λ xs. xs ++ bytes) (append-nil (text_before dks_1 (before_of old))) ∙ sym (append-nil (text_before dks_1 (before_of old) ++ bytes));
+      whole = whole;
       size = wide;
-      below_limit = (let reached = is.reached_is in omega arith);
-      bad = bad;
-      item_at = is.item_is;
-    })
+      below_limit = below;
+      here = wanting;
+      ends_in_piece =
+          (let sizes = length-append (text_before (format_of old) (before_of old)) old.partial.items in
+          let all = ap length split ∙ length-append old.partial.items front in
+          omega arith);
+      item_at = same ∙ is.item_is;
+    }
+    by (Some told) bad =
+        inl (record {
+          before = before_of old;
+          good = is.ready.good;
+          bytes = bytes;
+          rest = [];
+          whole = whole;
+          size = wide;
+          below_limit = below;
+          bad = bad;
+          item_at = same ∙ is.item_is;
+        })
 
 -- ---- a piece
 
-pub told_stays : (limit : ℕ) (text more : List ℕ) (at : ℕ) (cause : Option StateCause) → IsToldSoFar limit text at cause → IsToldSoFar limit (text ++ more) at cause
-told_stays limit text more at None wanting = record {
-  before = wanting.before;
-  good = wanting.good;
-  rest = wanting.rest ++ more;
-  whole = ap (λ xs. xs ++ more) wanting.whole ∙ append_assoc (text_before dks_1 wanting.before) wanting.rest more;
-  there = (let size = length-append wanting.rest more in let there = wanting.there in omega arith);
-  below_limit = wanting.below_limit;
-  item_at = wanting.item_at;
-}
-told_stays limit text more at (Some cause) (inl bad) = inl (bad_part_stays dks_1 limit text more (record { at = at; cause = cause }) bad)
-told_stays limit text more at (Some cause) (inr long) = inr (long_stays dks_1 limit text more (record { at = at; cause = cause }) long)
+-- a fault that a part of a piece tells is that of the piece
+pub told_stays : (format : Format) (limit : ℕ) (text read front behind : List ℕ) (at : ℕ) (cause : Option StateCause) → IsToldSoFar format limit (text ++ read) front at cause
+    → IsToldSoFar format limit text ((read ++ front) ++ behind) at cause
+told_stays format limit text read front behind at cause = by cause
+  where
+    whole : text ++ ((read ++ front) ++ behind) ≡ ((text ++ read) ++ front) ++ behind
+    whole = sym (append_assoc text (read ++ front) behind) ∙ ap (λ xs. xs ++ behind) (sym (append_assoc text read front))
+
+    by : (cause : Option StateCause) → IsToldSoFar format limit (text ++ read) front at cause → IsToldSoFar format limit text ((read ++ front) ++ behind) at cause
+    by None wanting = record {
+      before = wanting.before;
+      good = wanting.good;
+      bytes = wanting.bytes;
+      rest = wanting.rest ++ behind;
+      whole = whole ∙ ap (λ xs. xs ++ behind) wanting.whole ∙ append_assoc (text_before format wanting.before ++ wanting.bytes) wanting.rest behind;
+      size = wanting.size;
+      below_limit = wanting.below_limit;
+      here = wanting.here;
+      ends_in_piece = (let size = length-append text read in let ends = wanting.ends_in_piece in omega arith);
+      item_at = wanting.item_at;
+    }
+    by (Some told) (inl bad) =
+        inl (subst (λ xs. HasBadPart format limit xs (record { at = at; cause = told })) (sym whole) (bad_part_stays format limit ((text ++ read) ++ front) behind (record { at = at; cause = told }) bad))
+    by (Some told) (inr long) =
+        inr (subst (λ xs. IsLong format limit xs (record { at = at; cause = told })) (sym whole) (long_stays format limit ((text ++ read) ++ front) behind (record { at = at; cause = told }) long))
 
 pub rest_more : (piece rest front behind : List ℕ) → before_rest piece rest ++ rest ≡ piece → rest ≡ front ++ behind
     → (before_rest piece behind ≡ before_rest piece rest ++ front) × (before_rest piece behind ++ behind ≡ piece)
@@ -217,13 +252,16 @@ module _ (initial now : Reading) (piece rest : List ℕ) (whole : before_rest pi
   pub all_text : text_of now ++ rest ≡ text_of initial ++ piece
   all_text = ap (λ xs. xs ++ rest) on.text ∙ append_assoc (text_of initial) (before_rest piece rest) rest ∙ ap (λ xs. text_of initial ++ xs) whole
 
-  pub told_of_piece : (front behind : List ℕ) (at : ℕ) (cause : Option StateCause) → rest ≡ front ++ behind → IsToldSoFar now.limit (text_of now ++ front) at cause
-      → IsToldSoFar initial.limit (text_of initial ++ piece) at cause
+  pub told_of_piece : (front behind : List ℕ) (at : ℕ) (cause : Option StateCause) → rest ≡ front ++ behind → IsToldSoFar (format_of now) now.limit (text_of now) front at cause
+      → IsToldSoFar (format_of initial) initial.limit (text_of initial) piece at cause
   told_of_piece front behind at cause split told =
-      subst (λ n. IsToldSoFar n (text_of initial ++ piece) at cause) on.limit
-      (subst (λ xs. IsToldSoFar now.limit xs at cause)
-      (append_assoc (text_of now) front behind ∙ ap (λ xs. text_of now ++ xs) (sym split) ∙ all_text)
-      (told_stays now.limit (text_of now ++ front) behind at cause told))
+      let all = rest_more piece rest front behind whole split in
+      let parted : (before_rest piece rest ++ front) ++ behind ≡ piece = ap (λ xs. xs ++ behind) (sym all.0) ∙ all.1 in
+      subst (λ xs. IsToldSoFar (format_of initial) initial.limit (text_of initial) xs at cause) parted
+      (told_stays (format_of initial) initial.limit (text_of initial) (before_rest piece rest) front behind at cause
+      (subst (λ f. IsToldSoFar f initial.limit (text_of initial ++ before_rest piece rest) front at cause) on.format
+      (subst (λ n. IsToldSoFar (format_of now) n (text_of initial ++ before_rest piece rest) front at cause) on.limit
+      (subst (λ xs. IsToldSoFar (format_of now) now.limit xs front at cause) on.text told))))
 
   pub reads_further : (next : Reading) (front behind : List ℕ) → rest ≡ front ++ behind → ReadsOn now next front → ReadsOn initial next (before_rest piece behind)
   reads_further next front behind split further = record {
@@ -231,21 +269,23 @@ module _ (initial now : Reading) (piece rest : List ℕ) (whole : before_rest pi
     text = further.text ∙ ap (λ xs. xs ++ front) on.text ∙ append_assoc (text_of initial) (before_rest piece rest) front
         ∙ ap (λ xs. text_of initial ++ xs) (sym (rest_more piece rest front behind whole split).0);
     limit = further.limit ∙ on.limit;
+    format = further.format ∙ on.format;
   }
 
-  pub open_text : (next : Reading) → length now.partial.items + length rest < width (before_of now) → ReadsOn now next rest → IsOpen initial.limit (text_of initial ++ piece)
+  pub open_text : (next : Reading) → length now.partial.items + length rest < width (before_of now) → ReadsOn now next rest → IsOpen (format_of initial) initial.limit (text_of initial ++ piece)
   open_text next short further =
-      subst (λ n. IsOpen n (text_of initial ++ piece)) on.limit
-      (subst (IsOpen now.limit) all_text (
-        record { at = length (items_before dks_1 (before_of now)); cause = too_short },
+      subst (λ f. IsOpen f initial.limit (text_of initial ++ piece)) on.format
+      (subst (λ n. IsOpen (format_of now) n (text_of initial ++ piece)) on.limit
+      (subst (IsOpen (format_of now) now.limit) all_text (
+        record { at = length (items_before (format_of now) (before_of now)); cause = too_short },
         record {
           before = before_of now;
           good = on.reading.ready.good;
           rest = now.partial.items ++ rest;
-          whole = append_assoc (text_before dks_1 (before_of now)) now.partial.items rest;
+          whole = append_assoc (text_before (format_of now) (before_of now)) now.partial.items rest;
           ends = (let size = length-append now.partial.items rest in omega arith);
           within =
-              (let sizes = sym (ap length further.text) ∙ length-append (text_before dks_1 (before_of next)) next.partial.items in
+              (let sizes = sym (ap length further.text) ∙ length-append (text_before (format_of next) (before_of next)) next.partial.items in
               let reached = further.reading.reached_is in
               let within = further.reading.within in
               let same = further.limit in
@@ -253,4 +293,4 @@ module _ (initial now : Reading) (piece rest : List ℕ) (whole : before_rest pi
           cause = refl;
           item_at = refl;
         },
-      ))
+      )))

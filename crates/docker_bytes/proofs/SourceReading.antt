@@ -5,8 +5,8 @@ use Rattle.std.proofs.lemmas.List.{take-append-drop, take-append-le, take-take}
 use Rattle.std.proofs.lemmas.Result.{IfOk-weaker}
 use Rattle.cif_line.specs.Device.{Reads, IsEnd}
 use Rattle.docker_model.specs.State.{State}
-use Rattle.docker_model.specs.StateText.{dks_1}
-use Rattle.docker_model.specs.StateFault.{text_before, has_tail, IsStateFault, IsStateText, HasTail}
+use Rattle.docker_model.specs.StateText.{Format}
+use Rattle.docker_model.specs.StateFault.{text_before, before_mark, too_short, has_tail, IsStateFault, IsStateText, HasTail}
 use Rattle.docker_model.specs.StateFault as model
 use Rattle.docker_laws.proofs.StateFaultStays.{bad_part_stays, long_stays}
 use Rattle.docker_bytes.specs.declared.fault.StateCause.{StateCause}
@@ -17,9 +17,10 @@ use Rattle.docker_bytes.specs.declared.fault.Step.TheVariants.{Done, More}
 use Rattle.docker_bytes.specs.declared.read.ReadFault.{ReadFault}
 use Rattle.docker_bytes.specs.declared.read.ReadFault.TheVariants as fault
 use Rattle.docker_bytes.specs.FaultMeaning.{cause_meant}
-use Rattle.docker_bytes.specs.Reading.{before_of, text_of, IsToldSoFar, IsFaultTold, IsToldAtEnd, IsUnended, IsWhole, IsStep}
+use Rattle.docker_bytes.specs.Reading.{format_of, before_of, text_of, IsToldSoFar, IsFaultTold, IsToldAtEnd, IsUnended, IsWhole, IsOpen, IsWanting, IsStep}
 use Rattle.docker_bytes.specs.ParserRead.{ParserState, HasRead}
-use Rattle.docker_bytes.specs.SourceRead.{Held, ReadsState, IsCauseOf, IsFaultOf, RefusesState}
+use Rattle.docker_bytes.specs.SourceRead.{Held, ReadsState, IsCauseOf, IsFaultOf, RefusesState, ReadsOnePieceMore, WantsPart, WantsMemory}
+use Rattle.docker_bytes.proofs.WholeText.{sound_text}
 
 -- ---- causes
 
@@ -35,6 +36,7 @@ none_is_memory cause.Short is = cc
 none_is_memory cause.Tail is = cc
 none_is_memory cause.Long is = cc
 none_is_memory cause.Memory is = refl
+none_is_memory cause.Horizon is = cc
 
 memory_or_not : (c : StateCause) → (c ≡ cause.Memory) ⊎ (c ≢ cause.Memory)
 memory_or_not cause.Mark = inr (λ same. cc)
@@ -48,6 +50,7 @@ memory_or_not cause.Short = inr (λ same. cc)
 memory_or_not cause.Tail = inr (λ same. cc)
 memory_or_not cause.Long = inr (λ same. cc)
 memory_or_not cause.Memory = inl refl
+memory_or_not cause.Horizon = inr (λ same. cc)
 
 -- a fault that is told as that of a state is the one that was found, and no want of memory
 not_memory : {A : Type 0} (found told : StateFault) (result : ReadFault) → (found.cause ≡ cause.Memory → result ≡ fault.Memory) → (found.cause ≢ cause.Memory → result ≡ fault.State found)
@@ -58,41 +61,62 @@ not_memory found told result memory state is = by (memory_or_not found.cause)
     by (inl wanting) = absurd (let from = memory wanting in cc)
     by (inr other) = (let from = state other in cc, other)
 
-told_so_far : (limit : ℕ) (text rest : List ℕ) (at : ℕ) (c : StateCause) → c ≢ cause.Memory → IsToldSoFar limit text at (cause_meant c) → IsCauseOf limit (text ++ rest) at (cause_meant c)
-told_so_far limit text rest at c other = by (cause_meant c) refl
+told_so_far : (format : Format) (limit : ℕ) (text piece rest : List ℕ) (at : ℕ) (c : StateCause) → c ≢ cause.Memory → IsToldSoFar format limit text piece at (cause_meant c)
+    → IsCauseOf format limit ((text ++ piece) ++ rest) at (cause_meant c)
+told_so_far format limit text piece rest at c other = by (cause_meant c) refl
   where
-    by : (o : Option model.StateCause) → cause_meant c ≡ o → IsToldSoFar limit text at o → IsCauseOf limit (text ++ rest) at o
+    by : (o : Option model.StateCause) → cause_meant c ≡ o → IsToldSoFar format limit text piece at o → IsCauseOf format limit ((text ++ piece) ++ rest) at o
     by None is told = other (none_is_memory c is)
-    by (Some k) is (inl bad) = inl (bad_part_stays dks_1 limit text rest (record { at = at; cause = k }) bad)
-    by (Some k) is (inr long) = inr (inl (long_stays dks_1 limit text rest (record { at = at; cause = k }) long))
+    by (Some k) is (inl bad) = inl (bad_part_stays format limit (text ++ piece) rest (record { at = at; cause = k }) bad)
+    by (Some k) is (inr long) = inr (inl (long_stays format limit (text ++ piece) rest (record { at = at; cause = k }) long))
 
-told_at_end : (limit : ℕ) (text : List ℕ) (at : ℕ) (c : StateCause) → c ≢ cause.Memory → IsToldAtEnd limit text at (cause_meant c) → IsCauseOf limit text at (cause_meant c)
-told_at_end limit text at c other = by (cause_meant c) refl
+told_at_end : (format : Format) (limit : ℕ) (text : List ℕ) (at : ℕ) (c : StateCause) → c ≢ cause.Memory → IsToldAtEnd format limit text at (cause_meant c) → IsCauseOf format limit text at (cause_meant c)
+told_at_end format limit text at c other = by (cause_meant c) refl
   where
-    by : (o : Option model.StateCause) → cause_meant c ≡ o → IsToldAtEnd limit text at o → IsCauseOf limit text at o
+    by : (o : Option model.StateCause) → cause_meant c ≡ o → IsToldAtEnd format limit text at o → IsCauseOf format limit text at o
     by None is told = other (none_is_memory c is)
     by (Some k) is short = inr (inr (inl short))
 
-pub told_as_state : {A : Type 0} (limit : ℕ) (text rest : List ℕ) (found told : StateFault) (result : ReadFault) → IsFaultTold limit text found → (found.cause ≡ cause.Memory → result ≡ fault.Memory)
-    → (found.cause ≢ cause.Memory → result ≡ fault.State found) → ◌≡◌ {A = Result A ReadFault} (Err result) (Err (fault.State told)) → IsFaultOf limit (text ++ rest) told
-told_as_state limit text rest found told result so_far memory state is =
+pub told_as_state : {A : Type 0} (format : Format) (limit : ℕ) (text piece rest : List ℕ) (found told : StateFault) (result : ReadFault) → IsFaultTold format limit text piece found → (found.cause ≡ cause.Memory → result ≡ fault.Memory)
+    → (found.cause ≢ cause.Memory → result ≡ fault.State found) → ◌≡◌ {A = Result A ReadFault} (Err result) (Err (fault.State told)) → IsFaultOf format limit ((text ++ piece) ++ rest) told
+told_as_state format limit text piece rest found told result so_far memory state is =
     let same = not_memory found told result memory state is in
-    subst (IsFaultOf limit (text ++ rest)) same.0 (told_so_far limit text rest found.at found.cause same.1 so_far)
+    subst (IsFaultOf format limit ((text ++ piece) ++ rest)) same.0 (told_so_far format limit text piece rest found.at found.cause same.1 so_far)
 
-pub ended_as_state : {A : Type 0} (limit : ℕ) (text : List ℕ) (found told : StateFault) (result : ReadFault) → IsUnended limit text found → (found.cause ≡ cause.Memory → result ≡ fault.Memory)
-    → (found.cause ≢ cause.Memory → result ≡ fault.State found) → ◌≡◌ {A = Result A ReadFault} (Err result) (Err (fault.State told)) → IsFaultOf limit text told
-ended_as_state limit text found told result at_end memory state is =
+pub ended_as_state : {A : Type 0} (format : Format) (limit : ℕ) (text : List ℕ) (found told : StateFault) (result : ReadFault) → IsUnended format limit text found → (found.cause ≡ cause.Memory → result ≡ fault.Memory)
+    → (found.cause ≢ cause.Memory → result ≡ fault.State found) → ◌≡◌ {A = Result A ReadFault} (Err result) (Err (fault.State told)) → IsFaultOf format limit text told
+ended_as_state format limit text found told result at_end memory state is =
     let same = not_memory found told result memory state is in
-    subst (IsFaultOf limit text) same.0 (told_at_end limit text found.at found.cause same.1 at_end)
+    subst (IsFaultOf format limit text) same.0 (told_at_end format limit text found.at found.cause same.1 at_end)
+
+-- want of memory is told where it was found
+is_memory : {A : Type 0} (found : StateFault) (result : ReadFault) → (found.cause ≢ cause.Memory → result ≡ fault.State found) → ◌≡◌ {A = Result A ReadFault} (Err result) (Err fault.Memory)
+    → found.cause ≡ cause.Memory
+is_memory found result state is = by (memory_or_not found.cause)
+  where
+    by : (found.cause ≡ cause.Memory) ⊎ (found.cause ≢ cause.Memory) → found.cause ≡ cause.Memory
+    by (inl wanting) = wanting
+    by (inr other) = absurd (let from = state other in cc)
+
+pub told_as_memory : {A : Type 0} (format : Format) (limit : ℕ) (text piece : List ℕ) (found : StateFault) (result : ReadFault) → IsFaultTold format limit text piece found
+    → (found.cause ≢ cause.Memory → result ≡ fault.State found) → ◌≡◌ {A = Result A ReadFault} (Err result) (Err fault.Memory) → (at : ℕ) × IsWanting format limit text piece at
+told_as_memory format limit text piece found result so_far state is =
+    (found.at, subst (λ c. IsToldSoFar format limit text piece found.at (cause_meant c)) (is_memory found result state is) so_far)
+
+pub ended_as_memory : {A : Type 0} (format : Format) (limit : ℕ) (text : List ℕ) (found : StateFault) (result : ReadFault) → IsUnended format limit text found
+    → (found.cause ≢ cause.Memory → result ≡ fault.State found) → ◌≡◌ {A = Result A ReadFault} (Err result) (Err fault.Memory) → IsWhole format limit text
+ended_as_memory format limit text found result at_end state is =
+    let wanting = subst (λ c. IsToldAtEnd format limit text found.at (cause_meant c)) (is_memory found result state is) at_end in
+    wanting.0
 
 -- ---- bytes behind the state
 
-tail_of : (limit : ℕ) (text piece rest : List ℕ) (used : ℕ) (found : StateFault) → used < length piece → IsWhole limit (text ++ take used piece) → found.at ≡ length (text ++ take used piece)
-    → found.cause ≡ cause.Tail → IsFaultOf limit ((text ++ piece) ++ rest) found
-tail_of limit text piece rest used found below whole at is =
-    subst (λ c. IsCauseOf limit ((text ++ piece) ++ rest) found.at (cause_meant c)) (sym is) (inr (inr (inr (by (drop used piece) (take-append-drop used piece) (let size = length-drop used piece in omega arith)))))
+tail_of : (format : Format) (limit : ℕ) (text piece rest : List ℕ) (used : ℕ) (found : StateFault) → used < length piece → IsWhole format limit (text ++ take used piece) → found.at ≡ length (text ++ take used piece)
+    → found.cause ≡ cause.Tail → IsFaultOf format limit ((text ++ piece) ++ rest) found
+tail_of format limit text piece rest used found below whole at is =
+    subst (λ c. IsCauseOf format limit ((text ++ piece) ++ rest) found.at (cause_meant c)) (sym is) (inr (inr (inr (by (drop used piece) (take-append-drop used piece) (let size = length-drop used piece in omega arith)))))
   where
-    by : (behind : List ℕ) → take used piece ++ behind ≡ piece → 0 < length behind → HasTail dks_1 limit ((text ++ piece) ++ rest) (record { at = found.at; cause = has_tail })
+    by : (behind : List ℕ) → take used piece ++ behind ≡ piece → 0 < length behind → HasTail format limit ((text ++ piece) ++ rest) (record { at = found.at; cause = has_tail })
     by [] split some = absurd (let none : 0 < length {A = ℕ} [] = some in omega arith)
     by (next ∷ behind) split some = record {
       state = whole.0;
@@ -108,31 +132,32 @@ tail_of limit text piece rest used found below whole at is =
       end_at = at ∙ ap length whole.1.is;
     }
 
-pub tail_told : (limit : ℕ) (text piece rest : List ℕ) (used : ℕ) (step : Step) (found : StateFault) → used < length piece → IsStep limit text piece (used, step)
-    → found.at ≡ length (text ++ take used piece) → found.cause ≡ cause.Tail → IsFaultOf limit ((text ++ piece) ++ rest) found
-tail_told limit text piece rest used Done found below whole at is = tail_of limit text piece rest used found below whole at is
-tail_told limit text piece rest used More found below more at is = absurd (let all = more.0 in omega arith)
+pub tail_told : (format : Format) (limit : ℕ) (text piece rest : List ℕ) (used : ℕ) (step : Step) (found : StateFault) → used < length piece → IsStep format limit text piece (used, step)
+    → found.at ≡ length (text ++ take used piece) → found.cause ≡ cause.Tail → IsFaultOf format limit ((text ++ piece) ++ rest) found
+tail_told format limit text piece rest used Done found below whole at is = tail_of format limit text piece rest used found below whole at is
+tail_told format limit text piece rest used More found below more at is = absurd (let all = more.0 in omega arith)
 
 -- ---- turns
 
 -- after so many turns the parser was fed a text, which is what the source lost
-record IsAtTurn (limit : ℕ) (initial : Option (List ℕ)) (parser : ParserState) (now : Option (List ℕ)) : Type 0 where
+record IsAtTurn (format : Format) (limit : ℕ) (initial : Option (List ℕ)) (parser : ParserState) (now : Option (List ℕ)) : Type 0 where
   text : List ℕ
-  read : HasRead parser limit text
+  read : HasRead parser format limit text
   lost : Reads initial text now
 
 -- the same, shut so that the search does not open it
-pub HasTurned : ℕ → Option (List ℕ) → ParserState → Option (List ℕ) → Type 0
-HasTurned limit initial parser now = IsAtTurn limit initial parser now
+pub HasTurned : Format → ℕ → Option (List ℕ) → ParserState → Option (List ℕ) → Type 0
+HasTurned format limit initial parser now = IsAtTurn format limit initial parser now
+
+-- nothing is lost before the first read
+pub lost_nothing : (left : Option (List ℕ)) → Reads left [] left
+lost_nothing None = refl
+lost_nothing (Some bytes) = refl
 
 -- at first
-pub at_start : (limit : ℕ) (left : Option (List ℕ)) (parser : ParserState) → HasRead parser limit [] → HasTurned limit left parser left
+pub at_start : (format : Format) (limit : ℕ) (left : Option (List ℕ)) (parser : ParserState) → HasRead parser format limit [] → HasTurned format limit left parser left
 unfolding HasTurned
-at_start limit left parser read = record { text = []; read = read; lost = by left }
-  where
-    by : (left : Option (List ℕ)) → Reads left [] left
-    by None = refl
-    by (Some bytes) = refl
+at_start format limit left parser read = record { text = []; read = read; lost = lost_nothing left }
 
 -- what is read behind what was read
 lost_more : (initial now next : Option (List ℕ)) (text piece : List ℕ) → Reads initial text now → Reads now piece next → Reads initial (text ++ piece) next
@@ -140,10 +165,10 @@ lost_more initial now None text piece first more = first ∙ ap (option_map (λ 
 lost_more initial now (Some rest) text piece first more = first ∙ ap (option_map (λ r. text ++ r)) more ∙ ap (λ t. Some t) (sym (append_assoc text piece rest))
 
 -- a piece more
-pub next_turn : (limit : ℕ) (initial now next : Option (List ℕ)) (before after : ParserState) (piece : List ℕ) → HasTurned limit initial before now → 0 < length piece
-    → Reads now piece next → ((text : List ℕ) → HasRead before limit text → HasRead after limit (text ++ piece)) → HasTurned limit initial after next
+pub next_turn : (format : Format) (limit : ℕ) (initial now next : Option (List ℕ)) (before after : ParserState) (piece : List ℕ) → HasTurned format limit initial before now → 0 < length piece
+    → Reads now piece next → ((text : List ℕ) → HasRead before format limit text → HasRead after format limit (text ++ piece)) → HasTurned format limit initial after next
 unfolding HasTurned
-next_turn limit initial now next before after piece at some more read = record {
+next_turn format limit initial now next before after piece at some more read = record {
   text = at.text ++ piece;
   read = read at.text at.read;
   lost = lost_more initial now next at.text piece at.lost more;
@@ -154,15 +179,15 @@ abbrev pub read_length : ParserState → ℕ
 read_length parser = length (text_of parser.reading)
 
 -- each turn reads further, within the limit
-pub fewer_left : (limit : ℕ) (initial now : Option (List ℕ)) (before after : ParserState) (piece : List ℕ) → HasTurned limit initial before now → 0 < length piece
-    → ((text : List ℕ) → HasRead before limit text → HasRead after limit (text ++ piece)) → limit + 1 - read_length after < limit + 1 - read_length before
+pub fewer_left : (format : Format) (limit : ℕ) (initial now : Option (List ℕ)) (before after : ParserState) (piece : List ℕ) → HasTurned format limit initial before now → 0 < length piece
+    → ((text : List ℕ) → HasRead before format limit text → HasRead after format limit (text ++ piece)) → limit + 1 - read_length after < limit + 1 - read_length before
 unfolding HasTurned
-fewer_left limit initial now before after piece at some read =
+fewer_left format limit initial now before after piece at some read =
     let was = at.read in
     let has = read at.text at.read in
     let old : length (text_of before.reading) ≡ length at.text = ap length was.text_is in
     let grown : length (text_of after.reading) ≡ length at.text + length piece = ap length has.text_is ∙ length-append at.text piece in
-    let size = length-append (text_before dks_1 (before_of after.reading)) after.reading.partial.items in
+    let size = length-append (text_before (format_of after.reading) (before_of after.reading)) after.reading.partial.items in
     let reached = has.sound.reached_is in
     let within = has.sound.within in
     let same = has.limit_is in
@@ -176,27 +201,70 @@ held_all (Some told) (Some rest) text lost end =
     let same : told ≡ text ++ rest = cc in
     same ∙ ap (λ r. text ++ r) end ∙ append-nil text
 
-pub state_read : (limit : ℕ) (initial now : Option (List ℕ)) (parser : ParserState) (result : Result State ReadFault) → HasTurned limit initial parser now → IsEnd now
-    → ((text : List ℕ) → HasRead parser limit text → IfOk result (λ state. IsStateText dks_1 limit text state)) → IfOk result (ReadsState limit initial)
+pub state_read : (format : Format) (limit : ℕ) (initial now : Option (List ℕ)) (parser : ParserState) (result : Result State ReadFault) → HasTurned format limit initial parser now → IsEnd now
+    → ((text : List ℕ) → HasRead parser format limit text → IfOk result (λ state. IsStateText format limit text state)) → IfOk result (ReadsState format limit initial)
 unfolding HasTurned
-state_read limit initial now parser result at end is =
-    IfOk-weaker result _ (ReadsState limit initial) (λ state told. record { text = at.text; held = held_all initial now at.text at.lost end; is = told }) (is at.text at.read)
+state_read format limit initial now parser result at end is =
+    IfOk-weaker result _ (ReadsState format limit initial) (λ state told. record { text = at.text; held = held_all initial now at.text at.lost end; is = told }) (is at.text at.read)
 
-pub refused_at_end : (limit : ℕ) (initial now : Option (List ℕ)) (parser : ParserState) (found : StateFault) → HasTurned limit initial parser now → IsEnd now
-    → ((text : List ℕ) → HasRead parser limit text → IsFaultOf limit text found) → RefusesState limit initial found
+pub refused_at_end : (format : Format) (limit : ℕ) (initial now : Option (List ℕ)) (parser : ParserState) (found : StateFault) → HasTurned format limit initial parser now → IsEnd now
+    → ((text : List ℕ) → HasRead parser format limit text → IsFaultOf format limit text found) → RefusesState format limit initial found
 unfolding HasTurned
-refused_at_end limit initial now parser found at end is = record { text = at.text; held = held_all initial now at.text at.lost end; is = is at.text at.read }
+refused_at_end format limit initial now parser found at end is = record { text = at.text; held = held_all initial now at.text at.lost end; is = is at.text at.read }
 
 -- a fault that a text tells is that of what the source held
-pub refused_within : (limit : ℕ) (initial now next : Option (List ℕ)) (parser : ParserState) (found : StateFault) (piece : List ℕ) → HasTurned limit initial parser now
-    → Reads now piece next → ((text : List ℕ) → HasRead parser limit text → (rest : List ℕ) → IsFaultOf limit ((text ++ piece) ++ rest) found) → RefusesState limit initial found
+pub refused_within : (format : Format) (limit : ℕ) (initial now next : Option (List ℕ)) (parser : ParserState) (found : StateFault) (piece : List ℕ) → HasTurned format limit initial parser now
+    → Reads now piece next → ((text : List ℕ) → HasRead parser format limit text → (rest : List ℕ) → IsFaultOf format limit ((text ++ piece) ++ rest) found) → RefusesState format limit initial found
 unfolding HasTurned
-refused_within limit initial now next parser found piece at more is = by initial next (lost_more initial now next at.text piece at.lost more)
+refused_within format limit initial now next parser found piece at more is = by initial next (lost_more initial now next at.text piece at.lost more)
   where
-    by : (initial next : Option (List ℕ)) → Reads initial (at.text ++ piece) next → RefusesState limit initial found
+    by : (initial next : Option (List ℕ)) → Reads initial (at.text ++ piece) next → RefusesState format limit initial found
     by None next lost = record { text = (at.text ++ piece) ++ []; held = tt; is = is at.text at.read [] }
     by (Some told) None lost = cc
     by (Some told) (Some rest) lost = record { text = (at.text ++ piece) ++ rest; held = cc; is = is at.text at.read rest }
+
+pub stops_at_first : (format : Format) (most limit : ℕ) (left : Option (List ℕ)) → ReadsOnePieceMore format most limit left left
+stops_at_first format most limit left = record {
+  text = [];
+  piece = [];
+  lost = lost_nothing left;
+  few = omega arith;
+  sound = inl (
+    record { at = 0; cause = too_short },
+    record { before = before_mark; good = tt; rest = []; whole = refl; ends = omega arith; within = omega arith; cause = refl; item_at = refl },
+  );
+}
+
+-- nothing is read behind a piece
+pub stops_behind : (format : Format) (most limit : ℕ) (initial now next : Option (List ℕ)) (parser : ParserState) (piece : List ℕ) → HasTurned format limit initial parser now → Reads now piece next → length piece ≤ most
+    → ReadsOnePieceMore format most limit initial next
+unfolding HasTurned
+stops_behind format most limit initial now next parser piece at more few = record {
+  text = at.text;
+  piece = piece;
+  lost = lost_more initial now next at.text piece at.lost more;
+  few = few;
+  sound = sound_text parser format limit at.text at.read;
+}
+
+-- a source that failed lost nothing more
+pub stops_where_failed : (format : Format) (most limit : ℕ) (initial now next : Option (List ℕ)) (parser : ParserState) → HasTurned format limit initial parser now → next ≡ now → ReadsOnePieceMore format most limit initial next
+stops_where_failed format most limit initial now next parser at same =
+    stops_behind format most limit initial now next parser [] at (subst (Reads now []) (sym same) (lost_nothing now)) (omega arith)
+
+pub wants_part : (format : Format) (most limit : ℕ) (initial now next : Option (List ℕ)) (parser : ParserState) (piece : List ℕ) → HasTurned format limit initial parser now → Reads now piece next → length piece ≤ most
+    → ((text : List ℕ) → HasRead parser format limit text → (at : ℕ) × IsWanting format limit text piece at) → WantsMemory format most limit initial next
+unfolding HasTurned
+wants_part format most limit initial now next parser piece at more few is =
+    let wanting = is at.text at.read in
+    inr (inl (record { text = at.text; piece = piece; lost = lost_more initial now next at.text piece at.lost more; few = few; at = wanting.0; wanting = wanting.1 }))
+
+pub wants_at_end : (format : Format) (most limit : ℕ) (initial now next : Option (List ℕ)) (parser : ParserState) → HasTurned format limit initial parser now → IsEnd now
+    → ((text : List ℕ) → HasRead parser format limit text → IsWhole format limit text) → WantsMemory format most limit initial next
+unfolding HasTurned
+wants_at_end format most limit initial now next parser at end is =
+    let whole = is at.text at.read in
+    inr (inr (whole.0, record { text = at.text; held = held_all initial now at.text at.lost end; is = whole.1 }))
 
 -- the bytes of a buffer that were read
 pub same_front : (n len : ℕ) (piece into items : List ℕ) → piece ≡ take len (into ++ drop (length into) items) → length into ≡ len → n ≤ length into → take n piece ≡ take n into

@@ -1,18 +1,19 @@
 -- From a part to the next: ledger items and lines.
-use Rattle.std.proofs.Common.{◌≡◌, ℕ, ◌-◌, ◌<◌, ◌≤◌, ◌^◌, List, [], ◌∷◌, ◌++◌, length, ap, sym, ◌∙◌, subst, arith, length-append, Ok, Err}
-use Rattle.std.specs.Prelude.{Result, IfOk}
+use Rattle.std.proofs.Common.{◌≡◌, ℕ, ◌+◌, ◌-◌, ◌<◌, ◌≤◌, ◌^◌, List, [], ◌∷◌, ◌++◌, length, ap, sym, ◌∙◌, subst, arith, length-append, Ok, Err}
+use Rattle.std.specs.Prelude.{Result, IfOk, IfErr}
+use Rattle.std.proofs.lemmas.Result.{IfErr-weaker}
 use Rattle.docker_model.specs.Change.{ScheduleKey, schedule_key, schedule_body}
 use Rattle.docker_model.specs.Stamp.{LedgerItem, Stamp}
 use Rattle.docker_model.specs.Op.{put_with, body_end}
 use Rattle.docker_model.specs.State.{State, IsLedger, IsScheduleOf}
-use Rattle.docker_model.specs.StateText.{dks_1}
+use Rattle.docker_model.specs.StateText.{Format}
 use Rattle.docker_model.specs.StateFault.{Before, in_entry, before_line, AreLinesUpTo, HaveNotToLapse, IsPartHere, IsToldState}
 use Rattle.docker_laws.proofs.StateRun.{advance, after_lines, after_entries, with_entry}
 use Rattle.docker_laws.proofs.StateTexts.{more_lines, all_lines}
 use Rattle.docker_laws.proofs.LedgerGrown.{one_item_more}
 use Rattle.docker_bytes.specs.declared.fault.StateCause.{StateCause}
 use Rattle.docker_bytes.specs.declared.fault.StateCause.TheVariants as cause
-use Rattle.docker_bytes.specs.FaultMeaning.{cause_meant, IsBadHere}
+use Rattle.docker_bytes.specs.FaultMeaning.{cause_meant, IsWantingHere, IsBadHere}
 use Rattle.docker_bytes.specs.Judged.{MayFollow}
 
 pub item_follows : (ledger told : List LedgerItem) (item meant : LedgerItem) → told ≡ ledger → IsLedger ledger → meant ≡ item → MayFollow told item → IsLedger (ledger ++ meant ∷ [])
@@ -24,19 +25,23 @@ pub both_ok : {T E : Type 0} (r : Result T E) (P Q R : T → Type 0) → ((x : T
 both_ok (Ok x) P Q R f p q = f x p q
 both_ok (Err e) P Q R f p q = tt
 
--- want of memory is no fault of the text
-pub wanting_here : (before : Before) (bytes : List ℕ) (told : StateCause) → told ≡ cause.Memory → IsBadHere before bytes (cause_meant told)
-wanting_here before bytes told is = subst (λ (k : StateCause). IsBadHere before bytes (cause_meant k)) (sym is) tt
+-- with the last line there are as many as were told
+pub taken_all : (lines : List (List ℕ)) (line : List ℕ) (taken : List (List ℕ)) (n : ℕ) → taken ≡ lines ++ line ∷ [] → n ≤ length lines + 1 → n ≤ length taken
+taken_all lines line taken n is last =
+    let size = length-append lines (line ∷ []) in
+    let same : length taken ≡ length (lines ++ line ∷ []) = ap (λ (ls : List (List ℕ)). length ls) is in
+    omega arith
 
--- under no horizon no lines have to lapse
-pub need_not_lapse : (state : State) (lines : List (List ℕ)) → IsToldState dks_1 state → HaveNotToLapse state lines
-need_not_lapse state lines told =
-    let none : state.horizon ≡ 0 = told.horizon in
-    subst (λ (n : ℕ). n ≤ body_end (schedule_body lines)) (sym none) (omega arith)
+-- want of memory for a part that is not bad
+pub wanting_here : (format : Format) {A : Type 0} (result : Result A StateCause) (before : Before) (bytes : List ℕ) → IsWantingHere format before bytes → IfErr result (λ told. told ≡ cause.Memory)
+    → IfErr result (λ told. IsBadHere format before bytes (cause_meant told))
+wanting_here format result before bytes here =
+    IfErr-weaker result (λ told. told ≡ cause.Memory) (λ told. IsBadHere format before bytes (cause_meant told))
+    (λ told is. subst (λ (k : StateCause). IsBadHere format before bytes (cause_meant k)) (sym is) here)
 
-module _ (count : ℕ) (state : State) (key : ScheduleKey) (stamp : Stamp) (n : ℕ) (lines : List (List ℕ)) (line : List ℕ) (taken : List (List ℕ))
+module _ (format : Format) (count : ℕ) (state : State) (key : ScheduleKey) (stamp : Stamp) (n : ℕ) (lines : List (List ℕ)) (line : List ℕ) (taken : List (List ℕ))
     (here : IsPartHere state (before_line key stamp n lines)) (is : taken ≡ lines ++ line ∷ []) where
-  pub more_to_come : length taken < n → in_entry count state (before_line key stamp n taken) ≡ advance dks_1 (in_entry count state (before_line key stamp n lines)) line
+  pub more_to_come : length taken < n → in_entry count state (before_line key stamp n taken) ≡ advance format (in_entry count state (before_line key stamp n lines)) line
   more_to_come below =
       ap (λ ls. in_entry count state (before_line key stamp n ls)) is ∙ sym (more_lines count state key stamp n (lines ++ line ∷ []) (subst (λ (ls : List (List ℕ)). length ls < n) is below))
 
@@ -48,7 +53,7 @@ module _ (count : ℕ) (state : State) (key : ScheduleKey) (stamp : Stamp) (n : 
       omega arith
 
   pub all_there : (body : List (List ℕ)) → body ≡ taken → n ≤ length taken
-      → after_entries count (with_entry state (schedule_key key) stamp (put_with (schedule_body body))) ≡ advance dks_1 (in_entry count state (before_line key stamp n lines)) line
+      → after_entries count (with_entry state (schedule_key key) stamp (put_with (schedule_body body))) ≡ advance format (in_entry count state (before_line key stamp n lines)) line
   all_there body same enough =
       ap (λ ls. after_entries count (with_entry state (schedule_key key) stamp (put_with (schedule_body ls)))) (same ∙ is)
       ∙ sym (all_lines count state key stamp (lines ++ line ∷ []))

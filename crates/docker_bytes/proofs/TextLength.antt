@@ -8,7 +8,7 @@ use Rattle.docker_model.specs.Change.{Key, Body, schedule_key, tiploc_key, assoc
 use Rattle.docker_model.specs.Stamp.{LedgerItem}
 use Rattle.docker_model.specs.Op.{Entry}
 use Rattle.docker_model.specs.State.{State, IsBodyOf, IsGoodItem, IsGoodEntry, IsLedger, IsValid}
-use Rattle.docker_model.specs.StateText.{dks_1, mark, item_bytes, stamp_bytes, put_bytes, op_bytes, entry_bytes, ledger_text, state_text}
+use Rattle.docker_model.specs.StateText.{dks_2, head_text, item_bytes, stamp_bytes, put_bytes, op_bytes, entry_bytes, ledger_text, state_text}
 use Rattle.docker_model.specs.StateFault.{key_text}
 use Rattle.docker_laws.proofs.StateReadBack.{item_width, stamp_width}
 use Rattle.docker_bytes.specs.Entries.{IsOfWidth}
@@ -74,13 +74,13 @@ items_length (item ∷ items) good =
 
 pub text_length : {A B : Type 0} (state : State) (item : A → LedgerItem) (row : B → Key × Entry) (items : List A) (rows : List B) (total : ℕ) → IsValid state
     → map item items ≡ state.ledger → map row rows ≡ state.entries → total ≡ length (flat_map entry_bytes (map row rows))
-    → 20 + 19 * length items + total ≡ length (state_text dks_1 state)
+    → 22 + 19 * length items + total ≡ length (state_text dks_2 state)
 text_length state item row items rows total valid ledger entries is =
     let wide = items_length state.ledger (recursion_from_All IsGoodItem state.ledger valid.ledger.each) in
     let count : length items ≡ length state.ledger = sym (length-map items item) ∙ ap length ledger in
     let same : total ≡ length (flat_map entry_bytes state.entries) = is ∙ ap (λ es. length (flat_map entry_bytes es)) entries in
-    let front = ledger_text dks_1 state.horizon (length state.ledger) state.ledger in
+    let front = ledger_text dks_2 state.horizon (length state.ledger) state.ledger in
     let whole = length-append (front ++ to_be_bytes w64 (length state.entries)) (flat_map entry_bytes state.entries) in
     let before = length-append front (to_be_bytes w64 (length state.entries)) in
-    let items_part = length-append (mark dks_1 ++ [] ++ to_be_bytes w64 (length state.ledger)) (flat_map item_bytes state.ledger) in
+    let items_part = length-append (head_text dks_2 state.horizon ++ to_be_bytes w64 (length state.ledger)) (flat_map item_bytes state.ledger) in
     omega arith

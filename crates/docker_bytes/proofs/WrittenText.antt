@@ -9,7 +9,7 @@ use Rattle.docker_model.specs.Change.{Key, tiploc_key, association_key, schedule
 use Rattle.docker_model.specs.Op.{Op, deleted, lapsed, put_with, Entry, key_tag}
 use Rattle.docker_model.specs.Stamp.{LedgerItem}
 use Rattle.docker_model.specs.State.{State, IsOpOf, IsGoodEntry, IsValid}
-use Rattle.docker_model.specs.StateText.{dks_1, mark, item_bytes, key_bytes, stamp_bytes, entry_bytes, state_text}
+use Rattle.docker_model.specs.StateText.{dks_2, head_text, item_bytes, key_bytes, stamp_bytes, entry_bytes, state_text}
 use Rattle.docker_bytes.specs.Entries.{entry_head, op_lines, HasFewLines}
 
 pub entry_text : (entry : Key × Entry) → entry_head entry ++ concat (op_lines entry.1.op) ≡ entry_bytes entry
@@ -48,8 +48,8 @@ at_mapped P m xs i x all below at =
 
 pub state_text_is : {A B : Type 0} (state : State) (item : A → LedgerItem) (row : B → Key × Entry) (items : List A) (rows : List B)
     → map item items ≡ state.ledger → map row rows ≡ state.entries
-    → (((mark dks_1 ++ to_be_bytes w64 (length items)) ++ flat_map item_bytes (map item items)) ++ to_be_bytes w64 (length rows)) ++ flat_map entry_bytes (map row rows) ≡ state_text dks_1 state
+    → (((head_text dks_2 state.horizon ++ to_be_bytes w64 (length items)) ++ flat_map item_bytes (map item items)) ++ to_be_bytes w64 (length rows)) ++ flat_map entry_bytes (map row rows) ≡ state_text dks_2 state
 state_text_is state item row items rows ledger entries =
     let first : length items ≡ length state.ledger = sym (length-map items item) ∙ ap length ledger in
     let second : length rows ≡ length state.entries = sym (length-map rows row) ∙ ap length entries in
-    λ i. (((mark dks_1 ++ to_be_bytes w64 (first i)) ++ flat_map item_bytes (ledger i)) ++ to_be_bytes w64 (second i)) ++ flat_map entry_bytes (entries i)
+    λ i. (((head_text dks_2 state.horizon ++ to_be_bytes w64 (first i)) ++ flat_map item_bytes (ledger i)) ++ to_be_bytes w64 (second i)) ++ flat_map entry_bytes (entries i)

@@ -1,11 +1,12 @@
 -- What is found of a part.
-use Rattle.std.specs.Prelude.{◌≡◌, ℕ, List, Option, Some, None, Result, Ok, Err}
+use Rattle.std.specs.Prelude.{◌≡◌, ℕ, ◌≤◌, List, Option, Some, None, Result, Ok, Err}
 use Rattle.docker_model.specs.Stamp as stamps
 use Rattle.docker_model.specs.Change as model
-use Rattle.docker_model.specs.State.{State, IsGoodItem, IsGoodKey, HasNewTransaction}
-use Rattle.docker_model.specs.Record.{HasKind, basic_schedule}
+use Rattle.docker_model.specs.State.{State, IsGoodItem, IsGoodKey, HasNewTransaction, IsAssociationOf}
+use Rattle.docker_model.specs.Record.{HasKind, basic_schedule, columns}
 use Rattle.docker_model.specs.Field.{HasGoodFields}
-use Rattle.docker_model.specs.Change.{schedule_named, schedule_key}
+use Rattle.docker_model.specs.Change.{schedule_named, schedule_key, association_body}
+use Rattle.docker_model.specs.Op.{body_end, readable_end}
 use Rattle.docker_model.specs.StateFault.{IsAboveItems, RaisesFloor, IsAboveEntries, IsBadItem, IsBadKey}
 use Rattle.docker_model.specs.StateFault as fault
 use Rattle.cif_file.specs.declared.key.Key.{Key}
@@ -41,9 +42,14 @@ abbrev pub IsJudgedKey : State → model.Key → Result Key StateCause → Type 
 IsJudgedKey state key (Ok told) = (key_meant told ≡ key) × IsGoodKey key × IsAboveEntries state key
 IsJudgedKey state key (Err cause) = IsKeyCause state key (cause_meant cause)
 
--- a good basic schedule, new and of this key
-pub record IsFirstOf (key : model.ScheduleKey) (line : List ℕ) : Type 0 where
+-- an association of this key that does not end before a horizon
+abbrev pub IsAssociationUnder : ℕ → model.AssociationKey → List ℕ → Type 0
+IsAssociationUnder horizon key line = IsAssociationOf key line × (horizon ≤ body_end (association_body line))
+
+-- a good basic schedule, new and of this key, that does not end before a horizon
+pub record IsFirstOf (horizon : ℕ) (key : model.ScheduleKey) (line : List ℕ) : Type 0 where
   pub kind : HasKind basic_schedule line
   pub fields : HasGoodFields line
   pub new : HasNewTransaction line
   pub key_is : schedule_named line ≡ schedule_key key
+  pub stays : horizon ≤ readable_end (columns 16 21 line)

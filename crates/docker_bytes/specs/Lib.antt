@@ -1,7 +1,11 @@
 pub mod Written
 pub mod Entries
+pub mod FormatMeaning
+pub mod Told
 pub mod Place
 pub mod FaultMeaning
+pub mod FaultText
+pub mod ReadFaultText
 pub mod Judged
 pub mod Lines
 pub mod Reading

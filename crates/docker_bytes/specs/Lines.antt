@@ -1,17 +1,31 @@
 -- Why a line does not go on with a schedule in the text of a state.
-use Rattle.std.specs.Prelude.{ℕ, List, [], ◌∷◌, ◌++◌, Option, Some, None, ⊤}
+use Rattle.std.specs.Prelude.{◌≡◌, ℕ, List, [], ◌∷◌, ◌++◌, length, Option, Some, None}
 use Rattle.docker_model.specs.Change as model
-use Rattle.docker_model.specs.File.{BeginsSchedule}
-use Rattle.docker_model.specs.StateFault.{StateCause, bad_body, AreLinesUpTo}
+use Rattle.docker_model.specs.File.{IsSchedule, BeginsSchedule}
+use Rattle.docker_model.specs.State.{State}
+use Rattle.docker_model.specs.StateFault.{StateCause, bad_body, AreLinesOf, AreLinesUpTo, HaveNotToLapse}
 
--- no schedule begins with these lines and this one, or memory was wanting
-abbrev pub IsLineRefusal : List (List ℕ) → List ℕ → Option StateCause → Type 0
-IsLineRefusal lines line None = ⊤
-IsLineRefusal lines line (Some bad_body) = ¬ BeginsSchedule (lines ++ line ∷ [])
-IsLineRefusal lines line _ = ⊥
+-- a schedule begins with the lines, and the last of so many completes it
+pub record BeginUpTo (count : ℕ) (lines : List (List ℕ)) : Type 0 where
+  pub begin : BeginsSchedule lines
+  pub complete : length lines ≡ count → IsSchedule lines
 
--- so many lines of this key do not go on with this one, or memory was wanting
-abbrev pub IsUpToRefusal : model.ScheduleKey → ℕ → List (List ℕ) → List ℕ → Option StateCause → Type 0
-IsUpToRefusal key n lines line None = ⊤
-IsUpToRefusal key n lines line (Some bad_body) = ¬ AreLinesUpTo key n (lines ++ line ∷ [])
-IsUpToRefusal key n lines line _ = ⊥
+-- these lines and this one are none of so many lines of a schedule; or memory was wanting, and they are
+abbrev pub IsLineRefusal : ℕ → List (List ℕ) → List ℕ → Option StateCause → Type 0
+IsLineRefusal count lines line None = BeginUpTo count (lines ++ line ∷ [])
+IsLineRefusal count lines line (Some bad_body) = ¬ BeginUpTo count (lines ++ line ∷ [])
+IsLineRefusal count lines line _ = ⊥
+
+-- the lines so far of a schedule of this key, which has not to lapse in the state
+abbrev pub AreLinesIn : State → model.ScheduleKey → List (List ℕ) → Type 0
+AreLinesIn state key lines = AreLinesOf key lines × HaveNotToLapse state lines
+
+-- the same of so many lines
+abbrev pub AreLinesUpToIn : State → model.ScheduleKey → ℕ → List (List ℕ) → Type 0
+AreLinesUpToIn state key n lines = AreLinesUpTo key n lines × HaveNotToLapse state lines
+
+-- so many lines of this key do not go on with this one; or memory was wanting, and they do
+abbrev pub IsUpToRefusal : State → model.ScheduleKey → ℕ → List (List ℕ) → List ℕ → Option StateCause → Type 0
+IsUpToRefusal state key n lines line None = AreLinesUpToIn state key n (lines ++ line ∷ [])
+IsUpToRefusal state key n lines line (Some bad_body) = ¬ AreLinesUpToIn state key n (lines ++ line ∷ [])
+IsUpToRefusal state key n lines line _ = ⊥

@@ -1,8 +1,9 @@
 -- What a parser of a state's text was fed.
 use Rattle.std.specs.Prelude.{◌≡◌, ℕ, List, Option, Some, None}
+use Rattle.docker_model.specs.StateText.{Format}
 use Rattle.docker_bytes.specs.declared.fault.StateFault.{StateFault}
 use Rattle.docker_bytes.specs.declared.reading.Reading.{Reading}
-use Rattle.docker_bytes.specs.Reading.{text_of, IsReading}
+use Rattle.docker_bytes.specs.Reading.{format_of, text_of, IsReading}
 
 -- what a parser keeps
 pub record ParserState : Type 0 where
@@ -13,10 +14,11 @@ pub record ParserState : Type 0 where
 abbrev pub IsSound : Reading → Option StateFault → Type 0
 IsSound reading fault = fault ≡ None → IsReading reading
 
--- the parser has used exactly these bytes, under this limit, and told no fault
-pub record HasRead (parser : ParserState) (limit : ℕ) (text : List ℕ) : Type 0 where
+-- the parser of a format has used exactly these bytes, under this limit, and told no fault
+pub record HasRead (parser : ParserState) (format : Format) (limit : ℕ) (text : List ℕ) : Type 0 where
   pub no_fault : parser.fault ≡ None
   pub sound : IsReading parser.reading
+  pub format_is : format_of parser.reading ≡ format
   pub limit_is : parser.reading.limit ≡ limit
   pub text_is : text_of parser.reading ≡ text
 

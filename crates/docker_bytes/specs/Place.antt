@@ -1,10 +1,10 @@
 -- What a place of the code means: what stands before the next part, of these parts of a state and these lines of an open schedule.
-use Rattle.std.specs.Prelude.{◌≡◌, ℕ, Bool, true, false, List, [], ⊤}
+use Rattle.std.specs.Prelude.{◌≡◌, ℕ, ◌+◌, ◌≤◌, Bool, true, false, List, [], length, ⊤}
 use Rattle.docker_model.specs.Change.{schedule_key}
 use Rattle.docker_model.specs.Change as model
 use Rattle.docker_model.specs.State.{State}
-use Rattle.docker_model.specs.StateText.{dks_1}
-use Rattle.docker_model.specs.StateFault.{StateCause, EntryPart, before_tag, before_key, before_stamp, before_op, before_body, before_line, Before, before_mark, before_ledger_count, before_item, before_entry_count, in_entry, at_end, AreGood, IsBadPart}
+use Rattle.docker_model.specs.StateText.{Format}
+use Rattle.docker_model.specs.StateFault.{StateCause, EntryPart, before_tag, before_key, before_stamp, before_op, before_body, before_line, Before, before_mark, before_horizon, before_ledger_count, before_item, before_entry_count, in_entry, at_end, AreGood, IsBadPart}
 use Rattle.cif_line.specs.Letter.{stp_letter}
 use Rattle.cif_file.specs.declared.key.AssocKey.{AssocKey}
 use Rattle.cif_file.specs.declared.key.ScheduleKey.{ScheduleKey}
@@ -33,9 +33,10 @@ assoc_meant key = record { base = key.base; associated = key.associated; start =
 -- what stands before the part at a place
 abbrev pub place_meant : Place → State → List (List ℕ) → Before
 place_meant place.Mark state lines = before_mark
-place_meant place.LedgerCount state lines = before_ledger_count 0
-place_meant (place.Item count) state lines = before_item 0 count state.ledger
-place_meant place.EntryCount state lines = before_entry_count 0 state.ledger
+place_meant place.Horizon state lines = before_horizon
+place_meant place.LedgerCount state lines = before_ledger_count state.horizon
+place_meant (place.Item count) state lines = before_item state.horizon count state.ledger
+place_meant place.EntryCount state lines = before_entry_count state.horizon state.ledger
 place_meant (place.Tag count) state lines = in_entry count state before_tag
 place_meant (place.Key count kind) state lines = in_entry count state (before_key (tag_meant kind))
 place_meant (place.Stamp count key) state lines = in_entry count state (before_stamp (key_meant key))
@@ -53,21 +54,27 @@ abbrev pub begins_item : Before → Bool
 begins_item (in_entry count state part) = begins_part part
 begins_item _ = true
 
--- what is still to come of a state is not there yet. The format tells no horizon
+-- what is still to come of a state is not there yet
 abbrev pub IsFresh : Place → State → Type 0
 IsFresh place.Mark state = (state.ledger ≡ []) × (state.entries ≡ []) × (state.horizon ≡ 0)
-IsFresh place.LedgerCount state = (state.ledger ≡ []) × (state.entries ≡ []) × (state.horizon ≡ 0)
-IsFresh (place.Item count) state = (state.entries ≡ []) × (state.horizon ≡ 0)
-IsFresh place.EntryCount state = (state.entries ≡ []) × (state.horizon ≡ 0)
+IsFresh place.Horizon state = (state.ledger ≡ []) × (state.entries ≡ [])
+IsFresh place.LedgerCount state = (state.ledger ≡ []) × (state.entries ≡ [])
+IsFresh (place.Item count) state = state.entries ≡ []
+IsFresh place.EntryCount state = state.entries ≡ []
 IsFresh _ state = ⊤
 
+-- the part is no line with more lines to come
+abbrev pub IsLast : Place → List (List ℕ) → Type 0
+IsLast (place.Line count key stamp n) lines = n ≤ length lines + 1
+IsLast _ lines = ⊤
+
 -- a place has been come to by good parts
-pub record IsReady (place : Place) (state : State) (lines : List (List ℕ)) : Type 0 where
-  pub good : AreGood dks_1 (place_meant place state lines)
+pub record IsReady (format : Format) (place : Place) (state : State) (lines : List (List ℕ)) : Type 0 where
+  pub good : AreGood format (place_meant place state lines)
   pub fresh : IsFresh place state
 
 -- behind what stands before, these bytes are a part that is not bad, and lead to the place
-pub record LeadsTo (before : Before) (bytes : List ℕ) (place : Place) (state : State) (lines : List (List ℕ)) : Type 0 where
-  pub is : place_meant place state lines ≡ advance dks_1 before bytes
-  pub not_bad : (cause : StateCause) → ¬ IsBadPart dks_1 before bytes cause
+pub record LeadsTo (format : Format) (before : Before) (bytes : List ℕ) (place : Place) (state : State) (lines : List (List ℕ)) : Type 0 where
+  pub is : place_meant place state lines ≡ advance format before bytes
+  pub not_bad : (cause : StateCause) → ¬ IsBadPart format before bytes cause
   pub fresh : IsFresh place state

@@ -1,33 +1,56 @@
 -- What a source held.
-use Rattle.std.specs.Prelude.{◌≡◌, ℕ, List, Option, Some, None, ⊤}
+use Rattle.std.specs.Prelude.{◌≡◌, ℕ, ◌≤◌, ◌⊎◌, List, [], ◌++◌, length, Option, Some, None, ⊤}
+use Rattle.cif_line.specs.Device.{Reads}
 use Rattle.docker_model.specs.State.{State}
-use Rattle.docker_model.specs.StateText.{dks_1}
+use Rattle.docker_model.specs.StateText.{Format}
 use Rattle.docker_model.specs.StateFault.{IsStateFault, IsStateText}
 use Rattle.docker_model.specs.StateFault as model
 use Rattle.docker_bytes.specs.declared.fault.StateFault.{StateFault}
 use Rattle.docker_bytes.specs.FaultMeaning.{cause_meant}
+use Rattle.docker_bytes.specs.Reading.{IsWhole, IsOpen, IsWanting}
 
 -- a source that tells its bytes held this text
 abbrev pub Held : Option (List ℕ) → List ℕ → Type 0
 Held None text = ⊤
 Held (Some left) text = left ≡ text
 
--- the source held the text of this state, within the limit
-pub record ReadsState (limit : ℕ) (left : Option (List ℕ)) (state : State) : Type 0 where
+-- the source held the text of this state in a format, within the limit
+pub record ReadsState (format : Format) (limit : ℕ) (left : Option (List ℕ)) (state : State) : Type 0 where
   pub text : List ℕ
   pub held : Held left text
-  pub is : IsStateText dks_1 limit text state
+  pub is : IsStateText format limit text state
 
 -- the fault is the text's. Want of memory is none
-abbrev pub IsCauseOf : ℕ → List ℕ → ℕ → Option model.StateCause → Type 0
-IsCauseOf limit text at None = ⊥
-IsCauseOf limit text at (Some cause) = IsStateFault dks_1 limit text (record { at = at; cause = cause })
+abbrev pub IsCauseOf : Format → ℕ → List ℕ → ℕ → Option model.StateCause → Type 0
+IsCauseOf format limit text at None = ⊥
+IsCauseOf format limit text at (Some cause) = IsStateFault format limit text (record { at = at; cause = cause })
 
-abbrev pub IsFaultOf : ℕ → List ℕ → StateFault → Type 0
-IsFaultOf limit text fault = IsCauseOf limit text fault.at (cause_meant fault.cause)
+abbrev pub IsFaultOf : Format → ℕ → List ℕ → StateFault → Type 0
+IsFaultOf format limit text fault = IsCauseOf format limit text fault.at (cause_meant fault.cause)
 
 -- the source held a text with this fault
-pub record RefusesState (limit : ℕ) (left : Option (List ℕ)) (fault : StateFault) : Type 0 where
+pub record RefusesState (format : Format) (limit : ℕ) (left : Option (List ℕ)) (fault : StateFault) : Type 0 where
   pub text : List ℕ
   pub held : Held left text
-  pub is : IsFaultOf limit text fault
+  pub is : IsFaultOf format limit text fault
+
+-- behind a text that is not at fault, whole or not, a source lost one piece of at most so many bytes
+pub record ReadsOnePieceMore (format : Format) (most limit : ℕ) (old new : Option (List ℕ)) : Type 0 where
+  pub text : List ℕ
+  pub piece : List ℕ
+  pub lost : Reads old (text ++ piece) new
+  pub few : length piece ≤ most
+  pub sound : IsOpen format limit text ⊎ IsWhole format limit text
+
+-- memory was wanting for a part that ends in the last piece of at most so many bytes that a source lost
+pub record WantsPart (format : Format) (most limit : ℕ) (old new : Option (List ℕ)) : Type 0 where
+  pub text : List ℕ
+  pub piece : List ℕ
+  pub lost : Reads old (text ++ piece) new
+  pub few : length piece ≤ most
+  pub at : ℕ
+  pub wanting : IsWanting format limit text piece at
+
+-- memory was wanting: before a byte was read, for a part up to which none is bad, or at the end of a state's text
+abbrev pub WantsMemory : Format → ℕ → ℕ → Option (List ℕ) → Option (List ℕ) → Type 0
+WantsMemory format most limit old new = Reads old [] new ⊎ WantsPart format most limit old new ⊎ ((state : State) × ReadsState format limit old state)

@@ -1,17 +1,18 @@
 //! Bodies of TIPLOCs and associations, and the first line of a schedule, as they are read.
-ghost use Rattle.std.specs.Prelude.{◌≡◌, ◌↔◌, length, IsTrue, MatchOption};
+ghost use Rattle.std.specs.Prelude.{◌≡◌, ◌+◌, ◌≤◌, ◌↔◌, length, slice_range, IsTrue, MatchOption};
 ghost use Rattle.docker_model.specs.Record.{IsRecord, HasKind, association, basic_schedule};
 ghost use Rattle.docker_model.specs.Field.{HasGoodFields};
 ghost use Rattle.docker_model.specs.Change.{tiploc_body, association_body, association_named, schedule_named, association_key, schedule_key};
+ghost use Rattle.docker_model.specs.Op.{body_end, readable_end};
 ghost use Rattle.docker_model.specs.State.{IsTextOfLength, HasNewTransaction, IsAssociationOf};
 ghost use Rattle.cif_line.specs.Kind.{meaning};
 ghost use Rattle.cif_file.specs.Meaning.{key_meant, body_meant};
 ghost use Rattle.docker_bytes.specs.Place.{assoc_meant, schedule_meant};
-ghost use Rattle.docker_bytes.specs.Judged.{IsFirstOf};
+ghost use Rattle.docker_bytes.specs.Judged.{IsAssociationUnder, IsFirstOf};
 
 use crate::fields::{field, is_text};
 use cif_file::{AssocKey, Body, Key, ScheduleKey};
-use cif_line::{Assoc, Basic, Kind, Line, Transaction, assoc, basic, kind};
+use cif_line::{Assoc, Basic, Kind, Line, Transaction, Until, assoc, basic, kind};
 
 /// The body of a TIPLOC that 63 bytes are. None where a byte is not printable.
 pub(crate) fn tiploc_body(bytes: &[u8]) -> Option<Body>
@@ -24,10 +25,10 @@ pub(crate) fn tiploc_body(bytes: &[u8]) -> Option<Body>
     Some(Body::Tiploc(*field(bytes, 0)))
 }
 
-/// The body of an association of this key that bytes are. None where they are none.
-pub(crate) fn assoc_body(key: &AssocKey, bytes: &[u8]) -> Option<Body>
-    ensures { MatchOption result (¬ IsAssociationOf (assoc_meant key.now) bytes.now)
-        (λ body. (body_meant body ≡ association_body bytes.now) × IsAssociationOf (assoc_meant key.now) bytes.now) }
+/// The body of an association of this key that bytes are, and that does not end before a horizon. None where they are none.
+pub(crate) fn assoc_body(key: &AssocKey, horizon: u16, bytes: &[u8]) -> Option<Body>
+    ensures { MatchOption result (¬ IsAssociationUnder horizon (assoc_meant key.now) bytes.now)
+        (λ body. (body_meant body ≡ association_body bytes.now) × IsAssociationUnder horizon (assoc_meant key.now) bytes.now) }
 {
     let Ok(line) = Line::new(bytes) else {
         return None;
@@ -35,7 +36,21 @@ pub(crate) fn assoc_body(key: &AssocKey, bytes: &[u8]) -> Option<Body>
     if !is_association_of(key, &line) {
         return None;
     }
+    if !stays(&line, 21, horizon) {
+        return None;
+    }
     Some(Body::Assoc(line))
+}
+
+/// Whether the end date at an index of a line is not before a horizon. What cannot be read is no end.
+fn stays(line: &Line, at: usize, horizon: u16) -> bool
+    requires { at + 6 ≤ 80 }
+    ensures { IsTrue result ↔ (horizon ≤ readable_end (slice_range line.now at (at + 6))) }
+{
+    match Until::from_field(field(line.bytes(), at)) {
+        Some(end) => horizon <= end.number(),
+        None => true,
+    }
 }
 
 /// Whether a line is of this kind.
@@ -87,11 +102,14 @@ fn is_same(first: &Key, second: &Key) -> bool
     first == second
 }
 
-/// Whether a line is a good basic schedule, new and of this key.
-pub(crate) fn is_first_of(key: &ScheduleKey, line: &Line) -> bool
-    ensures { IsTrue result ↔ IsFirstOf (schedule_meant key.now) line.now }
+/// Whether a line is a good basic schedule, new and of this key, that does not end before a horizon.
+pub(crate) fn is_first_of(key: &ScheduleKey, horizon: u16, line: &Line) -> bool
+    ensures { IsTrue result ↔ IsFirstOf horizon (schedule_meant key.now) line.now }
 {
     if !has_kind(line, Kind::BasicSchedule) {
+        return false;
+    }
+    if !stays(line, 15, horizon) {
         return false;
     }
     match basic(line) {

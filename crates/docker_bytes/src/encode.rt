@@ -97,6 +97,7 @@ fn add_op(buffer: &mut Buffer, op: &Op)
 {
     match op {
         Op::Deleted => add(buffer, &[0]),
+        Op::Lapsed => add(buffer, &[2]),
         Op::Put(body) => {
             add(buffer, &[1]);
             match body {

@@ -1,53 +1,80 @@
 //! Why bytes are no text of a state.
-use thiserror::Error;
+ghost use Rattle.std.specs.Prelude.{Some};
+ghost use Rattle.docker_bytes.specs.FaultText.{cause_text, fault_text};
+
+use std::error::Error;
+use std::fmt;
 
 /// The cause of a fault.
-#[derive(Clone, Copy, PartialEq, Eq, Debug, Error)]
+#[derive(Clone, Copy, PartialEq, Eq, Debug)]
 pub enum StateCause {
     /// The text does not begin with its mark.
-    #[error("Mark")]
     Mark,
     /// No header can give the ledger item.
-    #[error("Item")]
     Item,
     /// The ledger item, or the key of the entry, is not above the one before.
-    #[error("Order")]
     Order,
     /// The ledger item is a full extract above the first item.
-    #[error("Floor")]
     Floor,
     /// The tag is not 1, 2 or 3.
-    #[error("Tag")]
     Tag,
     /// The stamp is of no file of the ledger, or its record number is none of a change.
-    #[error("Stamp")]
     Stamp,
     /// The key, the op or the body is not well formed, or the body is of another key.
-    #[error("Body")]
     Body,
     /// The text ends before the state does.
-    #[error("Short")]
     Short,
     /// A byte follows the state.
-    #[error("Tail")]
     Tail,
     /// The state needs a byte at the limit.
-    #[error("Long")]
     Long,
     /// A growth was refused: want of memory.
-    #[error("Memory")]
     Memory,
+    /// The horizon is no day number: it is above 36524.
+    Horizon,
 }
 
+impl fmt::Display for StateCause {
+    ghost output = { λ cause. Some (cause_text cause) };
+
+    fn fmt<W: fmt::Write>(&self, f: &mut fmt::Formatter<W>) -> fmt::Result {
+        f.write_str(match self {
+            StateCause::Mark => "Mark",
+            StateCause::Item => "Item",
+            StateCause::Order => "Order",
+            StateCause::Floor => "Floor",
+            StateCause::Tag => "Tag",
+            StateCause::Stamp => "Stamp",
+            StateCause::Body => "Body",
+            StateCause::Short => "Short",
+            StateCause::Tail => "Tail",
+            StateCause::Long => "Long",
+            StateCause::Memory => "Memory",
+            StateCause::Horizon => "Horizon",
+        })
+    }
+}
+
+impl Error for StateCause {}
+
 /// Where bytes are found to be no text of a state, or where memory was wanting.
-#[derive(Clone, Copy, PartialEq, Eq, Debug, Error)]
-#[error("offset {at}: {cause}")]
+#[derive(Clone, Copy, PartialEq, Eq, Debug)]
 pub struct StateFault {
     /// The offset, from 0: of the item that is at fault, of the first byte behind the state, or the limit.
     pub at: u64,
     /// What is wrong there.
     pub cause: StateCause,
 }
+
+impl fmt::Display for StateFault {
+    ghost output = { λ fault. Some (fault_text fault) };
+
+    fn fmt<W: fmt::Write>(&self, f: &mut fmt::Formatter<W>) -> fmt::Result {
+        write!(f, "offset {}: {}", self.at, self.cause)
+    }
+}
+
+impl Error for StateFault {}
 
 /// Whether the text of a state is whole.
 #[derive(Clone, Copy, PartialEq, Eq, Debug)]

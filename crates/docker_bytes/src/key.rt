@@ -10,9 +10,9 @@ ghost use Rattle.docker_bytes.specs.Judged.{IsJudgedKey};
 use crate::fault::StateCause;
 use crate::fields::{field, is_printable, number_16};
 use crate::place::Tag;
+use crate::told::Told;
 use cif_file::{AssocKey, Key, ScheduleKey};
 use cif_line::{Day, Stp, Tiploc, Uid};
-use docker_state::Parts;
 
 /// The key of a TIPLOC that 7 bytes tell. None where no record can name it.
 fn tiploc_key(bytes: &[u8]) -> Option<Key>
@@ -94,7 +94,7 @@ fn key_in(tag: Tag, bytes: &[u8]) -> Option<Key>
 }
 
 /// Whether a key is above those of the entries so far.
-fn is_above(parts: &Parts, key: &Key) -> bool
+fn is_above(parts: &Told, key: &Key) -> bool
     requires { AreAscending parts.now.entries }
     ensures { IsTrue result ↔ IsAboveEntries parts.now (key_meant key.now) }
 {
@@ -105,7 +105,7 @@ fn is_above(parts: &Parts, key: &Key) -> bool
 }
 
 /// The key of the next entry, or why it is bad.
-pub(crate) fn judged_key(tag: Tag, parts: &Parts, bytes: &[u8]) -> Result<Key, StateCause>
+pub(crate) fn judged_key(tag: Tag, parts: &Told, bytes: &[u8]) -> Result<Key, StateCause>
     requires wide { length bytes.now ≡ key_width (tag_meant tag) }
     requires ascending { AreAscending parts.now.entries }
     ensures { IsJudgedKey parts.now (key_in (tag_meant tag) bytes.now) result }

@@ -2,7 +2,7 @@
 ghost use Rattle.std.specs.Prelude.{◌≡◌, ◌+◌, ◌*◌, ◌^◌, ◌<◌, ◌≤◌, length, map, All};
 ghost use Rattle.std.specs.List.{flat_map};
 ghost use Rattle.docker_model.specs.State.{IsGoodKey, IsBodyOf, IsOpOf};
-ghost use Rattle.docker_model.specs.StateText.{dks_1, put_bytes, op_bytes, entry_bytes, state_text};
+ghost use Rattle.docker_model.specs.StateText.{dks_2, put_bytes, op_bytes, entry_bytes, state_text};
 ghost use Rattle.docker_model.specs.StateFault.{key_text};
 ghost use Rattle.cif_file.specs.Meaning.{key_meant, body_meant};
 ghost use Rattle.docker_join.specs.Meaning.{op_meant};
@@ -46,7 +46,7 @@ fn op_len(key: &Key, op: &Op) -> u128
     ensures bound { result < 2 ^ 40 }
 {
     match op {
-        Op::Deleted => 1,
+        Op::Deleted | Op::Lapsed => 1,
         Op::Put(body) => 1 + body_len(key, body),
     }
 }
@@ -73,9 +73,9 @@ fn rows_len(rows: &[(Key, Entry)]) -> u128
     total
 }
 
-/// The exact number of bytes of the text of a state.
+/// The exact number of bytes of the text of a state: its mark, its horizon, its counts, items and entries.
 pub fn encoded_len(state: &State) -> u128
-    ensures { result ≡ length (state_text dks_1 state.now) }
+    ensures { result ≡ length (state_text dks_2 state.now) }
 {
-    20 + 19 * state.ledger().len() as u128 + rows_len(state.entries())
+    22 + 19 * state.ledger().len() as u128 + rows_len(state.entries())
 }

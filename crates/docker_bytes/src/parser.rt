@@ -1,11 +1,14 @@
 //! A parser that is fed the text of a state piece by piece.
 ghost use Rattle.std.specs.Prelude.{◌≡◌, ℕ, ◌+◌, ◌≤◌, List, [], ◌++◌, length, take, IfOk, IfErr, Ok, Err};
-ghost use Rattle.docker_model.specs.StateText.{dks_1};
+ghost use Rattle.docker_model.specs.StateText.{dks_2};
+ghost use Rattle.docker_model.specs.StateText as formats;
 ghost use Rattle.docker_model.specs.StateFault.{IsStateText};
+ghost use Rattle.docker_bytes.specs.FormatMeaning.{format_meant};
 ghost use Rattle.docker_bytes.specs.Reading.{IsFaultTold, IsUnended, IsStep, IsWhole};
 ghost use Rattle.docker_bytes.specs.ParserRead.{HasRead, HasFailed};
 
 use crate::fault::{StateFault, Step};
+use crate::format::Format;
 use crate::reading::Reading;
 use docker_state::State;
 use std::alloc::Global;
@@ -29,25 +32,32 @@ impl Model for StateParser {
 }
 
 impl StateParser {
-    /// A parser of a text of at most `limit` bytes.
+    /// A parser of a text of the mark `DKS2`, of at most `limit` bytes.
     pub fn new(alloc: Global, limit: u64) -> StateParser
-        ensures { HasRead result limit [] }
+        ensures { HasRead result dks_2 limit [] }
+    {
+        StateParser::of_format(alloc, Format::Dks2, limit)
+    }
+
+    /// A parser of a text of a format.
+    pub(crate) fn of_format(alloc: Global, format: Format, limit: u64) -> StateParser
+        ensures { HasRead result (format_meant format) limit [] }
     {
         StateParser {
-            reading: Reading::new(alloc, limit),
+            reading: Reading::new(alloc, format, limit),
             fault: None,
         }
     }
 
     /// Takes the next bytes of the text, and tells how many of them it used: at `More` all, and more are to come; at `Done` those up to the last byte of the
     /// state, and from then on none. It is refused once a bad part is there, or a byte at the limit that the state needs, and it tells that fault; or where
-    /// memory is wanting, at the item that is being read. Each later call answers the same fault.
+    /// memory is wanting for a part whose last byte it takes, at that part's item, and then no part up to it is bad. Each later call answers the same fault.
     pub fn feed(&mut self, piece: &[u8]) -> Result<(usize, Step), StateFault>
         ensures within { IfOk result (λ answer. answer.0 ≤ length piece.now) }
-        ensures read { (limit : ℕ) (text : List ℕ) → HasRead self.old limit text → IfOk result (λ answer. HasRead self.new limit (text ++ take answer.0 piece.now)) }
-        ensures step { (limit : ℕ) (text : List ℕ) → HasRead self.old limit text → IfOk result (IsStep limit text piece.now) }
-        ensures done { (limit : ℕ) (text : List ℕ) → HasRead self.old limit text → IsWhole limit text → result ≡ Ok (0, Step.Done) }
-        ensures err { (limit : ℕ) (text : List ℕ) → HasRead self.old limit text → IfErr result (λ fault. IsFaultTold limit (text ++ piece.now) fault) }
+        ensures read { (format : formats.Format) (limit : ℕ) (text : List ℕ) → HasRead self.old format limit text → IfOk result (λ answer. HasRead self.new format limit (text ++ take answer.0 piece.now)) }
+        ensures step { (format : formats.Format) (limit : ℕ) (text : List ℕ) → HasRead self.old format limit text → IfOk result (IsStep format limit text piece.now) }
+        ensures done { (format : formats.Format) (limit : ℕ) (text : List ℕ) → HasRead self.old format limit text → IsWhole format limit text → result ≡ Ok (0, Step.Done) }
+        ensures err { (format : formats.Format) (limit : ℕ) (text : List ℕ) → HasRead self.old format limit text → IfErr result (λ fault. IsFaultTold format limit text piece.now fault) }
         ensures failed { IfErr result (λ fault. HasFailed self.new fault) }
         ensures again { (fault : _) → HasFailed self.old fault → result ≡ Err fault }
     {
@@ -68,7 +78,7 @@ impl StateParser {
 
     /// How many bytes were read.
     pub(crate) fn offset(&self) -> u64
-        ensures { (limit : ℕ) (text : List ℕ) → HasRead self.now limit text → result ≡ length text }
+        ensures { (format : formats.Format) (limit : ℕ) (text : List ℕ) → HasRead self.now format limit text → result ≡ length text }
     {
         if self.fault.is_some() {
             return 0;
@@ -76,10 +86,11 @@ impl StateParser {
         self.reading.offset()
     }
 
-    /// The state whose text was read. `Short` where the text ends before the state does, at the item that is not whole. After a fault of `feed` it is that fault.
+    /// The state whose text was read. `Short` where the text ends before the state does, at the item that is not whole; want of memory only of a whole text, at
+    /// its end. After a fault of `feed` it is that fault.
     pub fn finish(self) -> Result<State, StateFault>
-        ensures ok { (limit : ℕ) (text : List ℕ) → HasRead self limit text → IfOk result (λ state. IsStateText dks_1 limit text state) }
-        ensures err { (limit : ℕ) (text : List ℕ) → HasRead self limit text → IfErr result (λ fault. IsUnended limit text fault) }
+        ensures ok { (format : formats.Format) (limit : ℕ) (text : List ℕ) → HasRead self format limit text → IfOk result (λ state. IsStateText format limit text state) }
+        ensures err { (format : formats.Format) (limit : ℕ) (text : List ℕ) → HasRead self format limit text → IfErr result (λ fault. IsUnended format limit text fault) }
         ensures again { (fault : _) → HasFailed self fault → result ≡ Err fault }
     {
         match self.fault {

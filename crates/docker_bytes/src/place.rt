@@ -34,6 +34,7 @@ impl Tag {
 #[derive(Clone, Copy, Debug)]
 pub(crate) enum Place {
     Mark,
+    Horizon,
     LedgerCount,
     Item(u64),
     EntryCount,
@@ -54,6 +55,7 @@ impl Place {
     {
         match self {
             Place::Mark => 4,
+            Place::Horizon => 2,
             Place::LedgerCount | Place::EntryCount => 8,
             Place::Item(_) => 19,
             Place::Tag(_) | Place::Op(_, _, _) => 1,

@@ -1,47 +1,84 @@
 //! The state that a source holds.
-ghost use Rattle.std.specs.Prelude.{◌≡◌, ◌≢◌, ℕ, ◌+◌, ◌-◌, ◌^◌, ◌<◌, ◌↔◌, List, ◌++◌, length, IsOk, IfOk, Err};
-ghost use Rattle.docker_model.specs.StateText.{dks_1};
+ghost use Rattle.std.specs.Prelude.{◌≡◌, ◌≢◌, ℕ, ◌+◌, ◌-◌, ◌^◌, ◌<◌, ◌↔◌, List, ◌++◌, length, IsOk, IfOk, Err, Some};
+ghost use Rattle.docker_model.specs.StateText.{dks_2};
+ghost use Rattle.docker_model.specs.StateText as formats;
 ghost use Rattle.docker_model.specs.StateFault.{IsStateText};
+ghost use Rattle.docker_bytes.specs.FormatMeaning.{format_meant};
 ghost use Rattle.docker_bytes.specs.ParserRead.{HasRead};
-ghost use Rattle.docker_bytes.specs.SourceRead.{ReadsState, RefusesState, IsFaultOf};
+ghost use Rattle.docker_bytes.specs.ReadFaultText.{read_fault_text};
+ghost use Rattle.docker_bytes.specs.SourceRead.{ReadsState, RefusesState, IsFaultOf, ReadsOnePieceMore, WantsMemory};
+ghost use Rattle.docker_bytes.specs.Reading.{IsWhole, IsWanting};
 
 use crate::fault::{StateCause, StateFault};
+use crate::format::Format;
 use crate::parser::StateParser;
 use cif_line::Source;
 use docker_state::State;
 use std::alloc::Global;
-use thiserror::Error;
+use std::error::Error;
+use std::fmt;
 
 /// How many bytes are read at once.
 const PIECE: usize = 65_536;
 
 /// Why no state was read.
-#[derive(Clone, Copy, PartialEq, Eq, Debug, Error)]
+#[derive(Clone, Copy, PartialEq, Eq, Debug)]
 pub enum ReadFault {
     /// The source failed.
-    #[error("the source failed")]
     Source,
     /// What the source holds is no text of a state: never `Memory`.
-    #[error("{0}")]
     State(StateFault),
-    /// A growth was refused: want of memory.
-    #[error("want of memory")]
+    /// A growth was refused: want of memory. No part that was judged before is bad.
     Memory,
 }
 
-/// Reads a source to its end, or to the first fault, and answers the state whose text it held. A source that never ends is read to the byte at the limit at
-/// the latest, and that piece of 65,536 bytes to its end.
+impl fmt::Display for ReadFault {
+    ghost output = { λ fault. Some (read_fault_text fault) };
+
+    fn fmt<W: fmt::Write>(&self, f: &mut fmt::Formatter<W>) -> fmt::Result {
+        match self {
+            ReadFault::Source => f.write_str("the source failed"),
+            ReadFault::State(fault) => write!(f, "{fault}"),
+            ReadFault::Memory => f.write_str("want of memory"),
+        }
+    }
+}
+
+impl Error for ReadFault {}
+
+/// Reads a source to its end, or to the first fault, and answers the state whose text it held. Nothing is read behind the piece, of at most 65,536 bytes, that
+/// decides the answer: so a source that never ends is read to the piece with the byte at the limit at the latest.
 pub fn read_state<S: Source>(alloc: Global, source: &mut S, limit: u64) -> Result<State, ReadFault>
     requires { S.failures source.old < 2 ^ 64 - 1 }
-    ensures ok { IfOk result (ReadsState limit (S.left source.old)) }
-    ensures state { (fault : _) → result ≡ Err (ReadFault.State fault) → RefusesState limit (S.left source.old) fault }
+    ensures ok { IfOk result (ReadsState dks_2 limit (S.left source.old)) }
+    ensures state { (fault : _) → result ≡ Err (ReadFault.State fault) → RefusesState dks_2 limit (S.left source.old) fault }
+    ensures memory { result ≡ Err ReadFault.Memory → WantsMemory dks_2 65536 limit (S.left source.old) (S.left source.new) }
+    ensures few { ReadsOnePieceMore dks_2 65536 limit (S.left source.old) (S.left source.new) }
+    ensures source { (result ≡ Err ReadFault.Source) ↔ (S.failures source.new ≡ S.failures source.old + 1) }
+    ensures no_failure { result ≢ Err ReadFault.Source → S.failures source.new ≡ S.failures source.old }
+{
+    read_format(alloc, Format::Dks2, source, limit)
+}
+
+/// The same of a text of a format.
+pub(crate) fn read_format<S: Source>(
+    alloc: Global,
+    format: Format,
+    source: &mut S,
+    limit: u64,
+) -> Result<State, ReadFault>
+    requires { S.failures source.old < 2 ^ 64 - 1 }
+    ensures ok { IfOk result (ReadsState (format_meant format) limit (S.left source.old)) }
+    ensures state { (fault : _) → result ≡ Err (ReadFault.State fault) → RefusesState (format_meant format) limit (S.left source.old) fault }
+    ensures memory { result ≡ Err ReadFault.Memory → WantsMemory (format_meant format) 65536 limit (S.left source.old) (S.left source.new) }
+    ensures few { ReadsOnePieceMore (format_meant format) 65536 limit (S.left source.old) (S.left source.new) }
     ensures source { (result ≡ Err ReadFault.Source) ↔ (S.failures source.new ≡ S.failures source.old + 1) }
     ensures no_failure { result ≢ Err ReadFault.Source → S.failures source.new ≡ S.failures source.old }
 {
     let Ok(mut piece) = vec![in alloc; 0u8; PIECE] else {
         return Err(ReadFault::Memory);
     };
-    let mut parser = StateParser::new(alloc, limit);
+    let mut parser = StateParser::of_format(alloc, format, limit);
     'pieces: loop {
         let Ok(n) = source.read(piece.as_mut_slice()) else {
             return Err(ReadFault::Source);
@@ -57,9 +94,11 @@ pub fn read_state<S: Source>(alloc: Global, source: &mut S, limit: u64) -> Resul
 
 /// Feeds bytes to a parser, all of which have to be of the state.
 fn fed(parser: &mut StateParser, piece: &[u8]) -> Result<(), ReadFault>
-    ensures read { (limit : ℕ) (text : List ℕ) → HasRead parser.old limit text → IsOk result → HasRead parser.new limit (text ++ piece.now) }
-    ensures state { (limit : ℕ) (text : List ℕ) → HasRead parser.old limit text → (fault : _) → result ≡ Err (ReadFault.State fault)
-        → (rest : List ℕ) → IsFaultOf limit ((text ++ piece.now) ++ rest) fault }
+    ensures read { (format : formats.Format) (limit : ℕ) (text : List ℕ) → HasRead parser.old format limit text → IsOk result → HasRead parser.new format limit (text ++ piece.now) }
+    ensures state { (format : formats.Format) (limit : ℕ) (text : List ℕ) → HasRead parser.old format limit text → (fault : _) → result ≡ Err (ReadFault.State fault)
+        → (rest : List ℕ) → IsFaultOf format limit ((text ++ piece.now) ++ rest) fault }
+    ensures memory { (format : formats.Format) (limit : ℕ) (text : List ℕ) → HasRead parser.old format limit text → result ≡ Err ReadFault.Memory
+        → (at : ℕ) × IsWanting format limit text piece.now at }
     ensures source { result ≢ Err ReadFault.Source }
 {
     match parser.feed(piece) {
@@ -75,8 +114,9 @@ fn fed(parser: &mut StateParser, piece: &[u8]) -> Result<(), ReadFault>
 
 /// The state that a parser was fed.
 fn finished(parser: StateParser) -> Result<State, ReadFault>
-    ensures ok { (limit : ℕ) (text : List ℕ) → HasRead parser limit text → IfOk result (λ state. IsStateText dks_1 limit text state) }
-    ensures state { (limit : ℕ) (text : List ℕ) → HasRead parser limit text → (fault : _) → result ≡ Err (ReadFault.State fault) → IsFaultOf limit text fault }
+    ensures ok { (format : formats.Format) (limit : ℕ) (text : List ℕ) → HasRead parser format limit text → IfOk result (λ state. IsStateText format limit text state) }
+    ensures state { (format : formats.Format) (limit : ℕ) (text : List ℕ) → HasRead parser format limit text → (fault : _) → result ≡ Err (ReadFault.State fault) → IsFaultOf format limit text fault }
+    ensures memory { (format : formats.Format) (limit : ℕ) (text : List ℕ) → HasRead parser format limit text → result ≡ Err ReadFault.Memory → IsWhole format limit text }
     ensures source { result ≢ Err ReadFault.Source }
 {
     match parser.finish() {
@@ -87,7 +127,7 @@ fn finished(parser: StateParser) -> Result<State, ReadFault>
 
 /// The fault of a byte behind what a parser has read.
 fn tail(parser: &StateParser) -> StateFault
-    ensures at { (limit : ℕ) (text : List ℕ) → HasRead parser.now limit text → result.at ≡ length text }
+    ensures at { (format : formats.Format) (limit : ℕ) (text : List ℕ) → HasRead parser.now format limit text → result.at ≡ length text }
     ensures cause { result.cause ≡ StateCause.Tail }
 {
     StateFault {

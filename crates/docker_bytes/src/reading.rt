@@ -1,16 +1,18 @@
 //! The reading of a text in pieces, part by part.
 ghost use Rattle.std.specs.Prelude.{◌≡◌, ◌+◌, ◌-◌, ◌<◌, ◌≤◌, ◌↔◌, [], ◌++◌, length, take, IsTrue, IsOk, IfOk, IfErr};
 ghost use Rattle.arrayvec.specs.ArrayVec.{array_vec_len};
-ghost use Rattle.docker_model.specs.StateText.{dks_1};
 ghost use Rattle.docker_model.specs.StateFault.{width, IsStateText};
-ghost use Rattle.docker_bytes.specs.Reading.{before_of, text_of, IsReading, ReadsOn, IsFaultTold, IsUnended, IsStep};
+ghost use Rattle.docker_bytes.specs.FormatMeaning.{format_meant};
+ghost use Rattle.docker_bytes.specs.Reading.{format_of, before_of, text_of, IsReading, ReadsOn, IsPartRefused, IsFaultTold, IsUnended, IsStep};
 
 use crate::fault::{StateCause, StateFault, Step};
+use crate::format::Format;
 use crate::place::Place;
 use crate::schedule::{Gathered, judged_line};
 use crate::step::step;
+use crate::told::Told;
 use arrayvec::ArrayVec;
-use docker_state::{Parts, State};
+use docker_state::State;
 use std::alloc::Global;
 use std::mem;
 
@@ -21,9 +23,10 @@ const MOST_WIDTH: usize = 80;
 #[derive(Debug, Drop)]
 pub(crate) struct Reading {
     alloc: Global,
+    format: Format,
     limit: u64,
     place: Place,
-    parts: Parts,
+    parts: Told,
     lines: Gathered,
     partial: ArrayVec<u8, MOST_WIDTH>,
     item_at: u64,
@@ -41,17 +44,19 @@ fn extend(partial: &mut ArrayVec<u8, MOST_WIDTH>, more: &[u8])
 }
 
 impl Reading {
-    /// No byte yet, of at most `limit`.
-    pub(crate) fn new(alloc: Global, limit: u64) -> Reading
+    /// No byte yet, of at most `limit` of a text of the format.
+    pub(crate) fn new(alloc: Global, format: Format, limit: u64) -> Reading
         ensures reading { IsReading result }
         ensures text { text_of result ≡ [] }
         ensures limit { result.limit ≡ limit }
+        ensures format { format_of result ≡ format_meant format }
     {
         Reading {
             alloc,
+            format,
             limit,
             place: Place::Mark,
-            parts: Parts::new(alloc),
+            parts: Told::new(alloc),
             lines: Gathered::new(alloc),
             partial: ArrayVec::new(),
             item_at: 0,
@@ -102,11 +107,11 @@ impl Reading {
         requires some { 0 < length bytes.now }
         requires fits { self.old.reached + length bytes.now ≤ self.old.limit }
         ensures ok { IsOk result → ReadsOn self.old self.new bytes.now }
-        ensures err { IfErr result (λ fault. IsFaultTold self.old.limit (text_of self.old ++ bytes.now) fault) }
+        ensures err { IfErr result (λ fault. IsPartRefused self.old bytes.now fault) }
     {
         if let Place::Line(_entries, key, _stamp, count) = self.place {
             if self.lines.has_more(count) {
-                return match judged_line(&key, count, &mut self.lines, bytes) {
+                return match judged_line(&key, &self.parts, count, &mut self.lines, bytes) {
                     Ok(()) => {
                         self.reached += bytes.len() as u64;
                         Ok(())
@@ -117,6 +122,7 @@ impl Reading {
         }
         match step(
             self.alloc,
+            self.format,
             self.place,
             &mut self.parts,
             &mut self.lines,
@@ -140,7 +146,7 @@ impl Reading {
         requires wide { length self.old.partial.items + length front.now ≡ width (before_of self.old) }
         requires some { 0 < length front.now }
         ensures ok { IsOk result → ReadsOn self.old self.new front.now }
-        ensures err { IfErr result (λ fault. IsFaultTold self.old.limit (text_of self.old ++ front.now) fault) }
+        ensures err { IfErr result (λ fault. IsFaultTold (format_of self.old) self.old.limit (text_of self.old) front.now fault) }
     {
         if (self.partial.len() + front.len()) as u64 > self.limit - self.reached {
             return Err(self.long());
@@ -158,7 +164,7 @@ impl Reading {
         requires reading { IsReading self.old }
         requires short { length self.old.partial.items + length more.now < width (before_of self.old) }
         ensures ok { IsOk result → ReadsOn self.old self.new more.now }
-        ensures err { IfErr result (λ fault. IsFaultTold self.old.limit (text_of self.old ++ more.now) fault) }
+        ensures err { IfErr result (λ fault. IsFaultTold (format_of self.old) self.old.limit (text_of self.old) more.now fault) }
     {
         if (self.partial.len() + more.len()) as u64 > self.limit - self.reached {
             return Err(self.long());
@@ -172,8 +178,8 @@ impl Reading {
         requires { IsReading self.old }
         ensures within { IfOk result (λ answer. answer.0 ≤ length piece.now) }
         ensures on { IfOk result (λ answer. ReadsOn self.old self.new (take answer.0 piece.now)) }
-        ensures step { IfOk result (IsStep self.old.limit (text_of self.old) piece.now) }
-        ensures err { IfErr result (λ fault. IsFaultTold self.old.limit (text_of self.old ++ piece.now) fault) }
+        ensures step { IfOk result (IsStep (format_of self.old) self.old.limit (text_of self.old) piece.now) }
+        ensures err { IfErr result (λ fault. IsFaultTold (format_of self.old) self.old.limit (text_of self.old) piece.now fault) }
     {
         let mut rest = piece;
         'parts: loop {
@@ -199,11 +205,12 @@ impl Reading {
     /// The state whose text was read, or the fault of a text that ends before the state does.
     pub(crate) fn finish(self) -> Result<State, StateFault>
         requires { IsReading self }
-        ensures ok { IfOk result (λ state. IsStateText dks_1 self.limit (text_of self) state) }
-        ensures err { IfErr result (λ fault. IsUnended self.limit (text_of self) fault) }
+        ensures ok { IfOk result (λ state. IsStateText (format_of self) self.limit (text_of self) state) }
+        ensures err { IfErr result (λ fault. IsUnended (format_of self) self.limit (text_of self) fault) }
     {
         let Reading {
             alloc: _,
+            format: _,
             limit: _,
             place,
             parts,

@@ -1,14 +1,15 @@
 //! The lines of a schedule, as they are read.
 ghost use Rattle.std.specs.Prelude.{◌≡◌, ◌+◌, ◌<◌, ◌↔◌, ◌⊎◌, [], ◌∷◌, ◌++◌, length, false, IsTrue, IsOk, IfOk, IfErr};
 ghost use Rattle.docker_model.specs.File.{IsSchedule, BeginsSchedule};
-ghost use Rattle.docker_model.specs.StateFault.{AreLinesOf, AreLinesUpTo};
+ghost use Rattle.cif_file.specs.JourneyRead.{HasLines};
 ghost use Rattle.docker_bytes.specs.Place.{schedule_meant};
 ghost use Rattle.docker_bytes.specs.Judged.{IsFirstOf};
 ghost use Rattle.docker_bytes.specs.FaultMeaning.{cause_meant};
-ghost use Rattle.docker_bytes.specs.Lines.{IsLineRefusal, IsUpToRefusal};
+ghost use Rattle.docker_bytes.specs.Lines.{BeginUpTo, AreLinesIn, AreLinesUpToIn, IsLineRefusal, IsUpToRefusal};
 
 use crate::body::is_first_of;
 use crate::fault::StateCause;
+use crate::told::Told;
 use cif_file::{Journey, Lines, ScheduleKey};
 use cif_line::Line;
 use std::alloc::{AllocError, Global};
@@ -32,6 +33,15 @@ impl Model for Gathered {
     ghost invariant = { λ gathered. HasLines gathered.journey gathered.lines.items };
 }
 
+/// Lets go of lines, and keeps their buffer.
+fn let_go(journey: &mut Journey, lines: &mut Vec<Line>)
+    ensures none { lines.new.items ≡ [] }
+    ensures reader { HasLines journey.new lines.new.items }
+{
+    *journey = Journey::new();
+    lines.clear();
+}
+
 impl Gathered {
     /// No line yet.
     pub(crate) fn new(alloc: Global) -> Gathered
@@ -43,12 +53,11 @@ impl Gathered {
         }
     }
 
-    /// Lets go of the lines, and keeps the buffer.
+    /// Lets go of the lines.
     pub(crate) fn clear(&mut self)
         ensures { self.new ≡ [] }
     {
-        self.journey = Journey::new();
-        self.lines.clear();
+        let_go(&mut self.journey, &mut self.lines);
     }
 
     /// How many lines there are.
@@ -84,62 +93,61 @@ impl Gathered {
         Ok(Lines::of(body))
     }
 
-    /// Takes the next line. `Body` where no schedule begins with the lines so far and this one. Want of memory lets go of all lines.
-    fn take(&mut self, line: &Line) -> Result<(), StateCause>
+    /// Takes the next of so many lines. `Body` where they are none of a schedule with this one. A line that is refused lets go of all lines.
+    fn take(&mut self, line: &Line, count: u32) -> Result<(), StateCause>
+        requires { length self.old < count }
         ensures taken { IsOk result → self.new ≡ self.old ++ line.now ∷ [] }
-        ensures begin { IsOk result → BeginsSchedule (self.old ++ line.now ∷ []) }
-        ensures err { IfErr result (λ cause. IsLineRefusal self.old line.now (cause_meant cause)) }
+        ensures goes_on { IsOk result → BeginUpTo count (self.old ++ line.now ∷ []) }
+        ensures err { IfErr result (λ cause. IsLineRefusal count self.old line.now (cause_meant cause)) }
     {
+        let is_last = !self.has_more(count);
         if self.journey.line(line).is_err() {
+            return Err(StateCause::Body);
+        }
+        if is_last && !self.journey.complete() {
+            let_go(&mut self.journey, &mut self.lines);
             return Err(StateCause::Body);
         }
         match self.lines.push(*line) {
             Ok(()) => Ok(()),
             Err(_) => {
-                self.journey = Journey::new();
-                self.lines.clear();
+                let_go(&mut self.journey, &mut self.lines);
                 Err(StateCause::Memory)
             }
         }
     }
 }
 
-/// Whether a line may come next as far as the key goes: behind other lines, or as the first line of a new schedule of this key.
-fn may_follow(key: &ScheduleKey, lines: &Gathered, line: &Line) -> bool
-    ensures first { IsTrue result → lines.now ≡ [] → IsFirstOf (schedule_meant key.now) line.now }
-    ensures refused { result ≡ false → (lines.now ≡ []) × (¬ IsFirstOf (schedule_meant key.now) line.now) }
+/// Whether a line may come next as far as the key and the horizon go: behind other lines, or as the first line of a new schedule of this key that has not to lapse.
+fn may_follow(key: &ScheduleKey, told: &Told, lines: &Gathered, line: &Line) -> bool
+    ensures first { IsTrue result → lines.now ≡ [] → IsFirstOf told.now.horizon (schedule_meant key.now) line.now }
+    ensures refused { result ≡ false → (lines.now ≡ []) × (¬ IsFirstOf told.now.horizon (schedule_meant key.now) line.now) }
 {
     if lines.len() > 0 {
         return true;
     }
-    is_first_of(key, line)
+    is_first_of(key, told.horizon(), line)
 }
 
-/// Takes the next of so many lines of this key. `Body` where it does not go on with a schedule of this key that has as many lines.
+/// Takes the next of so many lines of this key. `Body` where it does not go on with a schedule of this key that has as many lines, or where the schedule has to lapse under the horizon that was read.
 pub(crate) fn judged_line(
     key: &ScheduleKey,
+    told: &Told,
     count: u32,
     lines: &mut Gathered,
     bytes: &[u8],
 ) -> Result<(), StateCause>
-    requires { (lines.old ≡ []) ⊎ AreLinesOf (schedule_meant key.now) lines.old }
+    requires lines_of { (lines.old ≡ []) ⊎ AreLinesIn told.now (schedule_meant key.now) lines.old }
+    requires more { length lines.old < count }
     ensures taken { IsOk result → lines.new ≡ lines.old ++ bytes.now ∷ [] }
-    ensures up_to { IsOk result → AreLinesUpTo (schedule_meant key.now) count (lines.old ++ bytes.now ∷ []) }
-    ensures err { IfErr result (λ cause. IsUpToRefusal (schedule_meant key.now) count lines.old bytes.now (cause_meant cause)) }
+    ensures up_to { IsOk result → AreLinesUpToIn told.now (schedule_meant key.now) count (lines.old ++ bytes.now ∷ []) }
+    ensures err { IfErr result (λ cause. IsUpToRefusal told.now (schedule_meant key.now) count lines.old bytes.now (cause_meant cause)) }
 {
     let Ok(line) = Line::new(bytes) else {
         return Err(StateCause::Body);
     };
-    if !may_follow(key, lines, &line) {
+    if !may_follow(key, told, lines, &line) {
         return Err(StateCause::Body);
     }
-    if let Err(cause) = lines.take(&line) {
-        return Err(cause);
-    }
-    if lines.len() == count as usize {
-        if !lines.is_complete() {
-            return Err(StateCause::Body);
-        }
-    }
-    Ok(())
+    lines.take(&line, count)
 }

@@ -1,10 +1,11 @@
 //! The writing of a state.
 ghost use Rattle.std.specs.Prelude.{◌≡◌, ◌+◌, ◌-◌, ◌^◌, ◌<◌, ◌≤◌, ◌++◌, [], ◌∷◌, length, map, All, OnOk, OnErr};
 ghost use Rattle.std.specs.List.{concat, flat_map};
-ghost use Rattle.std.specs.Int.{w64, to_be_bytes};
+ghost use Rattle.std.specs.Int.{w16, w64, to_be_bytes};
+ghost use Rattle.arrayvec.specs.ArrayVec.{array_vec_len};
 ghost use Rattle.cif_line.specs.Device.{Takes, TakesPart};
 ghost use Rattle.docker_model.specs.State.{IsOpOf};
-ghost use Rattle.docker_model.specs.StateText.{dks_1, item_bytes, entry_bytes, state_text};
+ghost use Rattle.docker_model.specs.StateText.{dks_2, mark, item_bytes, entry_bytes, state_text};
 ghost use Rattle.docker_state.specs.Meaning.{item_meant, row_meant};
 ghost use Rattle.docker_bytes.specs.Written.{Gathers};
 ghost use Rattle.docker_bytes.specs.Entries.{HasFewLines};
@@ -99,18 +100,27 @@ fn put_count<K: Sink>(sink: &mut K, buffer: &mut Buffer, count: usize) -> Result
     Ok(())
 }
 
+/// Sets mark, horizon and the number of ledger items into a buffer that has room for their 14 bytes.
+fn add_head(buffer: &mut Buffer, horizon: u16, count: usize)
+    requires { array_vec_len buffer.old + 14 ≤ 8192 }
+    ensures { buffer.new.items ≡ buffer.old.items ++ mark dks_2 ++ to_be_bytes w16 horizon ++ to_be_bytes w64 count }
+{
+    add(buffer, b"DKS2");
+    add(buffer, &horizon.to_be_bytes());
+    add(buffer, &(count as u64).to_be_bytes());
+}
+
 /// Writes the text of a state. A write that fails leaves the sink with a beginning of the text, and not all of it.
 pub fn write_state<K: Sink>(state: &State, sink: &mut K) -> Result<(), Failed>
     requires { K.failures sink.old < 2 ^ 64 - 1 }
-    ensures whole { OnOk result (Takes (K.taken sink.old) (state_text dks_1 state.now) (K.taken sink.new)) }
-    ensures part { OnErr result (TakesPart (K.taken sink.old) (state_text dks_1 state.now) (K.taken sink.new)) }
+    ensures whole { OnOk result (Takes (K.taken sink.old) (state_text dks_2 state.now) (K.taken sink.new)) }
+    ensures part { OnErr result (TakesPart (K.taken sink.old) (state_text dks_2 state.now) (K.taken sink.new)) }
     ensures no_failure { OnOk result (K.failures sink.new ≡ K.failures sink.old) }
     ensures counted { OnErr result (K.failures sink.new ≡ K.failures sink.old + 1) }
 {
     let (ledger, entries) = (state.ledger(), state.entries());
     let mut buffer = ArrayVec::new();
-    add(&mut buffer, b"DKS1");
-    add(&mut buffer, &(ledger.len() as u64).to_be_bytes());
+    add_head(&mut buffer, state.horizon(), ledger.len());
     if let Err(failed) = put_items(sink, &mut buffer, ledger) {
         return Err(failed);
     }

@@ -1,16 +1,17 @@
-use Rattle.std.proofs.Common.{refl, ◌∙◌}
+use Rattle.std.proofs.lemmas.Result.{IfErr-weaker}
+use Rattle.docker_bytes.specs.FaultMeaning.{cause_meant}
 use Rattle.docker_bytes.specs.Place.{schedule_meant}
-use Rattle.docker_bytes.proofs.LineTold.{lines_up_to}
+use Rattle.docker_bytes.proofs.LineTold.{lines_up_to, line_refused}
 use Rattle.docker_bytes.proofs.schedule.judged_line.Goals as goal
 
-pub returns-else-not-is_complete-clause-up_to : goal.returns-else-not-is_complete-clause-up_to
-returns-else-not-is_complete-clause-up_to c = λ ok.
-    lines_up_to (schedule_meant c.args.key.now) c.args.count c.args.lines.now c.in-Ok.line c.args.bytes.now c.take.new.self c.in-Ok.ensures.value c.requires
-    (c.may_follow.ensures.first c.if-not-may_follow.false) (c.in_default-take.ensures.begin refl) (c.in_default-take.ensures.taken refl)
-    (λ whole. c.is_complete.ensures.0 c.if-not-is_complete.false)
+pub returns-clause-up_to : goal.returns-clause-up_to
+returns-clause-up_to c = λ ok.
+    lines_up_to c.args.told.now (schedule_meant c.args.key.now) c.args.count c.args.lines.now c.in-Ok.line c.args.bytes.now c.in-Ok.ensures.value c.requires.lines_of
+    (c.may_follow.ensures.first c.if-not-may_follow.false) (c.take.ensures.goes_on ok)
 
-pub returns-else-len-count-clause-up_to : goal.returns-else-len-count-clause-up_to
-returns-else-len-count-clause-up_to c = λ ok.
-    lines_up_to (schedule_meant c.args.key.now) c.args.count c.args.lines.now c.in-Ok.line c.args.bytes.now c.take.new.self c.in-Ok.ensures.value c.requires
-    (c.may_follow.ensures.first c.if-not-may_follow.false) (c.in_default-take.ensures.begin refl) (c.in_default-take.ensures.taken refl)
-    (λ whole. absurd (c.if-len-count.false (c.len.ensures ∙ whole)))
+pub returns-clause-err : goal.returns-clause-err
+returns-clause-err c =
+    IfErr-weaker c.take.result _ _
+    (λ cause. line_refused c.args.told.now (schedule_meant c.args.key.now) c.args.count c.args.lines.now c.in-Ok.line c.args.bytes.now c.in-Ok.ensures.value c.requires.lines_of
+    (c.may_follow.ensures.first c.if-not-may_follow.false) (cause_meant cause))
+    c.take.ensures.err

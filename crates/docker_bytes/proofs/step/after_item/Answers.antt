@@ -5,5 +5,5 @@ use Rattle.docker_bytes.proofs.Stepping.{item_follows}
 use Rattle.docker_bytes.proofs.step.after_item.Goals as goal
 
 pub item-requires-clause-ledger : goal.item-requires-clause-ledger
-item-requires-clause-ledger c =
-    item_follows c.args.parts.now.ledger (map item_meant c.ledger.result.now) (item_in c.args.bytes.now) (item_meant c.in-Ok.item) c.ledger.ensures c.requires.good.1 c.in-Ok.ensures.0 c.in-Ok.ensures.1
+item-requires-clause-ledger g c =
+    item_follows c.args.parts.now.ledger (map item_meant c.ledger.result.now) (item_in c.args.bytes.now) (item_meant c.in-Ok.item) c.ledger.ensures c.requires.0.1 c.in-Ok.ensures.0 c.in-Ok.ensures.1

@@ -1,4 +1,4 @@
-use Rattle.std.proofs.Common.{refl, ◌<◌, ◌+◌, length, arith}
+use Rattle.std.proofs.Common.{refl, sym, [], ◌<◌, ◌+◌, length, append-nil, arith}
 use Rattle.docker_model.specs.StateFault.{width}
 use Rattle.docker_bytes.specs.FaultMeaning.{cause_meant}
 use Rattle.docker_bytes.specs.Reading.{before_of}
@@ -14,6 +14,11 @@ returns-then-rest-missing-clause-step c =
       refl,
       open_text c.args.self.now c.parts.self c.args.piece.now c.parts.rest.now c.parts.invariant.whole c.parts.invariant.on c.keep.new.self short (c.in_default.ensures.ok refl),
     )
+
+pub returns-in-Err-clause-err : goal.returns-in-Err-clause-err
+returns-in-Err-clause-err c =
+    told_of_piece c.args.self.now c.parts.self c.args.piece.now c.parts.rest.now c.parts.invariant.whole c.parts.invariant.on c.parts.rest.now []
+    c.in-Err.fault.at (cause_meant c.in-Err.fault.cause) (sym (append-nil c.parts.rest.now)) c.in-Err.ensures.err
 
 pub returns-in-Err-take-clause-err : goal.returns-in-Err-take-clause-err
 returns-in-Err-take-clause-err c =

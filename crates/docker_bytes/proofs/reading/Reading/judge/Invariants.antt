@@ -1,0 +1,6 @@
+use Rattle.docker_bytes.specs.FormatMeaning.{format_meant}
+use Rattle.docker_bytes.proofs.reading.Reading.judge.Given as goal
+
+-- the part is one of the format of the text
+abbrev pub ghost-step : goal.ghost-step
+ghost-step a = format_meant a.format

@@ -1,0 +1,11 @@
+-- The texts of why no state was read.
+use Rattle.std.specs.Prelude.{ℕ, List, codes}
+use Rattle.docker_bytes.specs.declared.read.ReadFault.{ReadFault}
+use Rattle.docker_bytes.specs.declared.read.ReadFault.TheVariants.{Source, State, Memory}
+use Rattle.docker_bytes.specs.FaultText.{fault_text}
+
+-- a text that is none of a state by its fault
+abbrev pub read_fault_text : ReadFault → List ℕ
+read_fault_text Source = codes "the source failed"
+read_fault_text (State fault) = fault_text fault
+read_fault_text Memory = codes "want of memory"

@@ -1,0 +1,27 @@
+//! The state of a text that tells no horizon.
+ghost use Rattle.std.specs.Prelude.{◌≡◌, ◌≢◌, ◌+◌, ◌-◌, ◌^◌, ◌<◌, ◌↔◌, IfOk, Err};
+ghost use Rattle.docker_model.specs.StateText.{dks_1};
+ghost use Rattle.docker_bytes.specs.SourceRead.{ReadsState, RefusesState, ReadsOnePieceMore, WantsMemory};
+
+use crate::format::Format;
+use crate::read::{ReadFault, read_format};
+use cif_line::Source;
+use docker_state::State;
+use std::alloc::Global;
+
+/// Reads a source, as `read_state` does, whose text is of the mark `DKS1`: it tells no horizon, and the state has none. A text of the mark `DKS2` is refused at 0.
+pub fn migrate<S: Source>(
+    alloc: Global,
+    source: &mut S,
+    limit: u64,
+) -> Result<State, ReadFault>
+    requires { S.failures source.old < 2 ^ 64 - 1 }
+    ensures ok { IfOk result (ReadsState dks_1 limit (S.left source.old)) }
+    ensures state { (fault : _) → result ≡ Err (ReadFault.State fault) → RefusesState dks_1 limit (S.left source.old) fault }
+    ensures memory { result ≡ Err ReadFault.Memory → WantsMemory dks_1 65536 limit (S.left source.old) (S.left source.new) }
+    ensures few { ReadsOnePieceMore dks_1 65536 limit (S.left source.old) (S.left source.new) }
+    ensures source { (result ≡ Err ReadFault.Source) ↔ (S.failures source.new ≡ S.failures source.old + 1) }
+    ensures no_failure { result ≢ Err ReadFault.Source → S.failures source.new ≡ S.failures source.old }
+{
+    read_format(alloc, Format::Dks1, source, limit)
+}
