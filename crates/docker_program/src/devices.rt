@@ -1,10 +1,10 @@
 //! The real devices: standard input, a file that is opened, standard output and standard error. They can't tell their bytes.
 ghost use Rattle.std.specs.Prelude.{◌≡◌, ◌<◌, ◌^◌, ◌-◌, None};
 
-use crate::files::Files;
+use crate::files::{Files, OpenFault};
 use cif_line::{Failed, Sink, Source};
 use std::fs::File;
-use std::io::{Read, Stderr, Stdin, Stdout, Write};
+use std::io::{ErrorKind, Read, Stderr, Stdin, Stdout, Write};
 
 /// Standard input, or a file.
 #[derive(Drop)]
@@ -75,15 +75,16 @@ impl Source for Input {
 impl Files for Input {
     ghost held = { λ _ _. None };
 
-    fn open(&mut self, name: &str) -> Result<(), Failed> {
+    fn open(&mut self, name: &str) -> Result<(), OpenFault> {
         match File::open(&self.rt, name) {
             Ok(file) => {
                 self.from = From::File(file);
                 Ok(())
             }
+            Err(error) if error.kind() == ErrorKind::OutOfMemory => Err(OpenFault::Memory),
             Err(_) => {
                 self.failures += 1;
-                Err(Failed)
+                Err(OpenFault::Failed)
             }
         }
     }

@@ -9,7 +9,7 @@ mod reading;
 mod running;
 mod telling;
 
-pub use files::Files;
+pub use files::{Files, OpenFault};
 pub use performing::perform;
 pub use running::{run, run_words};
 pub use telling::tell;

@@ -4,7 +4,7 @@ ghost use Rattle.docker_cmd.specs.Prepared.{HoldsOtherFile, IsFileRefused};
 ghost use Rattle.docker_cmd.specs.declared.jobs.Subcommand.TheVariants.{Day as day_subcommand};
 ghost use Rattle.docker_program.specs.Program.{IsPrepared, LeavesInput, held_for, named_file};
 
-use crate::files::Files;
+use crate::files::{Files, OpenFault};
 use cif_line::{Bytes, Source};
 use docker_cmd::{Job, OfficeFault, Prepared, prepare};
 use std::alloc::Global;
@@ -56,7 +56,8 @@ pub(crate) fn read<'a, S: Source, F: Files>(
         None => prepare(alloc, job, stdin, &mut other),
         Some(name) => match file.open(name) {
             Ok(()) => prepare(alloc, job, file, &mut other),
-            Err(_) => Err(OfficeFault::Source),
+            Err(OpenFault::Failed) => Err(OfficeFault::Source),
+            Err(OpenFault::Memory) => Err(OfficeFault::Memory),
         },
     }
 }
