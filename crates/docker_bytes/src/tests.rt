@@ -12,7 +12,9 @@ use std::process::Abort;
 use std::test::Fail;
 
 mod endless;
+mod horizons;
 mod merged;
+mod migrated;
 mod parts;
 
 /// The header of an update of 9 June 2024, 21:00.
@@ -63,8 +65,11 @@ const AA: &[u8] =
 const ZZ: &[u8] =
     b"ZZ                                                                              ";
 
-/// A text of one file and one entry, up to the number of ledger items.
-const MARK: &[u8] = b"DKS1";
+/// A text up to the number of ledger items: its mark, and no horizon.
+const MARK: &[u8] = b"DKS2\0\0";
+
+/// The mark of a text that tells no horizon.
+const OLD_MARK: &[u8] = b"DKS1";
 
 /// The number one in eight bytes.
 const ONE: &[u8] = b"\x00\x00\x00\x00\x00\x00\x00\x01";
@@ -77,6 +82,9 @@ const MOST: &[u8] = b"\xff\xff\xff\xff\xff\xff\xff\xff";
 
 /// The ledger item of the file of 9 June.
 const ITEM: &[u8] = b"\x5b\xf0\x04\xecDFROC1AUDFROC1Z";
+
+/// The same with a day after the last one.
+const ITEM_LATE: &[u8] = b"\x8e\xad\x04\xecDFROC1AUDFROC1Z";
 
 /// The ledger item of an update of 5 June.
 const ITEM_5A: &[u8] = b"\x5b\xec\x04\xecDFROC1AUDFROC1Z";
@@ -126,7 +134,7 @@ fn written(alloc: Global, state: &State) -> Result<Vec<u8>, Fail> {
     Ok(Vec::from_slice(alloc, kept.bytes())?)
 }
 
-/// The text of the file of 9 June with its schedule: 309 bytes.
+/// The text of the file of 9 June with its schedule: 311 bytes.
 fn known_text(alloc: Global) -> Result<Vec<u8>, AllocError> {
     joined_text(alloc, &[MARK, ONE, ITEM, ONE, HEAD, BS, LO, LT])
 }
@@ -157,8 +165,8 @@ fn the_text_of_a_schedule(rt: HostRuntime) -> Result<(), Fail> {
     let known = known_text(alloc)?;
     let text = written(alloc, &state)?;
     assert_eq!(rt; text.as_slice(), known.as_slice());
-    goes_round(&rt, alloc, &state, 309, 1)?;
-    goes_round(&rt, alloc, &state, 309, 4096)
+    goes_round(&rt, alloc, &state, 311, 1)?;
+    goes_round(&rt, alloc, &state, 311, 4096)
 }
 
 #[test]
@@ -168,20 +176,20 @@ fn the_text_of_nothing(rt: HostRuntime) -> Result<(), Fail> {
     let text = written(alloc, &empty)?;
     assert_eq!(rt;
         text.as_slice(),
-        b"DKS1\0\0\0\0\0\0\0\0\0\0\0\0\0\0\0\0".as_slice()
+        b"DKS2\0\0\0\0\0\0\0\0\0\0\0\0\0\0\0\0\0\0".as_slice()
     );
-    goes_round(&rt, alloc, &empty, 20, 3)
+    goes_round(&rt, alloc, &empty, 22, 3)
 }
 
 #[test]
 fn texts_of_each_kind_of_entry(rt: HostRuntime) -> Result<(), Fail> {
     let alloc = rt.alloc();
     let deleted = both(alloc, &[HD_9B, BS_DELETED, ZZ], &[HD_8A, BS, LO, LT, ZZ])?;
-    goes_round(&rt, alloc, &deleted, 84, 1)?;
+    goes_round(&rt, alloc, &deleted, 86, 1)?;
     let renamed = both(alloc, &[HD, TI, ZZ], &[HD_10B, TA, ZZ])?;
-    goes_round(&rt, alloc, &renamed, 169, 7)?;
+    goes_round(&rt, alloc, &renamed, 171, 7)?;
     let associated = state(alloc, &[HD, AA, ZZ])?;
-    goes_round(&rt, alloc, &associated, 159, 1)
+    goes_round(&rt, alloc, &associated, 161, 1)
 }
 
 #[test]
@@ -253,32 +261,37 @@ fn refused(
 #[test]
 fn faults_of_the_ledger(rt: HostRuntime) -> Result<(), Fail> {
     let alloc = rt.alloc();
-    refused(&rt, alloc, &[b"DKS2", ONE], 1000, (0, StateCause::Mark))?;
+    refused(&rt, alloc, &[OLD_MARK, ONE], 1000, (0, StateCause::Mark))?;
     refused(&rt, alloc, &[b"DKS"], 1000, (0, StateCause::Short))?;
     refused(&rt, alloc, &[b"XYZ"], 3, (0, StateCause::Short))?;
     refused(&rt, alloc, &[b"XYZ"], 2, (2, StateCause::Long))?;
-    let late = b"\x8e\xad\x04\xecDFROC1AUDFROC1Z";
-    refused(&rt, alloc, &[MARK, ONE, late], 1000, (12, StateCause::Item))?;
+    refused(
+        &rt,
+        alloc,
+        &[MARK, ONE, ITEM_LATE],
+        1000,
+        (14, StateCause::Item),
+    )?;
     refused(
         &rt,
         alloc,
         &[MARK, TWO, ITEM, ITEM],
         1000,
-        (31, StateCause::Order),
+        (33, StateCause::Order),
     )?;
     refused(
         &rt,
         alloc,
         &[MARK, TWO, ITEM_5A, ITEM_7B],
         1000,
-        (31, StateCause::Floor),
+        (33, StateCause::Floor),
     )?;
     refused(
         &rt,
         alloc,
         &[MARK, MOST, ITEM_5A],
         1000,
-        (31, StateCause::Short),
+        (33, StateCause::Short),
     )
 }
 
@@ -291,7 +304,7 @@ fn faults_of_an_entry(rt: HostRuntime) -> Result<(), Fail> {
         alloc,
         &[MARK, ONE, ITEM, ONE, tag, BS, LO, LT],
         1000,
-        (39, StateCause::Tag),
+        (41, StateCause::Tag),
     )?;
     let other = b"\x03C10001\x5b\xf1P\x5b\xf0\x04\xecDFROC1B\x00\x00\x00\x02\x01\x00\x00\x00\x03";
     refused(
@@ -299,15 +312,15 @@ fn faults_of_an_entry(rt: HostRuntime) -> Result<(), Fail> {
         alloc,
         &[MARK, ONE, ITEM, ONE, other, BS, LO, LT],
         1000,
-        (39, StateCause::Stamp),
+        (41, StateCause::Stamp),
     )?;
-    let op = b"\x03C10001\x5b\xf1P\x5b\xf0\x04\xecDFROC1A\x00\x00\x00\x02\x02\x00\x00\x00\x03";
+    let op = b"\x03C10001\x5b\xf1P\x5b\xf0\x04\xecDFROC1A\x00\x00\x00\x02\x03\x00\x00\x00\x03";
     refused(
         &rt,
         alloc,
         &[MARK, ONE, ITEM, ONE, op, BS, LO, LT],
         1000,
-        (39, StateCause::Body),
+        (41, StateCause::Body),
     )?;
     let revised =
         b"BSRC100012406102406141111100 POO1A10                                           P";
@@ -316,28 +329,28 @@ fn faults_of_an_entry(rt: HostRuntime) -> Result<(), Fail> {
         alloc,
         &[MARK, ONE, ITEM, ONE, HEAD, revised, LO, LT],
         1000,
-        (39, StateCause::Body),
+        (41, StateCause::Body),
     )?;
     refused(
         &rt,
         alloc,
         &[MARK, ONE, ITEM, ONE, HEAD, BS, LT, LO],
         1000,
-        (39, StateCause::Body),
+        (41, StateCause::Body),
     )?;
     refused(
         &rt,
         alloc,
         &[MARK, ONE, ITEM, TWO, HEAD, BS, LO, LT, HEAD, BS, LO, LT],
         1000,
-        (309, StateCause::Order),
+        (311, StateCause::Order),
     )?;
     refused(
         &rt,
         alloc,
         &[MARK, ONE, ITEM, MOST, HEAD, BS, LO, LT],
         1000,
-        (309, StateCause::Short),
+        (311, StateCause::Short),
     )
 }
 
@@ -350,33 +363,35 @@ fn faults_of_length(rt: HostRuntime) -> Result<(), Fail> {
         alloc,
         &[known.as_slice(), b"\0"],
         1000,
-        (309, StateCause::Tail),
+        (311, StateCause::Tail),
     )?;
     refused(
         &rt,
         alloc,
         &[known.as_slice(), b"\0"],
-        309,
-        (309, StateCause::Tail),
+        311,
+        (311, StateCause::Tail),
     )?;
     refused(
         &rt,
         alloc,
         &[known.as_slice()],
-        308,
-        (308, StateCause::Long),
+        310,
+        (310, StateCause::Long),
     )?;
     for (n, _) in known.as_slice().iter().enumerate() {
         let at = if n < 4 {
             0
-        } else if n < 12 {
+        } else if n < 6 {
             4
-        } else if n < 31 {
-            12
-        } else if n < 39 {
-            31
+        } else if n < 14 {
+            6
+        } else if n < 33 {
+            14
+        } else if n < 41 {
+            33
         } else {
-            39
+            41
         };
         refused(
             &rt,
@@ -395,15 +410,15 @@ fn a_parser_uses_the_bytes_of_the_state_alone(rt: HostRuntime) -> Result<(), Fai
     let known = known_text(alloc)?;
     let longer = joined_text(alloc, &[known.as_slice(), b"\0"])?;
     let mut parser = StateParser::new(alloc, 1000);
-    assert_eq!(rt; parser.feed(longer.as_slice())?, (309, Step::Done));
+    assert_eq!(rt; parser.feed(longer.as_slice())?, (311, Step::Done));
     assert_eq!(rt; parser.feed(longer.as_slice())?, (0, Step::Done));
     let text = written(alloc, &parser.finish()?)?;
     assert_eq!(rt; text.as_slice(), known.as_slice());
     let mut parser = StateParser::new(alloc, 1000);
-    let front = known.as_slice().get(..308).ok_or("short")?;
-    assert_eq!(rt; parser.feed(front)?, (308, Step::More));
+    let front = known.as_slice().get(..310).ok_or("short")?;
+    assert_eq!(rt; parser.feed(front)?, (310, Step::More));
     match parser.finish() {
-        Err(fault) => assert_eq!(rt; (fault.at, fault.cause), (39, StateCause::Short)),
+        Err(fault) => assert_eq!(rt; (fault.at, fault.cause), (41, StateCause::Short)),
         Ok(_) => Err("no fault")?,
     }
     Ok(())
@@ -413,8 +428,8 @@ fn a_parser_uses_the_bytes_of_the_state_alone(rt: HostRuntime) -> Result<(), Fai
 fn a_fault_is_told_again(rt: HostRuntime) -> Result<(), Fail> {
     let alloc = rt.alloc();
     let mut parser = StateParser::new(alloc, 1000);
-    let first = parser.feed(b"DKS2");
-    let second = parser.feed(b"DKS1");
+    let first = parser.feed(b"DKS1");
+    let second = parser.feed(b"DKS2");
     let fault = StateFault {
         at: 0,
         cause: StateCause::Mark,
@@ -434,15 +449,15 @@ fn want_of_memory_names_its_item(rt: HostRuntime) -> Result<(), Fail> {
     let known = known_text(alloc)?;
     let mut parser = StateParser::new(alloc, 1000);
     match parser.feed(known.as_slice()) {
-        Ok(answer) => assert_eq!(rt; answer, (309, Step::Done)),
+        Ok(answer) => assert_eq!(rt; answer, (311, Step::Done)),
         Err(fault) => {
             assert_eq!(rt; fault.cause, StateCause::Memory);
-            assert!(rt; fault.at == 12 || fault.at == 39);
+            assert!(rt; fault.at == 14 || fault.at == 41);
             assert_eq!(rt; parser.feed(known.as_slice()), Err(fault));
         }
     }
-    match read_state(alloc, &mut Bytes::new(known.as_slice(), 64), 309) {
-        Ok(state) => assert_eq!(rt; encoded_len(&state), 309),
+    match read_state(alloc, &mut Bytes::new(known.as_slice(), 64), 311) {
+        Ok(state) => assert_eq!(rt; encoded_len(&state), 311),
         Err(fault) => assert_eq!(rt; fault, ReadFault::Memory),
     }
     Ok(())

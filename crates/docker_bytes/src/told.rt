@@ -47,7 +47,12 @@ impl Told {
 
     /// Takes the horizon.
     pub(crate) fn set_horizon(&mut self, day: Day)
-        ensures { self.new ≡ record { horizon = day; ledger = self.old.ledger; entries = self.old.entries } }
+        ensures { self.new ≡ record {
+          horizon = day;
+          ledger = self.old.ledger;
+          entries =
+              self.old.entries;
+        } }
     {
         self.horizon = Some(day);
     }
@@ -66,7 +71,12 @@ impl Told {
     pub(crate) fn item(&mut self, item: LedgerItem) -> Result<(), Memory>
         requires before_entries { self.old.entries ≡ [] }
         requires ledger { IsLedger (self.old.ledger ++ item_meant item ∷ []) }
-        ensures { IsOk result → self.new ≡ record { horizon = self.old.horizon; ledger = self.old.ledger ++ item_meant item ∷ []; entries = [] } }
+        ensures { IsOk result → self.new ≡ record {
+          horizon = self.old.horizon;
+          ledger = self.old.ledger ++ item_meant item ∷ [];
+          entries
+              = [];
+        } }
     {
         self.parts.item(item)
     }
@@ -75,7 +85,12 @@ impl Told {
     pub(crate) fn entry(&mut self, key: Key, entry: Entry) -> Result<(), Memory>
         requires here { IsStampHere self.old (key_meant key) (entry_meant entry).stamp }
         requires op { IsOpOf (key_meant key) (entry_meant entry).op }
-        ensures { IsOk result → self.new ≡ record { horizon = self.old.horizon; ledger = self.old.ledger; entries = self.old.entries ++ (key_meant key, entry_meant entry) ∷ [] } }
+        ensures { IsOk result → self.new ≡ record {
+          horizon = self.old.horizon;
+          ledger = self.old.ledger;
+          entries = self.old.entries ++
+              (key_meant key, entry_meant entry) ∷ [];
+        } }
     {
         self.parts.entry(key, entry)
     }

@@ -48,10 +48,11 @@ impl Source for Endless<'_> {
 
 #[test]
 fn texts_without_end(rt: HostRuntime) -> Result<(), Fail> {
-    let rows: [(&[u8], u8, u64, StateCause); 3] = [
+    let rows: [(&[u8], u8, u64, StateCause); 4] = [
         (b"", 0, 0, StateCause::Mark),
-        (MARK, 0, 20, StateCause::Tail),
-        (MARK, 255, 12, StateCause::Item),
+        (MARK, 0, 22, StateCause::Tail),
+        (b"DKS2", 255, 4, StateCause::Horizon),
+        (MARK, 255, 14, StateCause::Item),
     ];
     for (front, again, at, cause) in rows {
         for step in [1, 7, 4096] {
@@ -72,7 +73,7 @@ fn huge_counts(rt: HostRuntime) -> Result<(), Fail> {
         alloc,
         &[MARK, MOST, ITEM, ONE, HEAD, BS, LO, LT],
         1_000,
-        (31, StateCause::Item),
+        (33, StateCause::Item),
     )?;
     let most = b"\x03C10001\x5b\xf1P\x5b\xf0\x04\xecDFROC1A\x00\x00\x00\x02\x01\xff\xff\xff\xfe";
     refused(
@@ -80,7 +81,7 @@ fn huge_counts(rt: HostRuntime) -> Result<(), Fail> {
         alloc,
         &[MARK, ONE, ITEM, ONE, most, BS, LO, LT],
         1_000,
-        (39, StateCause::Short),
+        (41, StateCause::Short),
     )?;
     let above = b"\x03C10001\x5b\xf1P\x5b\xf0\x04\xecDFROC1A\x00\x00\x00\x02\x01\xff\xff\xff\xff";
     refused(
@@ -88,7 +89,7 @@ fn huge_counts(rt: HostRuntime) -> Result<(), Fail> {
         alloc,
         &[MARK, ONE, ITEM, ONE, above, BS, LO, LT],
         1_000,
-        (39, StateCause::Body),
+        (41, StateCause::Body),
     )?;
     let mut items = joined_text(alloc, &[MARK, MOST])?;
     for minute in 0..60u16 {
@@ -100,7 +101,7 @@ fn huge_counts(rt: HostRuntime) -> Result<(), Fail> {
         &rt,
         alloc,
         &[items.as_slice()],
-        1_000,
-        (1_000, StateCause::Long),
+        1_002,
+        (1_002, StateCause::Long),
     )
 }

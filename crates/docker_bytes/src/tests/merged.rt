@@ -118,7 +118,7 @@ fn a_revision(rt: HostRuntime) -> Result<(), Fail> {
     let text: &[&[u8]] = &[
         MARK, TWO, ITEM, ITEM_10B, ONE, HEAD_10B, BS, LO_0905, LT_0935,
     ];
-    assert_eq!(rt; joined_text(rt.alloc(), text)?.len(), 328);
+    assert_eq!(rt; joined_text(rt.alloc(), text)?.len(), 330);
     merges_to(&rt, rt.alloc(), &[old, new], text, "old and new")?;
     merges_to(&rt, rt.alloc(), &[new, old, new], text, "new and old")
 }
@@ -143,7 +143,7 @@ fn a_late_full_extract(rt: HostRuntime) -> Result<(), Fail> {
         LO_1000,
         LT_1030,
     ];
-    assert_eq!(rt; joined_text(rt.alloc(), text)?.len(), 598);
+    assert_eq!(rt; joined_text(rt.alloc(), text)?.len(), 600);
     merges_to(&rt, rt.alloc(), &[u5, f7, u9], text, "5, 7, 9")?;
     merges_to(&rt, rt.alloc(), &[u5, u9, f7], text, "5, 9, 7")?;
     merges_to(&rt, rt.alloc(), &[f7, u5, u9], text, "7, 5, 9")?;
@@ -161,7 +161,7 @@ fn equal_stamps(rt: HostRuntime) -> Result<(), Fail> {
     let of_longer: &[&[u8]] = &[MARK, ONE, ITEM, ONE, HEAD, BS_LONGER, LO_0850, LT];
     let of_later: &[&[u8]] = &[MARK, ONE, ITEM, ONE, HEAD, BS, LO_0905, LT];
     let of_plain: &[&[u8]] = &[MARK, ONE, ITEM, ONE, HEAD, BS, LO, LT];
-    assert_eq!(rt; joined_text(rt.alloc(), of_longer)?.len(), 309);
+    assert_eq!(rt; joined_text(rt.alloc(), of_longer)?.len(), 311);
     merges_to(&rt, rt.alloc(), &[plain, plain], of_plain, "the same")?;
     merges_to(&rt, rt.alloc(), &[plain, longer], of_longer, "longer")?;
     merges_to(&rt, rt.alloc(), &[longer, plain], of_longer, "longer first")?;

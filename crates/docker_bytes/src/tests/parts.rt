@@ -56,29 +56,29 @@ fn refused_entry(
     cause: StateCause,
 ) -> Result<(), Fail> {
     let text = with_entry(alloc, parts)?;
-    refused(rt, alloc, &[text.as_slice()], 1000, (39, cause))
+    refused(rt, alloc, &[text.as_slice()], 1000, (41, cause))
 }
 
 #[test]
 fn entries_at_their_bounds(rt: HostRuntime) -> Result<(), Fail> {
     let alloc = rt.alloc();
     let last = b"\xff\xff\xff\xfe";
-    accepted(&rt, alloc, &[C10001, FILE, SECOND, DELETED], 65)?;
-    accepted(&rt, alloc, &[C10001, FILE, last, DELETED], 65)?;
+    accepted(&rt, alloc, &[C10001, FILE, SECOND, DELETED], 67)?;
+    accepted(&rt, alloc, &[C10001, FILE, last, DELETED], 67)?;
     accepted(
         &rt,
         alloc,
         &[b"\x03C10001\x8e\xacC", FILE, SECOND, DELETED],
-        65,
+        67,
     )?;
-    accepted(&rt, alloc, &[ASHFELD, FILE, SECOND, PUT, CENTRAL], 126)?;
-    accepted(&rt, alloc, &[JOINS, FILE, SECOND, PUT, AA], 159)?;
+    accepted(&rt, alloc, &[ASHFELD, FILE, SECOND, PUT, CENTRAL], 128)?;
+    accepted(&rt, alloc, &[JOINS, FILE, SECOND, PUT, AA], 161)?;
     let three = b"\x00\x00\x00\x03";
     accepted(
         &rt,
         alloc,
         &[C10001, FILE, SECOND, PUT, three, BS, LO, LT],
-        309,
+        311,
     )
 }
 

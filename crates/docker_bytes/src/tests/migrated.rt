@@ -1,0 +1,164 @@
+//! Texts that tell no horizon.
+
+use super::{
+    BS, HEAD, ITEM, ITEM_5A, ITEM_7B, ITEM_LATE, LO, LT, MOST, OLD_MARK, ONE, TWO, joined_text,
+    known_text, written,
+};
+use crate::{ReadFault, StateCause, migrate};
+use cif_line::Bytes;
+use std::alloc::{AllocError, Global};
+use std::process::Abort;
+use std::test::Fail;
+
+/// The text of the file of 9 June with its schedule, without a horizon: 309 bytes.
+fn old_text(alloc: Global) -> Result<Vec<u8>, AllocError> {
+    joined_text(alloc, &[OLD_MARK, ONE, ITEM, ONE, HEAD, BS, LO, LT])
+}
+
+/// That a text of these pieces is refused there, read whole and by single bytes.
+fn refused(
+    rt: &impl Abort,
+    alloc: Global,
+    pieces: &[&[u8]],
+    limit: u64,
+    wanted: (u64, StateCause),
+) -> Result<(), Fail> {
+    let text = joined_text(alloc, pieces)?;
+    for step in [1, 4096] {
+        match migrate(alloc, &mut Bytes::new(text.as_slice(), step), limit) {
+            Err(ReadFault::State(fault)) => assert_eq!(rt; (fault.at, fault.cause), wanted),
+            _ => Err("no fault")?,
+        }
+    }
+    Ok(())
+}
+
+#[test]
+fn an_old_text_gives_its_state(rt: HostRuntime) -> Result<(), Fail> {
+    let alloc = rt.alloc();
+    let old = old_text(alloc)?;
+    let known = known_text(alloc)?;
+    assert_eq!(rt; old.len(), 309);
+    for step in [1, 4096] {
+        let state = migrate(alloc, &mut Bytes::new(old.as_slice(), step), 309)?;
+        assert_eq!(rt; state.horizon(), 0);
+        let text = written(alloc, &state)?;
+        assert_eq!(rt; text.as_slice(), known.as_slice());
+    }
+    Ok(())
+}
+
+#[test]
+fn old_texts_of_a_wrong_length(rt: HostRuntime) -> Result<(), Fail> {
+    let alloc = rt.alloc();
+    let old = old_text(alloc)?;
+    refused(
+        &rt,
+        alloc,
+        &[old.as_slice(), b"\0"],
+        1000,
+        (309, StateCause::Tail),
+    )?;
+    refused(&rt, alloc, &[old.as_slice()], 308, (308, StateCause::Long))?;
+    for (n, _) in old.as_slice().iter().enumerate() {
+        let at = if n < 4 {
+            0
+        } else if n < 12 {
+            4
+        } else if n < 31 {
+            12
+        } else if n < 39 {
+            31
+        } else {
+            39
+        };
+        refused(
+            &rt,
+            alloc,
+            &[&old.as_slice()[..n]],
+            1000,
+            (at, StateCause::Short),
+        )?;
+    }
+    Ok(())
+}
+
+#[test]
+fn old_texts_with_a_bad_ledger(rt: HostRuntime) -> Result<(), Fail> {
+    let alloc = rt.alloc();
+    let known = known_text(alloc)?;
+    refused(&rt, alloc, &[known.as_slice()], 1000, (0, StateCause::Mark))?;
+    refused(
+        &rt,
+        alloc,
+        &[b"DKS2", ONE, ITEM, ONE, HEAD, BS, LO, LT],
+        1000,
+        (0, StateCause::Mark),
+    )?;
+    refused(
+        &rt,
+        alloc,
+        &[OLD_MARK, ONE, ITEM_LATE, ONE, HEAD, BS, LO, LT],
+        1000,
+        (12, StateCause::Item),
+    )?;
+    refused(
+        &rt,
+        alloc,
+        &[OLD_MARK, TWO, ITEM, ITEM, ONE, HEAD, BS, LO, LT],
+        1000,
+        (31, StateCause::Order),
+    )?;
+    refused(
+        &rt,
+        alloc,
+        &[OLD_MARK, TWO, ITEM_5A, ITEM_7B],
+        1000,
+        (31, StateCause::Floor),
+    )
+}
+
+#[test]
+fn old_texts_with_a_bad_entry(rt: HostRuntime) -> Result<(), Fail> {
+    let alloc = rt.alloc();
+    let tag = b"\x04C10001\x5b\xf1P\x5b\xf0\x04\xecDFROC1A\x00\x00\x00\x02\x01\x00\x00\x00\x03";
+    let other = b"\x03C10001\x5b\xf1P\x5b\xf0\x04\xecDFROC1B\x00\x00\x00\x02\x01\x00\x00\x00\x03";
+    let op = b"\x03C10001\x5b\xf1P\x5b\xf0\x04\xecDFROC1A\x00\x00\x00\x02\x02\x00\x00\x00\x03";
+    let rows: [(&[u8], StateCause); 3] = [
+        (tag, StateCause::Tag),
+        (other, StateCause::Stamp),
+        (op, StateCause::Body),
+    ];
+    for (head, cause) in rows {
+        refused(
+            &rt,
+            alloc,
+            &[OLD_MARK, ONE, ITEM, ONE, head, BS, LO, LT],
+            1000,
+            (39, cause),
+        )?;
+    }
+    let revised =
+        b"BSRC100012406102406141111100 POO1A10                                           P";
+    refused(
+        &rt,
+        alloc,
+        &[OLD_MARK, ONE, ITEM, ONE, HEAD, revised, LO, LT],
+        1000,
+        (39, StateCause::Body),
+    )?;
+    refused(
+        &rt,
+        alloc,
+        &[OLD_MARK, ONE, ITEM, TWO, HEAD, BS, LO, LT, HEAD, BS, LO, LT],
+        1000,
+        (309, StateCause::Order),
+    )?;
+    refused(
+        &rt,
+        alloc,
+        &[OLD_MARK, ONE, ITEM, MOST, HEAD, BS, LO, LT],
+        1000,
+        (309, StateCause::Short),
+    )
+}
