@@ -10,5 +10,4 @@ pub mod PartByPart
 pub mod WholeText
 pub mod SourceReading
 mod LineStays
-
 pub mod UnderHorizon

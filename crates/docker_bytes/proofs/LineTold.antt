@@ -1,5 +1,5 @@
 -- What is found of the lines of a schedule.
-use Rattle.std.proofs.Common.{◌≡◌, ℕ, List, [], ◌∷◌, ◌++◌, length, refl, ap, sym, ◌∙◌, subst, inl, inr, ◌⊎◌, Some, None, ◌+◌, ◌<◌, ◌≤◌, Bool, true, false, arith, length-append}
+use Rattle.std.proofs.Common.{◌≡◌, ℕ, List, [], ◌∷◌, ◌++◌, length, refl, ap, sym, subst, inl, inr, ◌⊎◌, Some, None, ◌+◌, ◌<◌, ◌≤◌, Bool, true, false, arith, length-append}
 use Rattle.std.specs.Prelude.{Option, IsTrue, ◌↔◌}
 use Rattle.std.proofs.lemmas.Bool.{cases_lt}
 use Rattle.std.proofs.lemmas.List.Elements.{recursion_from_All}
@@ -9,7 +9,7 @@ use Rattle.docker_model.specs.Change.{ScheduleKey}
 use Rattle.docker_model.specs.State.{State}
 use Rattle.docker_model.specs.Stamp.{first_record}
 use Rattle.docker_model.specs.File.{IsSchedule, BeginsSchedule}
-use Rattle.docker_model.specs.StateFault.{StateCause, bad_mark, bad_item, bad_order, bad_floor, bad_tag, bad_stamp, bad_body, too_short, has_tail, too_long, bad_horizon, AreLinesOf, AreLinesUpTo, HaveNotToLapse}
+use Rattle.docker_model.specs.StateFault.{StateCause, bad_mark, bad_item, bad_order, bad_floor, bad_tag, bad_stamp, bad_body, too_short, has_tail, too_long, bad_horizon}
 use Rattle.docker_laws.proofs.StateReach.{all_front, all_behind}
 use Rattle.docker_bytes.specs.Judged.{IsFirstOf}
 use Rattle.docker_bytes.specs.Lines.{BeginUpTo, AreLinesIn, AreLinesUpToIn, IsLineRefusal, IsUpToRefusal}

@@ -17,9 +17,9 @@ use Rattle.docker_bytes.specs.declared.fault.Step.TheVariants.{Done, More}
 use Rattle.docker_bytes.specs.declared.read.ReadFault.{ReadFault}
 use Rattle.docker_bytes.specs.declared.read.ReadFault.TheVariants as fault
 use Rattle.docker_bytes.specs.FaultMeaning.{cause_meant}
-use Rattle.docker_bytes.specs.Reading.{format_of, before_of, text_of, IsToldSoFar, IsFaultTold, IsToldAtEnd, IsUnended, IsWhole, IsOpen, IsWanting, IsStep}
+use Rattle.docker_bytes.specs.Reading.{format_of, before_of, text_of, IsToldSoFar, IsFaultTold, IsToldAtEnd, IsUnended, IsWhole, IsWanting, IsStep}
 use Rattle.docker_bytes.specs.ParserRead.{ParserState, HasRead}
-use Rattle.docker_bytes.specs.SourceRead.{Held, ReadsState, IsCauseOf, IsFaultOf, RefusesState, ReadsOnePieceMore, WantsPart, WantsMemory}
+use Rattle.docker_bytes.specs.SourceRead.{Held, ReadsState, IsCauseOf, IsFaultOf, RefusesState, ReadsOnePieceMore, WantsMemory}
 use Rattle.docker_bytes.proofs.WholeText.{sound_text}
 
 -- ---- causes

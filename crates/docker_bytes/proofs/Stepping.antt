@@ -4,10 +4,10 @@ use Rattle.std.specs.Prelude.{Result, IfOk, IfErr}
 use Rattle.std.proofs.lemmas.Result.{IfErr-weaker}
 use Rattle.docker_model.specs.Change.{ScheduleKey, schedule_key, schedule_body}
 use Rattle.docker_model.specs.Stamp.{LedgerItem, Stamp}
-use Rattle.docker_model.specs.Op.{put_with, body_end}
+use Rattle.docker_model.specs.Op.{put_with}
 use Rattle.docker_model.specs.State.{State, IsLedger, IsScheduleOf}
 use Rattle.docker_model.specs.StateText.{Format}
-use Rattle.docker_model.specs.StateFault.{Before, in_entry, before_line, AreLinesUpTo, HaveNotToLapse, IsPartHere, IsToldState}
+use Rattle.docker_model.specs.StateFault.{Before, in_entry, before_line, AreLinesUpTo, IsPartHere}
 use Rattle.docker_laws.proofs.StateRun.{advance, after_lines, after_entries, with_entry}
 use Rattle.docker_laws.proofs.StateTexts.{more_lines, all_lines}
 use Rattle.docker_laws.proofs.LedgerGrown.{one_item_more}

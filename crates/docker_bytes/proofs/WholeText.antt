@@ -1,5 +1,5 @@
 -- A reading at the end of a state has read that state's text, and no other reading has.
-use Rattle.std.proofs.Common.{◌≡◌, ℕ, ◌<◌, ◌≤◌, List, [], ◌∷◌, ◌++◌, length, refl, ap, sym, ◌∙◌, subst, inl, inr, ◌⊎◌, arith, append-nil, length-append, None}
+use Rattle.std.proofs.Common.{◌≡◌, ℕ, ◌<◌, ◌≤◌, List, [], ◌++◌, length, refl, ap, sym, ◌∙◌, subst, inl, inr, ◌⊎◌, arith, append-nil, length-append, None}
 use Rattle.docker_model.specs.State.{State}
 use Rattle.docker_model.specs.StateText.{Format, state_text}
 use Rattle.docker_model.specs.StateFault.{at_end, items_before, text_before, width, AreGood, too_short, IsStateText}

@@ -1,5 +1,8 @@
 -- What the parts of a text have told: a horizon, and a state without one.
-use Rattle.std.specs.Prelude.{ℕ, Option, Some, None}
+use Rattle.std.specs.Prelude.{ℕ, [], ◌∷◌, ◌++◌, Option, Some, None}
+use Rattle.docker_model.specs.Change.{Key}
+use Rattle.docker_model.specs.Stamp.{LedgerItem}
+use Rattle.docker_model.specs.Op.{Entry}
 use Rattle.docker_model.specs.State.{State}
 
 -- a horizon that was read, 0 where none was
@@ -10,3 +13,11 @@ horizon_meant (Some day) = day
 -- the ledger and the entries of a state, under a horizon
 abbrev pub under : ℕ → State → State
 under horizon state = record { horizon = horizon; ledger = state.ledger; entries = state.entries }
+
+-- a state without entries, and one ledger item more
+abbrev pub with_item : State → LedgerItem → State
+with_item state item = record { horizon = state.horizon; ledger = state.ledger ++ item ∷ []; entries = [] }
+
+-- a state, and one entry more
+abbrev pub with_row : State → Key × Entry → State
+with_row state row = record { horizon = state.horizon; ledger = state.ledger; entries = state.entries ++ row ∷ [] }

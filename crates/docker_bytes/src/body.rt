@@ -17,7 +17,8 @@ use cif_line::{Assoc, Basic, Kind, Line, Transaction, Until, assoc, basic, kind}
 /// The body of a TIPLOC that 63 bytes are. None where a byte is not printable.
 pub(crate) fn tiploc_body(bytes: &[u8]) -> Option<Body>
     requires { length bytes.now ≡ 63 }
-    ensures { MatchOption result (¬ IsTextOfLength 63 bytes.now) (λ body. (body_meant body ≡ tiploc_body bytes.now) × IsTextOfLength 63 bytes.now) }
+    ensures { MatchOption result (¬ IsTextOfLength 63 bytes.now)
+        (λ body. (body_meant body ≡ tiploc_body bytes.now) × IsTextOfLength 63 bytes.now) }
 {
     if !is_text(bytes) {
         return None;
@@ -28,7 +29,8 @@ pub(crate) fn tiploc_body(bytes: &[u8]) -> Option<Body>
 /// The body of an association of this key that bytes are, and that does not end before a horizon. None where they are none.
 pub(crate) fn assoc_body(key: &AssocKey, horizon: u16, bytes: &[u8]) -> Option<Body>
     ensures { MatchOption result (¬ IsAssociationUnder horizon (assoc_meant key.now) bytes.now)
-        (λ body. (body_meant body ≡ association_body bytes.now) × IsAssociationUnder horizon (assoc_meant key.now) bytes.now) }
+        (λ body. (body_meant body ≡ association_body bytes.now)
+        × IsAssociationUnder horizon (assoc_meant key.now) bytes.now) }
 {
     let Ok(line) = Line::new(bytes) else {
         return None;
@@ -76,7 +78,8 @@ fn is_association_of(key: &AssocKey, line: &Line) -> bool
 
 /// Whether an association is new and of this key.
 fn is_new_association(key: &AssocKey, view: &Assoc<'_>) -> bool
-    ensures { IsTrue result ↔ (HasNewTransaction view.now × (association_named view.now ≡ association_key (assoc_meant key.now))) }
+    ensures { IsTrue result ↔ (HasNewTransaction view.now ×
+        (association_named view.now ≡ association_key (assoc_meant key.now))) }
 {
     view.transaction() == Transaction::New && is_same(&association_of(view), &Key::Assoc(*key))
 }
@@ -120,7 +123,8 @@ pub(crate) fn is_first_of(key: &ScheduleKey, horizon: u16, line: &Line) -> bool
 
 /// Whether a basic schedule is new and of this key.
 fn is_new_schedule(key: &ScheduleKey, view: &Basic<'_>) -> bool
-    ensures { IsTrue result ↔ (HasNewTransaction view.now × (schedule_named view.now ≡ schedule_key (schedule_meant key.now))) }
+    ensures { IsTrue result ↔ (HasNewTransaction view.now ×
+        (schedule_named view.now ≡ schedule_key (schedule_meant key.now))) }
 {
     view.transaction() == Transaction::New && is_same(&schedule_of(view), &Key::Schedule(*key))
 }

@@ -20,7 +20,7 @@ pub enum StateCause {
     Tag,
     /// The stamp is of no file of the ledger, or its record number is none of a change.
     Stamp,
-    /// The key, the op or the body is not well formed, or the body is of another key.
+    /// The key, the op or the body is not well formed, the body is of another key, or it ends before the horizon.
     Body,
     /// The text ends before the state does.
     Short,

@@ -20,7 +20,8 @@ const MINUTES: u16 = 1440;
 /// The ledger item that 19 bytes tell. None where no header can give it.
 fn item_in(bytes: &[u8]) -> Option<LedgerItem>
     requires { length bytes.now ≡ 19 }
-    ensures { MatchOption result (¬ IsGoodItem (item_in bytes.now)) (λ item. (item_meant item ≡ item_in bytes.now) × IsGoodItem (item_in bytes.now)) }
+    ensures { MatchOption result (¬ IsGoodItem (item_in bytes.now))
+        (λ item. (item_meant item ≡ item_in bytes.now) × IsGoodItem (item_in bytes.now)) }
 {
     let minute = number_16(bytes, 2);
     let reference = *field(bytes, 4);

@@ -17,7 +17,8 @@ use cif_line::{Day, Stp, Tiploc, Uid};
 /// The key of a TIPLOC that 7 bytes tell. None where no record can name it.
 fn tiploc_key(bytes: &[u8]) -> Option<Key>
     requires { length bytes.now ≡ 7 }
-    ensures { MatchOption result (¬ IsGoodKey (key_in 1 bytes.now)) (λ key. (key_meant key ≡ key_in 1 bytes.now) × IsGoodKey (key_in 1 bytes.now)) }
+    ensures { MatchOption result (¬ IsGoodKey (key_in 1 bytes.now))
+        (λ key. (key_meant key ≡ key_in 1 bytes.now) × IsGoodKey (key_in 1 bytes.now)) }
 {
     match Tiploc::from_field(field(bytes, 0)) {
         Some(code) => Some(Key::Tiploc(code)),
@@ -28,7 +29,8 @@ fn tiploc_key(bytes: &[u8]) -> Option<Key>
 /// The key of an association that 23 bytes tell. None where no record can name it.
 fn assoc_key(bytes: &[u8]) -> Option<Key>
     requires { length bytes.now ≡ 23 }
-    ensures { MatchOption result (¬ IsGoodKey (key_in 2 bytes.now)) (λ key. (key_meant key ≡ key_in 2 bytes.now) × IsGoodKey (key_in 2 bytes.now)) }
+    ensures { MatchOption result (¬ IsGoodKey (key_in 2 bytes.now))
+        (λ key. (key_meant key ≡ key_in 2 bytes.now) × IsGoodKey (key_in 2 bytes.now)) }
 {
     let suffix = bytes[21];
     let Some(base) = Uid::from_field(field(bytes, 0)) else {
@@ -62,7 +64,8 @@ fn assoc_key(bytes: &[u8]) -> Option<Key>
 /// The key of a schedule that 9 bytes tell. None where no record can name it.
 fn schedule_key(bytes: &[u8]) -> Option<Key>
     requires { length bytes.now ≡ 9 }
-    ensures { MatchOption result (¬ IsGoodKey (key_in 3 bytes.now)) (λ key. (key_meant key ≡ key_in 3 bytes.now) × IsGoodKey (key_in 3 bytes.now)) }
+    ensures { MatchOption result (¬ IsGoodKey (key_in 3 bytes.now))
+        (λ key. (key_meant key ≡ key_in 3 bytes.now) × IsGoodKey (key_in 3 bytes.now)) }
 {
     let Some(uid) = Uid::from_field(field(bytes, 0)) else {
         return None;
@@ -84,7 +87,8 @@ fn schedule_key(bytes: &[u8]) -> Option<Key>
 fn key_in(tag: Tag, bytes: &[u8]) -> Option<Key>
     requires { length bytes.now ≡ key_width (tag_meant tag) }
     ensures { MatchOption result (¬ IsGoodKey (key_in (tag_meant tag) bytes.now))
-        (λ key. (key_meant key ≡ key_in (tag_meant tag) bytes.now) × IsGoodKey (key_in (tag_meant tag) bytes.now)) }
+        (λ key. (key_meant key ≡ key_in (tag_meant tag) bytes.now)
+        × IsGoodKey (key_in (tag_meant tag) bytes.now)) }
 {
     match tag {
         Tag::Tiploc => tiploc_key(bytes),

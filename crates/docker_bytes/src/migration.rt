@@ -10,18 +10,18 @@ use docker_state::State;
 use std::alloc::Global;
 
 /// Reads a source, as `read_state` does, whose text is of the mark `DKS1`: it tells no horizon, and the state has none. A text of the mark `DKS2` is refused at 0.
-pub fn migrate<S: Source>(
-    alloc: Global,
-    source: &mut S,
-    limit: u64,
-) -> Result<State, ReadFault>
+pub fn migrate<S: Source>(alloc: Global, source: &mut S, limit: u64) -> Result<State, ReadFault>
     requires { S.failures source.old < 2 ^ 64 - 1 }
     ensures ok { IfOk result (ReadsState dks_1 limit (S.left source.old)) }
-    ensures state { (fault : _) → result ≡ Err (ReadFault.State fault) → RefusesState dks_1 limit (S.left source.old) fault }
-    ensures memory { result ≡ Err ReadFault.Memory → WantsMemory dks_1 65536 limit (S.left source.old) (S.left source.new) }
+    ensures state { (fault : _) → result ≡ Err (ReadFault.State fault) →
+        RefusesState dks_1 limit (S.left source.old) fault }
+    ensures memory { result ≡ Err ReadFault.Memory →
+        WantsMemory dks_1 65536 limit (S.left source.old) (S.left source.new) }
     ensures few { ReadsOnePieceMore dks_1 65536 limit (S.left source.old) (S.left source.new) }
-    ensures source { (result ≡ Err ReadFault.Source) ↔ (S.failures source.new ≡ S.failures source.old + 1) }
-    ensures no_failure { result ≢ Err ReadFault.Source → S.failures source.new ≡ S.failures source.old }
+    ensures source { (result ≡ Err ReadFault.Source) ↔
+        (S.failures source.new ≡ S.failures source.old + 1) }
+    ensures no_failure { result ≢ Err ReadFault.Source →
+        S.failures source.new ≡ S.failures source.old }
 {
     read_format(alloc, Format::Dks1, source, limit)
 }

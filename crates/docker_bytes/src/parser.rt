@@ -54,10 +54,18 @@ impl StateParser {
     /// memory is wanting for a part whose last byte it takes, at that part's item, and then no part up to it is bad. Each later call answers the same fault.
     pub fn feed(&mut self, piece: &[u8]) -> Result<(usize, Step), StateFault>
         ensures within { IfOk result (λ answer. answer.0 ≤ length piece.now) }
-        ensures read { (format : formats.Format) (limit : ℕ) (text : List ℕ) → HasRead self.old format limit text → IfOk result (λ answer. HasRead self.new format limit (text ++ take answer.0 piece.now)) }
-        ensures step { (format : formats.Format) (limit : ℕ) (text : List ℕ) → HasRead self.old format limit text → IfOk result (IsStep format limit text piece.now) }
-        ensures done { (format : formats.Format) (limit : ℕ) (text : List ℕ) → HasRead self.old format limit text → IsWhole format limit text → result ≡ Ok (0, Step.Done) }
-        ensures err { (format : formats.Format) (limit : ℕ) (text : List ℕ) → HasRead self.old format limit text → IfErr result (λ fault. IsFaultTold format limit text piece.now fault) }
+        ensures read { (format : formats.Format) (limit : ℕ) (text : List ℕ) →
+            HasRead self.old format limit text →
+            IfOk result (λ answer. HasRead self.new format limit
+            (text ++ take answer.0 piece.now)) }
+        ensures step { (format : formats.Format) (limit : ℕ) (text : List ℕ) →
+            HasRead self.old format limit text → IfOk result (IsStep format limit text piece.now) }
+        ensures done { (format : formats.Format) (limit : ℕ) (text : List ℕ) →
+            HasRead self.old format limit text → IsWhole format limit text →
+            result ≡ Ok (0, Step.Done) }
+        ensures err { (format : formats.Format) (limit : ℕ) (text : List ℕ) →
+            HasRead self.old format limit text →
+            IfErr result (λ fault. IsFaultTold format limit text piece.now fault) }
         ensures failed { IfErr result (λ fault. HasFailed self.new fault) }
         ensures again { (fault : _) → HasFailed self.old fault → result ≡ Err fault }
     {
@@ -78,7 +86,8 @@ impl StateParser {
 
     /// How many bytes were read.
     pub(crate) fn offset(&self) -> u64
-        ensures { (format : formats.Format) (limit : ℕ) (text : List ℕ) → HasRead self.now format limit text → result ≡ length text }
+        ensures { (format : formats.Format) (limit : ℕ) (text : List ℕ) →
+            HasRead self.now format limit text → result ≡ length text }
     {
         if self.fault.is_some() {
             return 0;
@@ -89,8 +98,12 @@ impl StateParser {
     /// The state whose text was read. `Short` where the text ends before the state does, at the item that is not whole; want of memory only of a whole text, at
     /// its end. After a fault of `feed` it is that fault.
     pub fn finish(self) -> Result<State, StateFault>
-        ensures ok { (format : formats.Format) (limit : ℕ) (text : List ℕ) → HasRead self format limit text → IfOk result (λ state. IsStateText format limit text state) }
-        ensures err { (format : formats.Format) (limit : ℕ) (text : List ℕ) → HasRead self format limit text → IfErr result (λ fault. IsUnended format limit text fault) }
+        ensures ok { (format : formats.Format) (limit : ℕ) (text : List ℕ) →
+            HasRead self format limit text →
+            IfOk result (λ state. IsStateText format limit text state) }
+        ensures err { (format : formats.Format) (limit : ℕ) (text : List ℕ) →
+            HasRead self format limit text →
+            IfErr result (λ fault. IsUnended format limit text fault) }
         ensures again { (fault : _) → HasFailed self fault → result ≡ Err fault }
     {
         match self.fault {

@@ -51,11 +51,15 @@ impl Error for ReadFault {}
 pub fn read_state<S: Source>(alloc: Global, source: &mut S, limit: u64) -> Result<State, ReadFault>
     requires { S.failures source.old < 2 ^ 64 - 1 }
     ensures ok { IfOk result (ReadsState dks_2 limit (S.left source.old)) }
-    ensures state { (fault : _) → result ≡ Err (ReadFault.State fault) → RefusesState dks_2 limit (S.left source.old) fault }
-    ensures memory { result ≡ Err ReadFault.Memory → WantsMemory dks_2 65536 limit (S.left source.old) (S.left source.new) }
+    ensures state { (fault : _) → result ≡ Err (ReadFault.State fault) →
+        RefusesState dks_2 limit (S.left source.old) fault }
+    ensures memory { result ≡ Err ReadFault.Memory →
+        WantsMemory dks_2 65536 limit (S.left source.old) (S.left source.new) }
     ensures few { ReadsOnePieceMore dks_2 65536 limit (S.left source.old) (S.left source.new) }
-    ensures source { (result ≡ Err ReadFault.Source) ↔ (S.failures source.new ≡ S.failures source.old + 1) }
-    ensures no_failure { result ≢ Err ReadFault.Source → S.failures source.new ≡ S.failures source.old }
+    ensures source { (result ≡ Err ReadFault.Source) ↔
+        (S.failures source.new ≡ S.failures source.old + 1) }
+    ensures no_failure { result ≢ Err ReadFault.Source →
+        S.failures source.new ≡ S.failures source.old }
 {
     read_format(alloc, Format::Dks2, source, limit)
 }
@@ -69,11 +73,16 @@ pub(crate) fn read_format<S: Source>(
 ) -> Result<State, ReadFault>
     requires { S.failures source.old < 2 ^ 64 - 1 }
     ensures ok { IfOk result (ReadsState (format_meant format) limit (S.left source.old)) }
-    ensures state { (fault : _) → result ≡ Err (ReadFault.State fault) → RefusesState (format_meant format) limit (S.left source.old) fault }
-    ensures memory { result ≡ Err ReadFault.Memory → WantsMemory (format_meant format) 65536 limit (S.left source.old) (S.left source.new) }
-    ensures few { ReadsOnePieceMore (format_meant format) 65536 limit (S.left source.old) (S.left source.new) }
-    ensures source { (result ≡ Err ReadFault.Source) ↔ (S.failures source.new ≡ S.failures source.old + 1) }
-    ensures no_failure { result ≢ Err ReadFault.Source → S.failures source.new ≡ S.failures source.old }
+    ensures state { (fault : _) → result ≡ Err (ReadFault.State fault) →
+        RefusesState (format_meant format) limit (S.left source.old) fault }
+    ensures memory { result ≡ Err ReadFault.Memory →
+        WantsMemory (format_meant format) 65536 limit (S.left source.old) (S.left source.new) }
+    ensures few { ReadsOnePieceMore (format_meant format) 65536 limit (S.left source.old)
+        (S.left source.new) }
+    ensures source { (result ≡ Err ReadFault.Source) ↔
+        (S.failures source.new ≡ S.failures source.old + 1) }
+    ensures no_failure { result ≢ Err ReadFault.Source →
+        S.failures source.new ≡ S.failures source.old }
 {
     let Ok(mut piece) = vec![in alloc; 0u8; PIECE] else {
         return Err(ReadFault::Memory);
@@ -94,10 +103,14 @@ pub(crate) fn read_format<S: Source>(
 
 /// Feeds bytes to a parser, all of which have to be of the state.
 fn fed(parser: &mut StateParser, piece: &[u8]) -> Result<(), ReadFault>
-    ensures read { (format : formats.Format) (limit : ℕ) (text : List ℕ) → HasRead parser.old format limit text → IsOk result → HasRead parser.new format limit (text ++ piece.now) }
-    ensures state { (format : formats.Format) (limit : ℕ) (text : List ℕ) → HasRead parser.old format limit text → (fault : _) → result ≡ Err (ReadFault.State fault)
+    ensures read { (format : formats.Format) (limit : ℕ) (text : List ℕ) →
+        HasRead parser.old format limit text → IsOk result →
+        HasRead parser.new format limit (text ++ piece.now) }
+    ensures state { (format : formats.Format) (limit : ℕ) (text : List ℕ) →
+        HasRead parser.old format limit text → (fault : _) → result ≡ Err (ReadFault.State fault)
         → (rest : List ℕ) → IsFaultOf format limit ((text ++ piece.now) ++ rest) fault }
-    ensures memory { (format : formats.Format) (limit : ℕ) (text : List ℕ) → HasRead parser.old format limit text → result ≡ Err ReadFault.Memory
+    ensures memory { (format : formats.Format) (limit : ℕ) (text : List ℕ) →
+        HasRead parser.old format limit text → result ≡ Err ReadFault.Memory
         → (at : ℕ) × IsWanting format limit text piece.now at }
     ensures source { result ≢ Err ReadFault.Source }
 {
@@ -114,9 +127,15 @@ fn fed(parser: &mut StateParser, piece: &[u8]) -> Result<(), ReadFault>
 
 /// The state that a parser was fed.
 fn finished(parser: StateParser) -> Result<State, ReadFault>
-    ensures ok { (format : formats.Format) (limit : ℕ) (text : List ℕ) → HasRead parser format limit text → IfOk result (λ state. IsStateText format limit text state) }
-    ensures state { (format : formats.Format) (limit : ℕ) (text : List ℕ) → HasRead parser format limit text → (fault : _) → result ≡ Err (ReadFault.State fault) → IsFaultOf format limit text fault }
-    ensures memory { (format : formats.Format) (limit : ℕ) (text : List ℕ) → HasRead parser format limit text → result ≡ Err ReadFault.Memory → IsWhole format limit text }
+    ensures ok { (format : formats.Format) (limit : ℕ) (text : List ℕ) →
+        HasRead parser format limit text →
+        IfOk result (λ state. IsStateText format limit text state) }
+    ensures state { (format : formats.Format) (limit : ℕ) (text : List ℕ) →
+        HasRead parser format limit text → (fault : _) → result ≡ Err (ReadFault.State fault) →
+        IsFaultOf format limit text fault }
+    ensures memory { (format : formats.Format) (limit : ℕ) (text : List ℕ) →
+        HasRead parser format limit text → result ≡ Err ReadFault.Memory →
+        IsWhole format limit text }
     ensures source { result ≢ Err ReadFault.Source }
 {
     match parser.finish() {
@@ -127,7 +146,8 @@ fn finished(parser: StateParser) -> Result<State, ReadFault>
 
 /// The fault of a byte behind what a parser has read.
 fn tail(parser: &StateParser) -> StateFault
-    ensures at { (format : formats.Format) (limit : ℕ) (text : List ℕ) → HasRead parser.now format limit text → result.at ≡ length text }
+    ensures at { (format : formats.Format) (limit : ℕ) (text : List ℕ) →
+        HasRead parser.now format limit text → result.at ≡ length text }
     ensures cause { result.cause ≡ StateCause.Tail }
 {
     StateFault {

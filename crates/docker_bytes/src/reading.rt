@@ -143,10 +143,12 @@ impl Reading {
     /// Takes the bytes up to the end of a part.
     fn take(&mut self, front: &[u8]) -> Result<(), StateFault>
         requires reading { IsReading self.old }
-        requires wide { length self.old.partial.items + length front.now ≡ width (before_of self.old) }
+        requires wide { length self.old.partial.items + length front.now
+            ≡ width (before_of self.old) }
         requires some { 0 < length front.now }
         ensures ok { IsOk result → ReadsOn self.old self.new front.now }
-        ensures err { IfErr result (λ fault. IsFaultTold (format_of self.old) self.old.limit (text_of self.old) front.now fault) }
+        ensures err { IfErr result (λ fault. IsFaultTold (format_of self.old) self.old.limit
+            (text_of self.old) front.now fault) }
     {
         if (self.partial.len() + front.len()) as u64 > self.limit - self.reached {
             return Err(self.long());
@@ -162,9 +164,11 @@ impl Reading {
     /// Takes bytes that end before a part does.
     fn keep(&mut self, more: &[u8]) -> Result<(), StateFault>
         requires reading { IsReading self.old }
-        requires short { length self.old.partial.items + length more.now < width (before_of self.old) }
+        requires short { length self.old.partial.items + length more.now
+            < width (before_of self.old) }
         ensures ok { IsOk result → ReadsOn self.old self.new more.now }
-        ensures err { IfErr result (λ fault. IsFaultTold (format_of self.old) self.old.limit (text_of self.old) more.now fault) }
+        ensures err { IfErr result (λ fault. IsFaultTold (format_of self.old) self.old.limit
+            (text_of self.old) more.now fault) }
     {
         if (self.partial.len() + more.len()) as u64 > self.limit - self.reached {
             return Err(self.long());
@@ -178,8 +182,10 @@ impl Reading {
         requires { IsReading self.old }
         ensures within { IfOk result (λ answer. answer.0 ≤ length piece.now) }
         ensures on { IfOk result (λ answer. ReadsOn self.old self.new (take answer.0 piece.now)) }
-        ensures step { IfOk result (IsStep (format_of self.old) self.old.limit (text_of self.old) piece.now) }
-        ensures err { IfErr result (λ fault. IsFaultTold (format_of self.old) self.old.limit (text_of self.old) piece.now fault) }
+        ensures step { IfOk result (IsStep (format_of self.old) self.old.limit
+            (text_of self.old) piece.now) }
+        ensures err { IfErr result (λ fault. IsFaultTold (format_of self.old) self.old.limit
+            (text_of self.old) piece.now fault) }
     {
         let mut rest = piece;
         'parts: loop {
@@ -205,8 +211,10 @@ impl Reading {
     /// The state whose text was read, or the fault of a text that ends before the state does.
     pub(crate) fn finish(self) -> Result<State, StateFault>
         requires { IsReading self }
-        ensures ok { IfOk result (λ state. IsStateText (format_of self) self.limit (text_of self) state) }
-        ensures err { IfErr result (λ fault. IsUnended (format_of self) self.limit (text_of self) fault) }
+        ensures ok { IfOk result (λ state. IsStateText (format_of self) self.limit
+            (text_of self) state) }
+        ensures err { IfErr result (λ fault. IsUnended (format_of self) self.limit
+            (text_of self) fault) }
     {
         let Reading {
             alloc: _,

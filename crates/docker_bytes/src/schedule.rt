@@ -1,6 +1,5 @@
 //! The lines of a schedule, as they are read.
 ghost use Rattle.std.specs.Prelude.{◌≡◌, ◌+◌, ◌<◌, ◌↔◌, ◌⊎◌, [], ◌∷◌, ◌++◌, length, false, IsTrue, IsOk, IfOk, IfErr};
-ghost use Rattle.docker_model.specs.File.{IsSchedule, BeginsSchedule};
 ghost use Rattle.cif_file.specs.JourneyRead.{HasLines};
 ghost use Rattle.docker_bytes.specs.Place.{schedule_meant};
 ghost use Rattle.docker_bytes.specs.Judged.{IsFirstOf};
@@ -77,13 +76,6 @@ impl Gathered {
         self.lines.len() < (count - 1) as usize
     }
 
-    /// Whether the lines are a schedule.
-    pub(crate) fn is_complete(&self) -> bool
-        ensures { IsTrue result ↔ IsSchedule self.now }
-    {
-        self.journey.complete()
-    }
-
     /// The lines, in memory of just their size.
     pub(crate) fn body(&self, alloc: Global) -> Result<Lines, AllocError>
         ensures { IfOk result (λ lines. lines ≡ self.now) }
@@ -93,12 +85,14 @@ impl Gathered {
         Ok(Lines::of(body))
     }
 
-    /// Takes the next of so many lines. `Body` where they are none of a schedule with this one. A line that is refused lets go of all lines.
+    /// Takes the next of so many lines, which is judged before memory grows. `Body` where they are none of a schedule with this one. It lets go of all lines where
+    /// the last one doesn't complete them, or memory is wanting.
     fn take(&mut self, line: &Line, count: u32) -> Result<(), StateCause>
         requires { length self.old < count }
         ensures taken { IsOk result → self.new ≡ self.old ++ line.now ∷ [] }
         ensures goes_on { IsOk result → BeginUpTo count (self.old ++ line.now ∷ []) }
-        ensures err { IfErr result (λ cause. IsLineRefusal count self.old line.now (cause_meant cause)) }
+        ensures err { IfErr result (λ cause. IsLineRefusal count self.old line.now
+            (cause_meant cause)) }
     {
         let is_last = !self.has_more(count);
         if self.journey.line(line).is_err() {
@@ -120,8 +114,10 @@ impl Gathered {
 
 /// Whether a line may come next as far as the key and the horizon go: behind other lines, or as the first line of a new schedule of this key that has not to lapse.
 fn may_follow(key: &ScheduleKey, told: &Told, lines: &Gathered, line: &Line) -> bool
-    ensures first { IsTrue result → lines.now ≡ [] → IsFirstOf told.now.horizon (schedule_meant key.now) line.now }
-    ensures refused { result ≡ false → (lines.now ≡ []) × (¬ IsFirstOf told.now.horizon (schedule_meant key.now) line.now) }
+    ensures first { IsTrue result → lines.now ≡ [] →
+        IsFirstOf told.now.horizon (schedule_meant key.now) line.now }
+    ensures refused { result ≡ false → (lines.now ≡ []) ×
+        (¬ IsFirstOf told.now.horizon (schedule_meant key.now) line.now) }
 {
     if lines.len() > 0 {
         return true;
@@ -140,8 +136,10 @@ pub(crate) fn judged_line(
     requires lines_of { (lines.old ≡ []) ⊎ AreLinesIn told.now (schedule_meant key.now) lines.old }
     requires more { length lines.old < count }
     ensures taken { IsOk result → lines.new ≡ lines.old ++ bytes.now ∷ [] }
-    ensures up_to { IsOk result → AreLinesUpToIn told.now (schedule_meant key.now) count (lines.old ++ bytes.now ∷ []) }
-    ensures err { IfErr result (λ cause. IsUpToRefusal told.now (schedule_meant key.now) count lines.old bytes.now (cause_meant cause)) }
+    ensures up_to { IsOk result → AreLinesUpToIn told.now (schedule_meant key.now) count
+        (lines.old ++ bytes.now ∷ []) }
+    ensures err { IfErr result (λ cause. IsUpToRefusal told.now
+        (schedule_meant key.now) count lines.old bytes.now (cause_meant cause)) }
 {
     let Ok(line) = Line::new(bytes) else {
         return Err(StateCause::Body);

@@ -45,8 +45,11 @@ fn is_mark(format: Format, bytes: &[u8]) -> bool
 
 /// Takes the mark.
 fn after_mark(format: Format, bytes: &[u8]) -> Result<Place, StateCause>
-    ensures ok { IfOk result (λ place. (state : states.State) (lines : List (List ℕ)) → IsFresh Place.Mark state → LeadsTo (format_meant format) before_mark bytes.now place state lines) }
-    ensures err { IfErr result (λ cause. IsBadHere (format_meant format) before_mark bytes.now (cause_meant cause)) }
+    ensures ok { IfOk result (λ place. (state : states.State) (lines : List (List ℕ)) →
+        IsFresh Place.Mark state →
+        LeadsTo (format_meant format) before_mark bytes.now place state lines) }
+    ensures err { IfErr result (λ cause. IsBadHere (format_meant format) before_mark bytes.now
+        (cause_meant cause)) }
 {
     if !is_mark(format, bytes) {
         return Err(StateCause::Mark);
@@ -62,8 +65,10 @@ fn after_horizon(parts: &mut Told, bytes: &[u8]) -> Result<Place, StateCause>
     ghost format: { formats.Format }
     requires fresh { IsFresh Place.Horizon parts.old }
     requires wide { length bytes.now ≡ 2 }
-    ensures ok { IfOk result (λ place. (lines : List (List ℕ)) → LeadsTo format before_horizon bytes.now place parts.new lines) }
-    ensures err { IfErr result (λ cause. IsBadHere format before_horizon bytes.now (cause_meant cause)) }
+    ensures ok { IfOk result (λ place. (lines : List (List ℕ)) →
+        LeadsTo format before_horizon bytes.now place parts.new lines) }
+    ensures err { IfErr result (λ cause. IsBadHere format before_horizon bytes.now
+        (cause_meant cause)) }
 {
     match Day::from_number(number_16(bytes, 0)) {
         Some(day) => {
@@ -77,7 +82,8 @@ fn after_horizon(parts: &mut Told, bytes: &[u8]) -> Result<Place, StateCause>
 /// The place behind the items so far, of so many.
 fn place_in_ledger(count: u64, parts: &Told) -> Place
     requires entries { parts.now.entries ≡ [] }
-    ensures is { (lines : List (List ℕ)) → place_meant result parts.now lines ≡ after_items parts.now.horizon count parts.now.ledger }
+    ensures is { (lines : List (List ℕ)) →
+        place_meant result parts.now lines ≡ after_items parts.now.horizon count parts.now.ledger }
     ensures fresh { IsFresh result parts.now }
 {
     if parts.ledger().len() as u64 >= count {
@@ -89,7 +95,8 @@ fn place_in_ledger(count: u64, parts: &Told) -> Place
 
 /// The place behind the entries so far, of so many.
 fn place_in_entries(count: u64, parts: &Told) -> Place
-    ensures is { (lines : List (List ℕ)) → place_meant result parts.now lines ≡ after_entries count parts.now }
+    ensures is { (lines : List (List ℕ)) →
+        place_meant result parts.now lines ≡ after_entries count parts.now }
     ensures fresh { IsFresh result parts.now }
 {
     if parts.entries().len() as u64 >= count {
@@ -105,8 +112,11 @@ fn after_item(count: u64, parts: &mut Told, bytes: &[u8]) -> Result<Place, State
     requires good { AreGood format (before_item parts.old.horizon count parts.old.ledger) }
     requires fresh { parts.old.entries ≡ [] }
     requires wide { length bytes.now ≡ 19 }
-    ensures ok { IfOk result (λ place. (lines : List (List ℕ)) → LeadsTo format (before_item parts.old.horizon count parts.old.ledger) bytes.now place parts.new lines) }
-    ensures err { IfErr result (λ cause. IsBadHere format (before_item parts.old.horizon count parts.old.ledger) bytes.now (cause_meant cause)) }
+    ensures ok { IfOk result (λ place. (lines : List (List ℕ)) →
+        LeadsTo format (before_item parts.old.horizon count parts.old.ledger) bytes.now place
+        parts.new lines) }
+    ensures err { IfErr result (λ cause. IsBadHere format
+        (before_item parts.old.horizon count parts.old.ledger) bytes.now (cause_meant cause)) }
 {
     match judged_item(parts.ledger(), bytes) {
         Ok(item) => match parts.item(item) {
@@ -121,8 +131,10 @@ fn after_item(count: u64, parts: &mut Told, bytes: &[u8]) -> Result<Place, State
 fn after_tag(count: u64, bytes: &[u8]) -> Result<Place, StateCause>
     ghost format: { formats.Format }
     requires { length bytes.now ≡ 1 }
-    ensures ok { IfOk result (λ place. (state : states.State) (lines : List (List ℕ)) → LeadsTo format (in_entry count state before_tag) bytes.now place state lines) }
-    ensures err { IfErr result (λ cause. (state : states.State) → IsBadHere format (in_entry count state before_tag) bytes.now (cause_meant cause)) }
+    ensures ok { IfOk result (λ place. (state : states.State) (lines : List (List ℕ)) →
+        LeadsTo format (in_entry count state before_tag) bytes.now place state lines) }
+    ensures err { IfErr result (λ cause. (state : states.State) →
+        IsBadHere format (in_entry count state before_tag) bytes.now (cause_meant cause)) }
 {
     match bytes[0] {
         1 => Ok(Place::Key(count, Tag::Tiploc)),
@@ -137,8 +149,11 @@ fn after_key(count: u64, tag: Tag, parts: &Told, bytes: &[u8]) -> Result<Place, 
     ghost format: { formats.Format }
     requires good { AreGood format (in_entry count parts.now (before_key (tag_meant tag))) }
     requires wide { length bytes.now ≡ key_width (tag_meant tag) }
-    ensures ok { IfOk result (λ place. (lines : List (List ℕ)) → LeadsTo format (in_entry count parts.now (before_key (tag_meant tag))) bytes.now place parts.now lines) }
-    ensures err { IfErr result (λ cause. IsBadHere format (in_entry count parts.now (before_key (tag_meant tag))) bytes.now (cause_meant cause)) }
+    ensures ok { IfOk result (λ place. (lines : List (List ℕ)) →
+        LeadsTo format (in_entry count parts.now
+        (before_key (tag_meant tag))) bytes.now place parts.now lines) }
+    ensures err { IfErr result (λ cause. IsBadHere format
+        (in_entry count parts.now (before_key (tag_meant tag))) bytes.now (cause_meant cause)) }
 {
     match judged_key(tag, parts, bytes) {
         Ok(key) => Ok(Place::Stamp(count, key)),
@@ -151,8 +166,11 @@ fn after_stamp(count: u64, key: Key, parts: &Told, bytes: &[u8]) -> Result<Place
     ghost format: { formats.Format }
     requires good { AreGood format (in_entry count parts.now (before_stamp (key_meant key))) }
     requires wide { length bytes.now ≡ 15 }
-    ensures ok { IfOk result (λ place. (lines : List (List ℕ)) → LeadsTo format (in_entry count parts.now (before_stamp (key_meant key))) bytes.now place parts.now lines) }
-    ensures err { IfErr result (λ cause. IsBadHere format (in_entry count parts.now (before_stamp (key_meant key))) bytes.now (cause_meant cause)) }
+    ensures ok { IfOk result (λ place. (lines : List (List ℕ)) →
+        LeadsTo format (in_entry count parts.now
+        (before_stamp (key_meant key))) bytes.now place parts.now lines) }
+    ensures err { IfErr result (λ cause. IsBadHere format
+        (in_entry count parts.now (before_stamp (key_meant key))) bytes.now (cause_meant cause)) }
 {
     match judged_stamp(parts.ledger(), bytes) {
         Some(stamp) => Ok(Place::Op(count, key, stamp)),
@@ -164,7 +182,9 @@ fn after_stamp(count: u64, key: Key, parts: &Told, bytes: &[u8]) -> Result<Place
 fn give(count: u64, parts: &mut Told, key: Key, stamp: Stamp, op: Op) -> Result<Place, StateCause>
     requires here { IsStampHere parts.old (key_meant key) (stamp_meant stamp) }
     requires agrees { IsOpOf (key_meant key) (op_meant op) }
-    ensures ok { IfOk result (λ place. (lines : List (List ℕ)) → place_meant place parts.new lines ≡ after_entries count (with_entry parts.old (key_meant key) (stamp_meant stamp) (op_meant op))) }
+    ensures ok { IfOk result (λ place. (lines : List (List ℕ)) →
+        place_meant place parts.new lines ≡ after_entries count
+        (with_entry parts.old (key_meant key) (stamp_meant stamp) (op_meant op))) }
     ensures fresh { IfOk result (λ place. IsFresh place parts.new) }
     ensures err { IfErr result (λ cause. cause ≡ StateCause.Memory) }
 {
@@ -183,10 +203,15 @@ fn after_op(
     parts: &mut Told,
     bytes: &[u8],
 ) -> Result<Place, StateCause>
-    requires good { AreGood (format_meant format) (in_entry count parts.old (before_op (key_meant key) (stamp_meant stamp))) }
+    requires good { AreGood (format_meant format)
+        (in_entry count parts.old (before_op (key_meant key) (stamp_meant stamp))) }
     requires wide { length bytes.now ≡ 1 }
-    ensures ok { IfOk result (λ place. (lines : List (List ℕ)) → LeadsTo (format_meant format) (in_entry count parts.old (before_op (key_meant key) (stamp_meant stamp))) bytes.now place parts.new lines) }
-    ensures err { IfErr result (λ cause. IsBadHere (format_meant format) (in_entry count parts.old (before_op (key_meant key) (stamp_meant stamp))) bytes.now (cause_meant cause)) }
+    ensures ok { IfOk result (λ place. (lines : List (List ℕ)) →
+        LeadsTo (format_meant format) (in_entry count parts.old
+        (before_op (key_meant key) (stamp_meant stamp))) bytes.now place parts.new lines) }
+    ensures err { IfErr result (λ cause. IsBadHere (format_meant format)
+        (in_entry count parts.old (before_op (key_meant key) (stamp_meant stamp))) bytes.now
+        (cause_meant cause)) }
 {
     match (format, bytes[0]) {
         (_, 0) => give(count, parts, key, stamp, Op::Deleted),
@@ -205,10 +230,15 @@ fn after_tiploc_body(
     bytes: &[u8],
 ) -> Result<Place, StateCause>
     ghost format: { formats.Format }
-    requires good { AreGood format (in_entry count parts.old (before_body (tiploc_key code) (stamp_meant stamp))) }
+    requires good { AreGood format (in_entry count parts.old
+        (before_body (tiploc_key code) (stamp_meant stamp))) }
     requires wide { length bytes.now ≡ 63 }
-    ensures ok { IfOk result (λ place. (lines : List (List ℕ)) → LeadsTo format (in_entry count parts.old (before_body (tiploc_key code) (stamp_meant stamp))) bytes.now place parts.new lines) }
-    ensures err { IfErr result (λ cause. IsBadHere format (in_entry count parts.old (before_body (tiploc_key code) (stamp_meant stamp))) bytes.now (cause_meant cause)) }
+    ensures ok { IfOk result (λ place. (lines : List (List ℕ)) →
+        LeadsTo format (in_entry count parts.old
+        (before_body (tiploc_key code) (stamp_meant stamp))) bytes.now place parts.new lines) }
+    ensures err { IfErr result (λ cause. IsBadHere format
+        (in_entry count parts.old (before_body (tiploc_key code) (stamp_meant stamp))) bytes.now
+        (cause_meant cause)) }
 {
     match tiploc_body(bytes) {
         Some(body) => give(count, parts, Key::Tiploc(code), stamp, Op::Put(body)),
@@ -225,9 +255,15 @@ fn after_assoc_body(
     bytes: &[u8],
 ) -> Result<Place, StateCause>
     ghost format: { formats.Format }
-    requires good { AreGood format (in_entry count parts.old (before_body (association_key (assoc_meant key)) (stamp_meant stamp))) }
-    ensures ok { IfOk result (λ place. (lines : List (List ℕ)) → LeadsTo format (in_entry count parts.old (before_body (association_key (assoc_meant key)) (stamp_meant stamp))) bytes.now place parts.new lines) }
-    ensures err { IfErr result (λ cause. IsBadHere format (in_entry count parts.old (before_body (association_key (assoc_meant key)) (stamp_meant stamp))) bytes.now (cause_meant cause)) }
+    requires good { AreGood format (in_entry count parts.old
+        (before_body (association_key (assoc_meant key)) (stamp_meant stamp))) }
+    ensures ok { IfOk result (λ place. (lines : List (List ℕ)) →
+        LeadsTo format (in_entry count parts.old
+        (before_body (association_key (assoc_meant key))
+        (stamp_meant stamp))) bytes.now place parts.new lines) }
+    ensures err { IfErr result (λ cause. IsBadHere format
+        (in_entry count parts.old (before_body (association_key (assoc_meant key))
+        (stamp_meant stamp))) bytes.now (cause_meant cause)) }
 {
     match assoc_body(&key, parts.horizon(), bytes) {
         Some(body) => give(count, parts, Key::Assoc(key), stamp, Op::Put(body)),
@@ -238,7 +274,9 @@ fn after_assoc_body(
 /// The number of a schedule's lines that four bytes tell. None where no schedule has so many.
 fn line_count(bytes: &[u8]) -> Option<u32>
     requires { length bytes.now ≡ 4 }
-    ensures { MatchOption result (¬ IsLineCount (from_be_bytes w32 bytes.now)) (λ count. (count ≡ from_be_bytes w32 bytes.now) × IsLineCount (from_be_bytes w32 bytes.now)) }
+    ensures { MatchOption result (¬ IsLineCount (from_be_bytes w32 bytes.now))
+        (λ count. (count ≡ from_be_bytes w32 bytes.now) × IsLineCount
+        (from_be_bytes w32 bytes.now)) }
 {
     let count = number_32(bytes, 0);
     if count == 0 {
@@ -260,8 +298,14 @@ fn after_line_count(
 ) -> Result<Place, StateCause>
     ghost format: { formats.Format }
     requires { length bytes.now ≡ 4 }
-    ensures ok { IfOk result (λ place. (state : states.State) → LeadsTo format (in_entry count state (before_body (schedule_key (schedule_meant key)) (stamp_meant stamp))) bytes.now place state lines.new) }
-    ensures err { IfErr result (λ cause. (state : states.State) → IsBadHere format (in_entry count state (before_body (schedule_key (schedule_meant key)) (stamp_meant stamp))) bytes.now (cause_meant cause)) }
+    ensures ok { IfOk result (λ place. (state : states.State) →
+        LeadsTo format (in_entry count state
+        (before_body (schedule_key (schedule_meant key))
+        (stamp_meant stamp))) bytes.now place state lines.new) }
+    ensures err { IfErr result (λ cause. (state : states.State) →
+        IsBadHere format (in_entry count state
+        (before_body (schedule_key (schedule_meant key)) (stamp_meant stamp))) bytes.now
+        (cause_meant cause)) }
 {
     match line_count(bytes) {
         Some(told) => {
@@ -290,10 +334,17 @@ fn after_last_line(
     bytes: &[u8],
 ) -> Result<Place, StateCause>
     ghost format: { formats.Format }
-    requires good { AreGood format (in_entry count parts.old (before_line (schedule_meant schedule.key) (stamp_meant schedule.stamp) schedule.count lines.old)) }
+    requires good { AreGood format (in_entry count parts.old
+        (before_line (schedule_meant schedule.key)
+        (stamp_meant schedule.stamp) schedule.count lines.old)) }
     requires last { schedule.count ≤ length lines.old + 1 }
-    ensures ok { IfOk result (λ place. LeadsTo format (in_entry count parts.old (before_line (schedule_meant schedule.key) (stamp_meant schedule.stamp) schedule.count lines.old)) bytes.now place parts.new lines.new) }
-    ensures err { IfErr result (λ cause. IsBadHere format (in_entry count parts.old (before_line (schedule_meant schedule.key) (stamp_meant schedule.stamp) schedule.count lines.old)) bytes.now (cause_meant cause)) }
+    ensures ok { IfOk result (λ place. LeadsTo format
+        (in_entry count parts.old (before_line (schedule_meant schedule.key)
+        (stamp_meant schedule.stamp) schedule.count lines.old)) bytes.now place parts.new
+        lines.new) }
+    ensures err { IfErr result (λ cause. IsBadHere format
+        (in_entry count parts.old (before_line (schedule_meant schedule.key)
+        (stamp_meant schedule.stamp) schedule.count lines.old)) bytes.now (cause_meant cause)) }
 {
     if let Err(cause) = judged_line(&schedule.key, parts, schedule.count, lines, bytes) {
         return Err(cause);
@@ -328,8 +379,10 @@ pub(crate) fn step(
     requires wide { length bytes.now ≡ width (place_meant place parts.old lines.old) }
     requires some { 0 < length bytes.now }
     requires last { IsLast place lines.old }
-    ensures ok { IfOk result (λ after. LeadsTo meant (place_meant place parts.old lines.old) bytes.now after parts.new lines.new) }
-    ensures err { IfErr result (λ cause. IsBadHere meant (place_meant place parts.old lines.old) bytes.now (cause_meant cause)) }
+    ensures ok { IfOk result (λ after. LeadsTo meant
+        (place_meant place parts.old lines.old) bytes.now after parts.new lines.new) }
+    ensures err { IfErr result (λ cause. IsBadHere meant
+        (place_meant place parts.old lines.old) bytes.now (cause_meant cause)) }
 {
     match place {
         Place::Mark => after_mark(format, bytes),

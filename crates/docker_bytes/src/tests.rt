@@ -265,7 +265,13 @@ fn faults_of_the_ledger(rt: HostRuntime) -> Result<(), Fail> {
     refused(&rt, alloc, &[b"DKS"], 1000, (0, StateCause::Short))?;
     refused(&rt, alloc, &[b"XYZ"], 3, (0, StateCause::Short))?;
     refused(&rt, alloc, &[b"XYZ"], 2, (2, StateCause::Long))?;
-    refused(&rt, alloc, &[MARK, ONE, ITEM_LATE], 1000, (14, StateCause::Item))?;
+    refused(
+        &rt,
+        alloc,
+        &[MARK, ONE, ITEM_LATE],
+        1000,
+        (14, StateCause::Item),
+    )?;
     refused(
         &rt,
         alloc,

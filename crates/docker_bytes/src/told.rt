@@ -7,6 +7,7 @@ ghost use Rattle.cif_file.specs.Meaning.{key_meant};
 ghost use Rattle.docker_join.specs.Meaning.{entry_meant};
 ghost use Rattle.docker_state.specs.Meaning.{item_meant, row_meant};
 ghost use Rattle.docker_state.specs.Parts.{last_key};
+ghost use Rattle.docker_bytes.specs.Told.{under, with_item, with_row};
 
 use cif_file::Key;
 use cif_line::{Day, Memory};
@@ -47,7 +48,7 @@ impl Told {
 
     /// Takes the horizon.
     pub(crate) fn set_horizon(&mut self, day: Day)
-        ensures { self.new ≡ record { horizon = day; ledger = self.old.ledger; entries = self.old.entries } }
+        ensures { self.new ≡ under day self.old }
     {
         self.horizon = Some(day);
     }
@@ -66,7 +67,7 @@ impl Told {
     pub(crate) fn item(&mut self, item: LedgerItem) -> Result<(), Memory>
         requires before_entries { self.old.entries ≡ [] }
         requires ledger { IsLedger (self.old.ledger ++ item_meant item ∷ []) }
-        ensures { IsOk result → self.new ≡ record { horizon = self.old.horizon; ledger = self.old.ledger ++ item_meant item ∷ []; entries = [] } }
+        ensures { IsOk result → self.new ≡ with_item self.old (item_meant item) }
     {
         self.parts.item(item)
     }
@@ -75,7 +76,7 @@ impl Told {
     pub(crate) fn entry(&mut self, key: Key, entry: Entry) -> Result<(), Memory>
         requires here { IsStampHere self.old (key_meant key) (entry_meant entry).stamp }
         requires op { IsOpOf (key_meant key) (entry_meant entry).op }
-        ensures { IsOk result → self.new ≡ record { horizon = self.old.horizon; ledger = self.old.ledger; entries = self.old.entries ++ (key_meant key, entry_meant entry) ∷ [] } }
+        ensures { IsOk result → self.new ≡ with_row self.old (key_meant key, entry_meant entry) }
     {
         self.parts.entry(key, entry)
     }

@@ -29,8 +29,7 @@ const NOTHING: &[u8] = b"\0\0\0\0\0\0\0\0\0\0\0\0\0\0\0\0";
 const SCHEDULE: &[u8] = b"\x03C10001\x5b\xf1P\x5b\xf0\x04\xecDFROC1A\x00\x00\x00\x02";
 
 /// The same of the association of C10001 and C10002.
-const JOINS: &[u8] =
-    b"\x02C10001C10002\x5b\xf1ASHFELD P\x5b\xf0\x04\xecDFROC1A\x00\x00\x00\x02";
+const JOINS: &[u8] = b"\x02C10001C10002\x5b\xf1ASHFELD P\x5b\xf0\x04\xecDFROC1A\x00\x00\x00\x02";
 
 /// The same of the TIPLOC ASHFELD.
 const ASHFELD: &[u8] = b"\x01ASHFELD\x5b\xf0\x04\xecDFROC1A\x00\x00\x00\x02";
@@ -44,10 +43,7 @@ const LAPSED: &[u8] = b"\x02";
 /// The text of one file and of one entry of these parts, under a horizon.
 fn under(alloc: Global, horizon: &[u8], parts: &[&[u8]]) -> Result<Vec<u8>, AllocError> {
     let entry = joined_text(alloc, parts)?;
-    joined_text(
-        alloc,
-        &[b"DKS2", horizon, ONE, ITEM, ONE, entry.as_slice()],
-    )
+    joined_text(alloc, &[b"DKS2", horizon, ONE, ITEM, ONE, entry.as_slice()])
 }
 
 /// That a text is that of a state, which is written so again, of which the horizon is told.
@@ -76,7 +72,13 @@ fn horizons_of_no_day(rt: HostRuntime) -> Result<(), Fail> {
     let alloc = rt.alloc();
     let schedule: &[&[u8]] = &[HEAD, BS, LO, LT];
     refused_under(&rt, alloc, TOO_LATE, schedule, (4, StateCause::Horizon))?;
-    refused(&rt, alloc, &[b"DKS2", TOO_LATE], 6, (4, StateCause::Horizon))?;
+    refused(
+        &rt,
+        alloc,
+        &[b"DKS2", TOO_LATE],
+        6,
+        (4, StateCause::Horizon),
+    )?;
     refused(&rt, alloc, &[b"DKS2", TOO_LATE], 5, (5, StateCause::Long))?;
     let greatest = joined_text(alloc, &[b"DKS2", GREATEST, NOTHING])?;
     accepted(&rt, alloc, greatest.as_slice(), 36524)
@@ -94,7 +96,12 @@ fn puts_that_end_before_the_horizon(rt: HostRuntime) -> Result<(), Fail> {
     let front = BS.get(..79).ok_or("short")?;
     refused_under(&rt, alloc, AFTER, &[HEAD, front], (41, StateCause::Short))?;
     let association: &[&[u8]] = &[JOINS, PUT, AA];
-    accepted(&rt, alloc, under(alloc, LAST, association)?.as_slice(), 23541)?;
+    accepted(
+        &rt,
+        alloc,
+        under(alloc, LAST, association)?.as_slice(),
+        23541,
+    )?;
     refused_under(&rt, alloc, AFTER, association, bad)?;
     let endless =
         b"BSNC100012406109999991111100 POO1A10                                           P";

@@ -150,9 +150,7 @@ fn old_texts_with_a_bad_entry(rt: HostRuntime) -> Result<(), Fail> {
     refused(
         &rt,
         alloc,
-        &[
-            OLD_MARK, ONE, ITEM, TWO, HEAD, BS, LO, LT, HEAD, BS, LO, LT,
-        ],
+        &[OLD_MARK, ONE, ITEM, TWO, HEAD, BS, LO, LT, HEAD, BS, LO, LT],
         1000,
         (309, StateCause::Order),
     )?;

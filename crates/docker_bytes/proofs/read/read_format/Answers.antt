@@ -1,11 +1,11 @@
 use Rattle.std.proofs.Common.{◌≡◌, ℕ, ◌<◌, ◌^◌, ◌++◌, length, take, refl, arith, sym, ◌-◌, ◌∙◌, subst}
 use Rattle.std.proofs.lemmas.List.{length-take-le}
 use Rattle.cif_line.specs.Device.{IsEnd}
-use Rattle.docker_bytes.specs.SourceRead.{IsFaultOf, WantsMemory}
+use Rattle.docker_bytes.specs.SourceRead.{IsFaultOf}
 use Rattle.docker_bytes.specs.Reading.{IsWanting}
 use Rattle.docker_bytes.specs.FormatMeaning.{format_meant}
 use Rattle.docker_bytes.specs.ParserRead.{HasRead}
-use Rattle.docker_bytes.proofs.SourceReading.{at_start, next_turn, fewer_left, state_read, refused_at_end, refused_within, same_front, lost_nothing, stops_at_first, stops_behind, stops_where_failed, wants_part, wants_at_end}
+use Rattle.docker_bytes.proofs.SourceReading.{at_start, next_turn, fewer_left, state_read, refused_at_end, refused_within, same_front, stops_at_first, stops_behind, stops_where_failed, wants_part, wants_at_end}
 use Rattle.docker_bytes.proofs.read.read_format.Goals as goal
 
 pub pieces-init : goal.pieces-init

@@ -1,9 +1,6 @@
-use Rattle.std.proofs.Common.{◌≡◌, refl, [], ◌∷◌, ◌++◌, ◌∙◌, arith}
-use Rattle.std.proofs.lemmas.Result.{IfErr-weaker}
+use Rattle.std.proofs.Common.{refl, ◌∙◌}
 use Rattle.docker_model.specs.StateFault.{in_entry, before_line}
 use Rattle.docker_join.specs.Meaning.{stamp_meant}
-use Rattle.docker_bytes.specs.declared.fault.StateCause.TheVariants as cause
-use Rattle.docker_bytes.specs.FaultMeaning.{cause_meant, IsBadHere}
 use Rattle.docker_bytes.specs.Place.{schedule_meant}
 use Rattle.docker_bytes.proofs.Stepping.{taken_all, both_ok, all_there, whole_schedule, wanting_here}
 use Rattle.docker_bytes.proofs.step.after_last_line.Goals as goal

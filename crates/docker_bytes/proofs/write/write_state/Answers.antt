@@ -1,4 +1,4 @@
-use Rattle.std.proofs.Common.{◌∙◌, ap, sym, subst, All, ◌++◌, length, map}
+use Rattle.std.proofs.Common.{◌∙◌, sym, subst, All, ◌++◌, length, map}
 use Rattle.std.specs.List.{flat_map}
 use Rattle.std.specs.Int.{w16, w64, to_be_bytes}
 use Rattle.std.proofs.lemmas.Result.{on_ok_weaker, on_err_weaker}
