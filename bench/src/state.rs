@@ -1,8 +1,8 @@
 //! Time and memory of the calls on states, by the program `state_times`.
 
 use crate::measure::{machine, run, Input, Spent};
-use std::fs;
-use std::io::{Error, Result};
+use std::fs::{self, File};
+use std::io::{BufRead, BufReader, Error, Result};
 
 const ROUNDS: usize = 5;
 
@@ -35,7 +35,7 @@ pub fn table(program: &str, extract: &str, update: &str, folder: &str) -> Result
     said_by(&run(&[program, "make", extract, &text], Input::None)?)?;
     let size = |path: &str| fs::metadata(path).map(|about| about.len());
     let (bytes, state, beside) = (size(extract)?, size(&text)?, size(&other)?);
-    let mut jobs = [
+    let jobs = [
         Job {
             name: "`make`",
             words: vec![program, "make", extract, "/dev/null"],
@@ -63,6 +63,17 @@ pub fn table(program: &str, extract: &str, update: &str, folder: &str) -> Result
             memory: 0,
         },
     ];
+    let date = middle_end(extract)?;
+    let mut jobs = jobs
+        .into_iter()
+        .chain([Job {
+            name: "`lapse`",
+            words: vec![program, "lapse", &text, &date],
+            stages: vec![stage("setting a horizon that half of its schedules end before", "setting the horizon", true)],
+            states: state,
+            memory: 0,
+        }])
+        .collect::<Vec<_>>();
     let mut counting = [f64::INFINITY; 2];
     for _ in 0..ROUNDS {
         for (best, path) in counting.iter_mut().zip([extract, &text]) {
@@ -74,6 +85,20 @@ pub fn table(program: &str, extract: &str, update: &str, folder: &str) -> Result
     }
     print(&jobs, [bytes, state], counting);
     Ok(())
+}
+
+/// The day before which half of the schedules of an extract end, as `YYYY-MM-DD`.
+fn middle_end(extract: &str) -> Result<String> {
+    let mut ends = Vec::new();
+    for line in BufReader::new(File::open(extract)?).split(b'\n') {
+        let line = line?;
+        if line.starts_with(b"BS") && line.len() >= 21 && line[15..21].iter().all(u8::is_ascii_digit) {
+            ends.push(String::from_utf8_lossy(&line[15..21]).into_owned());
+        }
+    }
+    ends.sort_unstable();
+    let middle = ends.get(ends.len() / 2).ok_or_else(|| Error::other("the extract has no schedule"))?;
+    Ok(format!("20{}-{}-{}", &middle[..2], &middle[2..4], &middle[4..6]))
 }
 
 /// What the program said on standard error, of a run that ended well.

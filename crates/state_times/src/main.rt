@@ -1,14 +1,14 @@
 //! `state_times`: measures the calls that make a state, write its text, read it back and join it with another, on extracts of
 //! any size. What they gave goes to standard output, how long each took to standard error.
 //!
-//! `make EXTRACT TEXT` makes the state of an extract and writes its text into a file, `read TEXT` reads it back, and
-//! `join TEXT OTHER` joins two.
+//! `make EXTRACT TEXT` makes the state of an extract and writes its text into a file, `read TEXT` reads it back,
+//! `join TEXT OTHER` joins two, and `lapse TEXT DATE` sets a horizon.
 #![tactic(auto)]
 
 mod trouble;
 
 use cif_file::{CifFile, FileParser};
-use cif_line::Kept;
+use cif_line::{Day, Kept};
 use docker_bytes::{StateParser, encoded_len, write_state};
 use docker_join::Merge;
 use docker_state::State;
@@ -48,6 +48,7 @@ fn run(rt: &HostRuntime) -> Result<(), Trouble> {
             tell(rt, &state)
         }
         [job, first, second] if job.as_str() == "join" => join(rt, first.as_str(), second.as_str()),
+        [job, text, date] if job.as_str() == "lapse" => lapse(rt, text.as_str(), date.as_str()),
         _ => Err(Trouble::Words),
     }
 }
@@ -130,6 +131,18 @@ fn join(rt: &HostRuntime, first: &str, second: &str) -> Result<(), Trouble> {
     };
     took(rt, "the join", began)?;
     tell(rt, &joined)
+}
+
+/// Sets a horizon on the state of a text.
+fn lapse(rt: &HostRuntime, text: &str, date: &str) -> Result<(), Trouble> {
+    let Some(day) = Day::from_iso(date) else {
+        return Err(Trouble::Words);
+    };
+    let mut state = read_text(rt, text)?;
+    let began = Instant::now(rt)?;
+    state.set_horizon(day);
+    took(rt, "setting the horizon", began)?;
+    tell(rt, &state)
 }
 
 /// Prints what a state has.
