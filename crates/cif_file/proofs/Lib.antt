@@ -1,5 +1,7 @@
-pub mod RecordsTaken
-pub mod Journeys
-pub mod Parsing
-pub mod LineFeed
-pub mod Joining
+pub mod FrontLemmas
+pub mod JourneyLemmas
+pub mod ParserLemmas
+pub mod TextLemmas
+pub mod PiecesLemmas
+pub mod ReadLemmas
+pub mod AnswerLemmas

@@ -1,5 +1,5 @@
 -- What an act leaves of its key.
-use Rattle.docker_model.specs.Op.{Op, op_of}
+use Rattle.docker_model.specs.state.Op.{Op, op_of}
 use Rattle.cif_file.specs.declared.change.Act.{Act}
 use Rattle.cif_file.specs.Meaning.{act_meant}
 

@@ -1,7 +1,7 @@
 -- What a file that was read tells.
 use Rattle.std.specs.Prelude.{◌≡◌, ℕ, ◌≤◌, List, [], length, slice_index_or}
-use Rattle.docker_model.specs.Change.{Change, changes}
-use Rattle.docker_model.specs.File.{IsFile}
+use Rattle.docker_model.specs.file.Change.{Change, changes}
+use Rattle.docker_model.specs.file.File.{IsFile}
 
 -- the header's line, how many records there are, and the changes that they make
 pub record FileRead : Type 0 where

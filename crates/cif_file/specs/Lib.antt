@@ -3,6 +3,9 @@ pub mod FileRead
 pub mod Joined
 pub mod Acts
 pub mod JourneyRead
+pub mod UnitRead
 pub mod RecordsRead
 pub mod ParserRead
 pub mod Cut
+pub mod FaultText
+pub mod SourceRead

@@ -1,9 +1,9 @@
 -- What keys, bodies, acts, changes and causes of the code mean, as the definitions name them.
 use Rattle.std.specs.Prelude.{Option, Some, None}
-use Rattle.docker_model.specs.Change.{tiploc_key, association_key, schedule_key, tiploc_body, association_body, schedule_body, delete, put}
-use Rattle.docker_model.specs.Change as model
-use Rattle.docker_model.specs.FileFault.{too_many, after_trailer, bad_length, bad_byte, bad_kind, bad_place, bad_field, third_midnight, no_end}
-use Rattle.docker_model.specs.FileFault as fault
+use Rattle.docker_model.specs.file.Change.{tiploc_key, association_key, schedule_key, tiploc_body, association_body, schedule_body, delete, put}
+use Rattle.docker_model.specs.file.Change as model
+use Rattle.docker_model.specs.file.FileFault.{too_many, after_trailer, bad_length, bad_byte, bad_kind, bad_place, bad_field, third_midnight, no_end}
+use Rattle.docker_model.specs.file.FileFault as fault
 use Rattle.cif_line.specs.Letter.{stp_letter}
 use Rattle.cif_file.specs.declared.key.Key.{Key}
 use Rattle.cif_file.specs.declared.key.Key.TheVariants as key

@@ -1,17 +1,18 @@
 -- What a parser of files was fed.
-use Rattle.std.specs.Prelude.{◌≡◌, ℕ, ◌+◌, ◌<◌, ◌≤◌, ◌⊎◌, List, length, take, Option, Some, None}
-use Rattle.docker_model.specs.Text.{lines_of}
-use Rattle.docker_model.specs.FaultSoFar.{IsFaultSoFar, lines_told}
-use Rattle.docker_model.specs.File.{BeginsFile}
-use Rattle.docker_model.specs.FileFault.{IsFileFault, IsFileText}
-use Rattle.docker_model.specs.FileFault as model
-use Rattle.docker_laws.proofs.FilePlace.{next_place, IsPlaceOf}
-use Rattle.docker_laws.proofs.FilePlace as law
-use Rattle.docker_laws.proofs.FileCauses.{cause_of}
-use Rattle.docker_laws.proofs.ToldLines.{told_lines, open_line}
-use Rattle.docker_laws.proofs.ToldFaults.{cause_of_long}
+use Rattle.std.specs.Prelude.{◌≡◌, ℕ, ◌+◌, ◌<◌, ◌≤◌, ◌⊎◌, List, [], ◌∷◌, ◌++◌, length, take, Option, Some, None}
+use Rattle.docker_model.specs.file.Text.{lines_of}
+use Rattle.docker_model.specs.file.FaultSoFar.{IsFaultSoFar, lines_told}
+use Rattle.docker_model.specs.file.File.{IsFile, BeginsFile}
+use Rattle.docker_model.specs.file.FileFault.{no_end, IsFileFault, IsFileText}
+use Rattle.docker_model.specs.file.FileFault as model
+use Rattle.docker_laws.specs.FileStage.{next_place, IsPlaceOf}
+use Rattle.docker_laws.specs.FileStage as law
+use Rattle.docker_laws.specs.RecordCause.{cause_of, cause_of_long}
+use Rattle.docker_laws.specs.LinesTold.{told_lines, open_line}
 use Rattle.cif_file.specs.declared.fault.FileFault.{FileFault}
+use Rattle.cif_file.specs.declared.fault.FileCause.{FileCause}
 use Rattle.cif_file.specs.declared.fault.FileCause.TheVariants.{Memory}
+use Rattle.cif_file.specs.declared.front.Front.{Front}
 use Rattle.cif_file.specs.declared.records.Records.{Records}
 use Rattle.cif_file.specs.declared.parser.Reading.{Reading}
 use Rattle.cif_file.specs.Meaning.{cause_meant}
@@ -42,14 +43,14 @@ pub record IsCauseNext (limit : ℕ) (records : Lines) (line : List ℕ) (cause 
   pub is : cause_of limit (length records) place line ≡ cause
 
 -- a cause that was told of a record; memory was wanting only within the limit, and for a record that goes on
-abbrev pub IsCauseTold : ℕ → Lines → List ℕ → Option model.FileCause → Type 0
-IsCauseTold limit records line None = (length records < limit) × GoesOnWith records line
-IsCauseTold limit records line (Some cause) = IsCauseNext limit records line cause
+abbrev pub IsCauseBehind : ℕ → Lines → List ℕ → Option model.FileCause → Type 0
+IsCauseBehind limit records line None = (length records < limit) × GoesOnWith records line
+IsCauseBehind limit records line (Some cause) = IsCauseNext limit records line cause
 
 -- a fault that was told of the record behind these
 pub record IsFaultNext (limit : ℕ) (records : Lines) (line : List ℕ) (fault : FileFault) : Type 0 where
   pub number : fault.number ≡ length records + 1
-  pub cause : IsCauseTold limit records line (cause_meant fault.cause)
+  pub cause : IsCauseBehind limit records line (cause_meant fault.cause)
 
 -- a fault that was told of a record of more than 81 bytes behind these
 pub record IsLongNext (limit : ℕ) (records : Lines) (fault : FileFault) : Type 0 where
@@ -57,6 +58,31 @@ pub record IsLongNext (limit : ℕ) (records : Lines) (fault : FileFault) : Type
   pub place : law.Place
   pub at : IsPlaceOf records place
   pub cause : cause_meant fault.cause ≡ Some (cause_of_long limit (length records) place)
+
+-- behind these records, which are no file, the end was told
+abbrev pub IsNoEndOf : Lines → FileFault → Type 0
+IsNoEndOf records fault = (fault.number ≡ length records + 1) × (cause_meant fault.cause ≡ Some no_end) × (¬ IsFile records)
+
+-- a cause that was told of a line, within the limit
+abbrev pub RefusesWithin : Front → List ℕ → FileCause → Type 0
+RefusesWithin front line cause =
+    (limit : ℕ) (records : Lines) → HasRecords front records → length records < limit → IsCauseBehind limit records line (cause_meant cause)
+
+-- the line was taken, and counted
+abbrev pub CountsNext : Records → List ℕ → Records → Type 0
+CountsNext old line new = (limit : ℕ) (records : Lines) → HasCounted old limit records → HasCounted new limit (records ++ line ∷ [])
+
+-- a fault that was told of the line
+abbrev pub FaultsNext : Records → List ℕ → FileFault → Type 0
+FaultsNext state line fault = (limit : ℕ) (records : Lines) → HasCounted state limit records → IsFaultNext limit records line fault
+
+-- the records that were counted are a file, which this is
+abbrev pub EndsCounted : Records → FileRead → Type 0
+EndsCounted state file = (limit : ℕ) (records : Lines) → HasCounted state limit records → IsFile records × IsOfRecords file records
+
+-- they are none, which is told behind them
+abbrev pub EndsUnended : Records → FileFault → Type 0
+EndsUnended state fault = (limit : ℕ) (records : Lines) → HasCounted state limit records → IsNoEndOf records fault
 
 -- no fault was told: the lines that are told were taken, and the line behind them is open
 pub record IsReading (reading : Reading) (limit : ℕ) (text : List ℕ) : Type 0 where
@@ -71,27 +97,28 @@ pub record IsReadingSome (reading : Reading) : Type 0 where
   pub is : IsReading reading limit text
 
 -- memory was wanting at the record of this number: one of these, within the limit, and some file begins with those up to it
-pub record IsMemoryTold (limit : ℕ) (records : Lines) (number : ℕ) : Type 0 where
+pub record WantsMemoryAt (limit : ℕ) (records : Lines) (number : ℕ) : Type 0 where
   pub some : 0 < number
   pub one : number ≤ length records
   pub within : number ≤ limit
   pub sound : BeginsFile (take number records)
 
--- the cause that a fault tells is that of the first record at fault which is told; or memory was wanting at a record whose line feed came, and none up to it is at fault
+-- the cause that a fault tells is that of the first record at fault which is told; or memory was wanting at a record whose line feed came, and none up to it
+-- is at fault
 abbrev pub IsToldSoFar : ℕ → List ℕ → ℕ → Option model.FileCause → Type 0
-IsToldSoFar limit text number None = IsMemoryTold limit (told_lines text) number
+IsToldSoFar limit text number None = WantsMemoryAt limit (told_lines text) number
 IsToldSoFar limit text number (Some cause) = IsFaultSoFar limit text (record { number = number; cause = cause })
 
 abbrev pub IsFaultTold : ℕ → List ℕ → FileFault → Type 0
 IsFaultTold limit text fault = IsToldSoFar limit text fault.number (cause_meant fault.cause)
 
 -- the fault is the text's; or memory was wanting at one of its records, and none up to it is at fault
-abbrev pub IsToldOf : ℕ → List ℕ → ℕ → Option model.FileCause → Type 0
-IsToldOf limit text number None = IsMemoryTold limit (lines_of text) number
-IsToldOf limit text number (Some cause) = IsFileFault limit text (record { number = number; cause = cause })
+abbrev pub IsCauseOf : ℕ → List ℕ → ℕ → Option model.FileCause → Type 0
+IsCauseOf limit text number None = WantsMemoryAt limit (lines_of text) number
+IsCauseOf limit text number (Some cause) = IsFileFault limit text (record { number = number; cause = cause })
 
 abbrev pub IsRefused : ℕ → List ℕ → FileFault → Type 0
-IsRefused limit text fault = IsToldOf limit text fault.number (cause_meant fault.cause)
+IsRefused limit text fault = IsCauseOf limit text fault.number (cause_meant fault.cause)
 
 -- what a parser keeps
 pub record ParserState : Type 0 where
@@ -140,4 +167,28 @@ IsLast reading fault = fault.cause ≡ Memory → (limit : ℕ) (text : List ℕ
 
 -- the same of a parser that told no fault
 abbrev pub NamesLast : ParserState → FileFault → Type 0
-NamesLast parser fault = HasNotFailed parser → fault.cause ≡ Memory → (limit : ℕ) (text : List ℕ) → HasRead parser limit text → fault.number ≡ length (lines_of text)
+NamesLast parser fault =
+    HasNotFailed parser → fault.cause ≡ Memory → (limit : ℕ) (text : List ℕ) → HasRead parser limit text → fault.number ≡ length (lines_of text)
+
+-- ---- of each limit on records and each text that may have been read under it
+
+-- what was read before, and then these bytes, is what was read after them
+abbrev pub GoesOn : (ℕ → List ℕ → Type 0) → List ℕ → (ℕ → List ℕ → Type 0) → Type 0
+GoesOn before bytes after = (limit : ℕ) (text : List ℕ) → before limit text → after limit (text ++ bytes)
+
+-- with these bytes behind it the text tells this fault
+abbrev pub TellsFault : (ℕ → List ℕ → Type 0) → List ℕ → FileFault → Type 0
+TellsFault before bytes fault = (limit : ℕ) (text : List ℕ) → before limit text → IsFaultTold limit (text ++ bytes) fault
+
+-- it tells none
+abbrev pub TellsNoFault : (ℕ → List ℕ → Type 0) → List ℕ → Type 0
+TellsNoFault before bytes =
+    (limit : ℕ) (text : List ℕ) → before limit text → (fault : model.FileFault) → ¬ IsFaultSoFar limit (text ++ bytes) fault
+
+-- the text is that of a file, which this is
+abbrev pub EndsAs : (ℕ → List ℕ → Type 0) → FileRead → Type 0
+EndsAs read file = (limit : ℕ) (text : List ℕ) → read limit text → IsOfFileText file limit text
+
+-- the text has this fault
+abbrev pub EndsInFault : (ℕ → List ℕ → Type 0) → FileFault → Type 0
+EndsInFault read fault = (limit : ℕ) (text : List ℕ) → read limit text → IsRefused limit text fault

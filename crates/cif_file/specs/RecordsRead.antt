@@ -1,22 +1,23 @@
 -- What the reader of a file's records has read.
 use Rattle.std.specs.Prelude.{◌≡◌, ℕ, ◌+◌, ◌<◌, ◌≤◌, true, false, List, [], ◌∷◌, ◌++◌, length, map, Option, Some, None, if◌then◌else◌}
-use Rattle.docker_model.specs.Record.{IsRecord, kind_of}
-use Rattle.docker_model.specs.Stamp.{first_record}
-use Rattle.docker_model.specs.Change.{changes, schedule_named, schedule_body, delete, put, as_new, follows_basic}
-use Rattle.docker_model.specs.Change as model
-use Rattle.docker_model.specs.File.{IsSchedule, BeginsSchedule}
-use Rattle.docker_model.specs.FileFault as fault
-use Rattle.docker_laws.proofs.SchedulePlace.{Stage, stage_of}
-use Rattle.docker_laws.proofs.FilePlace.{before_header, between_units, in_schedule, after_end, next_place, IsPlaceOf}
-use Rattle.docker_laws.proofs.FilePlace as law
-use Rattle.docker_laws.proofs.FileCauses.{cause_of}
+use Rattle.docker_model.specs.records.Record.{IsRecord, kind_of}
+use Rattle.docker_model.specs.file.File.{first_record, follows_basic, IsFile, IsSchedule, BeginsSchedule}
+use Rattle.docker_model.specs.file.Change.{changes, schedule_named, schedule_body, delete, put}
+use Rattle.docker_model.specs.records.Field.{as_new}
+use Rattle.docker_model.specs.file.Change as model
+use Rattle.docker_model.specs.file.FileFault as fault
+use Rattle.docker_laws.specs.ScheduleStage.{Stage, stage_of}
+use Rattle.docker_laws.specs.FileStage.{before_header, between_units, in_schedule, after_end, next_place, IsPlaceOf}
+use Rattle.docker_laws.specs.FileStage as law
+use Rattle.docker_laws.specs.RecordCause.{cause_of}
 use Rattle.cif_file.specs.declared.key.Key.TheVariants as key
 use Rattle.cif_file.specs.declared.opened.Opened.{Opened}
-use Rattle.cif_file.specs.declared.front.Place.{Place}
-use Rattle.cif_file.specs.declared.front.Place.TheVariants.{BeforeHeader, BetweenUnits, InSchedule, AfterEnd}
+use Rattle.cif_file.specs.declared.front.FileStage.{FileStage}
+use Rattle.cif_file.specs.declared.front.FileStage.TheVariants.{BeforeHeader, BetweenUnits, InSchedule, AfterEnd}
 use Rattle.cif_file.specs.declared.front.Front.{Front}
-use Rattle.cif_file.specs.Meaning.{key_meant, change_meant}
-use Rattle.cif_file.specs.JourneyRead.{kept, HasLines}
+use Rattle.cif_file.specs.declared.fault.FileCause.{FileCause}
+use Rattle.cif_file.specs.Meaning.{key_meant, change_meant, cause_meant}
+use Rattle.cif_file.specs.JourneyRead.{progress_meant, HasLines}
 
 abbrev Lines : Type 0
 Lines = List (List ℕ)
@@ -41,12 +42,12 @@ pub record IsOpen (opened : Opened) (lines_kept : Lines) (made : List model.Chan
   pub whole : records ≡ before ++ lines
   pub number_is : opened.number ≡ length before + 1
   pub key_is : key_meant (key.Schedule opened.key) ≡ schedule_named (first_record lines)
-  pub progress_is : HasLines (kept opened.progress) lines
+  pub progress_is : HasLines (progress_meant opened.progress) lines
   pub lines_are : lines_kept ≡ with_new_first lines
   pub made_are : made ≡ changes before
 
 -- the place of the code is that of the records, and the changes were made
-abbrev pub IsKept : Place → Lines → List model.Change → law.Place → Lines → Type 0
+abbrev pub IsKept : FileStage → Lines → List model.Change → law.Place → Lines → Type 0
 IsKept BeforeHeader lines_kept made place records = (place ≡ before_header) × (made ≡ changes records)
 IsKept BetweenUnits lines_kept made place records = (place ≡ between_units) × (made ≡ changes records)
 IsKept (InSchedule opened) lines_kept made place records = IsOpen opened lines_kept made place records
@@ -57,7 +58,7 @@ pub record HasRecords (front : Front) (records : Lines) : Type 0 where
   pub place : law.Place
   pub at : IsPlaceOf records place
   pub header_is : front.header ≡ header_of records
-  pub kept_are : IsKept front.place front.lines.items (map change_meant front.changes.items) place records
+  pub kept_are : IsKept front.stage front.lines.items (map change_meant front.changes.items) place records
 
 -- the reader has taken so many records, and no more than can be numbered
 pub record HasRecordsCounted (front : Front) (count : ℕ) : Type 0 where
@@ -87,9 +88,9 @@ abbrev pub GoesOnWith : Lines → List ℕ → Type 0
 GoesOnWith records line = (next : law.Place) × IsPlaceOf (records ++ line ∷ []) next
 
 -- a cause that was told; memory was wanting only for a line that goes on
-abbrev pub IsNoNextTold : Lines → List ℕ → Option fault.FileCause → Type 0
-IsNoNextTold records line None = GoesOnWith records line
-IsNoNextTold records line (Some cause) = IsNoNext records line cause
+abbrev pub IsNoNextCause : Lines → List ℕ → Option fault.FileCause → Type 0
+IsNoNextCause records line None = GoesOnWith records line
+IsNoNextCause records line (Some cause) = IsNoNext records line cause
 
 -- the change of a schedule with these lines
 abbrev pub change_opened : Opened → Lines → model.Change
@@ -101,7 +102,7 @@ change_opened opened lines_kept = record {
 
 -- the lines are a whole schedule, as far as its progress tells
 abbrev pub IsWholeBy : Opened → Type 0
-IsWholeBy opened = (lines : Lines) → HasLines (kept opened.progress) lines → IsSchedule lines
+IsWholeBy opened = (lines : Lines) → HasLines (progress_meant opened.progress) lines → IsSchedule lines
 
 -- the records end in lines of a schedule that goes on with this one, and then stands as told
 pub record StandsBefore (front : Front) (opened : Opened) (line : List ℕ) (records : Lines) : Type 0 where
@@ -116,7 +117,32 @@ pub record StandsBefore (front : Front) (opened : Opened) (line : List ℕ) (rec
   pub whole : records ≡ before ++ lines
   pub number_is : opened.number ≡ length before + 1
   pub key_is : key_meant (key.Schedule opened.key) ≡ schedule_named (first_record lines)
-  pub progress_is : HasLines (kept opened.progress) (lines ++ line ∷ [])
+  pub progress_is : HasLines (progress_meant opened.progress) (lines ++ line ∷ [])
   pub goes_on : BeginsSchedule (lines ++ line ∷ [])
   pub lines_are : front.lines.items ≡ with_new_first lines
   pub made_are : map change_meant front.changes.items ≡ changes before
+
+-- ---- what the reader does with a line
+
+-- it has the line behind the records that it had
+abbrev pub TakesLine : Front → List ℕ → Front → Type 0
+TakesLine old line new = (records : Lines) → HasRecords old records → HasRecords new (records ++ line ∷ [])
+
+-- the same of a line whose number counts those records and it
+abbrev pub TakesNext : Front → ℕ → List ℕ → Front → Type 0
+TakesNext old number line new =
+    (records : Lines) → HasRecords old records → number ≡ length records + 1 → HasRecords new (records ++ line ∷ [])
+
+-- the same of a line that begins anew behind whole units
+abbrev pub BeginsAnew : Front → ℕ → List ℕ → Front → Type 0
+BeginsAnew old number line new =
+    (records : Lines) → IsOver old records → number ≡ length records + 1 → HasRecords new (records ++ line ∷ [])
+
+-- it told this cause of a line, which is why the line does not go on with the records that it has
+abbrev pub RefusesLine : Front → List ℕ → FileCause → Type 0
+RefusesLine front line cause = (records : Lines) → HasRecords front records → IsNoNextCause records line (cause_meant cause)
+
+-- the same where those records are no file
+abbrev pub RefusesUnended : Front → List ℕ → FileCause → Type 0
+RefusesUnended front line cause =
+    (records : Lines) → HasRecords front records → ¬ IsFile records → IsNoNextCause records line (cause_meant cause)

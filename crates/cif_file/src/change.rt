@@ -3,10 +3,10 @@ ghost use Rattle.std.specs.Prelude.{◌≡◌, ◌+◌, ◌-◌, ◌<◌, ◌≤
 ghost use Rattle.std.specs.Ordering.{on, as_partial_cmp, eq_by_cmp};
 ghost use Rattle.std.specs.Cmp.{partial_equiv_from_equiv, on_equiv, on_total, eq_by_cmp_equiv, partial_order_from_total};
 ghost use Rattle.std.proofs.Common.{refl};
-ghost use Rattle.docker_model.specs.Record.{columns};
-ghost use Rattle.docker_model.specs.Op.{body_tag, body_bytes, body_end, readable_end, body_cmp, op_cmp};
-ghost use Rattle.docker_model.specs.Order.{bytes_cmp};
-ghost use Rattle.docker_laws.proofs.Orders.{body_total, op_total};
+ghost use Rattle.docker_model.specs.records.Record.{columns};
+ghost use Rattle.docker_model.specs.state.Op.{body_tag, body_bytes, body_end, readable_end, body_cmp, op_cmp};
+ghost use Rattle.docker_model.specs.state.Order.{bytes_cmp};
+ghost use Rattle.docker_laws.proofs.orders.Orders.{body_total, op_total};
 ghost use Rattle.cif_file.specs.Joined.{joined_bytes};
 ghost use Rattle.cif_file.specs.Meaning.{body_meant};
 ghost use Rattle.cif_file.specs.Acts.{act_op};
@@ -31,8 +31,8 @@ pub enum Body {
 }
 
 impl Body {
-    /// The number of the day of its end date, from 0 for 1960-01-01. 65535 where that means no end or cannot be read, and for a TIPLOC.
-    fn end_number(&self) -> u16
+    /// The number of the last day of the body, from 0 for 1960-01-01. 65535 where its end date means no end or cannot be read, and for a TIPLOC.
+    pub fn end_number(&self) -> u16
         ensures { result ≡ body_end (body_meant self.now) }
     {
         match self {
@@ -69,7 +69,8 @@ impl Body {
 
     /// How its bytes and those of another body compare.
     fn cmp_bytes(&self, other: &Body) -> Ordering
-        ensures { result ≡ bytes_cmp (body_bytes (body_meant self.now)) (body_bytes (body_meant other.now)) }
+        ensures { result ≡
+            bytes_cmp (body_bytes (body_meant self.now)) (body_bytes (body_meant other.now)) }
     {
         self.bytes().compare(other.bytes())
     }

@@ -1,47 +1,115 @@
-//! Why a text is no file.
-use thiserror::Error;
+//! Why a text is no file, and why none was read.
+ghost use Rattle.std.specs.Prelude.{◌≡◌, Some};
+ghost use Rattle.cif_file.specs.declared.fault.FileCause.TheVariants.{Field, Memory};
+ghost use Rattle.cif_file.specs.FaultText.{cause_text, fault_text, read_fault_text};
+
+use cif_line::FieldFault;
+use std::alloc::AllocError;
+use std::error::Error;
+use std::fmt;
 
 /// The cause of a fault.
-#[derive(Clone, Copy, PartialEq, Eq, Debug, Error)]
+#[derive(Clone, Copy, PartialEq, Eq, Debug)]
 pub enum FileCause {
     /// The line has not 80 bytes.
-    #[error("Length")]
     Length,
     /// A byte of the line is not printable: the leftmost such column, from 1.
-    #[error("Byte {0}")]
     Byte(u8),
     /// The line begins with the identity of no kind of record.
-    #[error("Kind")]
     Kind,
     /// No file that begins with the earlier records has a record of this kind next.
-    #[error("Place")]
     Place,
     /// A checked field of the record is not good: the first column of the leftmost such field, from 1.
-    #[error("Field {0}")]
     Field(u8),
     /// The record's schedule passes midnight a third time there.
-    #[error("Midnights")]
     Midnights,
     /// The text ends before a trailer.
-    #[error("NoEnd")]
     NoEnd,
     /// The record stands behind the trailer.
-    #[error("After")]
     After,
     /// There are more records than the limit allows.
-    #[error("TooMany")]
     TooMany,
     /// A growth was refused: want of memory.
-    #[error("Memory")]
     Memory,
 }
 
+impl fmt::Display for FileCause {
+    ghost output = { λ cause. Some (cause_text cause) };
+
+    fn fmt<W: fmt::Write>(&self, f: &mut fmt::Formatter<W>) -> fmt::Result {
+        match self {
+            FileCause::Length => f.write_str("Length"),
+            FileCause::Byte(column) => write!(f, "Byte {column}"),
+            FileCause::Kind => f.write_str("Kind"),
+            FileCause::Place => f.write_str("Place"),
+            FileCause::Field(column) => write!(f, "Field {column}"),
+            FileCause::Midnights => f.write_str("Midnights"),
+            FileCause::NoEnd => f.write_str("NoEnd"),
+            FileCause::After => f.write_str("After"),
+            FileCause::TooMany => f.write_str("TooMany"),
+            FileCause::Memory => f.write_str("Memory"),
+        }
+    }
+}
+
+impl Error for FileCause {}
+
+impl From<FieldFault> for FileCause {
+    ghost from_gives = { λ fault cause. cause ≡ Field fault.0 };
+
+    fn from(fault: FieldFault) -> FileCause {
+        FileCause::Field(fault.0)
+    }
+}
+
+impl From<AllocError> for FileCause {
+    ghost from_gives = { λ _ cause. cause ≡ Memory };
+
+    fn from(_refused: AllocError) -> FileCause {
+        FileCause::Memory
+    }
+}
+
 /// A record at which a text is found to be no file, or at which memory was wanting.
-#[derive(Clone, Copy, PartialEq, Eq, Debug, Error)]
-#[error("record {number}: {cause}")]
+#[derive(Clone, Copy, PartialEq, Eq, Debug)]
 pub struct FileFault {
     /// The number of the record, from 1.
     pub number: u32,
     /// What is wrong there.
     pub cause: FileCause,
 }
+
+impl fmt::Display for FileFault {
+    ghost output = { λ fault. Some (fault_text fault) };
+
+    fn fmt<W: fmt::Write>(&self, f: &mut fmt::Formatter<W>) -> fmt::Result {
+        write!(f, "record {}: {}", self.number, self.cause)
+    }
+}
+
+impl Error for FileFault {}
+
+/// Why no file was read from a source.
+#[derive(Clone, Copy, PartialEq, Eq, Debug)]
+pub enum ReadFault {
+    /// The source failed.
+    Source,
+    /// What the source holds is no text of a file. The cause is never `Memory`.
+    File(FileFault),
+    /// A growth was refused: want of memory. No record that was judged before is at fault.
+    Memory,
+}
+
+impl fmt::Display for ReadFault {
+    ghost output = { λ fault. Some (read_fault_text fault) };
+
+    fn fmt<W: fmt::Write>(&self, f: &mut fmt::Formatter<W>) -> fmt::Result {
+        match self {
+            ReadFault::Source => f.write_str("the source failed"),
+            ReadFault::File(fault) => write!(f, "{fault}"),
+            ReadFault::Memory => f.write_str("want of memory"),
+        }
+    }
+}
+
+impl Error for ReadFault {}

@@ -1,6 +1,6 @@
 //! A file that was read.
 ghost use Rattle.std.specs.Prelude.{◌≡◌, map};
-ghost use Rattle.docker_model.specs.Record.{header as head};
+ghost use Rattle.docker_model.specs.records.Record.{header as head};
 ghost use Rattle.cif_line.specs.View.{IsGood};
 ghost use Rattle.cif_file.specs.Meaning.{change_meant};
 ghost use Rattle.cif_file.specs.FileRead.{IsRead};
@@ -19,7 +19,7 @@ pub struct CifFile {
 
 impl Model for CifFile {
     ghost use Rattle.std.specs.Prelude.{map};
-    ghost use Rattle.docker_model.specs.Record.{header as head};
+    ghost use Rattle.docker_model.specs.records.Record.{header as head};
     ghost use Rattle.cif_line.specs.View.{IsGood};
     ghost use Rattle.cif_file.specs.FileRead.{FileRead, IsRead};
 
@@ -44,8 +44,16 @@ impl CifFile {
     /// The file with this header, so many records and these changes.
     pub(crate) fn of(header: Line, records: u32, changes: Vec<Change>) -> CifFile
         requires header { IsGood head header }
-        requires read { IsRead (record { header_line = header; record_count = records; changes_made = map change_meant changes.items }) }
-        ensures { result ≡ record { header_line = header; record_count = records; changes_made = map change_meant changes.items } }
+        requires read { IsRead (record {
+          header_line = header;
+          record_count = records;
+          changes_made = map change_meant changes.items;
+        }) }
+        ensures { result ≡ record {
+          header_line = header;
+          record_count = records;
+          changes_made = map change_meant changes.items;
+        } }
     {
         CifFile {
             header,

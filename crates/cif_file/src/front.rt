@@ -1,27 +1,28 @@
 //! The records of a file so far.
 ghost use Rattle.std.specs.Prelude.{◌≡◌, ℕ, ◌+◌, ◌↔◌, List, [], ◌∷◌, ◌++◌, length, map, IsOk, IfErr, IsErr, OnOk, MatchOption, Some, true, is_some, IsTrue};
-ghost use Rattle.docker_model.specs.Record.{HasKind, IsRecord, kind_of, basic_schedule};
-ghost use Rattle.docker_model.specs.Field.{HasGoodFields};
-ghost use Rattle.docker_model.specs.Change.{follows_basic, changes};
-ghost use Rattle.docker_model.specs.File.{IsFile};
-ghost use Rattle.docker_laws.proofs.FilePlace.{unit_by_kind};
+ghost use Rattle.docker_model.specs.records.Record.{HasKind, IsRecord, kind_of, basic_schedule};
+ghost use Rattle.docker_model.specs.records.Field.{HasGoodFields};
+ghost use Rattle.docker_model.specs.file.File.{follows_basic, IsFile};
+ghost use Rattle.docker_model.specs.file.Change.{changes};
+ghost use Rattle.docker_laws.specs.FileStage.{unit_by_kind};
 ghost use Rattle.cif_line.specs.Kind.{meaning};
 ghost use Rattle.cif_file.specs.Meaning.{cause_meant, change_meant};
 ghost use Rattle.cif_file.specs.FileRead.{IsOfRecords};
-ghost use Rattle.cif_file.specs.RecordsRead.{HasRecords, HasRecordsCounted, IsOver, IsNoNextTold, StandsBefore, IsWholeBy, change_opened};
+ghost use Rattle.cif_file.specs.UnitRead.{AppendsChanges};
+ghost use Rattle.cif_file.specs.RecordsRead.{HasRecords, HasRecordsCounted, StandsBefore, IsWholeBy, change_opened, TakesLine, TakesNext, BeginsAnew, RefusesLine, RefusesUnended};
 
 use crate::change::Change;
 use crate::fault::FileCause;
 use crate::file::CifFile;
 use crate::header_line::HeaderLine;
-use crate::opened::{Opened, opened_by};
+use crate::opened::{Opened, opened_schedule};
 use crate::unit::{push, push_changes, unit_cause};
 use cif_line::{Kind, Line, header, kind};
 use std::alloc::{AllocError, Global};
 
 /// Where a file is behind its records so far.
 #[derive(Clone, Copy, PartialEq, Eq, Debug)]
-pub(crate) enum Place {
+pub(crate) enum FileStage {
     /// Before its header.
     BeforeHeader,
     /// Behind its header, or behind a whole unit.
@@ -37,7 +38,7 @@ pub(crate) enum Place {
 pub(crate) struct Front {
     alloc: Global,
     header: Option<HeaderLine>,
-    place: Place,
+    stage: FileStage,
     lines: Vec<Line>,
     changes: Vec<Change>,
 }
@@ -64,7 +65,7 @@ impl Front {
         Front {
             alloc,
             header: None,
-            place: Place::BeforeHeader,
+            stage: FileStage::BeforeHeader,
             lines: Vec::new(alloc),
             changes: Vec::new(alloc),
         }
@@ -72,91 +73,88 @@ impl Front {
 
     /// Whether the trailer was read.
     pub(crate) fn is_ended(&self) -> bool
-        ensures { (records : List (List ℕ)) → HasRecords self.now records → IsTrue result ↔ IsFile records }
+        ensures { (records : List (List ℕ)) → HasRecords self.now records →
+            IsTrue result ↔ IsFile records }
     {
-        match self.place {
-            Place::BeforeHeader => false,
-            Place::BetweenUnits => false,
-            Place::InSchedule(_) => false,
-            Place::AfterEnd => true,
+        match self.stage {
+            FileStage::BeforeHeader => false,
+            FileStage::BetweenUnits => false,
+            FileStage::InSchedule(_) => false,
+            FileStage::AfterEnd => true,
         }
     }
 
     /// The file that the records are, if the trailer was read; `count` is how many there are.
     pub(crate) fn into_file(self, count: u32) -> Option<CifFile>
         requires { HasRecordsCounted self count }
-        ensures { (records : List (List ℕ)) → HasRecords self records → count ≡ length records → MatchOption result (¬ IsFile records) (λ file. IsFile records × IsOfRecords file records) }
+        ensures { (records : List (List ℕ)) → HasRecords self records → count ≡ length records →
+            MatchOption result (¬ IsFile records)
+            (λ file. IsFile records × IsOfRecords file records) }
     {
         let Front {
             header,
-            place,
+            stage,
             changes,
             ..
         } = self;
-        match place {
-            Place::AfterEnd => match header {
+        match stage {
+            FileStage::AfterEnd => match header {
                 Some(header) => Some(CifFile::of(header.into_line(), count, changes)),
                 None => None,
             },
-            Place::BeforeHeader => None,
-            Place::BetweenUnits => None,
-            Place::InSchedule(_) => None,
+            FileStage::BeforeHeader => None,
+            FileStage::BetweenUnits => None,
+            FileStage::InSchedule(_) => None,
         }
     }
 
     /// Takes the next record, which has this number.
     pub(crate) fn take(&mut self, number: u32, line: &Line) -> Result<(), FileCause>
-        ensures read { (records : List (List ℕ)) → HasRecords self.old records → number ≡ length records + 1 → IsOk result → HasRecords self.new (records ++ line.now ∷ []) }
-        ensures err { (records : List (List ℕ)) → HasRecords self.old records → ¬ IsFile records → IfErr result (λ cause. IsNoNextTold records line.now (cause_meant cause)) }
+        ensures read { OnOk result (TakesNext self.old number line.now self.new) }
+        ensures err { IfErr result (RefusesUnended self.old line.now) }
     {
         let _record = line.bytes();
         let Some(kind) = kind(line) else {
             return Err(FileCause::Kind);
         };
-        match self.place {
-            Place::BeforeHeader => self.take_header(kind, line),
-            Place::BetweenUnits => self.take_unit(number, kind, line),
-            Place::InSchedule(opened) => self.take_behind(number, opened, kind, line),
-            Place::AfterEnd => Err(FileCause::After),
+        match self.stage {
+            FileStage::BeforeHeader => self.take_header(kind, line),
+            FileStage::BetweenUnits => self.take_unit(number, kind, line),
+            FileStage::InSchedule(opened) => self.take_behind(number, opened, kind, line),
+            FileStage::AfterEnd => Err(FileCause::After),
         }
     }
 
     /// Takes the header.
     fn take_header(&mut self, kind: Kind, line: &Line) -> Result<(), FileCause>
-        requires place { self.old.place ≡ Place.BeforeHeader }
+        requires stage { self.old.stage ≡ FileStage.BeforeHeader }
         requires record { IsRecord line.now }
         requires kind { HasKind (meaning kind) line.now }
-        ensures read { (records : List (List ℕ)) → HasRecords self.old records → IsOk result → HasRecords self.new (records ++ line.now ∷ []) }
-        ensures err { (records : List (List ℕ)) → HasRecords self.old records → IfErr result (λ cause. IsNoNextTold records line.now (cause_meant cause)) }
+        ensures read { OnOk result (TakesLine self.old line.now self.new) }
+        ensures err { IfErr result (RefusesLine self.old line.now) }
     {
         let Kind::Header = kind else {
             return Err(FileCause::Place);
         };
-        match header(line) {
-            Err(fault) => Err(FileCause::Field(fault.0)),
-            Ok(_) => {
-                self.header = Some(HeaderLine::of(*line));
-                self.place = Place::BetweenUnits;
-                Ok(())
-            }
-        }
+        header(line)?;
+        self.header = Some(HeaderLine::of(*line));
+        self.stage = FileStage::BetweenUnits;
+        Ok(())
     }
 
     /// Takes a record behind the header or a whole unit.
     fn take_unit(&mut self, number: u32, kind: Kind, line: &Line) -> Result<(), FileCause>
-        requires place { self.old.place ≡ Place.BetweenUnits }
+        requires stage { self.old.stage ≡ FileStage.BetweenUnits }
         requires record { IsRecord line.now }
         requires kind { HasKind (meaning kind) line.now }
-        ensures read { (records : List (List ℕ)) → HasRecords self.old records → number ≡ length records + 1 → IsOk result → HasRecords self.new (records ++ line.now ∷ []) }
-        ensures err { (records : List (List ℕ)) → HasRecords self.old records → IfErr result (λ cause. IsNoNextTold records line.now (cause_meant cause)) }
+        ensures read { OnOk result (TakesNext self.old number line.now self.new) }
+        ensures err { IfErr result (RefusesLine self.old line.now) }
     {
         if let Some(cause) = unit_cause(kind, line) {
             return Err(cause);
         }
-        match self.add_unit(number, kind, line) {
-            Ok(()) => Ok(()),
-            Err(_) => Err(FileCause::Memory),
-        }
+        self.add_unit(number, kind, line)?;
+        Ok(())
     }
 
     /// Takes a record behind lines of a schedule.
@@ -167,11 +165,11 @@ impl Front {
         kind: Kind,
         line: &Line,
     ) -> Result<(), FileCause>
-        requires place { self.old.place ≡ Place.InSchedule opened }
+        requires stage { self.old.stage ≡ FileStage.InSchedule opened }
         requires record { IsRecord line.now }
         requires kind { HasKind (meaning kind) line.now }
-        ensures read { (records : List (List ℕ)) → HasRecords self.old records → number ≡ length records + 1 → IsOk result → HasRecords self.new (records ++ line.now ∷ []) }
-        ensures err { (records : List (List ℕ)) → HasRecords self.old records → IfErr result (λ cause. IsNoNextTold records line.now (cause_meant cause)) }
+        ensures read { OnOk result (TakesNext self.old number line.now self.new) }
+        ensures err { IfErr result (RefusesLine self.old line.now) }
     {
         if follows_basic(kind) {
             return self.follow(opened, kind, line);
@@ -182,20 +180,18 @@ impl Front {
         if let Some(cause) = unit_cause(kind, line) {
             return Err(cause);
         }
-        match self.begin_anew(number, opened, kind, line) {
-            Ok(()) => Ok(()),
-            Err(_) => Err(FileCause::Memory),
-        }
+        self.begin_anew(number, opened, kind, line)?;
+        Ok(())
     }
 
     /// Takes a line that may go on with the schedule.
     fn follow(&mut self, opened: Opened, kind: Kind, line: &Line) -> Result<(), FileCause>
-        requires place { self.old.place ≡ Place.InSchedule opened }
+        requires stage { self.old.stage ≡ FileStage.InSchedule opened }
         requires record { IsRecord line.now }
         requires kind { HasKind (meaning kind) line.now }
         requires follows { follows_basic (Some (meaning kind)) ≡ true }
-        ensures read { (records : List (List ℕ)) → HasRecords self.old records → IsOk result → HasRecords self.new (records ++ line.now ∷ []) }
-        ensures err { (records : List (List ℕ)) → HasRecords self.old records → IfErr result (λ cause. IsNoNextTold records line.now (cause_meant cause)) }
+        ensures read { OnOk result (TakesLine self.old line.now self.new) }
+        ensures err { IfErr result (RefusesLine self.old line.now) }
     {
         let progress = match opened.progress.with_kind(kind, line) {
             Ok(progress) => progress,
@@ -209,27 +205,29 @@ impl Front {
 
     /// Adds a line of the schedule, behind which it stands so.
     fn add_line(&mut self, opened: Opened, line: &Line) -> Result<(), AllocError>
-        ensures { (records : List (List ℕ)) → StandsBefore self.old opened line.now records → OnOk result (HasRecords self.new (records ++ line.now ∷ [])) }
+        ensures { (records : List (List ℕ)) → StandsBefore self.old opened line.now records →
+            OnOk result (HasRecords self.new (records ++ line.now ∷ [])) }
     {
         self.lines.push(*line)?;
         if opened.progress.is_over() {
             return self.close(opened);
         }
-        self.place = Place::InSchedule(opened);
+        self.stage = FileStage::InSchedule(opened);
         Ok(())
     }
 
     /// Makes the change of a schedule whose lines are whole.
     fn close(&mut self, opened: Opened) -> Result<(), AllocError>
-        ensures changes { OnOk result (map change_meant self.new.changes.items ≡ map change_meant self.old.changes.items ++ change_opened opened self.old.lines.items ∷ []) }
-        ensures place { OnOk result (self.new.place ≡ Place.BetweenUnits) }
+        ensures changes { OnOk result (AppendsChanges self.old.changes.items
+            (change_opened opened self.old.lines.items ∷ []) self.new.changes.items) }
+        ensures stage { OnOk result (self.new.stage ≡ FileStage.BetweenUnits) }
         ensures lines { OnOk result (self.new.lines.items ≡ []) }
         ensures header { self.new.header ≡ self.old.header }
     {
         let change = opened.change(self.alloc, self.lines.as_slice())?;
         push(&mut self.changes, change)?;
         self.lines.clear();
-        self.place = Place::BetweenUnits;
+        self.stage = FileStage::BetweenUnits;
         Ok(())
     }
 
@@ -241,12 +239,12 @@ impl Front {
         kind: Kind,
         line: &Line,
     ) -> Result<(), AllocError>
-        requires place { self.old.place ≡ Place.InSchedule opened }
+        requires stage { self.old.stage ≡ FileStage.InSchedule opened }
         requires record { IsRecord line.now }
         requires kind { HasKind (meaning kind) line.now }
         requires begins { is_some (unit_by_kind (kind_of line.now) line.now) ≡ true }
         requires fields { HasGoodFields line.now }
-        ensures { (records : List (List ℕ)) → HasRecords self.old records → IsWholeBy opened → number ≡ length records + 1 → OnOk result (HasRecords self.new (records ++ line.now ∷ [])) }
+        ensures { IsWholeBy opened → OnOk result (TakesNext self.old number line.now self.new) }
     {
         self.close(opened)?;
         self.add_unit(number, kind, line)
@@ -258,16 +256,16 @@ impl Front {
         requires kind { HasKind (meaning kind) line.now }
         requires begins { is_some (unit_by_kind (kind_of line.now) line.now) ≡ true }
         requires fields { HasGoodFields line.now }
-        ensures { (records : List (List ℕ)) → IsOver self.old records → number ≡ length records + 1 → OnOk result (HasRecords self.new (records ++ line.now ∷ [])) }
+        ensures { OnOk result (BeginsAnew self.old number line.now self.new) }
     {
         match kind {
             Kind::BasicSchedule => self.open(number, line),
             Kind::Trailer => {
-                self.place = Place::AfterEnd;
+                self.stage = FileStage::AfterEnd;
                 Ok(())
             }
             _ => {
-                self.place = Place::BetweenUnits;
+                self.stage = FileStage::BetweenUnits;
                 push_changes(&mut self.changes, number, kind, line)
             }
         }
@@ -278,12 +276,12 @@ impl Front {
         requires record { IsRecord line.now }
         requires kind { HasKind basic_schedule line.now }
         requires fields { HasGoodFields line.now }
-        ensures { (records : List (List ℕ)) → IsOver self.old records → number ≡ length records + 1 → OnOk result (HasRecords self.new (records ++ line.now ∷ [])) }
+        ensures { OnOk result (BeginsAnew self.old number line.now self.new) }
     {
-        let opened = opened_by(number, line);
+        let opened = opened_schedule(number, line);
         self.lines.clear();
         self.lines.push((*line).as_new())?;
-        self.place = Place::InSchedule(opened);
+        self.stage = FileStage::InSchedule(opened);
         Ok(())
     }
 }

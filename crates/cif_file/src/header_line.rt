@@ -1,6 +1,6 @@
 //! The header of a file that is being read.
 ghost use Rattle.std.specs.Prelude.{◌≡◌};
-ghost use Rattle.docker_model.specs.Record.{header};
+ghost use Rattle.docker_model.specs.records.Record.{header};
 ghost use Rattle.cif_line.specs.View.{IsGood};
 
 use cif_line::Line;
@@ -14,7 +14,7 @@ pub(crate) struct HeaderLine {
 
 impl Model for HeaderLine {
     ghost use Rattle.std.specs.Prelude.{List, ℕ};
-    ghost use Rattle.docker_model.specs.Record.{header};
+    ghost use Rattle.docker_model.specs.records.Record.{header};
     ghost use Rattle.cif_line.specs.View.{IsGood};
 
     ghost Value = { List ℕ };

@@ -1,7 +1,6 @@
 //! The reader of one schedule's lines.
-ghost use Rattle.std.specs.Prelude.{◌≡◌, ℕ, ◌≤◌, ◌↔◌, IsTrue, IsOk, IsErr, IfErr, List, [], ◌∷◌, ◌++◌};
-ghost use Rattle.docker_model.specs.File.{BeginsSchedule, IsSchedule};
-ghost use Rattle.cif_file.specs.JourneyRead.{HasLines, IsScheduleFaultTold};
+ghost use Rattle.std.specs.Prelude.{◌≡◌, ℕ, ◌≤◌, IsTrue, IsOk, IsErr, IfErr, List, [], ◌∷◌, ◌++◌};
+ghost use Rattle.cif_file.specs.JourneyRead.{HasLines, IsScheduleCause, JudgesLine, JudgesWhole};
 ghost use Rattle.cif_file.specs.Meaning.{cause_meant};
 
 use crate::fault::FileCause;
@@ -17,11 +16,11 @@ pub struct Journey {
 }
 
 impl Model for Journey {
-    ghost use Rattle.cif_file.specs.JourneyRead.{JourneyState, kept};
+    ghost use Rattle.cif_file.specs.JourneyRead.{JourneyState, progress_meant};
 
     ghost Value = { JourneyState };
 
-    ghost view = { λ journey. kept journey.progress };
+    ghost view = { λ journey. progress_meant journey.progress };
 }
 
 impl Journey {
@@ -38,9 +37,11 @@ impl Journey {
     /// identity of no kind of record; `Place`, a kind that doesn't stand there; `Field`, the leftmost bad field; `Midnights`, the third midnight. The last two
     /// are no cause in the journey of a deletion. A refused line changes nothing.
     pub fn line(&mut self, line: &Line) -> Result<(), FileCause>
-        ensures ok { (lines : List (List ℕ)) → HasLines self.old lines → IsOk result ↔ BeginsSchedule (lines ++ line.now ∷ []) }
-        ensures read { (lines : List (List ℕ)) → HasLines self.old lines → IsOk result → HasLines self.new (lines ++ line.now ∷ []) }
-        ensures err { (lines : List (List ℕ)) → HasLines self.old lines → IfErr result (λ cause. IsScheduleFaultTold lines line.now (cause_meant cause)) }
+        ensures ok { JudgesLine self.old line.now (IsOk result) }
+        ensures read { (lines : List (List ℕ)) → HasLines self.old lines → IsOk result →
+            HasLines self.new (lines ++ line.now ∷ []) }
+        ensures err { (lines : List (List ℕ)) → HasLines self.old lines →
+            IfErr result (λ cause. IsScheduleCause lines line.now (cause_meant cause)) }
         ensures unchanged { IsErr result → self.new ≡ self.old }
     {
         match self.progress.with(line) {
@@ -54,7 +55,7 @@ impl Journey {
 
     /// Whether the lines are a schedule.
     pub fn complete(&self) -> bool
-        ensures { (lines : List (List ℕ)) → HasLines self.now lines → IsTrue result ↔ IsSchedule lines }
+        ensures { JudgesWhole self.now (IsTrue result) }
     {
         self.progress.complete()
     }

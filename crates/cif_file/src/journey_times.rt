@@ -1,12 +1,11 @@
 //! The times of a journey's lines, and its midnights.
-ghost use Rattle.std.specs.Prelude.{◌≡◌, ℕ, ◌+◌, ◌≤◌, ◌<◌, ◌↔◌, ◌++◌, map, IsOk, IfOk, IfErr, Some, None, true};
-ghost use Rattle.docker_model.specs.Record.{HasKind, origin_location, intermediate_location, terminating_location};
-ghost use Rattle.docker_model.specs.Field.{HasGoodFields, leftmost_bad_field};
-ghost use Rattle.docker_model.specs.Journey.{times_of};
-ghost use Rattle.docker_model.specs.Change.{follows_basic};
-ghost use Rattle.docker_laws.proofs.RecordTests.{falls_after, later_or};
+ghost use Rattle.std.specs.Prelude.{◌≡◌, ℕ, ◌+◌, ◌≤◌, ◌<◌, ◌↔◌, IsOk, IfOk, IfErr, Some, None, true};
+ghost use Rattle.docker_model.specs.records.Record.{HasKind, origin_location, intermediate_location, terminating_location};
+ghost use Rattle.docker_model.specs.records.Field.{HasGoodFields, leftmost_bad_field};
+ghost use Rattle.docker_model.specs.file.File.{follows_basic};
+ghost use Rattle.docker_laws.specs.TimesSoFar.{falls_after, later_or};
 ghost use Rattle.cif_line.specs.Kind.{meaning};
-ghost use Rattle.cif_file.specs.JourneyRead.{listed};
+ghost use Rattle.cif_file.specs.JourneyRead.{time_list, times_list, AreTimesOf};
 
 use cif_line::{FieldFault, Kind, Line, Time, call, origin, terminus};
 
@@ -39,7 +38,7 @@ impl Clock {
     /// With one more time, if there is one: a time that is below the last one is past midnight.
     fn then(self, time: Option<Time>) -> Clock
         requires { self.falls < 255 }
-        ensures falls { result.falls ≡ self.falls + falls_after self.last (listed time) }
+        ensures falls { result.falls ≡ self.falls + falls_after self.last (time_list time) }
         ensures last { result.last ≡ later_or time self.last }
         ensures few { result.falls ≤ self.falls + 1 }
     {
@@ -59,8 +58,9 @@ impl Clock {
     /// With the times of one more line.
     pub(crate) fn past(self, times: Times) -> Clock
         requires { self.falls < 250 }
-        ensures falls { result.falls ≡ self.falls + falls_after self.last (listed times.first ++ listed times.second ++ listed times.third) }
-        ensures last { result.last ≡ later_or times.third (later_or times.second (later_or times.first self.last)) }
+        ensures falls { result.falls ≡ self.falls + falls_after self.last (times_list times) }
+        ensures last { result.last ≡
+            later_or times.third (later_or times.second (later_or times.first self.last)) }
     {
         self.then(times.first).then(times.second).then(times.third)
     }
@@ -71,7 +71,7 @@ pub(crate) fn times_at(kind: Kind, line: &Line) -> Result<Times, FieldFault>
     requires kind { HasKind (meaning kind) line.now }
     requires follows { follows_basic (Some (meaning kind)) ≡ true }
     ensures ok { IsOk result ↔ HasGoodFields line.now }
-    ensures value { IfOk result (λ times. map (λ time. time.1) (times_of line.now) ≡ listed times.first ++ listed times.second ++ listed times.third) }
+    ensures value { IfOk result (AreTimesOf line.now) }
     ensures err { IfErr result (λ fault. leftmost_bad_field line.now ≡ Some fault.0) }
 {
     match kind {
@@ -90,49 +90,43 @@ pub(crate) fn times_at(kind: Kind, line: &Line) -> Result<Times, FieldFault>
 fn origin_times(line: &Line) -> Result<Times, FieldFault>
     requires kind { HasKind origin_location line.now }
     ensures ok { IsOk result ↔ HasGoodFields line.now }
-    ensures value { IfOk result (λ times. map (λ time. time.1) (times_of line.now) ≡ listed times.first ++ listed times.second ++ listed times.third) }
+    ensures value { IfOk result (AreTimesOf line.now) }
     ensures err { IfErr result (λ fault. leftmost_bad_field line.now ≡ Some fault.0) }
 {
-    match origin(line) {
-        Ok(view) => Ok(Times {
-            first: Some(view.departure()),
-            second: None,
-            third: None,
-        }),
-        Err(fault) => Err(fault),
-    }
+    let view = origin(line)?;
+    Ok(Times {
+        first: Some(view.departure()),
+        second: None,
+        third: None,
+    })
 }
 
 /// The arrival, the pass and the departure at an intermediate location, those that are there.
 fn call_times(line: &Line) -> Result<Times, FieldFault>
     requires kind { HasKind intermediate_location line.now }
     ensures ok { IsOk result ↔ HasGoodFields line.now }
-    ensures value { IfOk result (λ times. map (λ time. time.1) (times_of line.now) ≡ listed times.first ++ listed times.second ++ listed times.third) }
+    ensures value { IfOk result (AreTimesOf line.now) }
     ensures err { IfErr result (λ fault. leftmost_bad_field line.now ≡ Some fault.0) }
 {
-    match call(line) {
-        Ok(view) => Ok(Times {
-            first: view.arrival(),
-            second: view.pass(),
-            third: view.departure(),
-        }),
-        Err(fault) => Err(fault),
-    }
+    let view = call(line)?;
+    Ok(Times {
+        first: view.arrival(),
+        second: view.pass(),
+        third: view.departure(),
+    })
 }
 
 /// The arrival at a terminating location.
 fn terminus_times(line: &Line) -> Result<Times, FieldFault>
     requires kind { HasKind terminating_location line.now }
     ensures ok { IsOk result ↔ HasGoodFields line.now }
-    ensures value { IfOk result (λ times. map (λ time. time.1) (times_of line.now) ≡ listed times.first ++ listed times.second ++ listed times.third) }
+    ensures value { IfOk result (AreTimesOf line.now) }
     ensures err { IfErr result (λ fault. leftmost_bad_field line.now ≡ Some fault.0) }
 {
-    match terminus(line) {
-        Ok(view) => Ok(Times {
-            first: Some(view.arrival()),
-            second: None,
-            third: None,
-        }),
-        Err(fault) => Err(fault),
-    }
+    let view = terminus(line)?;
+    Ok(Times {
+        first: Some(view.arrival()),
+        second: None,
+        third: None,
+    })
 }

@@ -15,6 +15,7 @@ mod opened;
 mod parser;
 mod pieces;
 mod progress;
+mod read;
 mod records;
 mod stage;
 mod steps;
@@ -22,13 +23,15 @@ mod text;
 mod unit;
 
 pub use change::{Act, Body, Change};
-pub use fault::{FileCause, FileFault};
+pub use fault::{FileCause, FileFault, ReadFault};
 pub use file::CifFile;
 pub use journey::Journey;
 pub use key::{AssocKey, Key, ScheduleKey};
 pub use lines::Lines;
 pub use parser::FileParser;
 pub use pieces::read_pieces;
+pub use read::read_file;
+pub use records::MOST_RECORDS;
 
 #[cfg(test)]
 mod tests;

@@ -1,7 +1,7 @@
 //! The lines of a schedule.
 ghost use Rattle.std.specs.Prelude.{◌≡◌, ◌==◌, ◌++◌, length, nat_eq};
 ghost use Rattle.std.specs.List.{concat};
-ghost use Rattle.docker_model.specs.Order.{bytes_cmp};
+ghost use Rattle.docker_model.specs.state.Order.{bytes_cmp};
 ghost use Rattle.std.specs.Cmp.Lexicographic.{pointwise};
 ghost use Rattle.std.specs.Cmp.Rules.{comparing};
 ghost use Rattle.std.proofs.Common.{rules};

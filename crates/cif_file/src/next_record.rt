@@ -1,11 +1,11 @@
 //! The next record of a file, from its bytes.
-ghost use Rattle.std.specs.Prelude.{◌≡◌, ℕ, ◌+◌, ◌<◌, List, [], ◌∷◌, ◌++◌, length, IsOk, IsErr, IfOk, IfErr, Some};
-ghost use Rattle.docker_model.specs.Record.{IsRecord};
-ghost use Rattle.docker_laws.proofs.FilePlace.{Place};
-ghost use Rattle.docker_laws.proofs.FileCauses.{length_cause};
+ghost use Rattle.std.specs.Prelude.{◌≡◌, ℕ, ◌+◌, ◌<◌, List, [], ◌∷◌, ◌++◌, length, IsOk, IsErr, IfOk, IfErr, OnOk, Some};
+ghost use Rattle.docker_model.specs.records.Record.{IsRecord};
+ghost use Rattle.docker_laws.specs.FileStage.{Place};
+ghost use Rattle.docker_laws.specs.RecordCause.{length_cause};
 ghost use Rattle.cif_file.specs.Meaning.{cause_meant};
-ghost use Rattle.cif_file.specs.RecordsRead.{HasRecords};
-ghost use Rattle.cif_file.specs.ParserRead.{IsCauseTold};
+ghost use Rattle.cif_file.specs.RecordsRead.{TakesNext};
+ghost use Rattle.cif_file.specs.ParserRead.{RefusesWithin};
 
 use crate::fault::FileCause;
 use crate::front::Front;
@@ -14,7 +14,8 @@ use cif_line::{Line, LineFault};
 /// The line that bytes are.
 fn line_of(bytes: &[u8]) -> Result<Line, FileCause>
     ensures ok { IfOk result (λ line. (line ≡ bytes.now) × IsRecord bytes.now) }
-    ensures err { (place : Place) → IfErr result (λ cause. cause_meant cause ≡ Some (length_cause place bytes.now)) }
+    ensures err { (place : Place) →
+        IfErr result (λ cause. cause_meant cause ≡ Some (length_cause place bytes.now)) }
     ensures bad { IsErr result → ¬ IsRecord bytes.now }
 {
     match Line::new(bytes) {
@@ -26,14 +27,12 @@ fn line_of(bytes: &[u8]) -> Result<Line, FileCause>
 
 /// Takes the next record, which has this number within the limit.
 pub(crate) fn take_within(front: &mut Front, number: u32, bytes: &[u8]) -> Result<(), FileCause>
-    ensures read { (records : List (List ℕ)) → HasRecords front.old records → number ≡ length records + 1 → IsOk result → HasRecords front.new (records ++ bytes.now ∷ []) }
-    ensures err { (limit : ℕ) (records : List (List ℕ)) → HasRecords front.old records → length records < limit → IfErr result (λ cause. IsCauseTold limit records bytes.now (cause_meant cause)) }
+    ensures read { OnOk result (TakesNext front.old number bytes.now front.new) }
+    ensures err { IfErr result (RefusesWithin front.old bytes.now) }
 {
     if front.is_ended() {
         return Err(FileCause::After);
     }
-    match line_of(bytes) {
-        Ok(line) => front.take(number, &line),
-        Err(cause) => Err(cause),
-    }
+    let line = line_of(bytes)?;
+    front.take(number, &line)
 }

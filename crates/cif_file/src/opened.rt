@@ -1,9 +1,9 @@
 //! A schedule whose lines are being read.
 ghost use Rattle.std.specs.Prelude.{◌≡◌, [], ◌∷◌, IfOk, if◌then◌else◌};
-ghost use Rattle.docker_model.specs.Record.{HasKind, IsRecord, basic_schedule};
-ghost use Rattle.docker_model.specs.Field.{HasGoodFields};
-ghost use Rattle.docker_model.specs.Change.{schedule_named, schedule_body, delete, put};
-ghost use Rattle.cif_file.specs.JourneyRead.{kept, HasLines};
+ghost use Rattle.docker_model.specs.records.Record.{HasKind, IsRecord, basic_schedule};
+ghost use Rattle.docker_model.specs.records.Field.{HasGoodFields};
+ghost use Rattle.docker_model.specs.file.Change.{schedule_named, schedule_body, delete, put};
+ghost use Rattle.cif_file.specs.JourneyRead.{progress_meant, HasLines};
 ghost use Rattle.cif_file.specs.Meaning.{change_meant, key_meant};
 
 use crate::change::{Act, Body, Change};
@@ -54,13 +54,13 @@ fn body_of(alloc: Global, lines: &[Line]) -> Result<Lines, AllocError>
 }
 
 /// The schedule that a basic schedule begins, which has this number.
-pub(crate) fn opened_by(number: u32, line: &Line) -> Opened
+pub(crate) fn opened_schedule(number: u32, line: &Line) -> Opened
     requires record { IsRecord line.now }
     requires kind { HasKind basic_schedule line.now }
     requires fields { HasGoodFields line.now }
     ensures number { result.number ≡ number }
     ensures key { key_meant (Key.Schedule result.key) ≡ schedule_named line.now }
-    ensures progress { HasLines (kept result.progress) (line.now ∷ []) }
+    ensures progress { HasLines (progress_meant result.progress) (line.now ∷ []) }
 {
     match basic(line) {
         Ok(view) => Opened {

@@ -1,13 +1,11 @@
 //! A parser that is fed a file piece by piece.
-ghost use Rattle.std.specs.Prelude.{◌≡◌, ℕ, ◌+◌, ◌≤◌, ◌↔◌, length, IsTrue, List, [], ◌∷◌, ◌++◌, IsOk, IfOk, IfErr, Err};
-ghost use Rattle.docker_model.specs.FaultSoFar.{IsFaultSoFar};
-ghost use Rattle.docker_model.specs.FileFault as model;
-ghost use Rattle.docker_laws.proofs.ToldLines.{HasNoFeed};
-ghost use Rattle.cif_file.specs.ParserRead.{IsOfFileText, HasRead, HasFailed, HasNotFailed, IsReading, IsReadingSome, IsFaultTold, IsRefused, IsLater, NamesLater, IsLast, NamesLast};
+ghost use Rattle.std.specs.Prelude.{◌≡◌, ℕ, ◌+◌, ◌≤◌, ◌↔◌, length, IsTrue, List, [], ◌∷◌, ◌++◌, IsOk, IfOk, IfErr, OnOk, Err};
+ghost use Rattle.docker_laws.specs.LinesTold.{HasNoFeed};
+ghost use Rattle.cif_file.specs.ParserRead.{HasRead, HasFailed, HasNotFailed, IsReading, IsReadingSome, IsLater, NamesLater, IsLast, NamesLast, GoesOn, TellsFault, TellsNoFault, EndsAs, EndsInFault};
 
 use crate::fault::FileFault;
 use crate::file::CifFile;
-use crate::records::Records;
+use crate::records::{MOST_RECORDS, Records};
 use crate::text::{split_line, without_return};
 use arrayvec::ArrayVec;
 use std::alloc::Global;
@@ -35,8 +33,9 @@ impl Reading {
     /// Takes the bytes of a line up to its line feed.
     fn end_line(&mut self, front: &[u8]) -> Result<(), FileFault>
         requires { HasNoFeed front.now }
-        ensures read { (limit : ℕ) (text : List ℕ) → IsReading self.old limit text → IsOk result → IsReading self.new limit (text ++ (front.now ++ 10 ∷ [])) }
-        ensures err { (limit : ℕ) (text : List ℕ) → IsReading self.old limit text → IfErr result (λ fault. IsFaultTold limit (text ++ (front.now ++ 10 ∷ [])) fault) }
+        ensures read { OnOk result
+            (GoesOn (IsReading self.old) (front.now ++ 10 ∷ []) (IsReading self.new)) }
+        ensures err { IfErr result (TellsFault (IsReading self.old) (front.now ++ 10 ∷ [])) }
         ensures later { IfErr result (IsLater self.old) }
     {
         if self.partial.is_empty() {
@@ -53,8 +52,8 @@ impl Reading {
     /// Takes more bytes of a line.
     fn keep(&mut self, more: &[u8]) -> Result<(), FileFault>
         requires { HasNoFeed more.now }
-        ensures read { (limit : ℕ) (text : List ℕ) → IsReading self.old limit text → IsOk result → IsReading self.new limit (text ++ more.now) }
-        ensures err { (limit : ℕ) (text : List ℕ) → IsReading self.old limit text → IfErr result (λ fault. IsFaultTold limit (text ++ more.now) fault) }
+        ensures read { OnOk result (GoesOn (IsReading self.old) more.now (IsReading self.new)) }
+        ensures err { IfErr result (TellsFault (IsReading self.old) more.now) }
         ensures later { IfErr result (IsLater self.old) }
     {
         if !extend(&mut self.partial, more) {
@@ -65,15 +64,13 @@ impl Reading {
 
     /// Takes the next bytes of the file.
     fn read(&mut self, piece: &[u8]) -> Result<(), FileFault>
-        ensures read { (limit : ℕ) (text : List ℕ) → IsReading self.old limit text → IsOk result → IsReading self.new limit (text ++ piece.now) }
-        ensures err { (limit : ℕ) (text : List ℕ) → IsReading self.old limit text → IfErr result (λ fault. IsFaultTold limit (text ++ piece.now) fault) }
+        ensures read { OnOk result (GoesOn (IsReading self.old) piece.now (IsReading self.new)) }
+        ensures err { IfErr result (TellsFault (IsReading self.old) piece.now) }
         ensures later { IfErr result (IsLater self.old) }
     {
         let mut rest = piece;
         while let Some((front, behind)) = split_line(rest) {
-            if let Err(fault) = self.end_line(front) {
-                return Err(fault);
-            }
+            self.end_line(front)?;
             rest = behind;
         }
         self.keep(rest)
@@ -82,8 +79,8 @@ impl Reading {
     /// The file that the bytes are.
     fn end(self) -> Result<CifFile, FileFault>
         requires { IsReadingSome self }
-        ensures ok { (limit : ℕ) (text : List ℕ) → IsReading self limit text → IfOk result (λ file. IsOfFileText file limit text) }
-        ensures err { (limit : ℕ) (text : List ℕ) → IsReading self limit text → IfErr result (λ fault. IsRefused limit text fault) }
+        ensures ok { IfOk result (EndsAs (IsReading self)) }
+        ensures err { IfErr result (EndsInFault (IsReading self)) }
         ensures later { IfErr result (IsLater self) }
         ensures last { IfErr result (IsLast self) }
     {
@@ -115,13 +112,14 @@ impl Model for FileParser {
 
     ghost view = { λ parser. record { reading = parser.reading; fault = parser.fault } };
 
-    ghost invariant = { λ parser. WasFed (record { reading = parser.reading; fault = parser.fault }) };
+    ghost invariant = { λ parser.
+        WasFed (record { reading = parser.reading; fault = parser.fault }) };
 }
 
 impl FileParser {
-    /// A parser of a file of at most `limit` records.
+    /// A parser of a file of at most `limit` records, which is no more than [`MOST_RECORDS`].
     pub fn new(alloc: Global, limit: u32) -> FileParser
-        requires { limit ≤ 4294967294 }
+        requires { limit ≤ MOST_RECORDS }
         ensures { HasRead result limit [] }
     {
         FileParser {
@@ -137,9 +135,9 @@ impl FileParser {
     /// memory is wanting, at that record, and then no record up to it is at fault. The record is one that these bytes are the first to tell. Each later call
     /// answers the same fault and takes nothing.
     pub fn feed(&mut self, piece: &[u8]) -> Result<(), FileFault>
-        ensures read { (limit : ℕ) (text : List ℕ) → HasRead self.old limit text → HasRead self.new limit (text ++ piece.now) }
-        ensures ok { (limit : ℕ) (text : List ℕ) → HasRead self.old limit text → IsOk result → (fault : model.FileFault) → ¬ IsFaultSoFar limit (text ++ piece.now) fault }
-        ensures err { (limit : ℕ) (text : List ℕ) → HasRead self.old limit text → IfErr result (λ fault. IsFaultTold limit (text ++ piece.now) fault) }
+        ensures read { GoesOn (HasRead self.old) piece.now (HasRead self.new) }
+        ensures ok { OnOk result (TellsNoFault (HasRead self.old) piece.now) }
+        ensures err { IfErr result (TellsFault (HasRead self.old) piece.now) }
         ensures later { IfErr result (NamesLater self.old) }
         ensures clean { IsOk result → HasNotFailed self.new }
         ensures failed { IfErr result (λ fault. HasFailed self.new fault) }
@@ -160,8 +158,8 @@ impl FileParser {
 
     /// The file that the bytes are, or their fault; or want of memory, at the last record where none is at fault. After a fault of `feed` it is that fault.
     pub fn finish(self) -> Result<CifFile, FileFault>
-        ensures ok { (limit : ℕ) (text : List ℕ) → HasRead self limit text → IfOk result (λ file. IsOfFileText file limit text) }
-        ensures err { (limit : ℕ) (text : List ℕ) → HasRead self limit text → IfErr result (λ fault. IsRefused limit text fault) }
+        ensures ok { IfOk result (EndsAs (HasRead self)) }
+        ensures err { IfErr result (EndsInFault (HasRead self)) }
         ensures later { IfErr result (NamesLater self) }
         ensures last { IfErr result (NamesLast self) }
         ensures again { (fault : _) → HasFailed self fault → result ≡ Err fault }

@@ -6,19 +6,20 @@ ghost use Rattle.cif_file.specs.ParserRead.{IsOfFileText, IsRefused};
 use crate::fault::FileFault;
 use crate::file::CifFile;
 use crate::parser::FileParser;
+use crate::records::MOST_RECORDS;
 use std::alloc::Global;
 
 /// The file of at most `limit` records that the pieces are, joined.
 pub fn read_pieces(alloc: Global, pieces: &[&[u8]], limit: u32) -> Result<CifFile, FileFault>
-    requires { limit ≤ 4294967294 }
-    ensures ok { IfOk result (λ file. IsOfFileText file limit (concat (map (λ piece. piece.now) pieces.now))) }
-    ensures err { IfErr result (λ fault. IsRefused limit (concat (map (λ piece. piece.now) pieces.now)) fault) }
+    requires { limit ≤ MOST_RECORDS }
+    ensures ok { IfOk result (λ file.
+        IsOfFileText file limit (concat (map (λ piece. piece.now) pieces.now))) }
+    ensures err { IfErr result (λ fault.
+        IsRefused limit (concat (map (λ piece. piece.now) pieces.now)) fault) }
 {
     let mut parser = FileParser::new(alloc, limit);
     for piece in pieces {
-        if let Err(fault) = parser.feed(piece) {
-            return Err(fault);
-        }
+        parser.feed(piece)?;
     }
     parser.finish()
 }

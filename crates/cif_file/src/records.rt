@@ -7,6 +7,9 @@ use crate::front::Front;
 use crate::next_record::take_within;
 use std::alloc::Global;
 
+/// The most records that a file may have.
+pub const MOST_RECORDS: u32 = 4_294_967_294;
+
 /// The records of a file so far, the number of the next one, and the most that there may be.
 #[derive(Debug, Drop)]
 pub(crate) struct Records {
@@ -18,16 +21,16 @@ pub(crate) struct Records {
 }
 
 impl Records {
-    ghost use Rattle.std.specs.Prelude.{◌≡◌, ℕ, ◌+◌, ◌≤◌, ◌<◌, List, [], ◌∷◌, ◌++◌, length, IsOk, IfOk, IfErr, Some};
-    ghost use Rattle.docker_model.specs.File.{IsFile};
-    ghost use Rattle.docker_model.specs.FileFault.{no_end};
+    ghost use Rattle.std.specs.Prelude.{◌≡◌, ℕ, ◌+◌, ◌≤◌, ◌<◌, List, [], ◌∷◌, ◌++◌, length, IsOk, IfOk, IfErr, OnOk, Some};
+    ghost use Rattle.docker_model.specs.file.File.{IsFile};
+    ghost use Rattle.docker_model.specs.file.FileFault.{no_end};
     ghost use Rattle.cif_file.specs.Meaning.{cause_meant};
     ghost use Rattle.cif_file.specs.FileRead.{IsOfRecords};
-    ghost use Rattle.cif_file.specs.ParserRead.{HasCounted, HasCountedSome, IsFaultNext, IsLongNext, IsCauseTold};
+    ghost use Rattle.cif_file.specs.ParserRead.{HasCounted, HasCountedSome, CountsNext, FaultsNext, IsLongNext, EndsCounted, EndsUnended};
 
     /// Before the first record, of `limit` at most.
     pub(crate) fn new(alloc: Global, limit: u32) -> Records
-        requires { limit ≤ 4294967294 }
+        requires { limit ≤ MOST_RECORDS }
         ensures { HasCounted result limit [] }
     {
         Records {
@@ -39,8 +42,8 @@ impl Records {
 
     /// Takes the next record, a line without its line end.
     pub(crate) fn take(&mut self, bytes: &[u8]) -> Result<(), FileFault>
-        ensures read { (limit : ℕ) (records : List (List ℕ)) → HasCounted self.old limit records → IsOk result → HasCounted self.new limit (records ++ bytes.now ∷ []) }
-        ensures err { (limit : ℕ) (records : List (List ℕ)) → HasCounted self.old limit records → IfErr result (λ fault. IsFaultNext limit records bytes.now fault) }
+        ensures read { OnOk result (CountsNext self.old bytes.now self.new) }
+        ensures err { IfErr result (FaultsNext self.old bytes.now) }
     {
         let number = self.next;
         if number > self.limit {
@@ -60,7 +63,8 @@ impl Records {
 
     /// The fault of a next record of more than 81 bytes.
     pub(crate) fn too_long(&self) -> FileFault
-        ensures { (limit : ℕ) (records : List (List ℕ)) → HasCounted self.now limit records → IsLongNext limit records result }
+        ensures { (limit : ℕ) (records : List (List ℕ)) → HasCounted self.now limit records →
+            IsLongNext limit records result }
     {
         let cause = if self.next > self.limit {
             FileCause::TooMany
@@ -78,8 +82,8 @@ impl Records {
     /// The file that the records are, if they end in a trailer.
     pub(crate) fn finish(self) -> Result<CifFile, FileFault>
         requires { HasCountedSome self }
-        ensures ok { (limit : ℕ) (records : List (List ℕ)) → HasCounted self limit records → IfOk result (λ file. IsFile records × IsOfRecords file records) }
-        ensures err { (limit : ℕ) (records : List (List ℕ)) → HasCounted self limit records → IfErr result (λ fault. (fault.number ≡ length records + 1) × (cause_meant fault.cause ≡ Some no_end) × (¬ IsFile records)) }
+        ensures ok { IfOk result (EndsCounted self) }
+        ensures err { IfErr result (EndsUnended self) }
     {
         let Records { next, front, .. } = self;
         match front.into_file(next - 1) {

@@ -1,7 +1,7 @@
 //! How far a schedule has come.
 ghost use Rattle.std.specs.Prelude.{◌≡◌, option_map, Some, IsSome, true};
-ghost use Rattle.docker_model.specs.Change.{follows_basic};
-ghost use Rattle.docker_laws.proofs.SchedulePlace.{stage_after};
+ghost use Rattle.docker_model.specs.file.File.{follows_basic};
+ghost use Rattle.docker_laws.specs.ScheduleStage.{stage_after};
 ghost use Rattle.cif_line.specs.Kind.{meaning};
 ghost use Rattle.cif_file.specs.JourneyRead.{stage_meant, may_end_by, is_over_by};
 
@@ -9,7 +9,7 @@ use cif_line::Kind;
 
 /// How far a schedule has come, by its lines so far.
 #[derive(Clone, Copy, PartialEq, Eq, Debug)]
-pub(crate) enum Stage {
+pub(crate) enum ScheduleStage {
     /// Behind its basic schedule.
     AfterBasic,
     /// Behind its extra details.
@@ -20,21 +20,24 @@ pub(crate) enum Stage {
     AfterJourney,
 }
 
-impl Stage {
+impl ScheduleStage {
     /// The stage behind one more line of this kind; none where no schedule has such a line next.
-    pub(crate) fn after(self, kind: Kind) -> Option<Stage>
-        ensures stage { option_map stage_meant result ≡ stage_after (stage_meant self) (Some (meaning kind)) }
+    pub(crate) fn after(self, kind: Kind) -> Option<ScheduleStage>
+        ensures stage { option_map stage_meant result ≡
+            stage_after (stage_meant self) (Some (meaning kind)) }
         ensures follows { IsSome result → follows_basic (Some (meaning kind)) ≡ true }
     {
         match (self, kind) {
-            (Stage::AfterBasic, Kind::ExtraDetails) => Some(Stage::AfterDetails),
-            (Stage::AfterBasic | Stage::AfterDetails, Kind::OriginLocation) => Some(
-                Stage::InJourney,
+            (ScheduleStage::AfterBasic, Kind::ExtraDetails) => Some(ScheduleStage::AfterDetails),
+            (ScheduleStage::AfterBasic | ScheduleStage::AfterDetails, Kind::OriginLocation) => Some(
+                ScheduleStage::InJourney,
             ),
-            (Stage::InJourney, Kind::IntermediateLocation | Kind::ChangeEnRoute) => {
-                Some(Stage::InJourney)
+            (ScheduleStage::InJourney, Kind::IntermediateLocation | Kind::ChangeEnRoute) => {
+                Some(ScheduleStage::InJourney)
             }
-            (Stage::InJourney, Kind::TerminatingLocation) => Some(Stage::AfterJourney),
+            (ScheduleStage::InJourney, Kind::TerminatingLocation) => Some(
+                ScheduleStage::AfterJourney,
+            ),
             _ => None,
         }
     }
@@ -44,10 +47,10 @@ impl Stage {
         ensures { result ≡ may_end_by (Some (stage_meant self)) lacking }
     {
         match self {
-            Stage::AfterBasic => lacking,
-            Stage::AfterDetails => lacking,
-            Stage::InJourney => false,
-            Stage::AfterJourney => true,
+            ScheduleStage::AfterBasic => lacking,
+            ScheduleStage::AfterDetails => lacking,
+            ScheduleStage::InJourney => false,
+            ScheduleStage::AfterJourney => true,
         }
     }
 
@@ -56,10 +59,10 @@ impl Stage {
         ensures { result ≡ is_over_by (Some (stage_meant self)) }
     {
         match self {
-            Stage::AfterBasic => false,
-            Stage::AfterDetails => false,
-            Stage::InJourney => false,
-            Stage::AfterJourney => true,
+            ScheduleStage::AfterBasic => false,
+            ScheduleStage::AfterDetails => false,
+            ScheduleStage::InJourney => false,
+            ScheduleStage::AfterJourney => true,
         }
     }
 }

@@ -1,7 +1,7 @@
 //! Line ends.
 ghost use Rattle.std.specs.Prelude.{◌≡◌, ◌==◌, ◌<◌, ◌≤◌, ◌↔◌, IsTrue, IfSome, length, position, take, MatchOption};
-ghost use Rattle.docker_model.specs.Record.{IsRecord};
-ghost use Rattle.docker_laws.proofs.ToldLines.{HasNoFeed};
+ghost use Rattle.docker_model.specs.records.Record.{IsRecord};
+ghost use Rattle.docker_laws.specs.LinesTold.{HasNoFeed};
 ghost use Rattle.cif_file.specs.Cut.{IsCut};
 ghost use Rattle.std.specs.Str.Lines.{strip_carriage_return};
 
@@ -27,10 +27,8 @@ pub(crate) fn line_feed(text: &[u8]) -> Option<usize>
     if !begins_with_record(text) {
         return first_feed(text);
     }
-    match first_feed(&text[RECORD..]) {
-        Some(at) => Some(RECORD + at),
-        None => None,
-    }
+    let at = first_feed(&text[RECORD..])?;
+    Some(RECORD + at)
 }
 
 /// The first bytes of the text are those of a record.
@@ -50,10 +48,9 @@ fn first_feed(text: &[u8]) -> Option<usize>
 
 /// What stands before the first line feed, and behind it; none where there is no line feed.
 pub(crate) fn split_line(text: &[u8]) -> Option<(&[u8], &[u8])>
-    ensures { MatchOption result (HasNoFeed text.now) (λ parts. IsCut text.now parts.0.now parts.1.now) }
+    ensures { MatchOption result (HasNoFeed text.now)
+        (λ parts. IsCut text.now parts.0.now parts.1.now) }
 {
-    match line_feed(text) {
-        Some(end) => Some((&text[..end], &text[end + 1..])),
-        None => None,
-    }
+    let end = line_feed(text)?;
+    Some((&text[..end], &text[end + 1..]))
 }

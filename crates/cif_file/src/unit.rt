@@ -1,13 +1,14 @@
 //! Records that stand between header and trailer by themselves, and those that begin a schedule or end the file.
 ghost use Rattle.std.specs.Prelude.{◌≡◌, ◌↔◌, ◌++◌, [], ◌∷◌, map, true, is_some, Some, IsNone, IfSome, OnOk, MatchOption, ◌⊎◌, false, if◌then◌else◌};
-ghost use Rattle.docker_model.specs.Record.{HasKind, kind_of, columns, tiploc_insert, tiploc_amend, tiploc_delete, association};
-ghost use Rattle.docker_model.specs.Field.{HasGoodFields, is_deletion};
-ghost use Rattle.docker_model.specs.Change.{changes_of_record, keeps_code, tiploc_key, association_named, tiploc_named, tiploc_details, association_body, as_new, delete, put};
-ghost use Rattle.docker_model.specs.File.{IsSingleKind};
-ghost use Rattle.docker_laws.proofs.FilePlace.{unit_by_kind, between_units};
-ghost use Rattle.docker_laws.proofs.FileCauses.{place_cause};
+ghost use Rattle.docker_model.specs.records.Record.{HasKind, kind_of, columns, tiploc_insert, tiploc_amend, tiploc_delete, association};
+ghost use Rattle.docker_model.specs.records.Field.{HasGoodFields, is_deletion, as_new};
+ghost use Rattle.docker_model.specs.file.Change.{changes_of_record, keeps_code, tiploc_key, association_named, tiploc_named, tiploc_details, association_body, delete, put};
+ghost use Rattle.docker_model.specs.file.File.{IsSingleKind};
+ghost use Rattle.docker_laws.specs.FileStage.{unit_by_kind, between_units};
+ghost use Rattle.docker_laws.specs.RecordCause.{place_cause};
 ghost use Rattle.cif_line.specs.Kind.{meaning};
 ghost use Rattle.cif_file.specs.Meaning.{change_meant, cause_meant, key_meant};
+ghost use Rattle.cif_file.specs.UnitRead.{IsTiplocRecord, AppendsChanges};
 
 use crate::change::{Act, Body, Change};
 use crate::fault::FileCause;
@@ -18,8 +19,10 @@ use std::alloc::AllocError;
 /// Why a record can't stand behind a header or a whole unit: its place, else its leftmost bad field.
 pub(crate) fn unit_cause(kind: Kind, line: &Line) -> Option<FileCause>
     requires kind { HasKind (meaning kind) line.now }
-    ensures none { IsNone result ↔ ((is_some (unit_by_kind (kind_of line.now) line.now) ≡ true) × HasGoodFields line.now) }
-    ensures some { IfSome result (λ cause. cause_meant cause ≡ Some (place_cause between_units line.now)) }
+    ensures none { IsNone result ↔
+        ((is_some (unit_by_kind (kind_of line.now) line.now) ≡ true) × HasGoodFields line.now) }
+    ensures some { IfSome result (λ cause.
+        cause_meant cause ≡ Some (place_cause between_units line.now)) }
 {
     match kind {
         Kind::TiplocInsert | Kind::TiplocAmend | Kind::TiplocDelete => match tiploc(line) {
@@ -49,7 +52,8 @@ pub(crate) fn push_changes(
     requires kind { HasKind (meaning kind) line.now }
     requires single { IsSingleKind line.now }
     requires fields { HasGoodFields line.now }
-    ensures { OnOk result (map change_meant changes.new.items ≡ map change_meant changes.old.items ++ changes_of_record number line.now []) }
+    ensures { OnOk result (AppendsChanges changes.old.items
+        (changes_of_record number line.now []) changes.new.items) }
 {
     match kind {
         Kind::Association => push(changes, association_change(number, line)),
@@ -68,7 +72,8 @@ pub(crate) fn push_changes(
 
 /// Appends a change.
 pub(crate) fn push(changes: &mut Vec<Change>, change: Change) -> Result<(), AllocError>
-    ensures { OnOk result (map change_meant changes.new.items ≡ map change_meant changes.old.items ++ change_meant change ∷ []) }
+    ensures { OnOk result (AppendsChanges changes.old.items (change_meant change ∷ [])
+        changes.new.items) }
 {
     changes.push(change)?;
     Ok(())
@@ -76,7 +81,7 @@ pub(crate) fn push(changes: &mut Vec<Change>, change: Change) -> Result<(), Allo
 
 /// The view of a TIPLOC record whose fields were judged.
 fn tiploc_of(line: &Line) -> TiplocRecord<'_>
-    requires kind { HasKind tiploc_insert line.now ⊎ HasKind tiploc_amend line.now ⊎ HasKind tiploc_delete line.now }
+    requires kind { IsTiplocRecord line.now }
     requires fields { HasGoodFields line.now }
     ensures { result ≡ line.entry.now }
 {
@@ -90,26 +95,24 @@ fn tiploc_of(line: &Line) -> TiplocRecord<'_>
 fn other_code(line: &Line) -> Option<Tiploc>
     requires kind { HasKind tiploc_amend line.now }
     requires fields { HasGoodFields line.now }
-    ensures { MatchOption result (keeps_code line.now ≡ true) (λ code. (keeps_code line.now ≡ false) × (code ≡ columns 73 79 line.now)) }
+    ensures { MatchOption result (keeps_code line.now ≡ true)
+        (λ code. (keeps_code line.now ≡ false) × (code ≡ columns 73 79 line.now)) }
 {
     let view = tiploc_of(line);
-    match view.new_code() {
-        None => None,
-        Some(code) => {
-            if code == view.code() {
-                None
-            } else {
-                Some(code)
-            }
-        }
+    let code = view.new_code()?;
+    if code == view.code() {
+        None
+    } else {
+        Some(code)
     }
 }
 
 /// The change that deletes the TIPLOC of a record.
 fn tiploc_deleted(number: u32, line: &Line) -> Change
-    requires kind { HasKind tiploc_insert line.now ⊎ HasKind tiploc_amend line.now ⊎ HasKind tiploc_delete line.now }
+    requires kind { IsTiplocRecord line.now }
     requires fields { HasGoodFields line.now }
-    ensures { change_meant result ≡ record { number = number; key = tiploc_named line.now; act = delete } }
+    ensures { change_meant result ≡
+        record { number = number; key = tiploc_named line.now; act = delete } }
 {
     let view = tiploc_of(line);
     Change {
@@ -121,9 +124,13 @@ fn tiploc_deleted(number: u32, line: &Line) -> Change
 
 /// The change that puts the TIPLOC of a record.
 fn tiploc_put(number: u32, line: &Line) -> Change
-    requires kind { HasKind tiploc_insert line.now ⊎ HasKind tiploc_amend line.now ⊎ HasKind tiploc_delete line.now }
+    requires kind { IsTiplocRecord line.now }
     requires fields { HasGoodFields line.now }
-    ensures { change_meant result ≡ record { number = number; key = tiploc_named line.now; act = put (tiploc_details line.now) } }
+    ensures { change_meant result ≡ record {
+      number = number;
+      key = tiploc_named line.now;
+      act = put (tiploc_details line.now);
+    } }
 {
     let view = tiploc_of(line);
     tiploc_put_at(number, view.code(), line)
@@ -131,9 +138,13 @@ fn tiploc_put(number: u32, line: &Line) -> Change
 
 /// The change that puts the TIPLOC of a record at this code.
 fn tiploc_put_at(number: u32, code: Tiploc, line: &Line) -> Change
-    requires kind { HasKind tiploc_insert line.now ⊎ HasKind tiploc_amend line.now ⊎ HasKind tiploc_delete line.now }
+    requires kind { IsTiplocRecord line.now }
     requires fields { HasGoodFields line.now }
-    ensures { change_meant result ≡ record { number = number; key = tiploc_key code; act = put (tiploc_details line.now) } }
+    ensures { change_meant result ≡ record {
+      number = number;
+      key = tiploc_key code;
+      act = put (tiploc_details line.now);
+    } }
 {
     let view = tiploc_of(line);
     Change {

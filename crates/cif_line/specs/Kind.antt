@@ -1,6 +1,6 @@
 -- The kinds of the code, as the definitions name them.
-use Rattle.docker_model.specs.Record.{header, tiploc_insert, tiploc_amend, tiploc_delete, association, basic_schedule, extra_details, origin_location, intermediate_location, terminating_location, change_en_route, trailer}
-use Rattle.docker_model.specs.Record as model
+use Rattle.docker_model.specs.records.Record.{header, tiploc_insert, tiploc_amend, tiploc_delete, association, basic_schedule, extra_details, origin_location, intermediate_location, terminating_location, change_en_route, trailer}
+use Rattle.docker_model.specs.records.Record as model
 use Rattle.cif_line.specs.declared.kind_of_record.Kind.{Kind}
 use Rattle.cif_line.specs.declared.kind_of_record.Kind.TheVariants.{Header, TiplocInsert, TiplocAmend, TiplocDelete, Association, BasicSchedule, ExtraDetails, OriginLocation, IntermediateLocation, TerminatingLocation, ChangeEnRoute, Trailer}
 

@@ -1,5 +1,7 @@
-pub mod Device
 pub mod Kind
-pub mod Letter
-pub mod Tiploc
+pub mod RecordRead
 pub mod View
+pub use Rattle.cif_device.specs.Device
+pub use Rattle.cif_field.specs.FieldRead
+pub use Rattle.cif_field.specs.Letter
+pub use Rattle.cif_field.specs.Tiploc

@@ -1,8 +1,8 @@
 -- What a view of a record rests on.
-use Rattle.std.specs.Prelude.{◌≡◌, ℕ, List, Option, Some, None, option_map, find, not, true, if◌then◌else◌}
-use Rattle.docker_model.specs.Record.{Kind, tiploc_amend, HasKind, columns}
-use Rattle.docker_model.specs.Clock.{is_blank}
-use Rattle.docker_model.specs.Field.{CheckedField, checked_fields, HasGoodFields, is_tiploc, is_new_tiploc}
+use Rattle.std.specs.Prelude.{◌≡◌, ◌⊎◌, ℕ, List, Option, Some, None, option_map, find, not, true, if◌then◌else◌}
+use Rattle.docker_model.specs.records.Record.{Kind, tiploc_insert, tiploc_amend, tiploc_delete, HasKind, columns}
+use Rattle.docker_model.specs.records.Clock.{is_blank}
+use Rattle.docker_model.specs.records.Field.{CheckedField, checked_fields, HasGoodFields, is_tiploc, is_new_tiploc}
 
 -- the line is a record of the kind, and each checked field of it is good
 pub record IsGood (kind : Kind) (line : List ℕ) : Type 0 where
@@ -11,7 +11,13 @@ pub record IsGood (kind : Kind) (line : List ℕ) : Type 0 where
 
 -- the first column of the leftmost checked field that is not good, in a record of this kind
 abbrev pub bad_field_of : Kind → List ℕ → Option ℕ
-bad_field_of kind line = option_map (λ (field : CheckedField). field.first) (find (λ field. not (field.is_good (columns field.first field.last line))) (checked_fields kind line))
+bad_field_of kind line =
+    option_map (λ (field : CheckedField). field.first)
+    (find (λ field. not (field.is_good (columns field.first field.last line))) (checked_fields kind line))
+
+-- the line is a TIPLOC insert, amend or delete
+abbrev pub IsTiplocRecord : List ℕ → Type 0
+IsTiplocRecord line = HasKind tiploc_insert line ⊎ HasKind tiploc_amend line ⊎ HasKind tiploc_delete line
 
 -- the checked fields of a TIPLOC record are good: its code, and the new one of an amendment
 pub record IsGoodTiploc (line : List ℕ) : Type 0 where

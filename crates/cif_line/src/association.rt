@@ -1,19 +1,12 @@
 //! An association of two trains, a record AA.
-ghost use Rattle.std.specs.Prelude.{◌≡◌, None, Some, if◌then◌else◌};
-ghost use Rattle.docker_model.specs.Record.{association, columns, column};
-ghost use Rattle.docker_model.specs.Date.{date_number, end_number};
-ghost use Rattle.docker_model.specs.Field.{is_deletion};
-ghost use Rattle.docker_model.specs.State.{IsTextOfLength};
+ghost use Rattle.std.specs.Prelude.{◌≡◌};
+ghost use Rattle.docker_model.specs.records.Record.{association, columns, column, IsTextOfLength};
+ghost use Rattle.docker_model.specs.records.Date.{date_number, end_number};
 ghost use Rattle.cif_line.specs.View.{IsGood};
-ghost use Rattle.cif_line.specs.Letter.{transaction_letter, stp_letter};
+ghost use Rattle.cif_field.specs.FieldRead.{unless_deleted};
+ghost use Rattle.cif_field.specs.Letter.{transaction_letter, stp_letter};
 
-use crate::day::Day;
-use crate::days::Days;
-use crate::letter::{Stp, Transaction};
-use crate::line::Line;
-use crate::tiploc_code::Tiploc;
-use crate::uid::Uid;
-use crate::until::Until;
+use cif_field::{Day, Days, Line, Stp, Tiploc, Transaction, Uid, Until};
 use std::marker::Model;
 
 /// A view of an association (AA) whose checked fields are good. Of a deletion the end date and the days are not checked.
@@ -24,7 +17,7 @@ pub struct Assoc<'a> {
 
 impl<'a> Model for Assoc<'a> {
     ghost use Rattle.std.specs.Prelude.{List, ℕ};
-    ghost use Rattle.docker_model.specs.Record.{association};
+    ghost use Rattle.docker_model.specs.records.Record.{association};
     ghost use Rattle.cif_line.specs.View.{IsGood};
 
     ghost Value = { List ℕ };
@@ -74,14 +67,14 @@ impl<'a> Assoc<'a> {
 
     /// The last start day of the base train for which it holds, none on a deletion: columns 22 to 27.
     pub fn end(&self) -> Option<Until>
-        ensures { result ≡ (if is_deletion self.now then None else Some (end_number (columns 22 27 self.now))) }
+        ensures { result ≡ unless_deleted self.now (end_number (columns 22 27 self.now)) }
     {
         self.line.end_unless_deleted(22)
     }
 
     /// The weekdays of the base train's start for which it holds, none on a deletion: columns 28 to 34.
     pub fn days(&self) -> Option<Days>
-        ensures { result ≡ (if is_deletion self.now then None else Some (columns 28 34 self.now)) }
+        ensures { result ≡ unless_deleted self.now (columns 28 34 self.now) }
     {
         self.line.days_unless_deleted(28)
     }

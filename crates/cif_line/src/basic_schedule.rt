@@ -1,18 +1,12 @@
 //! A basic schedule, a record BS.
-ghost use Rattle.std.specs.Prelude.{◌≡◌, None, Some, if◌then◌else◌};
-ghost use Rattle.docker_model.specs.Record.{basic_schedule, columns, column};
-ghost use Rattle.docker_model.specs.Date.{date_number, end_number};
-ghost use Rattle.docker_model.specs.Field.{is_deletion};
-ghost use Rattle.docker_model.specs.State.{IsTextOfLength};
+ghost use Rattle.std.specs.Prelude.{◌≡◌};
+ghost use Rattle.docker_model.specs.records.Record.{basic_schedule, columns, column, IsTextOfLength};
+ghost use Rattle.docker_model.specs.records.Date.{date_number, end_number};
 ghost use Rattle.cif_line.specs.View.{IsGood};
-ghost use Rattle.cif_line.specs.Letter.{transaction_letter, stp_letter};
+ghost use Rattle.cif_field.specs.FieldRead.{unless_deleted};
+ghost use Rattle.cif_field.specs.Letter.{transaction_letter, stp_letter};
 
-use crate::day::Day;
-use crate::days::Days;
-use crate::letter::{Stp, Transaction};
-use crate::line::Line;
-use crate::uid::Uid;
-use crate::until::Until;
+use cif_field::{Day, Days, Line, Stp, Transaction, Uid, Until};
 use std::marker::Model;
 
 /// A view of a basic schedule (BS) whose checked fields are good. Of a deletion the end date and the days are not checked.
@@ -23,7 +17,7 @@ pub struct Basic<'a> {
 
 impl<'a> Model for Basic<'a> {
     ghost use Rattle.std.specs.Prelude.{List, ℕ};
-    ghost use Rattle.docker_model.specs.Record.{basic_schedule};
+    ghost use Rattle.docker_model.specs.records.Record.{basic_schedule};
     ghost use Rattle.cif_line.specs.View.{IsGood};
 
     ghost Value = { List ℕ };
@@ -66,14 +60,14 @@ impl<'a> Basic<'a> {
 
     /// The last day on which it runs, none on a deletion: columns 16 to 21.
     pub fn runs_to(&self) -> Option<Until>
-        ensures { result ≡ (if is_deletion self.now then None else Some (end_number (columns 16 21 self.now))) }
+        ensures { result ≡ unless_deleted self.now (end_number (columns 16 21 self.now)) }
     {
         self.line.end_unless_deleted(16)
     }
 
     /// The weekdays on which it runs, none on a deletion: columns 22 to 28.
     pub fn days(&self) -> Option<Days>
-        ensures { result ≡ (if is_deletion self.now then None else Some (columns 22 28 self.now)) }
+        ensures { result ≡ unless_deleted self.now (columns 22 28 self.now) }
     {
         self.line.days_unless_deleted(22)
     }

@@ -1,10 +1,9 @@
 //! A change en route of a schedule, a record CR.
 ghost use Rattle.std.specs.Prelude.{◌≡◌};
-ghost use Rattle.docker_model.specs.Record.{change_en_route, columns};
-ghost use Rattle.docker_model.specs.State.{IsTextOfLength};
+ghost use Rattle.docker_model.specs.records.Record.{change_en_route, columns, IsTextOfLength};
 ghost use Rattle.cif_line.specs.View.{IsGood};
 
-use crate::line::Line;
+use cif_field::Line;
 use std::marker::Model;
 
 /// A view of a change en route (CR), which has no checked field.
@@ -15,7 +14,7 @@ pub struct ChangeEnRoute<'a> {
 
 impl<'a> Model for ChangeEnRoute<'a> {
     ghost use Rattle.std.specs.Prelude.{List, ℕ};
-    ghost use Rattle.docker_model.specs.Record.{change_en_route};
+    ghost use Rattle.docker_model.specs.records.Record.{change_en_route};
     ghost use Rattle.cif_line.specs.View.{IsGood};
 
     ghost Value = { List ℕ };
@@ -26,7 +25,7 @@ impl<'a> Model for ChangeEnRoute<'a> {
 }
 
 impl<'a> ChangeEnRoute<'a> {
-    /// A view of a line.
+    /// A view of a line that is known to be a change en route.
     pub(crate) fn of(line: &'a Line) -> ChangeEnRoute<'a>
         requires good { IsGood change_en_route line.now }
         ensures line { result ≡ line.entry.now }

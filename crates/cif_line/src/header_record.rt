@@ -1,16 +1,12 @@
 //! The header of a file, a record HD.
 ghost use Rattle.std.specs.Prelude.{◌≡◌, ◌<◌};
-ghost use Rattle.docker_model.specs.Record.{header, columns, column};
-ghost use Rattle.docker_model.specs.Date.{date_number_day_first};
-ghost use Rattle.docker_model.specs.Clock.{minute_of};
-ghost use Rattle.docker_model.specs.State.{IsTextOfLength};
+ghost use Rattle.docker_model.specs.records.Record.{header, columns, column, IsTextOfLength};
+ghost use Rattle.docker_model.specs.records.Date.{date_number_day_first};
+ghost use Rattle.docker_model.specs.records.Clock.{minute_of};
 ghost use Rattle.cif_line.specs.View.{IsGood};
-ghost use Rattle.cif_line.specs.Letter.{extract_letter};
+ghost use Rattle.cif_field.specs.Letter.{extract_letter};
 
-use crate::day::Day;
-use crate::letter::Extract;
-use crate::line::Line;
-use crate::time::clock;
+use cif_field::{Day, Extract, Line, clock};
 use std::marker::Model;
 
 /// A view of a header (HD) whose checked fields are good.
@@ -21,7 +17,7 @@ pub struct Header<'a> {
 
 impl<'a> Model for Header<'a> {
     ghost use Rattle.std.specs.Prelude.{List, ℕ};
-    ghost use Rattle.docker_model.specs.Record.{header};
+    ghost use Rattle.docker_model.specs.records.Record.{header};
     ghost use Rattle.cif_line.specs.View.{IsGood};
 
     ghost Value = { List ℕ };

@@ -1,10 +1,10 @@
 //! The identity of a record, in its columns 1 and 2.
 ghost use Rattle.std.specs.Prelude.{◌≡◌, ◌↔◌, IsTrue, option_map};
-ghost use Rattle.docker_model.specs.Record.{tiploc_amend, HasKind, kind_of};
+ghost use Rattle.docker_model.specs.records.Record.{tiploc_amend, HasKind, kind_of};
 ghost use Rattle.cif_line.specs.Kind.{meaning};
 
 use crate::kind_of_record::Kind;
-use crate::line::Line;
+use cif_field::Line;
 
 #[cfg(test)]
 mod tests;
@@ -34,8 +34,5 @@ pub fn kind(line: &Line) -> Option<Kind>
 pub(crate) fn is_amendment(line: &Line) -> bool
     ensures { IsTrue result ↔ HasKind tiploc_amend line.now }
 {
-    match kind(line) {
-        Some(Kind::TiplocAmend) => true,
-        _ => false,
-    }
+    matches!(kind(line), Some(Kind::TiplocAmend))
 }

@@ -1,52 +1,33 @@
-//! One line of a CIF extract, as the CIF End User Specification lays it out: its bytes, its dates and times, and views of its records.
-//! And the devices that bytes come from and go to.
+//! Views of the records of a CIF extract, as the CIF End User Specification lays them out.
+//! The line and its fields, and the devices that bytes come from and go to, are handed on from the crates below.
 #![tactic(auto)]
 
 mod association;
 mod basic_schedule;
 mod change_en_route;
 mod check;
-mod day;
-mod days;
-mod device;
-mod digits;
-mod field;
 mod header_record;
 mod identity;
 mod intermediate_location;
 mod kind_of_record;
-mod letter;
-mod line;
-mod memory;
 mod origin_location;
-mod printable;
 mod read;
 mod terminating_location;
-mod time;
-mod tiploc_code;
 mod tiploc_record;
-mod uid;
-mod until;
 
 pub use association::Assoc;
 pub use basic_schedule::Basic;
 pub use change_en_route::ChangeEnRoute;
 pub use check::FieldFault;
-pub use day::Day;
-pub use days::Days;
-pub use device::{Failed, Memory, Sink, Source, write_all};
+pub use cif_device::{Bytes, Failed, Kept, Memory, Sink, Source, write_all};
+pub use cif_field::{
+    Day, Days, Extract, Line, LineFault, NO_END, Stp, Time, Tiploc, Transaction, Uid, Until,
+};
 pub use header_record::Header;
 pub use identity::kind;
 pub use intermediate_location::Call;
 pub use kind_of_record::Kind;
-pub use letter::{Extract, Stp, Transaction};
-pub use line::{Line, LineFault};
-pub use memory::{Bytes, Kept};
 pub use origin_location::Origin;
 pub use read::{assoc, basic, call, change, header, origin, terminus, tiploc};
 pub use terminating_location::Terminus;
-pub use time::Time;
-pub use tiploc_code::Tiploc;
 pub use tiploc_record::TiplocRecord;
-pub use uid::Uid;
-pub use until::Until;

@@ -1,24 +1,24 @@
-//! Views of records: each is made where the checked fields of its kind are good.
-ghost use Rattle.std.specs.Prelude.{◌≡◌, ◌↔◌, ◌⊎◌, IsOk, IfOk, IfErr, Some};
-ghost use Rattle.docker_model.specs.Record.{HasKind, header, tiploc_insert, tiploc_amend, tiploc_delete, association, basic_schedule, origin_location, intermediate_location, terminating_location, change_en_route};
-ghost use Rattle.docker_model.specs.Field.{HasGoodFields, leftmost_bad_field};
-ghost use Rattle.cif_line.specs.View.{bad_field_of};
+//! Readers of records: each makes a view of a line whose checked fields are good, and otherwise tells the leftmost that is not.
+ghost use Rattle.std.specs.Prelude.{◌≡◌, IsOk};
+ghost use Rattle.docker_model.specs.records.Record.{HasKind, header, association, basic_schedule, origin_location, intermediate_location, terminating_location, change_en_route};
+ghost use Rattle.docker_model.specs.records.Field.{leftmost_bad_field};
+ghost use Rattle.cif_line.specs.RecordRead.{ReadsAs};
+ghost use Rattle.cif_line.specs.View.{IsTiplocRecord, bad_field_of};
 
 use crate::association::Assoc;
 use crate::basic_schedule::Basic;
 use crate::change_en_route::ChangeEnRoute;
 use crate::check::{
-    FieldFault, is_clock, is_date, is_date_day_first, is_days, is_end_date, is_new_tiploc,
-    is_present_time, is_public_time, is_scheduled_time, is_stp_indicator, is_tiploc,
-    is_transaction, is_update_indicator,
+    FieldFault, is_date, is_date_day_first, is_days, is_end_date, is_new_tiploc, is_stp_indicator,
+    is_tiploc, is_transaction, is_update_indicator,
 };
 use crate::header_record::Header;
 use crate::identity::is_amendment;
 use crate::intermediate_location::Call;
-use crate::line::Line;
 use crate::origin_location::Origin;
 use crate::terminating_location::Terminus;
 use crate::tiploc_record::TiplocRecord;
+use cif_field::{Line, is_clock, is_present_time, is_public_time, is_scheduled_time};
 
 #[cfg(test)]
 mod tests;
@@ -26,9 +26,7 @@ mod tests;
 /// A view of a header (HD), or the first column of its leftmost bad field: 23 for the date of extract, 29 for its time, 47 for the update indicator.
 pub fn header(line: &Line) -> Result<Header<'_>, FieldFault>
     requires kind { HasKind header line.now }
-    ensures ok { IsOk result ↔ HasGoodFields line.now }
-    ensures value { IfOk result (λ view. view ≡ line.now) }
-    ensures err { IfErr result (λ fault. leftmost_bad_field line.now ≡ Some fault.0) }
+    ensures { ReadsAs line.now result }
 {
     match header_fault(line) {
         Some(column) => Err(FieldFault(column)),
@@ -36,7 +34,7 @@ pub fn header(line: &Line) -> Result<Header<'_>, FieldFault>
     }
 }
 
-/// The first column of its leftmost bad field.
+/// The first column of a header's leftmost bad field, none where all are good.
 #[tactic(auto, using(crate::proofs::Leftmost::header_faults))]
 fn header_fault(line: &Line) -> Option<u8>
     requires kind { HasKind header line.now }
@@ -58,10 +56,8 @@ fn header_fault(line: &Line) -> Option<u8>
 /// new code, which may be blank.
 #[tactic(auto, using(crate::proofs::GoodFields::tiploc_views))]
 pub fn tiploc(line: &Line) -> Result<TiplocRecord<'_>, FieldFault>
-    requires kind { HasKind tiploc_insert line.now ⊎ HasKind tiploc_amend line.now ⊎ HasKind tiploc_delete line.now }
-    ensures ok { IsOk result ↔ HasGoodFields line.now }
-    ensures value { IfOk result (λ view. view ≡ line.now) }
-    ensures err { IfErr result (λ fault. leftmost_bad_field line.now ≡ Some fault.0) }
+    requires kind { IsTiplocRecord line.now }
+    ensures { ReadsAs line.now result }
 {
     match tiploc_fault(line) {
         Some(column) => Err(FieldFault(column)),
@@ -69,19 +65,17 @@ pub fn tiploc(line: &Line) -> Result<TiplocRecord<'_>, FieldFault>
     }
 }
 
-/// The first column of its leftmost bad field.
+/// The first column of a TIPLOC record's leftmost bad field, none where all are good.
 #[tactic(auto, using(crate::proofs::Leftmost::tiploc_faults))]
 fn tiploc_fault(line: &Line) -> Option<u8>
-    requires kind { HasKind tiploc_insert line.now ⊎ HasKind tiploc_amend line.now ⊎ HasKind tiploc_delete line.now }
+    requires kind { IsTiplocRecord line.now }
     ensures { result ≡ leftmost_bad_field line.now }
 {
     if !is_tiploc(line.field(3)) {
         return Some(3);
     }
-    if is_amendment(line) {
-        if !is_new_tiploc(line.field(73)) {
-            return Some(73);
-        }
+    if is_amendment(line) && !is_new_tiploc(line.field(73)) {
+        return Some(73);
     }
     None
 }
@@ -90,9 +84,7 @@ fn tiploc_fault(line: &Line) -> Option<u8>
 /// 28 for the weekdays where it is no deletion, 38 for the TIPLOC, 80 for the STP indicator.
 pub fn assoc(line: &Line) -> Result<Assoc<'_>, FieldFault>
     requires kind { HasKind association line.now }
-    ensures ok { IsOk result ↔ HasGoodFields line.now }
-    ensures value { IfOk result (λ view. view ≡ line.now) }
-    ensures err { IfErr result (λ fault. leftmost_bad_field line.now ≡ Some fault.0) }
+    ensures { ReadsAs line.now result }
 {
     match assoc_fault(line) {
         Some(column) => Err(FieldFault(column)),
@@ -100,7 +92,7 @@ pub fn assoc(line: &Line) -> Result<Assoc<'_>, FieldFault>
     }
 }
 
-/// The first column of its leftmost bad field.
+/// The first column of an association's leftmost bad field, none where all are good. Of a deletion the end date and the days do not count.
 #[tactic(auto, using(crate::proofs::Leftmost::assoc_faults))]
 fn assoc_fault(line: &Line) -> Option<u8>
     requires kind { HasKind association line.now }
@@ -133,9 +125,7 @@ fn assoc_fault(line: &Line) -> Option<u8>
 /// 22 for the weekdays where it is no deletion, 80 for the STP indicator.
 pub fn basic(line: &Line) -> Result<Basic<'_>, FieldFault>
     requires kind { HasKind basic_schedule line.now }
-    ensures ok { IsOk result ↔ HasGoodFields line.now }
-    ensures value { IfOk result (λ view. view ≡ line.now) }
-    ensures err { IfErr result (λ fault. leftmost_bad_field line.now ≡ Some fault.0) }
+    ensures { ReadsAs line.now result }
 {
     match basic_fault(line) {
         Some(column) => Err(FieldFault(column)),
@@ -143,7 +133,7 @@ pub fn basic(line: &Line) -> Result<Basic<'_>, FieldFault>
     }
 }
 
-/// The first column of its leftmost bad field.
+/// The first column of a basic schedule's leftmost bad field, none where all are good. Of a deletion the end date and the days do not count.
 #[tactic(auto, using(crate::proofs::Leftmost::basic_faults))]
 fn basic_fault(line: &Line) -> Option<u8>
     requires kind { HasKind basic_schedule line.now }
@@ -173,9 +163,7 @@ fn basic_fault(line: &Line) -> Option<u8>
 /// 16 for the public departure, which may.
 pub fn origin(line: &Line) -> Result<Origin<'_>, FieldFault>
     requires kind { HasKind origin_location line.now }
-    ensures ok { IsOk result ↔ HasGoodFields line.now }
-    ensures value { IfOk result (λ view. view ≡ line.now) }
-    ensures err { IfErr result (λ fault. leftmost_bad_field line.now ≡ Some fault.0) }
+    ensures { ReadsAs line.now result }
 {
     match end_fault(line) {
         Some(column) => Err(FieldFault(column)),
@@ -187,9 +175,7 @@ pub fn origin(line: &Line) -> Result<Origin<'_>, FieldFault>
 /// 16 for the public arrival, which may.
 pub fn terminus(line: &Line) -> Result<Terminus<'_>, FieldFault>
     requires kind { HasKind terminating_location line.now }
-    ensures ok { IsOk result ↔ HasGoodFields line.now }
-    ensures value { IfOk result (λ view. view ≡ line.now) }
-    ensures err { IfErr result (λ fault. leftmost_bad_field line.now ≡ Some fault.0) }
+    ensures { ReadsAs line.now result }
 {
     match end_fault(line) {
         Some(column) => Err(FieldFault(column)),
@@ -197,7 +183,7 @@ pub fn terminus(line: &Line) -> Result<Terminus<'_>, FieldFault>
     }
 }
 
-/// The first column of the leftmost bad field of an origin location, and of a terminating location, whose checked fields stand alike.
+/// The first column of the leftmost bad field of an origin location, and of a terminating location, whose checked fields stand alike. None where all are good.
 fn end_fault(line: &Line) -> Option<u8>
     ensures origin { result ≡ bad_field_of origin_location line.now }
     ensures terminus { result ≡ bad_field_of terminating_location line.now }
@@ -218,9 +204,7 @@ fn end_fault(line: &Line) -> Option<u8>
 /// 21 for the pass, 26 for the public arrival, 30 for the public departure. Each of the times may be blank.
 pub fn call(line: &Line) -> Result<Call<'_>, FieldFault>
     requires kind { HasKind intermediate_location line.now }
-    ensures ok { IsOk result ↔ HasGoodFields line.now }
-    ensures value { IfOk result (λ view. view ≡ line.now) }
-    ensures err { IfErr result (λ fault. leftmost_bad_field line.now ≡ Some fault.0) }
+    ensures { ReadsAs line.now result }
 {
     match call_fault(line) {
         Some(column) => Err(FieldFault(column)),
@@ -228,7 +212,7 @@ pub fn call(line: &Line) -> Result<Call<'_>, FieldFault>
     }
 }
 
-/// The first column of its leftmost bad field.
+/// The first column of an intermediate location's leftmost bad field, none where all are good.
 fn call_fault(line: &Line) -> Option<u8>
     ensures { result ≡ bad_field_of intermediate_location line.now }
 {
@@ -257,9 +241,7 @@ fn call_fault(line: &Line) -> Option<u8>
 pub fn change(line: &Line) -> Result<ChangeEnRoute<'_>, FieldFault>
     requires kind { HasKind change_en_route line.now }
     ensures always { IsOk result }
-    ensures ok { IsOk result ↔ HasGoodFields line.now }
-    ensures value { IfOk result (λ view. view ≡ line.now) }
-    ensures err { IfErr result (λ fault. leftmost_bad_field line.now ≡ Some fault.0) }
+    ensures read { ReadsAs line.now result }
 {
     Ok(ChangeEnRoute::of(line))
 }

@@ -1,16 +1,12 @@
 //! The terminating location of a schedule, a record LT.
-ghost use Rattle.std.specs.Prelude.{◌≡◌, option_map, ◌*◌, take};
-ghost use Rattle.std.specs.Option.{option_map_or};
-ghost use Rattle.docker_model.specs.Record.{terminating_location, columns, column};
-ghost use Rattle.docker_model.specs.Clock.{half_minutes, public_time};
-ghost use Rattle.docker_model.specs.DockerLine.{shown_public, spaces};
-ghost use Rattle.docker_model.specs.DockerText.{time_text};
-ghost use Rattle.docker_model.specs.State.{IsTextOfLength};
+ghost use Rattle.std.specs.Prelude.{◌≡◌};
+ghost use Rattle.docker_model.specs.records.Record.{terminating_location, columns, column, IsTextOfLength};
+ghost use Rattle.docker_model.specs.records.Clock.{half_minutes};
+ghost use Rattle.docker_model.specs.records.PrintedTime.{shown_public};
+ghost use Rattle.cif_field.specs.FieldRead.{public_half_minutes, public_text};
 ghost use Rattle.cif_line.specs.View.{IsGood};
 
-use crate::line::Line;
-use crate::time::Time;
-use crate::tiploc_code::Tiploc;
+use cif_field::{Line, Time, Tiploc};
 use std::marker::Model;
 
 /// A view of a terminating location (LT) whose checked fields are good.
@@ -21,7 +17,7 @@ pub struct Terminus<'a> {
 
 impl<'a> Model for Terminus<'a> {
     ghost use Rattle.std.specs.Prelude.{List, ℕ};
-    ghost use Rattle.docker_model.specs.Record.{terminating_location};
+    ghost use Rattle.docker_model.specs.records.Record.{terminating_location};
     ghost use Rattle.cif_line.specs.View.{IsGood};
 
     ghost Value = { List ℕ };
@@ -64,8 +60,8 @@ impl<'a> Terminus<'a> {
 
     /// The public arrival, a whole minute, none where it is blank or `0000`: columns 16 to 19.
     pub fn public_arrival(&self) -> Option<Time>
-        ensures value { result ≡ option_map (λ minute. 2 * minute) (public_time (columns 16 19 self.now)) }
-        ensures shown { shown_public (columns 16 19 self.now) ≡ option_map_or (λ time. take 4 (time_text time)) result (spaces 4) }
+        ensures value { result ≡ public_half_minutes (columns 16 19 self.now) }
+        ensures shown { shown_public (columns 16 19 self.now) ≡ public_text result }
     {
         self.line.public_time(16)
     }

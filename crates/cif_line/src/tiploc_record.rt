@@ -1,12 +1,10 @@
 //! A timing point's code, a record TI, TA or TD.
 ghost use Rattle.std.specs.Prelude.{◌≡◌};
-ghost use Rattle.docker_model.specs.Record.{kind_of, columns};
-ghost use Rattle.docker_model.specs.State.{IsTextOfLength};
+ghost use Rattle.docker_model.specs.records.Record.{kind_of, columns, IsTextOfLength};
 ghost use Rattle.cif_line.specs.View.{IsGoodTiploc, new_code_of};
 
 use crate::identity::is_amendment;
-use crate::line::Line;
-use crate::tiploc_code::Tiploc;
+use cif_field::{Line, Tiploc};
 use std::marker::Model;
 
 /// A view of a TIPLOC insert (TI), amend (TA) or delete (TD) whose checked fields are good.

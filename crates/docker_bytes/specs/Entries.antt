@@ -1,10 +1,10 @@
 -- The bytes of an entry in two parts: those up to its lines, and its lines.
 use Rattle.std.specs.Prelude.{◌≡◌, ℕ, ◌<◌, ◌^◌, List, [], ◌∷◌, ◌++◌, length}
 use Rattle.std.specs.Int.{w32, to_be_bytes}
-use Rattle.docker_model.specs.Change.{Key, Body, tiploc_body, association_body, schedule_body}
-use Rattle.docker_model.specs.Op.{Op, deleted, lapsed, put_with, Entry, key_tag}
-use Rattle.docker_model.specs.State.{IsGoodKey, IsOpOf}
-use Rattle.docker_model.specs.StateText.{key_bytes, stamp_bytes}
+use Rattle.docker_model.specs.file.Change.{Key, Body, tiploc_body, association_body, schedule_body}
+use Rattle.docker_model.specs.state.Op.{Op, deleted, lapsed, put_with, Entry, key_tag}
+use Rattle.docker_model.specs.state.State.{IsGoodKey, IsOpOf}
+use Rattle.docker_model.specs.state.StateText.{key_bytes, stamp_bytes}
 
 -- a body without its lines: of a schedule their number
 abbrev pub body_head : Body → List ℕ

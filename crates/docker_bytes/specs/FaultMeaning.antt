@@ -1,9 +1,10 @@
 -- What causes of the code mean, as the definitions name them.
 use Rattle.std.specs.Prelude.{◌≢◌, ℕ, List, Option, Some, None, slice_index, ⊤}
-use Rattle.docker_model.specs.Change.{tiploc_key, association_key, schedule_key}
-use Rattle.docker_model.specs.StateText.{Format}
-use Rattle.docker_model.specs.StateFault.{bad_mark, bad_item, bad_order, bad_floor, bad_tag, bad_stamp, bad_body, too_short, has_tail, too_long, bad_horizon, EntryPart, before_tag, before_key, before_stamp, before_op, before_body, before_line, Before, before_item, in_entry, IsBadPart}
-use Rattle.docker_model.specs.StateFault as model
+use Rattle.docker_model.specs.file.Change.{tiploc_key, association_key, schedule_key}
+use Rattle.docker_model.specs.state.StateText.{Format}
+use Rattle.docker_model.specs.state.StateFault.{bad_mark, bad_item, bad_order, bad_floor, bad_tag, bad_stamp, bad_body, too_short, has_tail, too_long, bad_horizon, IsBadPart}
+use Rattle.docker_model.specs.state.StatePart.{EntryPart, before_tag, before_key, before_stamp, before_op, before_body, before_line, Before, before_item, in_entry}
+use Rattle.docker_model.specs.state.StateFault as model
 use Rattle.docker_bytes.specs.declared.fault.StateCause.{StateCause}
 use Rattle.docker_bytes.specs.declared.fault.StateCause.TheVariants as cause
 

@@ -1,5 +1,5 @@
 -- What a format of the code means.
-use Rattle.docker_model.specs.StateText.{Format, dks_1, dks_2}
+use Rattle.docker_model.specs.state.StateText.{Format, dks_1, dks_2}
 use Rattle.docker_bytes.specs.declared.format.Format as code
 use Rattle.docker_bytes.specs.declared.format.Format.TheVariants as format
 

@@ -1,20 +1,30 @@
 -- What is found of a part.
 use Rattle.std.specs.Prelude.{◌≡◌, ℕ, ◌≤◌, List, Option, Some, None, Result, Ok, Err}
-use Rattle.docker_model.specs.Stamp as stamps
-use Rattle.docker_model.specs.Change as model
-use Rattle.docker_model.specs.State.{State, IsGoodItem, IsGoodKey, HasNewTransaction, IsAssociationOf}
-use Rattle.docker_model.specs.Record.{HasKind, basic_schedule, columns}
-use Rattle.docker_model.specs.Field.{HasGoodFields}
-use Rattle.docker_model.specs.Change.{schedule_named, schedule_key, association_body}
-use Rattle.docker_model.specs.Op.{body_end, readable_end}
-use Rattle.docker_model.specs.StateFault.{IsAboveItems, RaisesFloor, IsAboveEntries, IsBadItem, IsBadKey}
-use Rattle.docker_model.specs.StateFault as fault
+use Rattle.docker_model.specs.state.Stamp as stamps
+use Rattle.docker_model.specs.file.Change as model
+use Rattle.docker_model.specs.state.State.{State, IsGoodItem, IsGoodKey, IsAssociationOf}
+use Rattle.docker_model.specs.records.Field.{HasNewTransaction, HasGoodFields}
+use Rattle.docker_model.specs.records.Record.{HasKind, basic_schedule, columns}
+use Rattle.docker_model.specs.file.Change.{schedule_named, schedule_key, association_body}
+use Rattle.docker_model.specs.state.Op.{body_end, readable_end}
+use Rattle.docker_model.specs.state.StatePart.{IsAboveItems, RaisesFloor, IsAboveEntries}
+use Rattle.docker_model.specs.state.StateFault.{IsBadItem, IsBadKey}
+use Rattle.docker_model.specs.state.StateFault as fault
+use Rattle.docker_model.specs.state.StatePart as fault_statepart
+use Rattle.docker_model.specs.state.StateText.{Format}
 use Rattle.cif_file.specs.declared.key.Key.{Key}
 use Rattle.cif_file.specs.Meaning.{key_meant}
 use Rattle.docker_state.specs.declared.item.LedgerItem.{LedgerItem}
 use Rattle.docker_state.specs.Meaning.{item_meant}
 use Rattle.docker_bytes.specs.declared.fault.StateCause.{StateCause}
-use Rattle.docker_bytes.specs.FaultMeaning.{cause_meant}
+use Rattle.docker_bytes.specs.FaultMeaning.{cause_meant, IsBadHere}
+use Rattle.docker_bytes.specs.declared.stage.Stage.{Stage}
+use Rattle.docker_bytes.specs.Stage.{LeadsTo}
+
+-- a part behind what stands before it: it leads to a stage, or it is bad for a cause, or memory was wanting for it
+abbrev pub Judges : Format → fault_statepart.Before → List ℕ → State → List (List ℕ) → Result Stage StateCause → Type 0
+Judges format before bytes state lines (Ok stage) = LeadsTo format before bytes stage state lines
+Judges format before bytes state lines (Err cause) = IsBadHere format before bytes (cause_meant cause)
 
 -- the ledger item may follow
 pub record MayFollow (ledger : List stamps.LedgerItem) (item : stamps.LedgerItem) : Type 0 where

@@ -2,7 +2,9 @@ pub mod Written
 pub mod Entries
 pub mod FormatMeaning
 pub mod Told
-pub mod Place
+pub mod Receiving
+pub mod Store
+pub mod Stage
 pub mod FaultMeaning
 pub mod FaultText
 pub mod ReadFaultText

@@ -1,9 +1,10 @@
 -- Why a line does not go on with a schedule in the text of a state.
 use Rattle.std.specs.Prelude.{◌≡◌, ℕ, List, [], ◌∷◌, ◌++◌, length, Option, Some, None}
-use Rattle.docker_model.specs.Change as model
-use Rattle.docker_model.specs.File.{IsSchedule, BeginsSchedule}
-use Rattle.docker_model.specs.State.{State}
-use Rattle.docker_model.specs.StateFault.{StateCause, bad_body, AreLinesOf, AreLinesUpTo, HaveNotToLapse}
+use Rattle.docker_model.specs.file.Change as model
+use Rattle.docker_model.specs.file.File.{IsSchedule, BeginsSchedule}
+use Rattle.docker_model.specs.state.State.{State}
+use Rattle.docker_model.specs.state.StateFault.{StateCause, bad_body}
+use Rattle.docker_model.specs.state.StatePart.{AreLinesOf, AreLinesUpTo, HaveNotToLapse}
 
 -- a schedule begins with the lines, and the last of so many completes it
 pub record BeginUpTo (count : ℕ) (lines : List (List ℕ)) : Type 0 where

@@ -1,6 +1,7 @@
 -- What a parser of a state's text was fed.
-use Rattle.std.specs.Prelude.{◌≡◌, ℕ, List, Option, Some, None}
-use Rattle.docker_model.specs.StateText.{Format}
+use Rattle.std.specs.Prelude.{◌≡◌, ℕ, List, [], Option, Some, None}
+use Rattle.docker_model.specs.state.State.{State}
+use Rattle.docker_model.specs.state.StateText.{Format}
 use Rattle.docker_bytes.specs.declared.fault.StateFault.{StateFault}
 use Rattle.docker_bytes.specs.declared.reading.Reading.{Reading}
 use Rattle.docker_bytes.specs.Reading.{format_of, text_of, IsReading}
@@ -25,3 +26,11 @@ pub record HasRead (parser : ParserState) (format : Format) (limit : ℕ) (text 
 -- the parser told this fault
 abbrev pub HasFailed : ParserState → StateFault → Type 0
 HasFailed parser fault = parser.fault ≡ Some fault
+
+-- the state that receives what is read, if one does
+abbrev pub own_of : ParserState → Option State
+own_of parser = parser.reading.parts.own
+
+-- a parser that has read nothing, and told no fault
+abbrev pub IsUnread : ParserState → Type 0
+IsUnread parser = HasRead parser (format_of parser.reading) parser.reading.limit []

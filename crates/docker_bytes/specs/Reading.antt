@@ -1,16 +1,17 @@
 -- What a reader of a state's text has read.
 use Rattle.std.specs.Prelude.{◌≡◌, ℕ, ◌+◌, ◌-◌, ◌<◌, ◌≤◌, ◌⊎◌, List, ◌++◌, length, take, Option, Some, None}
-use Rattle.docker_model.specs.State.{State}
-use Rattle.docker_model.specs.StateText.{Format}
-use Rattle.docker_model.specs.StateFault.{Before, items_before, text_before, width, AreGood, HasBadPart, IsLong, IsShort, IsStateText}
-use Rattle.docker_model.specs.StateFault as model
+use Rattle.docker_model.specs.state.State.{State, IsJoin}
+use Rattle.docker_model.specs.state.StateText.{Format}
+use Rattle.docker_model.specs.state.StatePart.{Before, items_before, text_before, width, AreGood}
+use Rattle.docker_model.specs.state.StateFault.{HasBadPart, IsLong, IsShort, IsStateText}
+use Rattle.docker_model.specs.state.StateFault as model
 use Rattle.docker_bytes.specs.declared.fault.StateFault.{StateFault}
 use Rattle.docker_bytes.specs.declared.fault.Step.{Step}
 use Rattle.docker_bytes.specs.declared.fault.Step.TheVariants.{Done, More}
 use Rattle.docker_bytes.specs.declared.reading.Reading.{Reading}
 use Rattle.docker_bytes.specs.FaultMeaning.{cause_meant, IsWantingHere, IsBadHere}
 use Rattle.docker_bytes.specs.FormatMeaning.{format_meant}
-use Rattle.docker_bytes.specs.Place.{place_meant, IsReady}
+use Rattle.docker_bytes.specs.Stage.{stage_meant, IsReady}
 
 -- the format of the text
 abbrev pub format_of : Reading → Format
@@ -18,7 +19,7 @@ format_of reading = format_meant reading.format
 
 -- what stands before the part that is being read
 abbrev pub before_of : Reading → Before
-before_of reading = place_meant reading.place reading.parts reading.lines
+before_of reading = stage_meant reading.stage reading.parts.told reading.lines
 
 -- the bytes that were read
 abbrev pub text_of : Reading → List ℕ
@@ -26,7 +27,7 @@ text_of reading = text_before (format_of reading) (before_of reading) ++ reading
 
 -- all parts before are good, and of the next one a front was read, within the limit
 pub record IsReading (reading : Reading) : Type 0 where
-  pub ready : IsReady (format_of reading) reading.place reading.parts reading.lines
+  pub ready : IsReady (format_of reading) reading.stage reading.parts.told reading.lines
   pub short : length reading.partial.items ≤ width (before_of reading) - 1
   pub reached_is : reading.reached ≡ length (text_before (format_of reading) (before_of reading))
   pub item_is : reading.item_at ≡ length (items_before (format_of reading) (before_of reading))
@@ -85,3 +86,9 @@ IsUnended format limit text fault = IsToldAtEnd format limit text fault.at (caus
 abbrev pub IsStep : Format → ℕ → List ℕ → List ℕ → ℕ × Step → Type 0
 IsStep format limit text piece (n, Done) = IsWhole format limit (text ++ take n piece)
 IsStep format limit text piece (n, More) = (n ≡ length piece) × IsOpen format limit (text ++ piece)
+
+-- a state was joined with that of a text
+pub record JoinsText (format : Format) (limit : ℕ) (text : List ℕ) (own after : State) : Type 0 where
+  pub received : State
+  pub is : IsStateText format limit text received
+  pub join : IsJoin own received after

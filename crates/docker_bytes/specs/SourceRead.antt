@@ -1,13 +1,14 @@
 -- What a source held.
 use Rattle.std.specs.Prelude.{◌≡◌, ℕ, ◌≤◌, ◌⊎◌, List, [], ◌++◌, length, Option, Some, None, ⊤}
 use Rattle.cif_line.specs.Device.{Reads}
-use Rattle.docker_model.specs.State.{State}
-use Rattle.docker_model.specs.StateText.{Format}
-use Rattle.docker_model.specs.StateFault.{IsStateFault, IsStateText}
-use Rattle.docker_model.specs.StateFault as model
+use Rattle.docker_model.specs.state.State.{State, IsJoin}
+use Rattle.docker_model.specs.state.StateText.{Format}
+use Rattle.docker_model.specs.state.StateFault.{IsStateFault, IsStateText}
+use Rattle.docker_model.specs.state.StateFault as model
 use Rattle.docker_bytes.specs.declared.fault.StateFault.{StateFault}
 use Rattle.docker_bytes.specs.FaultMeaning.{cause_meant}
 use Rattle.docker_bytes.specs.Reading.{IsWhole, IsOpen, IsWanting}
+use Rattle.docker_bytes.specs.ParserRead.{ParserState, HasRead}
 
 -- a source that tells its bytes held this text
 abbrev pub Held : Option (List ℕ) → List ℕ → Type 0
@@ -50,6 +51,22 @@ pub record WantsPart (format : Format) (most limit : ℕ) (old new : Option (Lis
   pub few : length piece ≤ most
   pub at : ℕ
   pub wanting : IsWanting format limit text piece at
+
+-- memory was wanting before a byte was read, or for a part up to which none is bad
+abbrev pub WantsSoFar : Format → ℕ → ℕ → Option (List ℕ) → Option (List ℕ) → Type 0
+WantsSoFar format most limit old new = Reads old [] new ⊎ WantsPart format most limit old new
+
+-- a parser has read all that a source held
+pub record ReadsAll (format : Format) (limit : ℕ) (left : Option (List ℕ)) (parser : ParserState) : Type 0 where
+  pub text : List ℕ
+  pub held : Held left text
+  pub read : HasRead parser format limit text
+
+-- a state was joined with the state whose text the source held
+pub record JoinsState (format : Format) (limit : ℕ) (left : Option (List ℕ)) (own after : State) : Type 0 where
+  pub received : State
+  pub read : ReadsState format limit left received
+  pub join : IsJoin own received after
 
 -- memory was wanting: before a byte was read, for a part up to which none is bad, or at the end of a state's text
 abbrev pub WantsMemory : Format → ℕ → ℕ → Option (List ℕ) → Option (List ℕ) → Type 0

@@ -1,14 +1,18 @@
 -- What the parts of a text have told: a horizon, and a state without one.
-use Rattle.std.specs.Prelude.{ℕ, [], ◌∷◌, ◌++◌, Option, Some, None}
-use Rattle.docker_model.specs.Change.{Key}
-use Rattle.docker_model.specs.Stamp.{LedgerItem}
-use Rattle.docker_model.specs.Op.{Entry}
-use Rattle.docker_model.specs.State.{State}
+use Rattle.std.specs.Prelude.{ℕ, List, [], ◌∷◌, ◌++◌, map, Option, Some, None}
+use Rattle.docker_model.specs.file.Change.{Key}
+use Rattle.docker_model.specs.state.Stamp.{LedgerItem, FileStamp}
+use Rattle.docker_model.specs.state.Op.{Entry}
+use Rattle.docker_model.specs.state.State.{State}
 
 -- a horizon that was read, 0 where none was
 abbrev pub horizon_meant : Option ℕ → ℕ
 horizon_meant None = 0
 horizon_meant (Some day) = day
+
+-- the file stamps of a ledger
+abbrev pub file_stamps : List LedgerItem → List FileStamp
+file_stamps items = map (λ (item : LedgerItem). item.stamp) items
 
 -- the ledger and the entries of a state, under a horizon
 abbrev pub under : ℕ → State → State
@@ -21,3 +25,8 @@ with_item state item = record { horizon = state.horizon; ledger = state.ledger +
 -- a state, and one entry more
 abbrev pub with_row : State → Key × Entry → State
 with_row state row = record { horizon = state.horizon; ledger = state.ledger; entries = state.entries ++ row ∷ [] }
+
+-- what the parts of a text have told, and the state that receives it, if one does
+pub record Told : Type 0 where
+  pub told : State
+  pub own : Option State

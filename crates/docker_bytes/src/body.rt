@@ -1,24 +1,31 @@
 //! Bodies of TIPLOCs and associations, and the first line of a schedule, as they are read.
 ghost use Rattle.std.specs.Prelude.{◌≡◌, ◌+◌, ◌≤◌, ◌↔◌, length, slice_range, IsTrue, MatchOption};
-ghost use Rattle.docker_model.specs.Record.{IsRecord, HasKind, association, basic_schedule};
-ghost use Rattle.docker_model.specs.Field.{HasGoodFields};
-ghost use Rattle.docker_model.specs.Change.{tiploc_body, association_body, association_named, schedule_named, association_key, schedule_key};
-ghost use Rattle.docker_model.specs.Op.{body_end, readable_end};
-ghost use Rattle.docker_model.specs.State.{IsTextOfLength, HasNewTransaction, IsAssociationOf};
+ghost use Rattle.docker_model.specs.records.Record.{IsRecord, HasKind, association, basic_schedule, IsTextOfLength};
+ghost use Rattle.docker_model.specs.records.Field.{HasGoodFields, HasNewTransaction};
+ghost use Rattle.docker_model.specs.file.Change.{tiploc_body, association_body, association_named, schedule_named, association_key, schedule_key};
+ghost use Rattle.docker_model.specs.state.Op.{body_end, readable_end};
+ghost use Rattle.docker_model.specs.state.State.{IsAssociationOf};
 ghost use Rattle.cif_line.specs.Kind.{meaning};
 ghost use Rattle.cif_file.specs.Meaning.{key_meant, body_meant};
-ghost use Rattle.docker_bytes.specs.Place.{assoc_meant, schedule_meant};
+ghost use Rattle.docker_bytes.specs.Stage.{assoc_meant, schedule_meant};
 ghost use Rattle.docker_bytes.specs.Judged.{IsAssociationUnder, IsFirstOf};
 
 use crate::fields::{field, is_text};
+use crate::format::{LINE, TIPLOC_BODY};
 use cif_file::{AssocKey, Body, Key, ScheduleKey};
 use cif_line::{Assoc, Basic, Kind, Line, Transaction, Until, assoc, basic, kind};
 
-/// The body of a TIPLOC that 63 bytes are. None where a byte is not printable.
+/// Where the end date of an association's line begins.
+const ASSOC_END_AT: usize = 21;
+
+/// Where the end date of a basic schedule begins.
+const SCHEDULE_END_AT: usize = 15;
+
+/// The body of a TIPLOC that bytes are. None where a byte is not printable.
 pub(crate) fn tiploc_body(bytes: &[u8]) -> Option<Body>
-    requires { length bytes.now ≡ 63 }
-    ensures { MatchOption result (¬ IsTextOfLength 63 bytes.now)
-        (λ body. (body_meant body ≡ tiploc_body bytes.now) × IsTextOfLength 63 bytes.now) }
+    requires { length bytes.now ≡ TIPLOC_BODY }
+    ensures { MatchOption result (¬ IsTextOfLength TIPLOC_BODY bytes.now)
+        (λ body. (body_meant body ≡ tiploc_body bytes.now) × IsTextOfLength TIPLOC_BODY bytes.now) }
 {
     if !is_text(bytes) {
         return None;
@@ -38,7 +45,7 @@ pub(crate) fn assoc_body(key: &AssocKey, horizon: u16, bytes: &[u8]) -> Option<B
     if !is_association_of(key, &line) {
         return None;
     }
-    if !stays(&line, 21, horizon) {
+    if !stays(&line, ASSOC_END_AT, horizon) {
         return None;
     }
     Some(Body::Assoc(line))
@@ -46,7 +53,7 @@ pub(crate) fn assoc_body(key: &AssocKey, horizon: u16, bytes: &[u8]) -> Option<B
 
 /// Whether the end date at an index of a line is not before a horizon. What cannot be read is no end.
 fn stays(line: &Line, at: usize, horizon: u16) -> bool
-    requires { at + 6 ≤ 80 }
+    requires { at + 6 ≤ LINE }
     ensures { IsTrue result ↔ (horizon ≤ readable_end (slice_range line.now at (at + 6))) }
 {
     match Until::from_field(field(line.bytes(), at)) {
@@ -112,7 +119,7 @@ pub(crate) fn is_first_of(key: &ScheduleKey, horizon: u16, line: &Line) -> bool
     if !has_kind(line, Kind::BasicSchedule) {
         return false;
     }
-    if !stays(line, 15, horizon) {
+    if !stays(line, SCHEDULE_END_AT, horizon) {
         return false;
     }
     match basic(line) {

@@ -1,8 +1,7 @@
 //! A buffer before a sink, so that small pieces reach a device together.
 ghost use Rattle.std.specs.Prelude.{◌≡◌, ◌+◌, ◌-◌, ◌^◌, ◌<◌, ◌≤◌, ◌↔◌, [], ◌++◌, length, IsTrue, OnOk, OnErr};
 ghost use Rattle.arrayvec.specs.ArrayVec.{array_vec_len};
-ghost use Rattle.cif_line.specs.Device.{Takes, TakesPart};
-ghost use Rattle.docker_bytes.specs.Written.{Gathers};
+ghost use Rattle.docker_bytes.specs.Written.{Gives, Flushes};
 
 use arrayvec::ArrayVec;
 use cif_line::{Failed, Sink, write_all};
@@ -16,19 +15,12 @@ pub(crate) type Buffer = ArrayVec<u8, ROOM>;
 /// Writes what the buffer holds, and empties it.
 pub(crate) fn flush<K: Sink>(sink: &mut K, buffer: &mut Buffer) -> Result<(), Failed>
     requires { K.failures sink.old < 2 ^ 64 - 1 }
-    ensures ok { OnOk result (Takes (K.taken sink.old) buffer.old.items (K.taken sink.new)) }
+    ensures gives { Flushes K.taken K.failures sink.old buffer.old.items result sink.new }
     ensures empty { OnOk result (buffer.new.items ≡ []) }
-    ensures err { OnErr result (TakesPart (K.taken sink.old) buffer.old.items (K.taken sink.new)) }
-    ensures no_failure { OnOk result (K.failures sink.new ≡ K.failures sink.old) }
-    ensures counted { OnErr result (K.failures sink.new ≡ K.failures sink.old + 1) }
 {
-    match write_all(sink, buffer.as_slice()) {
-        Ok(()) => {
-            buffer.clear();
-            Ok(())
-        }
-        Err(failed) => Err(failed),
-    }
+    write_all(sink, buffer.as_slice())?;
+    buffer.clear();
+    Ok(())
 }
 
 /// Writes what the buffer holds where there is no room for so many more bytes.
@@ -38,12 +30,10 @@ pub(crate) fn make_room<K: Sink>(
     more: usize,
 ) -> Result<(), Failed>
     requires failures { K.failures sink.old < 2 ^ 64 - 1 }
-    requires small { more ≤ 8192 }
-    ensures ok { OnOk result (Gathers (K.taken sink.old) buffer.old.items [] (K.taken sink.new) buffer.new.items) }
-    ensures room { OnOk result (array_vec_len buffer.new + more ≤ 8192) }
-    ensures err { OnErr result (TakesPart (K.taken sink.old) buffer.old.items (K.taken sink.new)) }
-    ensures no_failure { OnOk result (K.failures sink.new ≡ K.failures sink.old) }
-    ensures counted { OnErr result (K.failures sink.new ≡ K.failures sink.old + 1) }
+    requires small { more ≤ ROOM }
+    ensures gives { Gives K.taken K.failures sink.old buffer.old.items [] result
+        sink.new buffer.new.items }
+    ensures room { OnOk result (array_vec_len buffer.new + more ≤ ROOM) }
 {
     if buffer.remaining_capacity() < more {
         flush(sink, buffer)
@@ -54,7 +44,7 @@ pub(crate) fn make_room<K: Sink>(
 
 /// Appends bytes for which there is room.
 pub(crate) fn add(buffer: &mut Buffer, bytes: &[u8])
-    requires { array_vec_len buffer.old + length bytes.now ≤ 8192 }
+    requires { array_vec_len buffer.old + length bytes.now ≤ ROOM }
     ensures items { buffer.new.items ≡ buffer.old.items ++ bytes.now }
     ensures len { array_vec_len buffer.new ≡ array_vec_len buffer.old + length bytes.now }
 {

@@ -1,59 +1,65 @@
-//! Ledger items, keys, stamps and ops as bytes.
+//! Ledger items, keys, stamps and ops as bytes, in a buffer that has room for them.
 ghost use Rattle.std.specs.Prelude.{◌≡◌, ◌+◌, ◌<◌, ◌≤◌, ◌^◌, ◌++◌, length};
 ghost use Rattle.arrayvec.specs.ArrayVec.{array_vec_len};
-ghost use Rattle.docker_model.specs.Op.{key_tag};
-ghost use Rattle.docker_model.specs.StateText.{item_bytes, file_stamp_bytes, key_bytes, stamp_bytes};
-ghost use Rattle.docker_model.specs.StateFault.{key_text};
+ghost use Rattle.docker_model.specs.state.Op.{key_tag};
+ghost use Rattle.docker_model.specs.state.StateText.{item_bytes, file_stamp_bytes, key_bytes, stamp_bytes};
+ghost use Rattle.docker_model.specs.state.StatePart.{key_text};
 ghost use Rattle.cif_file.specs.Meaning.{key_meant, body_meant};
 ghost use Rattle.docker_join.specs.Meaning.{file_stamp_meant, stamp_meant, op_meant};
 ghost use Rattle.docker_state.specs.Meaning.{item_meant, row_meant};
 ghost use Rattle.docker_bytes.specs.Entries.{op_head, entry_head, op_lines, HasFewLines};
 
-use crate::buffer::{Buffer, add};
+use crate::buffer::{Buffer, ROOM, add};
+use crate::format::{
+    ASSOC_KEY, ASSOC_TAG, DELETED, ENTRY_HEAD, FILE_STAMP, ITEM, LAPSED, LINE, OP, PUT,
+    SCHEDULE_KEY, SCHEDULE_TAG, STAMP, TAG, TIPLOC_TAG,
+};
 use cif_file::{AssocKey, Body, Key, ScheduleKey};
 use cif_line::Line;
 use docker_join::{Entry, FileStamp, Op, Stamp};
 use docker_state::LedgerItem;
 
-/// A file stamp, in 11 bytes.
+/// Adds a file stamp.
 fn add_file_stamp(buffer: &mut Buffer, stamp: &FileStamp)
-    requires { array_vec_len buffer.old + 11 ≤ 8192 }
-    ensures items { buffer.new.items ≡ buffer.old.items ++ file_stamp_bytes (file_stamp_meant stamp.now) }
-    ensures len { array_vec_len buffer.new ≡ array_vec_len buffer.old + 11 }
+    requires { array_vec_len buffer.old + FILE_STAMP ≤ ROOM }
+    ensures items { buffer.new.items ≡ buffer.old.items
+        ++ file_stamp_bytes (file_stamp_meant stamp.now) }
+    ensures len { array_vec_len buffer.new ≡ array_vec_len buffer.old + FILE_STAMP }
 {
     add(buffer, &stamp.day.number().to_be_bytes());
     add(buffer, &stamp.minute.to_be_bytes());
     add(buffer, &stamp.reference);
 }
 
-/// A ledger item, in 19 bytes.
+/// Adds a ledger item.
 pub(crate) fn add_item(buffer: &mut Buffer, item: &LedgerItem)
-    requires { array_vec_len buffer.old + 19 ≤ 8192 }
+    requires { array_vec_len buffer.old + ITEM ≤ ROOM }
     ensures items { buffer.new.items ≡ buffer.old.items ++ item_bytes (item_meant item.now) }
-    ensures len { array_vec_len buffer.new ≡ array_vec_len buffer.old + 19 }
+    ensures len { array_vec_len buffer.new ≡ array_vec_len buffer.old + ITEM }
 {
     add_file_stamp(buffer, &item.stamp());
     add(buffer, &[item.indicator.letter()]);
     add(buffer, &item.last_reference);
 }
 
-/// A stamp, in 15 bytes.
+/// Adds a stamp.
 fn add_stamp(buffer: &mut Buffer, stamp: &Stamp)
-    requires { array_vec_len buffer.old + 15 ≤ 8192 }
+    requires { array_vec_len buffer.old + STAMP ≤ ROOM }
     ensures items { buffer.new.items ≡ buffer.old.items ++ stamp_bytes (stamp_meant stamp.now) }
-    ensures len { array_vec_len buffer.new ≡ array_vec_len buffer.old + 15 }
+    ensures len { array_vec_len buffer.new ≡ array_vec_len buffer.old + STAMP }
 {
     add_file_stamp(buffer, &stamp.file);
     add(buffer, &stamp.number.to_be_bytes());
 }
 
-/// The key of an association with its tag, in 24 bytes.
+/// Adds the key of an association with its tag.
 fn add_assoc_key(buffer: &mut Buffer, key: &AssocKey)
-    requires { array_vec_len buffer.old + 24 ≤ 8192 }
-    ensures items { buffer.new.items ≡ buffer.old.items ++ key_text (key_meant (Key.Assoc key.now)) }
-    ensures len { array_vec_len buffer.new ≡ array_vec_len buffer.old + 24 }
+    requires { array_vec_len buffer.old + (TAG + ASSOC_KEY) ≤ ROOM }
+    ensures items { buffer.new.items ≡ buffer.old.items
+        ++ key_text (key_meant (Key.Assoc key.now)) }
+    ensures len { array_vec_len buffer.new ≡ array_vec_len buffer.old + (TAG + ASSOC_KEY) }
 {
-    add(buffer, &[2]);
+    add(buffer, &[ASSOC_TAG]);
     add(buffer, key.base.bytes());
     add(buffer, key.associated.bytes());
     add(buffer, &key.start.number().to_be_bytes());
@@ -61,27 +67,28 @@ fn add_assoc_key(buffer: &mut Buffer, key: &AssocKey)
     add(buffer, &[key.suffix, key.stp.letter()]);
 }
 
-/// The key of a schedule with its tag, in 10 bytes.
+/// Adds the key of a schedule with its tag.
 fn add_schedule_key(buffer: &mut Buffer, key: &ScheduleKey)
-    requires { array_vec_len buffer.old + 10 ≤ 8192 }
-    ensures items { buffer.new.items ≡ buffer.old.items ++ key_text (key_meant (Key.Schedule key.now)) }
-    ensures len { array_vec_len buffer.new ≡ array_vec_len buffer.old + 10 }
+    requires { array_vec_len buffer.old + (TAG + SCHEDULE_KEY) ≤ ROOM }
+    ensures items { buffer.new.items ≡ buffer.old.items
+        ++ key_text (key_meant (Key.Schedule key.now)) }
+    ensures len { array_vec_len buffer.new ≡ array_vec_len buffer.old + (TAG + SCHEDULE_KEY) }
 {
-    add(buffer, &[3]);
+    add(buffer, &[SCHEDULE_TAG]);
     add(buffer, key.uid.bytes());
     add(buffer, &key.runs_from.number().to_be_bytes());
     add(buffer, &[key.stp.letter()]);
 }
 
-/// A key with its tag, in at most 24 bytes.
+/// Adds a key with its tag. That of an association is the longest.
 fn add_key(buffer: &mut Buffer, key: &Key)
-    requires { array_vec_len buffer.old + 24 ≤ 8192 }
+    requires { array_vec_len buffer.old + (TAG + ASSOC_KEY) ≤ ROOM }
     ensures items { buffer.new.items ≡ buffer.old.items ++ key_text (key_meant key.now) }
-    ensures len { array_vec_len buffer.new ≤ array_vec_len buffer.old + 24 }
+    ensures len { array_vec_len buffer.new ≤ array_vec_len buffer.old + (TAG + ASSOC_KEY) }
 {
     match key {
         Key::Tiploc(code) => {
-            add(buffer, &[1]);
+            add(buffer, &[TIPLOC_TAG]);
             add(buffer, code.bytes());
         }
         Key::Assoc(key) => add_assoc_key(buffer, key),
@@ -89,17 +96,17 @@ fn add_key(buffer: &mut Buffer, key: &Key)
     }
 }
 
-/// An op without its lines, in at most 81 bytes.
+/// Adds an op without its lines. That of an association is the longest.
 fn add_op(buffer: &mut Buffer, op: &Op)
-    requires room { array_vec_len buffer.old + 81 ≤ 8192 }
+    requires room { array_vec_len buffer.old + (OP + LINE) ≤ ROOM }
     requires few { length (op_lines (op_meant op.now)) < 2 ^ 32 }
     ensures items { buffer.new.items ≡ buffer.old.items ++ op_head (op_meant op.now) }
 {
     match op {
-        Op::Deleted => add(buffer, &[0]),
-        Op::Lapsed => add(buffer, &[2]),
+        Op::Deleted => add(buffer, &[DELETED]),
+        Op::Lapsed => add(buffer, &[LAPSED]),
         Op::Put(body) => {
-            add(buffer, &[1]);
+            add(buffer, &[PUT]);
             match body {
                 Body::Tiploc(bytes) => add(buffer, bytes),
                 Body::Assoc(line) => add(buffer, line.bytes()),
@@ -109,9 +116,9 @@ fn add_op(buffer: &mut Buffer, op: &Op)
     }
 }
 
-/// An entry without its lines, in at most 120 bytes.
+/// Adds an entry without its lines.
 pub(crate) fn add_entry_head(buffer: &mut Buffer, row: &(Key, Entry))
-    requires room { array_vec_len buffer.old + 120 ≤ 8192 }
+    requires room { array_vec_len buffer.old + ENTRY_HEAD ≤ ROOM }
     requires few { HasFewLines (row_meant row.now) }
     ensures items { buffer.new.items ≡ buffer.old.items ++ entry_head (row_meant row.now) }
 {

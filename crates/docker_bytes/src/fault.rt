@@ -2,6 +2,8 @@
 ghost use Rattle.std.specs.Prelude.{Some};
 ghost use Rattle.docker_bytes.specs.FaultText.{cause_text, fault_text};
 
+use cif_line::Memory;
+use std::alloc::AllocError;
 use std::error::Error;
 use std::fmt;
 
@@ -56,6 +58,28 @@ impl fmt::Display for StateCause {
 }
 
 impl Error for StateCause {}
+
+impl From<AllocError> for StateCause {
+    ghost use Rattle.docker_bytes.specs.declared.fault.StateCause.TheVariants.{Memory as wanting};
+    ghost use Rattle.std.specs.Prelude.{◌≡◌};
+
+    ghost from_gives = { λ _ cause. cause ≡ wanting };
+
+    fn from(_refused: AllocError) -> StateCause {
+        StateCause::Memory
+    }
+}
+
+impl From<Memory> for StateCause {
+    ghost use Rattle.docker_bytes.specs.declared.fault.StateCause.TheVariants.{Memory as wanting};
+    ghost use Rattle.std.specs.Prelude.{◌≡◌};
+
+    ghost from_gives = { λ _ cause. cause ≡ wanting };
+
+    fn from(_wanting: Memory) -> StateCause {
+        StateCause::Memory
+    }
+}
 
 /// Where bytes are found to be no text of a state, or where memory was wanting.
 #[derive(Clone, Copy, PartialEq, Eq, Debug)]

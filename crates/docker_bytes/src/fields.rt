@@ -2,7 +2,7 @@
 ghost use Rattle.std.specs.Prelude.{◌≡◌, ◌+◌, ◌≤◌, ◌↔◌, ◌<◌, length, slice_range, slice_index, IsTrue};
 ghost use Rattle.std.specs.List.{AllPass};
 ghost use Rattle.std.specs.Int.{w16, w32, w64, from_be_bytes};
-ghost use Rattle.docker_model.specs.Record.{is_printable};
+ghost use Rattle.docker_model.specs.records.Record.{is_printable};
 
 /// The `N` bytes from an index on.
 pub(crate) fn field<const N: usize>(bytes: &[u8], at: usize) -> &[u8; N]

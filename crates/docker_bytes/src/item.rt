@@ -1,37 +1,34 @@
 //! Ledger items, as they are read.
 ghost use Rattle.std.specs.Prelude.{◌≡◌, ◌↔◌, length, map, slice_range, IsTrue, MatchOption, MatchResult, IfErr, Err};
-ghost use Rattle.docker_model.specs.Order.{IsBelow};
-ghost use Rattle.docker_model.specs.Stamp.{file_stamp_cmp};
-ghost use Rattle.docker_model.specs.State.{IsGoodItem, IsLedger};
-ghost use Rattle.docker_model.specs.StateText.{item_in, file_stamp_in};
-ghost use Rattle.docker_model.specs.StateFault.{IsAboveItems, RaisesFloor};
+ghost use Rattle.docker_model.specs.state.Order.{IsBelow};
+ghost use Rattle.docker_model.specs.state.Stamp.{file_stamp_cmp};
+ghost use Rattle.docker_model.specs.state.State.{IsGoodItem, IsLedger};
+ghost use Rattle.docker_model.specs.state.StateText.{item_in, file_stamp_in};
+ghost use Rattle.docker_model.specs.state.StatePart.{IsAboveItems, RaisesFloor};
 ghost use Rattle.docker_join.specs.Meaning.{file_stamp_meant};
 ghost use Rattle.docker_state.specs.Meaning.{item_meant};
 ghost use Rattle.docker_bytes.specs.Judged.{IsJudgedItem};
 
 use crate::fault::StateCause;
 use crate::fields::{field, is_text, number_16};
+use crate::format::{INDICATOR_AT, ITEM, LAST_REFERENCE_AT, MINUTE_AT, REFERENCE_AT};
 use cif_line::{Day, Extract};
 use docker_state::LedgerItem;
 
 /// The minutes of a day.
 const MINUTES: u16 = 1440;
 
-/// The ledger item that 19 bytes tell. None where no header can give it.
+/// The ledger item that bytes tell. None where no header can give it.
 fn item_in(bytes: &[u8]) -> Option<LedgerItem>
-    requires { length bytes.now ≡ 19 }
+    requires { length bytes.now ≡ ITEM }
     ensures { MatchOption result (¬ IsGoodItem (item_in bytes.now))
         (λ item. (item_meant item ≡ item_in bytes.now) × IsGoodItem (item_in bytes.now)) }
 {
-    let minute = number_16(bytes, 2);
-    let reference = *field(bytes, 4);
-    let last_reference = *field(bytes, 12);
-    let Some(day) = Day::from_number(number_16(bytes, 0)) else {
-        return None;
-    };
-    let Some(indicator) = Extract::from_letter(bytes[11]) else {
-        return None;
-    };
+    let minute = number_16(bytes, MINUTE_AT);
+    let reference = *field(bytes, REFERENCE_AT);
+    let last_reference = *field(bytes, LAST_REFERENCE_AT);
+    let day = Day::from_number(number_16(bytes, 0))?;
+    let indicator = Extract::from_letter(bytes[INDICATOR_AT])?;
     if minute >= MINUTES {
         return None;
     }
@@ -73,7 +70,7 @@ fn raises_floor(ledger: &[LedgerItem], item: &LedgerItem) -> bool
 
 /// The next ledger item, or why it is bad.
 pub(crate) fn judged_item(ledger: &[LedgerItem], bytes: &[u8]) -> Result<LedgerItem, StateCause>
-    requires wide { length bytes.now ≡ 19 }
+    requires wide { length bytes.now ≡ ITEM }
     requires ledger { IsLedger (map item_meant ledger.now) }
     ensures { IsJudgedItem (map item_meant ledger.now) (item_in bytes.now) result }
 {

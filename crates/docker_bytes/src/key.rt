@@ -1,53 +1,45 @@
 //! Keys, as they are read.
 ghost use Rattle.std.specs.Prelude.{◌≡◌, ◌↔◌, length, IsTrue, MatchOption};
-ghost use Rattle.docker_model.specs.State.{IsGoodKey, AreAscending};
-ghost use Rattle.docker_model.specs.StateText.{key_in};
-ghost use Rattle.docker_model.specs.StateFault.{key_width, IsAboveEntries};
+ghost use Rattle.docker_model.specs.state.State.{IsGoodKey, AreAscending};
+ghost use Rattle.docker_model.specs.state.StateText.{key_in};
+ghost use Rattle.docker_model.specs.state.StatePart.{key_width, IsAboveEntries};
 ghost use Rattle.cif_file.specs.Meaning.{key_meant};
-ghost use Rattle.docker_bytes.specs.Place.{tag_meant};
+ghost use Rattle.docker_bytes.specs.Stage.{tag_meant};
 ghost use Rattle.docker_bytes.specs.Judged.{IsJudgedKey};
 
 use crate::fault::StateCause;
 use crate::fields::{field, is_printable, number_16};
-use crate::place::Tag;
+use crate::format::{
+    ASSOC_KEY, ASSOC_STP_AT, ASSOCIATED_AT, LOCATION_AT, RUNS_FROM_AT, SCHEDULE_KEY,
+    SCHEDULE_STP_AT, START_AT, SUFFIX_AT, TIPLOC_KEY,
+};
+use crate::stage::Tag;
 use crate::told::Told;
 use cif_file::{AssocKey, Key, ScheduleKey};
 use cif_line::{Day, Stp, Tiploc, Uid};
 
-/// The key of a TIPLOC that 7 bytes tell. None where no record can name it.
+/// The key of a TIPLOC that bytes tell. None where no record can name it.
 fn tiploc_key(bytes: &[u8]) -> Option<Key>
-    requires { length bytes.now ≡ 7 }
+    requires { length bytes.now ≡ TIPLOC_KEY }
     ensures { MatchOption result (¬ IsGoodKey (key_in 1 bytes.now))
         (λ key. (key_meant key ≡ key_in 1 bytes.now) × IsGoodKey (key_in 1 bytes.now)) }
 {
-    match Tiploc::from_field(field(bytes, 0)) {
-        Some(code) => Some(Key::Tiploc(code)),
-        None => None,
-    }
+    let code = Tiploc::from_field(field(bytes, 0))?;
+    Some(Key::Tiploc(code))
 }
 
-/// The key of an association that 23 bytes tell. None where no record can name it.
+/// The key of an association that bytes tell. None where no record can name it.
 fn assoc_key(bytes: &[u8]) -> Option<Key>
-    requires { length bytes.now ≡ 23 }
+    requires { length bytes.now ≡ ASSOC_KEY }
     ensures { MatchOption result (¬ IsGoodKey (key_in 2 bytes.now))
         (λ key. (key_meant key ≡ key_in 2 bytes.now) × IsGoodKey (key_in 2 bytes.now)) }
 {
-    let suffix = bytes[21];
-    let Some(base) = Uid::from_field(field(bytes, 0)) else {
-        return None;
-    };
-    let Some(associated) = Uid::from_field(field(bytes, 6)) else {
-        return None;
-    };
-    let Some(start) = Day::from_number(number_16(bytes, 12)) else {
-        return None;
-    };
-    let Some(location) = Tiploc::from_field(field(bytes, 14)) else {
-        return None;
-    };
-    let Some(stp) = Stp::from_letter(bytes[22]) else {
-        return None;
-    };
+    let suffix = bytes[SUFFIX_AT];
+    let base = Uid::from_field(field(bytes, 0))?;
+    let associated = Uid::from_field(field(bytes, ASSOCIATED_AT))?;
+    let start = Day::from_number(number_16(bytes, START_AT))?;
+    let location = Tiploc::from_field(field(bytes, LOCATION_AT))?;
+    let stp = Stp::from_letter(bytes[ASSOC_STP_AT])?;
     if !is_printable(suffix) {
         return None;
     }
@@ -61,21 +53,15 @@ fn assoc_key(bytes: &[u8]) -> Option<Key>
     }))
 }
 
-/// The key of a schedule that 9 bytes tell. None where no record can name it.
+/// The key of a schedule that bytes tell. None where no record can name it.
 fn schedule_key(bytes: &[u8]) -> Option<Key>
-    requires { length bytes.now ≡ 9 }
+    requires { length bytes.now ≡ SCHEDULE_KEY }
     ensures { MatchOption result (¬ IsGoodKey (key_in 3 bytes.now))
         (λ key. (key_meant key ≡ key_in 3 bytes.now) × IsGoodKey (key_in 3 bytes.now)) }
 {
-    let Some(uid) = Uid::from_field(field(bytes, 0)) else {
-        return None;
-    };
-    let Some(runs_from) = Day::from_number(number_16(bytes, 6)) else {
-        return None;
-    };
-    let Some(stp) = Stp::from_letter(bytes[8]) else {
-        return None;
-    };
+    let uid = Uid::from_field(field(bytes, 0))?;
+    let runs_from = Day::from_number(number_16(bytes, RUNS_FROM_AT))?;
+    let stp = Stp::from_letter(bytes[SCHEDULE_STP_AT])?;
     Some(Key::Schedule(ScheduleKey {
         uid,
         runs_from,
@@ -99,8 +85,8 @@ fn key_in(tag: Tag, bytes: &[u8]) -> Option<Key>
 
 /// Whether a key is above those of the entries so far.
 fn is_above(parts: &Told, key: &Key) -> bool
-    requires { AreAscending parts.now.entries }
-    ensures { IsTrue result ↔ IsAboveEntries parts.now (key_meant key.now) }
+    requires { AreAscending parts.now.told.entries }
+    ensures { IsTrue result ↔ IsAboveEntries parts.now.told (key_meant key.now) }
 {
     match parts.last() {
         Some(last) => *last < *key,
@@ -111,8 +97,8 @@ fn is_above(parts: &Told, key: &Key) -> bool
 /// The key of the next entry, or why it is bad.
 pub(crate) fn judged_key(tag: Tag, parts: &Told, bytes: &[u8]) -> Result<Key, StateCause>
     requires wide { length bytes.now ≡ key_width (tag_meant tag) }
-    requires ascending { AreAscending parts.now.entries }
-    ensures { IsJudgedKey parts.now (key_in (tag_meant tag) bytes.now) result }
+    requires ascending { AreAscending parts.now.told.entries }
+    ensures { IsJudgedKey parts.now.told (key_in (tag_meant tag) bytes.now) result }
 {
     let Some(key) = key_in(tag, bytes) else {
         return Err(StateCause::Body);

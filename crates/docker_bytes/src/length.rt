@@ -1,28 +1,32 @@
 //! How long the text of a state is.
 ghost use Rattle.std.specs.Prelude.{◌≡◌, ◌+◌, ◌*◌, ◌^◌, ◌<◌, ◌≤◌, length, map, All};
 ghost use Rattle.std.specs.List.{flat_map};
-ghost use Rattle.docker_model.specs.State.{IsGoodKey, IsBodyOf, IsOpOf};
-ghost use Rattle.docker_model.specs.StateText.{dks_2, put_bytes, op_bytes, entry_bytes, state_text};
-ghost use Rattle.docker_model.specs.StateFault.{key_text};
+ghost use Rattle.docker_model.specs.state.State.{IsGoodKey, IsBodyOf, IsOpOf};
+ghost use Rattle.docker_model.specs.state.StateText.{dks_2, put_bytes, op_bytes, entry_bytes, state_text};
+ghost use Rattle.docker_model.specs.state.StatePart.{key_text};
 ghost use Rattle.cif_file.specs.Meaning.{key_meant, body_meant};
 ghost use Rattle.docker_join.specs.Meaning.{op_meant};
 ghost use Rattle.docker_state.specs.Meaning.{row_meant};
 ghost use Rattle.docker_bytes.specs.Entries.{IsOfWidth};
 
+use crate::format::{
+    ASSOC_KEY, COUNT, HORIZON, ITEM, LINE, LINE_COUNT, MARK, OP, SCHEDULE_KEY, STAMP, TAG,
+    TIPLOC_BODY, TIPLOC_KEY,
+};
 use cif_file::{Body, Key};
 use docker_join::{Entry, Op};
 use docker_state::State;
 
 /// The bytes of a key with its tag.
-fn key_len(key: &Key) -> u128
+fn key_len(key: &Key) -> usize
     requires { IsGoodKey (key_meant key.now) }
     ensures value { result ≡ length (key_text (key_meant key.now)) }
-    ensures bound { result ≤ 24 }
+    ensures bound { result ≤ TAG + ASSOC_KEY }
 {
     match key {
-        Key::Tiploc(_) => 8,
-        Key::Assoc(_) => 24,
-        Key::Schedule(_) => 10,
+        Key::Tiploc(_) => TAG + TIPLOC_KEY,
+        Key::Assoc(_) => TAG + ASSOC_KEY,
+        Key::Schedule(_) => TAG + SCHEDULE_KEY,
     }
 }
 
@@ -33,9 +37,9 @@ fn body_len(key: &Key, body: &Body) -> u128
     ensures bound { result < 2 ^ 39 }
 {
     match body {
-        Body::Tiploc(_) => 63,
-        Body::Assoc(_) => 80,
-        Body::Schedule(lines) => 4 + 80 * lines.len() as u128,
+        Body::Tiploc(_) => TIPLOC_BODY as u128,
+        Body::Assoc(_) => LINE as u128,
+        Body::Schedule(lines) => LINE_COUNT as u128 + LINE as u128 * lines.len() as u128,
     }
 }
 
@@ -46,8 +50,8 @@ fn op_len(key: &Key, op: &Op) -> u128
     ensures bound { result < 2 ^ 40 }
 {
     match op {
-        Op::Deleted | Op::Lapsed => 1,
-        Op::Put(body) => 1 + body_len(key, body),
+        Op::Deleted | Op::Lapsed => OP as u128,
+        Op::Put(body) => OP as u128 + body_len(key, body),
     }
 }
 
@@ -57,7 +61,7 @@ fn row_len(row: &(Key, Entry)) -> u128
     ensures value { result ≡ length (entry_bytes (row_meant row.now)) }
     ensures bound { result < 2 ^ 41 }
 {
-    key_len(&row.0) + 15 + op_len(&row.0, &row.1.op)
+    (key_len(&row.0) + STAMP) as u128 + op_len(&row.0, &row.1.op)
 }
 
 /// The bytes of entries.
@@ -77,5 +81,6 @@ fn rows_len(rows: &[(Key, Entry)]) -> u128
 pub fn encoded_len(state: &State) -> u128
     ensures { result ≡ length (state_text dks_2 state.now) }
 {
-    22 + 19 * state.ledger().len() as u128 + rows_len(state.entries())
+    let head = MARK + HORIZON + COUNT + COUNT;
+    head as u128 + ITEM as u128 * state.ledger().len() as u128 + rows_len(state.entries())
 }

@@ -7,25 +7,31 @@ mod encode;
 mod fault;
 mod fields;
 mod format;
+mod given;
 mod item;
+mod join;
 mod key;
 mod length;
 mod migration;
 mod parser;
-mod place;
 mod read;
 mod reading;
+mod receiving;
 mod schedule;
+mod stage;
 mod stamp;
+mod state_parser;
 mod step;
+mod store;
 mod told;
 mod write;
 
 pub use fault::{StateCause, StateFault, Step};
+pub use join::join_state;
 pub use length::encoded_len;
 pub use migration::migrate;
-pub use parser::StateParser;
 pub use read::{ReadFault, read_state};
+pub use state_parser::StateParser;
 pub use write::write_state;
 
 #[cfg(test)]

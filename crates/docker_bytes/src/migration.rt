@@ -1,6 +1,6 @@
 //! The state of a text that tells no horizon.
 ghost use Rattle.std.specs.Prelude.{◌≡◌, ◌≢◌, ◌+◌, ◌-◌, ◌^◌, ◌<◌, ◌↔◌, IfOk, Err};
-ghost use Rattle.docker_model.specs.StateText.{dks_1};
+ghost use Rattle.docker_model.specs.state.StateText.{dks_1};
 ghost use Rattle.docker_bytes.specs.SourceRead.{ReadsState, RefusesState, ReadsOnePieceMore, WantsMemory};
 
 use crate::format::Format;

@@ -1,17 +1,17 @@
 //! The state that a source holds.
-ghost use Rattle.std.specs.Prelude.{◌≡◌, ◌≢◌, ℕ, ◌+◌, ◌-◌, ◌^◌, ◌<◌, ◌↔◌, List, ◌++◌, length, IsOk, IfOk, Err, Some};
-ghost use Rattle.docker_model.specs.StateText.{dks_2};
-ghost use Rattle.docker_model.specs.StateText as formats;
-ghost use Rattle.docker_model.specs.StateFault.{IsStateText};
+ghost use Rattle.std.specs.Prelude.{◌≡◌, ◌≢◌, ℕ, ◌+◌, ◌-◌, ◌^◌, ◌<◌, ◌↔◌, List, ◌++◌, length, IsOk, IfOk, Err, Some, None};
+ghost use Rattle.docker_model.specs.state.StateText.{dks_2};
+ghost use Rattle.docker_model.specs.state.StateText as formats;
+ghost use Rattle.docker_model.specs.state.StateFault.{IsStateText};
 ghost use Rattle.docker_bytes.specs.FormatMeaning.{format_meant};
-ghost use Rattle.docker_bytes.specs.ParserRead.{HasRead};
+ghost use Rattle.docker_bytes.specs.ParserRead.{HasRead, IsUnread, own_of};
 ghost use Rattle.docker_bytes.specs.ReadFaultText.{read_fault_text};
-ghost use Rattle.docker_bytes.specs.SourceRead.{ReadsState, RefusesState, IsFaultOf, ReadsOnePieceMore, WantsMemory};
-ghost use Rattle.docker_bytes.specs.Reading.{IsWhole, IsWanting};
+ghost use Rattle.docker_bytes.specs.SourceRead.{ReadsState, RefusesState, IsFaultOf, ReadsOnePieceMore, ReadsAll, WantsSoFar, WantsMemory};
+ghost use Rattle.docker_bytes.specs.Reading.{format_of, IsWhole, IsWanting};
 
 use crate::fault::{StateCause, StateFault};
 use crate::format::Format;
-use crate::parser::StateParser;
+use crate::parser::Parser;
 use cif_line::Source;
 use docker_state::State;
 use std::alloc::Global;
@@ -84,25 +84,52 @@ pub(crate) fn read_format<S: Source>(
     ensures no_failure { result ≢ Err ReadFault.Source →
         S.failures source.new ≡ S.failures source.old }
 {
+    let mut parser = Parser::new(alloc, format, limit);
+    read_pieces(alloc, source, &mut parser)?;
+    finish(parser)
+}
+
+/// Feeds a parser that has read nothing all that a source has, in pieces of at most 65,536 bytes, all of which have to be of the state.
+pub(crate) fn read_pieces<S: Source>(
+    alloc: Global,
+    source: &mut S,
+    parser: &mut Parser,
+) -> Result<(), ReadFault>
+    requires failures { S.failures source.old < 2 ^ 64 - 1 }
+    requires unread { IsUnread parser.old }
+    ensures ok { IsOk result →
+        ReadsAll (format_of parser.old.reading) parser.old.reading.limit (S.left source.old)
+        parser.new }
+    ensures state { (fault : _) → result ≡ Err (ReadFault.State fault) →
+        RefusesState (format_of parser.old.reading) parser.old.reading.limit
+        (S.left source.old) fault }
+    ensures memory { result ≡ Err ReadFault.Memory →
+        WantsSoFar (format_of parser.old.reading) 65536 parser.old.reading.limit
+        (S.left source.old) (S.left source.new) }
+    ensures few { ReadsOnePieceMore (format_of parser.old.reading) 65536
+        parser.old.reading.limit (S.left source.old) (S.left source.new) }
+    ensures source { (result ≡ Err ReadFault.Source) ↔
+        (S.failures source.new ≡ S.failures source.old + 1) }
+    ensures no_failure { result ≢ Err ReadFault.Source →
+        S.failures source.new ≡ S.failures source.old }
+    ensures own { own_of parser.new ≡ own_of parser.old }
+{
     let Ok(mut piece) = vec![in alloc; 0u8; PIECE] else {
         return Err(ReadFault::Memory);
     };
-    let mut parser = StateParser::of_format(alloc, format, limit);
     'pieces: loop {
         let Ok(n) = source.read(piece.as_mut_slice()) else {
             return Err(ReadFault::Source);
         };
         if n == 0 {
-            return finished(parser);
+            return Ok(());
         }
-        if let Err(fault) = fed(&mut parser, &piece[..n]) {
-            return Err(fault);
-        }
+        feed(parser, &piece[..n])?;
     }
 }
 
 /// Feeds bytes to a parser, all of which have to be of the state.
-fn fed(parser: &mut StateParser, piece: &[u8]) -> Result<(), ReadFault>
+fn feed(parser: &mut Parser, piece: &[u8]) -> Result<(), ReadFault>
     ensures read { (format : formats.Format) (limit : ℕ) (text : List ℕ) →
         HasRead parser.old format limit text → IsOk result →
         HasRead parser.new format limit (text ++ piece.now) }
@@ -113,6 +140,7 @@ fn fed(parser: &mut StateParser, piece: &[u8]) -> Result<(), ReadFault>
         HasRead parser.old format limit text → result ≡ Err ReadFault.Memory
         → (at : ℕ) × IsWanting format limit text piece.now at }
     ensures source { result ≢ Err ReadFault.Source }
+    ensures own { own_of parser.new ≡ own_of parser.old }
 {
     match parser.feed(piece) {
         Ok((used, _)) => {
@@ -126,7 +154,8 @@ fn fed(parser: &mut StateParser, piece: &[u8]) -> Result<(), ReadFault>
 }
 
 /// The state that a parser was fed.
-fn finished(parser: StateParser) -> Result<State, ReadFault>
+fn finish(parser: Parser) -> Result<State, ReadFault>
+    requires { own_of parser ≡ None }
     ensures ok { (format : formats.Format) (limit : ℕ) (text : List ℕ) →
         HasRead parser format limit text →
         IfOk result (λ state. IsStateText format limit text state) }
@@ -145,7 +174,8 @@ fn finished(parser: StateParser) -> Result<State, ReadFault>
 }
 
 /// The fault of a byte behind what a parser has read.
-fn tail(parser: &StateParser) -> StateFault
+fn tail(parser: &Parser) -> StateFault
+    requires { parser.now.fault ≡ None }
     ensures at { (format : formats.Format) (limit : ℕ) (text : List ℕ) →
         HasRead parser.now format limit text → result.at ≡ length text }
     ensures cause { result.cause ≡ StateCause.Tail }
@@ -157,7 +187,7 @@ fn tail(parser: &StateParser) -> StateFault
 }
 
 /// Want of memory is a fault of its own, and each other cause is the text's.
-fn fault_of(fault: StateFault) -> ReadFault
+pub(crate) fn fault_of(fault: StateFault) -> ReadFault
     ensures memory { fault.cause ≡ StateCause.Memory → result ≡ ReadFault.Memory }
     ensures state { fault.cause ≢ StateCause.Memory → result ≡ ReadFault.State fault }
 {

@@ -1,23 +1,21 @@
 //! The reading of a text in pieces, part by part.
-ghost use Rattle.std.specs.Prelude.{◌≡◌, ◌+◌, ◌-◌, ◌<◌, ◌≤◌, ◌↔◌, [], ◌++◌, length, take, IsTrue, IsOk, IfOk, IfErr};
+ghost use Rattle.std.specs.Prelude.{◌≡◌, ◌+◌, ◌-◌, ◌<◌, ◌≤◌, ◌↔◌, [], ◌++◌, length, take, IsTrue, IsOk, IsErr, IfOk, IfErr, IsSome, Some, None};
+ghost use Rattle.docker_model.specs.state.State as states;
 ghost use Rattle.arrayvec.specs.ArrayVec.{array_vec_len};
-ghost use Rattle.docker_model.specs.StateFault.{width, IsStateText};
+ghost use Rattle.docker_model.specs.state.StatePart.{width};
+ghost use Rattle.docker_model.specs.state.StateFault.{IsStateText};
 ghost use Rattle.docker_bytes.specs.FormatMeaning.{format_meant};
-ghost use Rattle.docker_bytes.specs.Reading.{format_of, before_of, text_of, IsReading, ReadsOn, IsPartRefused, IsFaultTold, IsUnended, IsStep};
+ghost use Rattle.docker_bytes.specs.Reading.{format_of, before_of, text_of, IsReading, ReadsOn, IsPartRefused, IsFaultTold, IsUnended, IsStep, JoinsText};
 
 use crate::fault::{StateCause, StateFault, Step};
-use crate::format::Format;
-use crate::place::Place;
+use crate::format::{Format, LINE};
 use crate::schedule::{Gathered, judged_line};
+use crate::stage::Stage;
 use crate::step::step;
 use crate::told::Told;
 use arrayvec::ArrayVec;
 use docker_state::State;
 use std::alloc::Global;
-use std::mem;
-
-/// The most bytes that a part has.
-const MOST_WIDTH: usize = 80;
 
 /// A text so far: the state that its parts tell, the part that comes next with the bytes of it that came, and where its item began.
 #[derive(Debug, Drop)]
@@ -25,17 +23,17 @@ pub(crate) struct Reading {
     alloc: Global,
     format: Format,
     limit: u64,
-    place: Place,
+    stage: Stage,
     parts: Told,
     lines: Gathered,
-    partial: ArrayVec<u8, MOST_WIDTH>,
+    partial: ArrayVec<u8, LINE>,
     item_at: u64,
     reached: u64,
 }
 
 /// Appends bytes to a part, for which there is room.
-fn extend(partial: &mut ArrayVec<u8, MOST_WIDTH>, more: &[u8])
-    requires { array_vec_len partial.old + length more.now ≤ 80 }
+fn extend(partial: &mut ArrayVec<u8, LINE>, more: &[u8])
+    requires { array_vec_len partial.old + length more.now ≤ LINE }
     ensures { partial.new.items ≡ partial.old.items ++ more.now }
 {
     if partial.try_extend_from_slice(more).is_err() {
@@ -44,19 +42,21 @@ fn extend(partial: &mut ArrayVec<u8, MOST_WIDTH>, more: &[u8])
 }
 
 impl Reading {
-    /// No byte yet, of at most `limit` of a text of the format.
-    pub(crate) fn new(alloc: Global, format: Format, limit: u64) -> Reading
+    /// No byte yet, of at most `limit` of a text of the format, and no part.
+    pub(crate) fn new(alloc: Global, format: Format, limit: u64, parts: Told) -> Reading
+        requires { parts.told ≡ record { horizon = 0; ledger = []; entries = [] } }
         ensures reading { IsReading result }
         ensures text { text_of result ≡ [] }
         ensures limit { result.limit ≡ limit }
         ensures format { format_of result ≡ format_meant format }
+        ensures own { result.parts.own ≡ parts.own }
     {
         Reading {
             alloc,
             format,
             limit,
-            place: Place::Mark,
-            parts: Told::new(alloc),
+            stage: Stage::Mark,
+            parts,
             lines: Gathered::new(alloc),
             partial: ArrayVec::new(),
             item_at: 0,
@@ -76,7 +76,7 @@ impl Reading {
     pub(crate) fn is_done(&self) -> bool
         ensures { IsTrue result ↔ (width (before_of self.now) ≡ 0) }
     {
-        self.place.width() == 0
+        self.stage.width() == 0
     }
 
     /// The fault of a text that needs a byte at the limit.
@@ -99,7 +99,7 @@ impl Reading {
         }
     }
 
-    /// Takes a whole part, of which nothing was kept. Behind a line with more to come the place stays as it is.
+    /// Takes a whole part, of which nothing was kept. Behind a line with more to come the stage stays as it is.
     fn judge(&mut self, bytes: &[u8]) -> Result<(), StateFault>
         requires reading { IsReading self.old }
         requires fresh { self.old.partial.items ≡ [] }
@@ -108,8 +108,9 @@ impl Reading {
         requires fits { self.old.reached + length bytes.now ≤ self.old.limit }
         ensures ok { IsOk result → ReadsOn self.old self.new bytes.now }
         ensures err { IfErr result (λ fault. IsPartRefused self.old bytes.now fault) }
+        ensures own { self.new.parts.own ≡ self.old.parts.own }
     {
-        if let Place::Line(_entries, key, _stamp, count) = self.place {
+        if let Stage::Line(_entries, key, _stamp, count) = self.stage {
             if self.lines.has_more(count) {
                 return match judged_line(&key, &self.parts, count, &mut self.lines, bytes) {
                     Ok(()) => {
@@ -123,15 +124,15 @@ impl Reading {
         match step(
             self.alloc,
             self.format,
-            self.place,
+            self.stage,
             &mut self.parts,
             &mut self.lines,
             bytes,
         ) {
-            Ok(place) => {
-                self.place = place;
+            Ok(stage) => {
+                self.stage = stage;
                 self.reached += bytes.len() as u64;
-                if place.begins_item() {
+                if stage.begins_item() {
                     self.item_at = self.reached;
                 }
                 Ok(())
@@ -149,6 +150,7 @@ impl Reading {
         ensures ok { IsOk result → ReadsOn self.old self.new front.now }
         ensures err { IfErr result (λ fault. IsFaultTold (format_of self.old) self.old.limit
             (text_of self.old) front.now fault) }
+        ensures own { self.new.parts.own ≡ self.old.parts.own }
     {
         if (self.partial.len() + front.len()) as u64 > self.limit - self.reached {
             return Err(self.long());
@@ -156,7 +158,7 @@ impl Reading {
         if self.partial.is_empty() {
             return self.judge(front);
         }
-        let mut part = mem::replace(&mut self.partial, ArrayVec::new());
+        let mut part = self.partial.take();
         extend(&mut part, front);
         self.judge(part.as_slice())
     }
@@ -169,6 +171,7 @@ impl Reading {
         ensures ok { IsOk result → ReadsOn self.old self.new more.now }
         ensures err { IfErr result (λ fault. IsFaultTold (format_of self.old) self.old.limit
             (text_of self.old) more.now fault) }
+        ensures own { self.new.parts.own ≡ self.old.parts.own }
     {
         if (self.partial.len() + more.len()) as u64 > self.limit - self.reached {
             return Err(self.long());
@@ -186,31 +189,29 @@ impl Reading {
             (text_of self.old) piece.now) }
         ensures err { IfErr result (λ fault. IsFaultTold (format_of self.old) self.old.limit
             (text_of self.old) piece.now fault) }
+        ensures own { self.new.parts.own ≡ self.old.parts.own }
     {
         let mut rest = piece;
         'parts: loop {
-            let width = self.place.width();
+            let width = self.stage.width();
             if width == 0 {
                 return Ok((piece.len() - rest.len(), Step::Done));
             }
             let missing = width - self.partial.len();
             if rest.len() < missing {
-                if let Err(fault) = self.keep(rest) {
-                    return Err(fault);
-                }
+                self.keep(rest)?;
                 return Ok((piece.len(), Step::More));
             }
             let (front, behind) = rest.split_at(missing);
-            if let Err(fault) = self.take(front) {
-                return Err(fault);
-            }
+            self.take(front)?;
             rest = behind;
         }
     }
 
     /// The state whose text was read, or the fault of a text that ends before the state does.
     pub(crate) fn finish(self) -> Result<State, StateFault>
-        requires { IsReading self }
+        requires reading { IsReading self }
+        requires alone { self.parts.own ≡ None }
         ensures ok { IfOk result (λ state. IsStateText (format_of self) self.limit
             (text_of self) state) }
         ensures err { IfErr result (λ fault. IsUnended (format_of self) self.limit
@@ -220,14 +221,14 @@ impl Reading {
             alloc: _,
             format: _,
             limit: _,
-            place,
+            stage,
             parts,
             lines: _,
             partial: _,
             item_at,
             reached: _,
         } = self;
-        if place.width() > 0 {
+        if stage.width() > 0 {
             return Err(StateFault {
                 at: item_at,
                 cause: StateCause::Short,
@@ -240,5 +241,38 @@ impl Reading {
                 cause: StateCause::Memory,
             }),
         }
+    }
+
+    /// The state that receives what was read, joined with the state whose text it is, or the fault of a text that ends before the state does. A fault leaves it as it was.
+    pub(crate) fn join(self) -> (State, Result<(), StateFault>)
+        requires reading { IsReading self }
+        requires received { IsSome self.parts.own }
+        ensures ok { IsOk result.1 → (own : states.State) → self.parts.own ≡ Some own
+            → JoinsText (format_of self) self.limit (text_of self) own result.0 }
+        ensures err { IfErr result.1 (λ fault. IsUnended (format_of self) self.limit
+            (text_of self) fault) }
+        ensures back { IsErr result.1 → self.parts.own ≡ Some result.0 }
+    {
+        let at = self.item_at;
+        if self.stage.width() > 0 {
+            let cause = StateCause::Short;
+            return (self.parts.into_own(), Err(StateFault { at, cause }));
+        }
+        let (state, done) = self.parts.join();
+        match done {
+            Ok(()) => (state, Ok(())),
+            Err(wanting) => {
+                let cause = StateCause::from(wanting);
+                (state, Err(StateFault { at, cause }))
+            }
+        }
+    }
+
+    /// The state that receives what is read, as it was.
+    pub(crate) fn into_own(self) -> State
+        requires { IsSome self.parts.own }
+        ensures { self.parts.own ≡ Some result }
+    {
+        self.parts.into_own()
     }
 }

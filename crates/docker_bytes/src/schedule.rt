@@ -1,7 +1,7 @@
 //! The lines of a schedule, as they are read.
 ghost use Rattle.std.specs.Prelude.{◌≡◌, ◌+◌, ◌<◌, ◌↔◌, ◌⊎◌, [], ◌∷◌, ◌++◌, length, false, IsTrue, IsOk, IfOk, IfErr};
 ghost use Rattle.cif_file.specs.JourneyRead.{HasLines};
-ghost use Rattle.docker_bytes.specs.Place.{schedule_meant};
+ghost use Rattle.docker_bytes.specs.Stage.{schedule_meant};
 ghost use Rattle.docker_bytes.specs.Judged.{IsFirstOf};
 ghost use Rattle.docker_bytes.specs.FaultMeaning.{cause_meant};
 ghost use Rattle.docker_bytes.specs.Lines.{BeginUpTo, AreLinesIn, AreLinesUpToIn, IsLineRefusal, IsUpToRefusal};
@@ -66,6 +66,13 @@ impl Gathered {
         self.lines.len()
     }
 
+    /// Whether there is none.
+    fn is_empty(&self) -> bool
+        ensures { IsTrue result ↔ (self.now ≡ []) }
+    {
+        self.lines.is_empty()
+    }
+
     /// Whether of so many lines more are to come behind the next one.
     pub(crate) fn has_more(&self, count: u32) -> bool
         ensures { IsTrue result ↔ (length self.now + 1 < count) }
@@ -102,27 +109,22 @@ impl Gathered {
             let_go(&mut self.journey, &mut self.lines);
             return Err(StateCause::Body);
         }
-        match self.lines.push(*line) {
-            Ok(()) => Ok(()),
-            Err(_) => {
-                let_go(&mut self.journey, &mut self.lines);
-                Err(StateCause::Memory)
-            }
+        if self.lines.push(*line).is_err() {
+            let_go(&mut self.journey, &mut self.lines);
+            return Err(StateCause::Memory);
         }
+        Ok(())
     }
 }
 
 /// Whether a line may come next as far as the key and the horizon go: behind other lines, or as the first line of a new schedule of this key that has not to lapse.
 fn may_follow(key: &ScheduleKey, told: &Told, lines: &Gathered, line: &Line) -> bool
     ensures first { IsTrue result → lines.now ≡ [] →
-        IsFirstOf told.now.horizon (schedule_meant key.now) line.now }
+        IsFirstOf told.now.told.horizon (schedule_meant key.now) line.now }
     ensures refused { result ≡ false → (lines.now ≡ []) ×
-        (¬ IsFirstOf told.now.horizon (schedule_meant key.now) line.now) }
+        (¬ IsFirstOf told.now.told.horizon (schedule_meant key.now) line.now) }
 {
-    if lines.len() > 0 {
-        return true;
-    }
-    is_first_of(key, told.horizon(), line)
+    !lines.is_empty() || is_first_of(key, told.horizon(), line)
 }
 
 /// Takes the next of so many lines of this key. `Body` where it does not go on with a schedule of this key that has as many lines, or where the schedule has to lapse under the horizon that was read.
@@ -133,12 +135,13 @@ pub(crate) fn judged_line(
     lines: &mut Gathered,
     bytes: &[u8],
 ) -> Result<(), StateCause>
-    requires lines_of { (lines.old ≡ []) ⊎ AreLinesIn told.now (schedule_meant key.now) lines.old }
+    requires lines_of { (lines.old ≡ [])
+        ⊎ AreLinesIn told.now.told (schedule_meant key.now) lines.old }
     requires more { length lines.old < count }
     ensures taken { IsOk result → lines.new ≡ lines.old ++ bytes.now ∷ [] }
-    ensures up_to { IsOk result → AreLinesUpToIn told.now (schedule_meant key.now) count
+    ensures up_to { IsOk result → AreLinesUpToIn told.now.told (schedule_meant key.now) count
         (lines.old ++ bytes.now ∷ []) }
-    ensures err { IfErr result (λ cause. IsUpToRefusal told.now
+    ensures err { IfErr result (λ cause. IsUpToRefusal told.now.told
         (schedule_meant key.now) count lines.old bytes.now (cause_meant cause)) }
 {
     let Ok(line) = Line::new(bytes) else {

@@ -7,6 +7,11 @@ use cif_file::read_pieces;
 use cif_line::{Bytes, Kept};
 use docker_join::Merge;
 use docker_state::State;
+use records::{
+    AA, BS, BS_DELETED, BS_REVISED, HD, HD_8A, HD_9B, HD_10B, HEAD, HEAD_OF_NO_FILE, HEAD_OF_NO_OP,
+    HEAD_OF_NO_TAG, ITEM, ITEM_5A, ITEM_7B, ITEM_LATE, LO, LT, MARK, MOST, OLD_MARK, ONE, TA, TI,
+    TWO, ZZ,
+};
 use std::alloc::{AllocError, Global};
 use std::process::Abort;
 use std::test::Fail;
@@ -16,85 +21,8 @@ mod horizons;
 mod merged;
 mod migrated;
 mod parts;
-
-/// The header of an update of 9 June 2024, 21:00.
-const HD: &[u8] =
-    b"HDTPS.UDFROC1.PD2406090906242100DFROC1ADFROC1ZUA                                ";
-
-/// The header of an update a day later.
-const HD_10B: &[u8] =
-    b"HDTPS.UDFROC1.PD2406091006242100DFROC1BDFROC1AUA                                ";
-
-/// The header of an update of 8 June.
-const HD_8A: &[u8] =
-    b"HDTPS.UDFROC1.PD2406090806242100DFROC1ADFROC1ZUA                                ";
-
-/// The header of another update of 9 June.
-const HD_9B: &[u8] =
-    b"HDTPS.UDFROC1.PD2406090906242100DFROC1BDFROC1AUA                                ";
-
-/// A new permanent schedule of C10001, from 10 to 14 June 2024.
-const BS: &[u8] =
-    b"BSNC100012406102406141111100 POO1A10                                           P";
-
-/// Its deletion.
-const BS_DELETED: &[u8] =
-    b"BSDC10001240610              POO                                               P";
-
-/// An origin: Ashfeld, 09:00.
-const LO: &[u8] =
-    b"LOASHFELD 0900 09001  SL                                                        ";
-
-/// A terminus: Brayton, 09:30.
-const LT: &[u8] =
-    b"LTBRAYTON 0930 09322  FL                                                        ";
-
-/// The insertion of Ashfield Central.
-const TI: &[u8] =
-    b"TIASHFELD         ASHFIELD CENTRAL                                              ";
-
-/// Its amendment: another code and description.
-const TA: &[u8] =
-    b"TAASHFELD         ASHFIELD NEW                                          ASHFLDN ";
-
-/// C10001 joins C10002 at Ashfeld.
-const AA: &[u8] =
-    b"AANC10001C100022406102406141111100JJSASHFELD  TP                               P";
-
-/// A trailer.
-const ZZ: &[u8] =
-    b"ZZ                                                                              ";
-
-/// A text up to the number of ledger items: its mark, and no horizon.
-const MARK: &[u8] = b"DKS2\0\0";
-
-/// The mark of a text that tells no horizon.
-const OLD_MARK: &[u8] = b"DKS1";
-
-/// The number one in eight bytes.
-const ONE: &[u8] = b"\x00\x00\x00\x00\x00\x00\x00\x01";
-
-/// The number two in eight bytes.
-const TWO: &[u8] = b"\x00\x00\x00\x00\x00\x00\x00\x02";
-
-/// The greatest number in eight bytes.
-const MOST: &[u8] = b"\xff\xff\xff\xff\xff\xff\xff\xff";
-
-/// The ledger item of the file of 9 June.
-const ITEM: &[u8] = b"\x5b\xf0\x04\xecDFROC1AUDFROC1Z";
-
-/// The same with a day after the last one.
-const ITEM_LATE: &[u8] = b"\x8e\xad\x04\xecDFROC1AUDFROC1Z";
-
-/// The ledger item of an update of 5 June.
-const ITEM_5A: &[u8] = b"\x5b\xec\x04\xecDFROC1AUDFROC1Z";
-
-/// The ledger item of a full extract of 7 June.
-const ITEM_7B: &[u8] = b"\x5b\xee\x04\xecDFROC1BFDFROC1A";
-
-/// An entry of the schedule, up to its lines.
-const HEAD: &[u8] =
-    b"\x03C10001\x5b\xf1P\x5b\xf0\x04\xecDFROC1A\x00\x00\x00\x02\x01\x00\x00\x00\x03";
+mod received;
+mod records;
 
 /// The pieces joined.
 fn joined_text(alloc: Global, pieces: &[&[u8]]) -> Result<Vec<u8>, AllocError> {
@@ -298,36 +226,31 @@ fn faults_of_the_ledger(rt: HostRuntime) -> Result<(), Fail> {
 #[test]
 fn faults_of_an_entry(rt: HostRuntime) -> Result<(), Fail> {
     let alloc = rt.alloc();
-    let tag = b"\x04C10001\x5b\xf1P\x5b\xf0\x04\xecDFROC1A\x00\x00\x00\x02\x01\x00\x00\x00\x03";
     refused(
         &rt,
         alloc,
-        &[MARK, ONE, ITEM, ONE, tag, BS, LO, LT],
+        &[MARK, ONE, ITEM, ONE, HEAD_OF_NO_TAG, BS, LO, LT],
         1000,
         (41, StateCause::Tag),
     )?;
-    let other = b"\x03C10001\x5b\xf1P\x5b\xf0\x04\xecDFROC1B\x00\x00\x00\x02\x01\x00\x00\x00\x03";
     refused(
         &rt,
         alloc,
-        &[MARK, ONE, ITEM, ONE, other, BS, LO, LT],
+        &[MARK, ONE, ITEM, ONE, HEAD_OF_NO_FILE, BS, LO, LT],
         1000,
         (41, StateCause::Stamp),
     )?;
-    let op = b"\x03C10001\x5b\xf1P\x5b\xf0\x04\xecDFROC1A\x00\x00\x00\x02\x03\x00\x00\x00\x03";
     refused(
         &rt,
         alloc,
-        &[MARK, ONE, ITEM, ONE, op, BS, LO, LT],
+        &[MARK, ONE, ITEM, ONE, HEAD_OF_NO_OP, BS, LO, LT],
         1000,
         (41, StateCause::Body),
     )?;
-    let revised =
-        b"BSRC100012406102406141111100 POO1A10                                           P";
     refused(
         &rt,
         alloc,
-        &[MARK, ONE, ITEM, ONE, HEAD, revised, LO, LT],
+        &[MARK, ONE, ITEM, ONE, HEAD, BS_REVISED, LO, LT],
         1000,
         (41, StateCause::Body),
     )?;

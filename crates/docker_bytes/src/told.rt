@@ -1,14 +1,17 @@
 //! What the parts of a text have told so far.
-ghost use Rattle.std.specs.Prelude.{◌≡◌, [], ◌∷◌, ◌++◌, map, IsOk, IfOk};
+ghost use Rattle.std.specs.Prelude.{◌≡◌, ◌-◌, ◌^◌, ◌<◌, [], ◌∷◌, ◌++◌, length, map, IsOk, IsErr, IfOk, IsSome, Some, None};
 ghost use Rattle.std.specs.Option.{option_copied, option_map};
-ghost use Rattle.docker_model.specs.State.{IsLedger, IsOpOf, IsValid};
-ghost use Rattle.docker_model.specs.StateFault.{IsStampHere};
+ghost use Rattle.docker_model.specs.state.State.{IsLedger, IsOpOf, IsValid, IsJoin};
+ghost use Rattle.docker_model.specs.state.State as states;
+ghost use Rattle.docker_model.specs.state.StatePart.{IsStampHere};
 ghost use Rattle.cif_file.specs.Meaning.{key_meant};
 ghost use Rattle.docker_join.specs.Meaning.{entry_meant};
-ghost use Rattle.docker_state.specs.Meaning.{item_meant, row_meant};
+ghost use Rattle.docker_state.specs.Meaning.{item_meant};
 ghost use Rattle.docker_state.specs.Parts.{last_key};
 ghost use Rattle.docker_bytes.specs.Told.{under, with_item, with_row};
 
+use crate::receiving::Receiving;
+use crate::store::Store;
 use cif_file::Key;
 use cif_line::{Day, Memory};
 use docker_join::Entry;
@@ -16,46 +19,62 @@ use docker_state::{LedgerItem, Parts, State};
 use std::alloc::Global;
 use std::marker::Model;
 
-/// The horizon that was read, if one was, and the parts of the state so far, which have none.
+/// The horizon that was read, if one was, and the parts so far, which have none.
 #[derive(Debug, Drop)]
 pub(crate) struct Told {
     horizon: Option<Day>,
-    parts: Parts,
+    store: Store,
 }
 
 impl Model for Told {
-    ghost use Rattle.std.specs.Prelude.{◌≡◌};
-    ghost use Rattle.docker_model.specs.State as states;
-    ghost use Rattle.docker_bytes.specs.Told.{horizon_meant, under};
+    ghost use Rattle.docker_bytes.specs.Told.{Told as told, horizon_meant, under};
+    ghost use Rattle.docker_bytes.specs.Store.{told_in, own_in, IsStore};
 
-    ghost Value = { states.State };
+    ghost Value = { told };
 
-    ghost view = { λ told. under (horizon_meant told.horizon) told.parts };
+    ghost view = { λ it. record {
+      told = under (horizon_meant it.horizon) (told_in it.store);
+      own = own_in it.store;
+    } };
 
-    ghost invariant = { λ told. told.parts.horizon ≡ 0 };
+    ghost invariant = { λ it. IsStore it.store };
 }
 
 impl Told {
-    /// Nothing yet.
+    /// Nothing yet, for a state of its own.
     pub(crate) fn new(alloc: Global) -> Told
-        ensures { result ≡ record { horizon = 0; ledger = []; entries = [] } }
+        ensures { result
+            ≡ record { told = record { horizon = 0; ledger = []; entries = [] }; own = None } }
     {
         Told {
             horizon: None,
-            parts: Parts::new(alloc),
+            store: Store::Whole(Parts::new(alloc)),
+        }
+    }
+
+    /// Nothing yet, for a state that receives it.
+    pub(crate) fn received_by(alloc: Global, own: State) -> Told
+        requires { IsValid own }
+        ensures { result
+            ≡ record { told = record { horizon = 0; ledger = []; entries = [] }; own = Some own } }
+    {
+        Told {
+            horizon: None,
+            store: Store::Received(Receiving::new(alloc, own)),
         }
     }
 
     /// Takes the horizon.
     pub(crate) fn set_horizon(&mut self, day: Day)
-        ensures { self.new ≡ under day self.old }
+        ensures told { self.new.told ≡ under day self.old.told }
+        ensures own { self.new.own ≡ self.old.own }
     {
         self.horizon = Some(day);
     }
 
     /// The number of the horizon. 0 where none was read.
     pub(crate) fn horizon(&self) -> u16
-        ensures { result ≡ self.now.horizon }
+        ensures { result ≡ self.now.told.horizon }
     {
         match self.horizon {
             Some(day) => day.number(),
@@ -65,54 +84,84 @@ impl Told {
 
     /// Takes the next ledger item.
     pub(crate) fn item(&mut self, item: LedgerItem) -> Result<(), Memory>
-        requires before_entries { self.old.entries ≡ [] }
-        requires ledger { IsLedger (self.old.ledger ++ item_meant item ∷ []) }
-        ensures { IsOk result → self.new ≡ with_item self.old (item_meant item) }
+        requires before_entries { self.old.told.entries ≡ [] }
+        requires ledger { IsLedger (self.old.told.ledger ++ item_meant item ∷ []) }
+        ensures ok { IsOk result → self.new.told ≡ with_item self.old.told (item_meant item) }
+        ensures own { self.new.own ≡ self.old.own }
     {
-        self.parts.item(item)
+        self.store.item(item)
     }
 
     /// Takes the next entry, with its key.
     pub(crate) fn entry(&mut self, key: Key, entry: Entry) -> Result<(), Memory>
-        requires here { IsStampHere self.old (key_meant key) (entry_meant entry).stamp }
+        requires few { length self.old.told.entries < 2 ^ 64 - 1 }
+        requires here { IsStampHere self.old.told (key_meant key) (entry_meant entry).stamp }
         requires op { IsOpOf (key_meant key) (entry_meant entry).op }
-        ensures { IsOk result → self.new ≡ with_row self.old (key_meant key, entry_meant entry) }
+        ensures ok { IsOk result
+            → self.new.told ≡ with_row self.old.told (key_meant key, entry_meant entry) }
+        ensures own { self.new.own ≡ self.old.own }
     {
-        self.parts.entry(key, entry)
+        self.store.entry(key, entry)
     }
 
     /// The ledger items so far, ascending.
     pub(crate) fn ledger(&self) -> &[LedgerItem]
-        ensures { map item_meant result.now ≡ self.now.ledger }
+        ensures { map item_meant result.now ≡ self.now.told.ledger }
     {
-        self.parts.ledger()
+        self.store.ledger()
     }
 
-    /// The entries so far, each with its key, in the order of the keys.
-    pub(crate) fn entries(&self) -> &[(Key, Entry)]
-        ensures { map row_meant result.now ≡ self.now.entries }
+    /// How many entries there are so far.
+    pub(crate) fn len(&self) -> u64
+        ensures { result ≡ length self.now.told.entries }
     {
-        self.parts.entries()
+        self.store.len()
     }
 
     /// The key of the last entry. None where there is none yet.
     pub(crate) fn last(&self) -> Option<&Key>
-        ensures { option_map key_meant (option_copied result) ≡ last_key self.now.entries }
+        ensures { option_map key_meant (option_copied result) ≡ last_key self.now.told.entries }
     {
-        self.parts.last()
+        self.store.last()
     }
 
     /// The state of the parts, with the horizon that was read.
     pub(crate) fn finish(self) -> Result<State, Memory>
-        requires { IsValid self }
-        ensures { IfOk result (λ state. state ≡ self) }
+        requires alone { self.own ≡ None }
+        requires valid { IsValid self.told }
+        ensures { IfOk result (λ state. state ≡ self.told) }
     {
-        let Told { horizon, parts } = self;
-        let mut state = parts.finish()?;
-        match horizon {
-            Some(day) => state.set_horizon(day),
-            None => {}
+        let Told { horizon, store } = self;
+        let mut state = store.finish()?;
+        if let Some(day) = horizon {
+            state.set_horizon(day);
         }
         Ok(state)
+    }
+
+    /// The state that receives the parts, joined with them, and then with the horizon that was read. Want of memory leaves it as it was.
+    pub(crate) fn join(self) -> (State, Result<(), Memory>)
+        requires received { IsSome self.own }
+        requires valid { IsValid self.told }
+        ensures ok { IsOk result.1 → (own : states.State) → self.own ≡ Some own
+            → IsJoin own self.told result.0 }
+        ensures err { IsErr result.1 → self.own ≡ Some result.0 }
+    {
+        let Told { horizon, store } = self;
+        let (mut joined, done) = store.join();
+        if done.is_ok() {
+            if let Some(day) = horizon {
+                joined.set_horizon(day);
+            }
+        }
+        (joined, done)
+    }
+
+    /// The state that receives the parts, as it was.
+    pub(crate) fn into_own(self) -> State
+        requires { IsSome self.own }
+        ensures { self.own ≡ Some result }
+    {
+        self.store.into_own()
     }
 }

@@ -3,12 +3,13 @@ use Rattle.std.proofs.Common.{◌≡◌, ℕ, List, [], ◌∷◌, length, get_o
 use Rattle.std.specs.Prelude.{Option, option_and_then, ◌==◌, slice_index_or}
 use Rattle.std.proofs.lemmas.Bool.{eqb-true}
 use Rattle.std.proofs.lemmas.List.{length-map}
-use Rattle.docker_model.specs.Record.{basic_schedule, origin_location, terminating_location, kind_of, column}
-use Rattle.docker_model.specs.File.{IsFile}
-use Rattle.docker_model.specs.Change.{Change, Key, tiploc_key, association_key, schedule_key, ScheduleKey, Act, delete, put, tiploc_body, association_body, schedule_body, schedule_named, as_new, changes}
-use Rattle.docker_laws.proofs.SchedulePlace.{then_some}
-use Rattle.docker_laws.proofs.OneFile.{good_records}
-use Rattle.docker_laws.proofs.KeptSchedule.{IsKeptSchedule, IsKeptFile, kept_file, kept_as_one, kept_change, kept_by_kind, kept_by_change}
+use Rattle.docker_model.specs.records.Record.{basic_schedule, origin_location, terminating_location, kind_of, column}
+use Rattle.docker_model.specs.file.File.{IsFile}
+use Rattle.docker_model.specs.file.Change.{Change, Key, tiploc_key, association_key, schedule_key, ScheduleKey, Act, delete, put, tiploc_body, association_body, schedule_body, schedule_named, changes}
+use Rattle.docker_model.specs.records.Field.{as_new}
+use Rattle.docker_laws.proofs.lists.Tests.{then_some}
+use Rattle.docker_laws.proofs.dockers.FileOfOne.{good_records}
+use Rattle.docker_laws.proofs.dockers.KeptSchedule.{IsKeptSchedule, IsKeptFile, kept_file, kept_as_one, kept_change, kept_by_kind, kept_by_change}
 use Rattle.cif_line.specs.View.{IsGood}
 use Rattle.cif_file.specs.FileRead.{FileRead, IsOfRecords}
 use Rattle.docker_cmd.specs.OneSchedule.{IsOneSchedule}
@@ -172,7 +173,8 @@ has_lines file records lines is of count found =
     let made : changes records ≡ first.change ∷ first.later = sym of.changes_are ∙ first.made_is in
     let kept = kept_by_change records is (sym of.count_is ∙ count) first.change first.later lines first.key made first.act_is first.key_is first.indicator_is in
     let told = kept_change kept.hd kept.bs kept.lo kept.lt kept.zz kept.are in
-    let one : first.change ∷ first.later ≡ record { number = 2; key = schedule_named kept.bs; act = put (schedule_body (as_new kept.bs ∷ kept.lo ∷ kept.lt ∷ [])) } ∷ [] =
+    let one : first.change ∷ first.later ≡ record
+    { number = 2; key = schedule_named kept.bs; act = put (schedule_body (as_new kept.bs ∷ kept.lo ∷ kept.lt ∷ [])) } ∷ [] =
     sym made ∙ ap changes kept.whole ∙ told in
     let acts : put (schedule_body lines) ≡ put (schedule_body (as_new kept.bs ∷ kept.lo ∷ kept.lt ∷ [])) = sym first.act_is ∙ ap first_act one in
     record { hd = kept.hd; bs = kept.bs; lo = kept.lo; lt = kept.lt; zz = kept.zz; whole = kept.whole; are = kept.are; lines_are = cc }
@@ -189,7 +191,8 @@ found_of_one file records is of =
       of.count_is ∙ one_schedule_length records is,
       (
         as_new kept.bs ∷ kept.lo ∷ kept.lt ∷ [],
-        ap (λ made. option_and_then only_three (first_permanent made)) (of.changes_are ∙ ap changes kept.whole ∙ kept_change kept.hd kept.bs kept.lo kept.lt kept.zz kept.are)
+        ap (λ made. option_and_then only_three (first_permanent made))
+            (of.changes_are ∙ ap changes kept.whole ∙ kept_change kept.hd kept.bs kept.lo kept.lt kept.zz kept.are)
             ∙ (λ i. option_and_then only_three (cond (kept.are.permanent i == 80) (Some (as_new kept.bs ∷ kept.lo ∷ kept.lt ∷ [])) None)),
       ),
     )

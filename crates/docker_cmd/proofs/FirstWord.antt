@@ -47,7 +47,8 @@ unfolding walk_fault defaults_fault
 no_word subs = refl
 
 -- a first word that names no subcommand
-pub unnamed_fault : (subs : List Shape) (word : Text) (words : List Text) → is_plain_word word ≡ true → subcommand_met (names_of (built_with subs)) idle word ≡ None
+pub unnamed_fault : (subs : List Shape) (word : Text) (words : List Text) → is_plain_word word ≡ true
+    → subcommand_met (names_of (built_with subs)) idle word ≡ None
     → built_fault (built_with subs) nothing_held (word ∷ words) ≡ kind.UnknownArgument ∷ kind.InvalidSubcommand ∷ []
 unnamed_fault subs word words plain none =
     let names = names_of (built_with subs) in

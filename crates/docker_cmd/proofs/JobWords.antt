@@ -64,7 +64,8 @@ module _ {name : Text} {ids : List Text} (sub : IsSubcommand name ids) (words : 
   })
 
   -- words as many as are required
-  counted : {job : NamedJob} → count_fault ids words ≡ [] → job_named name words ≡ Some job → job_found name (paired ids words) ≡ Some job → Judged (name ∷ words)
+  counted : {job : NamedJob} → count_fault ids words ≡ [] → job_named name words ≡ Some job → job_found name (paired ids words) ≡ Some job
+      → Judged (name ∷ words)
   counted is names found = inl (record {
     no_fault = fault_at_name ∙ is;
     found = found_at_name ∙ found ∙ sym names;
@@ -122,7 +123,8 @@ passed_over : (name word : Text) (names : Names) → bytes_eq word name ≡ fals
 passed_over name word names differ = ap (λ b. cond (b || false) (Some (name, [])) (find (answers_to word) names)) (swapped word name differ)
 
 -- a word that names no subcommand
-unnamed_judged : (word : Text) (words : List Text) → list_all is_plain_word (word ∷ words) ≡ true → bytes_eq word (codes "check") ≡ false → bytes_eq word (codes "day") ≡ false → Judged (word ∷ words)
+unnamed_judged : (word : Text) (words : List Text) → list_all is_plain_word (word ∷ words) ≡ true → bytes_eq word (codes "check") ≡ false
+    → bytes_eq word (codes "day") ≡ false → Judged (word ∷ words)
 unnamed_judged word words plain not_check not_day =
     let none = passed_over (codes "check") word ((codes "day", []) ∷ []) not_check ∙ passed_over (codes "day") word [] not_day in
     refused (unnamed_fault leaves word words (both _ _ plain).0 (ap (option_map (λ (s : Text × List Text). s.0)) none))

@@ -2,16 +2,16 @@
 use Rattle.std.proofs.Common.{◌≡◌, ℕ, ◌-◌, List, [], ◌∷◌, Bool, true, false, refl, ap, sym, ◌∙◌, subst, arith}
 use Rattle.std.specs.Prelude.{IsTrue, nat_lt}
 use Rattle.std.specs.Ordering.{is_lt, nat_cmp}
-use Rattle.docker_model.specs.Choice.{schedule_runs}
-use Rattle.docker_model.specs.Table.{Table, IsPlainTable}
-use Rattle.docker_model.specs.DockerLine.{DockerLine}
-use Rattle.docker_model.specs.DockerList.{IsDockerList}
-use Rattle.docker_model.specs.DockerText.{IsDockerText}
-use Rattle.docker_laws.proofs.OneTable.{IsOneSchedule}
-use Rattle.docker_laws.proofs.OneTrain.{falls_between}
-use Rattle.docker_laws.proofs.OneDocker.{departure_line, arrival_line, leaves_then, comes_then, docker_lines}
-use Rattle.docker_laws.proofs.OneDockerList.{comes_then_iff, no_line, departure_alone, arrival_alone, departure_and_arrival, arrival_and_departure}
-use Rattle.docker_laws.proofs.OneResult.{one_docker_text, list_of_file, text_of_file}
+use Rattle.docker_model.specs.docker.Choice.{schedule_runs}
+use Rattle.docker_model.specs.state.Table.{Table, IsPlainTable}
+use Rattle.docker_model.specs.docker.DockerLine.{DockerLine}
+use Rattle.docker_model.specs.docker.DockerList.{IsDockerList}
+use Rattle.docker_model.specs.docker.DockerText.{IsDockerText}
+use Rattle.docker_laws.proofs.dockers.TableOfOne.{IsOneSchedule}
+use Rattle.docker_laws.proofs.dockers.TrainOfOne.{falls_between}
+use Rattle.docker_laws.proofs.dockers.DockerOfOne.{departure_line, arrival_line, leaves_then, comes_then, docker_lines}
+use Rattle.docker_laws.proofs.dockers.DockerListOfOne.{comes_then_iff, no_line, departure_alone, arrival_alone, departure_and_arrival, arrival_and_departure}
+use Rattle.docker_laws.proofs.dockers.ResultOfOne.{one_docker_text, list_of_file, text_of_file}
 
 fails : (b : Bool) → ¬ IsTrue b → b ≡ false
 fails true never = absurd (never refl)
@@ -35,9 +35,11 @@ module _ (bs lo lt place : List ℕ) (day : ℕ) where
   nothing_listed leaves never = sym (no_line bs lo lt place day (sym leaves) (fails (comes_then bs lo lt place day) never))
 
   -- where the train leaves alone, that is the line
-  pub departure_listed : true ≡ leaves_then bs lo place day → ¬ IsTrue (comes_then bs lo lt place day) → (line : DockerLine) → line ≡ departure_line bs lo lt day
+  pub departure_listed : true ≡ leaves_then bs lo place day → ¬ IsTrue (comes_then bs lo lt place day) → (line : DockerLine)
+      → line ≡ departure_line bs lo lt day
       → line ∷ [] ≡ docker_lines bs lo lt place day
-  departure_listed leaves never line is = ap (λ l. l ∷ []) is ∙ sym (departure_alone bs lo lt place day (sym leaves) (fails (comes_then bs lo lt place day) never))
+  departure_listed leaves never line is = ap (λ l. l ∷ []) is
+      ∙ sym (departure_alone bs lo lt place day (sym leaves) (fails (comes_then bs lo lt place day) never))
 
   -- and where it comes alone
   pub arrival_listed : false ≡ leaves_then bs lo place day → (start : ℕ) → IsTrue (comes_then bs lo lt place day) × (start ≡ day - falls_between lo lt)
@@ -51,7 +53,8 @@ module _ (bs lo lt place : List ℕ) (day : ℕ) where
       → is_lt (nat_cmp leaving.time coming.time) ≡ true → leaving ∷ coming ∷ [] ≡ docker_lines bs lo lt place day
   departure_first leaves start comes leaving coming is_leaving is_coming earlier =
       (λ i. is_leaving i ∷ (is_coming ∙ (λ j. arrival_line bs lo lt (comes.1 j))) i ∷ [])
-      ∙ sym (departure_and_arrival bs lo lt place day (sym leaves) comes.0 (sym (λ i. nat_lt (is_leaving i).time (is_coming i).time) ∙ below leaving.time coming.time earlier))
+      ∙ sym (departure_and_arrival bs lo lt place day (sym leaves) comes.0
+      (sym (λ i. nat_lt (is_leaving i).time (is_coming i).time) ∙ below leaving.time coming.time earlier))
 
   -- and at one time the arrival
   pub arrival_first : true ≡ leaves_then bs lo place day → (start : ℕ) → IsTrue (comes_then bs lo lt place day) × (start ≡ day - falls_between lo lt)
@@ -59,14 +62,17 @@ module _ (bs lo lt place : List ℕ) (day : ℕ) where
       → is_lt (nat_cmp leaving.time coming.time) ≡ false → coming ∷ leaving ∷ [] ≡ docker_lines bs lo lt place day
   arrival_first leaves start comes leaving coming is_leaving is_coming earlier =
       (λ i. (is_coming ∙ (λ j. arrival_line bs lo lt (comes.1 j))) i ∷ is_leaving i ∷ [])
-      ∙ sym (arrival_and_departure bs lo lt place day (sym leaves) comes.0 (sym (λ i. nat_lt (is_leaving i).time (is_coming i).time) ∙ not_below leaving.time coming.time earlier))
+      ∙ sym (arrival_and_departure bs lo lt place day (sym leaves) comes.0
+      (sym (λ i. nat_lt (is_leaving i).time (is_coming i).time) ∙ not_below leaving.time coming.time earlier))
 
   -- lines that are those of the schedule are the docker list of its file
   pub list_of_lines : (lines : List DockerLine) → lines ≡ docker_lines bs lo lt place day
-      → (hd zz : List ℕ) (live : Table) → IsOneSchedule hd bs lo lt zz → IsPlainTable ((hd ∷ bs ∷ lo ∷ lt ∷ zz ∷ []) ∷ []) live → IsDockerList live place day lines
+      → (hd zz : List ℕ) (live : Table) → IsOneSchedule hd bs lo lt zz → IsPlainTable ((hd ∷ bs ∷ lo ∷ lt ∷ zz ∷ []) ∷ []) live
+      → IsDockerList live place day lines
   list_of_lines lines same hd zz live one plain = subst (IsDockerList live place day) (sym same) (list_of_file hd bs lo lt zz one live plain place day)
 
   -- and a text that is theirs is its docker text
   pub text_of_lines : (text : List ℕ) → text ≡ one_docker_text bs lo lt place day
-      → (hd zz : List ℕ) (live : Table) → IsOneSchedule hd bs lo lt zz → IsPlainTable ((hd ∷ bs ∷ lo ∷ lt ∷ zz ∷ []) ∷ []) live → IsDockerText live place day text
+      → (hd zz : List ℕ) (live : Table) → IsOneSchedule hd bs lo lt zz → IsPlainTable ((hd ∷ bs ∷ lo ∷ lt ∷ zz ∷ []) ∷ []) live
+      → IsDockerText live place day text
   text_of_lines text same hd zz live one plain = (text_of_file hd bs lo lt zz one live plain place day text).1 same

@@ -36,7 +36,8 @@ one_behind (a ∷ []) (day_job file tiploc date) is name = cc
 one_behind (a ∷ b ∷ words) named is name = cc
 
 -- the words behind `day`
-three_behind : (words : List (Bor Text)) (named : NamedJob) → of_three day_job (texts words) ≡ Some named → (name : Bor Text) → AreNamedWords (name ∷ words) named
+three_behind : (words : List (Bor Text)) (named : NamedJob) → of_three day_job (texts words) ≡ Some named → (name : Bor Text)
+    → AreNamedWords (name ∷ words) named
 three_behind [] named is name = cc
 three_behind (a ∷ []) named is name = cc
 three_behind (a ∷ b ∷ []) named is name = cc

@@ -1,7 +1,7 @@
 -- The file of the worked rows that has one schedule of two calls.
 use Rattle.std.proofs.Common.{refl}
-use Rattle.docker_laws.proofs.Builders.{f2}
-use Rattle.docker_laws.proofs.FileExamples.{f2_is_file, f2_text, f2_text_is}
+use Rattle.docker_laws.proofs.records.Builders.{f2}
+use Rattle.docker_laws.proofs.examples.FileExamples.{f2_is_file, f2_text, f2_text_is}
 use Rattle.docker_cmd.specs.OneSchedule.{IsOneSchedule, IsOneScheduleText}
 
 -- it is a file of one schedule

@@ -49,7 +49,8 @@ plain_fault s names word h plain none =
     ap (λ met. other_fault s met word h) none
     ∙ ap (λ b. cond b [] (flag_word_fault s.rules s.args_override_self (long_of word) word h)) (no_double_hyphen word plain)
     ∙ ap (λ long. flag_word_fault s.rules s.args_override_self long word h) (no_long word plain)
-    ∙ ap (λ flags. Rattle.std.specs.Option.option_map_or (λ fs. Rattle.clap.specs.Faults.bundle_fault s.rules s.args_override_self fs h) flags []) (no_short word plain)
+    ∙ ap (λ flags. Rattle.std.specs.Option.option_map_or (λ fs. Rattle.clap.specs.Faults.bundle_fault s.rules s.args_override_self fs h) flags [])
+    (no_short word plain)
 
 -- the walk after it: the word goes to the positional
 pub plain_walked : (c : List Rule) (names : Names) (position : ℕ) (word : Text) (h : Held) → is_plain_word word ≡ true → subcommand_met names idle word ≡ None
@@ -67,7 +68,8 @@ plain_turn s names position word h plain none =
     λ i. or_else (fault i) (step_fault s position (met i).0 (met i).1)
 
 -- and so at a walk: its fault, and then that of the rest
-pub plain_walk_fault : (s : Shape) (names : Names) (position : ℕ) (word : Text) (rest : List Text) (h : Held) → is_plain_word word ≡ true → subcommand_met names idle word ≡ None
+pub plain_walk_fault : (s : Shape) (names : Names) (position : ℕ) (word : Text) (rest : List Text) (h : Held) → is_plain_word word ≡ true
+    → subcommand_met names idle word ≡ None
     → walk_fault s names (at h position) (word ∷ rest)
     ≡ or_else (step_fault s position h value) (walk_fault s names (to_positional s.rules (arg_by_index s.rules position) word (at h position) h) rest)
 unfolding walk_fault

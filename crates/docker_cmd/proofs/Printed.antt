@@ -3,10 +3,11 @@ use Rattle.std.proofs.Common.{◌≡◌, ℕ, List, [], ◌∷◌, ◌++◌, sym
 use Rattle.std.specs.Prelude.{codes}
 use Rattle.std.specs.List.{flat_map}
 use Rattle.std.proofs.lemmas.List.{append-nil}
-use Rattle.docker_model.specs.DockerLine.{DockerLine, spaces}
-use Rattle.docker_model.specs.DockerText.{day_text, line_text, last_line, ended}
-use Rattle.docker_laws.proofs.OneDocker.{docker_lines}
-use Rattle.docker_laws.proofs.OneResult.{one_docker_text}
+use Rattle.docker_model.specs.docker.DockerLine.{DockerLine}
+use Rattle.docker_model.specs.records.PrintedTime.{spaces, day_text}
+use Rattle.docker_model.specs.docker.DockerText.{line_text, last_line, ended}
+use Rattle.docker_laws.proofs.dockers.DockerOfOne.{docker_lines}
+use Rattle.docker_laws.proofs.dockers.ResultOfOne.{one_docker_text}
 
 -- the bytes of lines
 abbrev pub bytes_of : List DockerLine → List ℕ

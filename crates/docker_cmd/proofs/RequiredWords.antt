@@ -85,7 +85,8 @@ abbrev holding : List Row → Text → Text → ℕ → Held
 holding rows id word skip = record { rows = rows; pending = Some (id, word ∷ []); skip = skip }
 
 -- a required word that is held settles to its row
-settles_new : (s : Shape) (position : ℕ) (id word : Text) (rows : List Row) (skip : ℕ) → arg_by_id s.rules id ≡ Some (placed position id) → has_row id rows ≡ false
+settles_new : (s : Shape) (position : ℕ) (id word : Text) (rows : List Row) (skip : ℕ) → arg_by_id s.rules id ≡ Some (placed position id)
+    → has_row id rows ≡ false
     → Settles s (holding rows id word skip) (rows ++ row id word ∷ [])
 settles_new s position id word rows skip found fresh = record {
   rows_are = ap (λ rule. used_by_id rule (word ∷ []) rows) found ∙ used_new position id word rows fresh;
@@ -109,7 +110,8 @@ placed_walked s position id word h rows found settles plain =
     ∙ ap (λ rs. at (holding rs id word h.skip) (next position)) settles.rows_are
 
 -- a required word has no fault
-placed_fault : (s : Shape) (position : ℕ) (id word : Text) (rest : List Text) (h : Held) (rows : List Row) → arg_by_index s.rules position ≡ Some (placed position id)
+placed_fault : (s : Shape) (position : ℕ) (id word : Text) (rest : List Text) (h : Held) (rows : List Row)
+    → arg_by_index s.rules position ≡ Some (placed position id)
     → Settles s h rows → is_plain_word word ≡ true
     → walk_fault s [] (at h position) (word ∷ rest) ≡ walk_fault s [] (at (holding rows id word h.skip) (next position)) rest
 unfolding walk_fault
@@ -136,7 +138,8 @@ is_short (id ∷ ids) [] = true
 is_short (id ∷ ids) (word ∷ words) = is_short ids words
 
 -- the walk over all the words fails only by one too many
-words_fault : (s : Shape) (position : ℕ) (ids words : List Text) (h : Held) (rows : List Row) → stray_fault s ≡ kind.UnknownArgument ∷ [] → Fits s.rules position ids → Fresh rows ids
+words_fault : (s : Shape) (position : ℕ) (ids words : List Text) (h : Held) (rows : List Row) → stray_fault s ≡ kind.UnknownArgument ∷ []
+    → Fits s.rules position ids → Fresh rows ids
     → Settles s h rows → list_all is_plain_word words ≡ true → walk_fault s [] (at h position) words ≡ surplus_fault ids words
 unfolding walk_fault
 words_fault s position [] [] h rows stray fits fresh settles plain = refl
@@ -157,14 +160,16 @@ words_held s position [] [] h rows fits fresh settles plain = subst (Settles s h
 words_held s position [] (word ∷ words) h rows fits fresh settles plain =
     let after : walked s.rules [] (at h position) word ≡ at h position =
     plain_walked s.rules [] position word h (both _ _ plain).0 refl ∙ ap (λ rule. to_positional s.rules rule word (at h position) h) fits in
-    subst (λ w. Settles s (fold (walked s.rules []) w words).held (rows ++ [])) (sym after) (words_held s position [] words h rows fits fresh settles (both _ _ plain).1)
+    subst (λ w. Settles s (fold (walked s.rules []) w words).held (rows ++ [])) (sym after)
+    (words_held s position [] words h rows fits fresh settles (both _ _ plain).1)
 words_held s position (id ∷ ids) [] h rows fits fresh settles plain = subst (Settles s h) (sym (append-nil rows)) settles
 words_held s position (id ∷ ids) (word ∷ words) h rows fits fresh settles plain =
     let after = placed_walked s position id word h rows fits.0 settles (both _ _ plain).0 in
     let rest = words_held s (next position) ids words (holding rows id word h.skip) (rows ++ row id word ∷ []) fits.2 (fresh.1 word)
     (settles_new s position id word rows h.skip fits.1 fresh.0) (both _ _ plain).1 in
     subst (λ w. Settles s (fold (walked s.rules []) w words).held (rows ++ row id word ∷ paired ids words)) (sym after)
-    (subst (Settles s (fold (walked s.rules []) (at (holding rows id word h.skip) (next position)) words).held) (append_assoc rows (row id word ∷ []) (paired ids words)) rest)
+    (subst (Settles s (fold (walked s.rules []) (at (holding rows id word h.skip) (next position)) words).held)
+    (append_assoc rows (row id word ∷ []) (paired ids words)) rest)
 
 -- ---- after the walk
 
@@ -201,14 +206,16 @@ not_given id (r ∷ rows) rest fresh =
 -- an id is given by its row
 given_here : (id word : Text) (rest : List Row) → is_given id (row id word ∷ rest) ≡ true
 given_here id word rest =
-    ap (λ b. option_map_or (λ (x : Row). explicit_source x.source) (cond b (Some (row id word)) (find (λ x. bytes_eq x.id id) rest)) false) ((bytes_eq-Decides id id).1 refl)
+    ap (λ b. option_map_or (λ (x : Row). explicit_source x.source) (cond b (Some (row id word)) (find (λ x. bytes_eq x.id id) rest)) false)
+    ((bytes_eq-Decides id id).1 refl)
 
 -- a required word is missing where the words are fewer
 missing : (position : ℕ) (ids words : List Text) (rows : List Row) → Fresh rows ids
     → list_any (λ a. a.required && not (is_given a.id (rows ++ paired ids words))) (filled_from position (map required_rule ids)) ≡ is_short ids words
 missing position [] words rows fresh = refl
 missing position (id ∷ ids) [] rows fresh =
-    ap (λ b. not b || list_any (λ a. a.required && not (is_given a.id (rows ++ []))) (filled_from (next position) (map required_rule ids))) (not_given id rows [] fresh.0)
+    ap (λ b. not b || list_any (λ a. a.required && not (is_given a.id (rows ++ []))) (filled_from (next position) (map required_rule ids)))
+    (not_given id rows [] fresh.0)
 missing position (id ∷ ids) (word ∷ words) rows fresh =
     let tail = filled_from (next position) (map required_rule ids) in
     let after = paired ids words in
@@ -223,7 +230,8 @@ missing position (id ∷ ids) (word ∷ words) rows fresh =
 abbrev pub count_fault : List Text → List Text → Kinds
 count_fault ids words = or_else (surplus_fault ids words) (cond (is_short ids words) (kind.MissingRequiredArgument ∷ []) [])
 
-module _ (name : Text) (ids words : List Text) (fits : Fits (leaf name ids).rules 1 ids) (fresh : Fresh [] ids) (plain : list_all is_plain_word words ≡ true) where
+module _ (name : Text) (ids words : List Text) (fits : Fits (leaf name ids).rules 1 ids) (fresh : Fresh [] ids)
+    (plain : list_all is_plain_word words ≡ true) where
   -- what is held at the end of the words
   end : Held
   end = (walk (leaf name ids).rules [] nothing_held words).held

@@ -1,6 +1,6 @@
 -- What `check` writes.
 use Rattle.std.specs.Prelude.{ℕ, List, ◌++◌, length, codes, decimal}
-use Rattle.docker_model.specs.Change.{Change}
+use Rattle.docker_model.specs.file.Change.{Change}
 
 -- the line of a file with so many records and so many changes
 abbrev pub count_line : ℕ → ℕ → List ℕ

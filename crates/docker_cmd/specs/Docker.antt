@@ -1,10 +1,10 @@
 -- What the lines of the code mean, in the words of the definitions.
 use Rattle.std.specs.Prelude.{List, [], ◌∷◌, take}
 use Rattle.std.specs.Option.{option_map_or}
-use Rattle.docker_model.specs.Journey as model
-use Rattle.docker_model.specs.DockerLine.{ends, spaces}
-use Rattle.docker_model.specs.DockerLine as model_line
-use Rattle.docker_model.specs.DockerText.{time_text}
+use Rattle.docker_model.specs.file.Journey as model
+use Rattle.docker_model.specs.docker.DockerLine.{ends}
+use Rattle.docker_model.specs.records.PrintedTime.{spaces, time_text}
+use Rattle.docker_model.specs.docker.DockerLine as model_line
 use Rattle.cif_line.specs.Letter.{stp_letter}
 use Rattle.docker_cmd.specs.declared.docker_line.Occasion.{Occasion}
 use Rattle.docker_cmd.specs.declared.docker_line.Occasion.TheVariants.{Arrival, Pass, Departure}

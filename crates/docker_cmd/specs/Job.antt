@@ -1,8 +1,7 @@
 -- What a job is, and which words name it.
 use Rattle.std.specs.Prelude.{◌≡◌, ℕ, ◌≤◌, ◌-◌, List, [], ◌∷◌, ◌++◌, length, Option, Some, None, ⊤}
-use Rattle.docker_model.specs.Date.{last_day}
-use Rattle.docker_model.specs.DockerLine.{spaces}
-use Rattle.docker_model.specs.DockerText.{day_text}
+use Rattle.docker_model.specs.records.Date.{last_day}
+use Rattle.docker_model.specs.records.PrintedTime.{spaces, day_text}
 use Rattle.cif_line.specs.Tiploc.{IsTiplocText}
 use Rattle.docker_cmd.specs.declared.jobs.Subcommand.{Subcommand}
 use Rattle.docker_cmd.specs.declared.jobs.Subcommand.TheVariants.{Check, Day}

@@ -1,7 +1,7 @@
 -- The job line, and its words.
-use Rattle.std.specs.Prelude.{◌≡◌, ℕ, ◌==◌, ◌≤◌, not, List, [], ◌∷◌, ◌++◌, length, filter, Option, Some, None, ⊤}
+use Rattle.std.specs.Prelude.{◌≡◌, ℕ, ◌==◌, ◌≤◌, Bool, not, if◌then◌else◌, List, [], ◌∷◌, ◌++◌, length, filter, Option, Some, None, ⊤}
 use Rattle.std.specs.List.{AllPass, slice_split}
-use Rattle.docker_model.specs.Record.{is_printable}
+use Rattle.docker_model.specs.records.Record.{is_printable}
 use Rattle.cif_line.specs.Device.{Reads, IsEnd}
 use Rattle.docker_cmd.specs.Job.{JobView, IsJobOf, NameNoJob}
 
@@ -25,9 +25,17 @@ abbrev pub HasNoLine : Option (List ℕ) → Type 0
 HasNoLine None = ⊤
 HasNoLine (Some text) = (line rest : List ℕ) → ¬ IsJobLine text line rest
 
+-- the byte is a space
+abbrev pub is_space : ℕ → Bool
+is_space byte = byte == 32
+
+-- a piece that is a word, as a list; no byte makes no word
+abbrev pub word_or_none : List ℕ → List (List ℕ)
+word_or_none piece = if length piece == 0 then [] else piece ∷ []
+
 -- the longest pieces of a line without a space
 abbrev pub words_in : List ℕ → List (List ℕ)
-words_in line = filter (λ word. not (length word == 0)) (slice_split (λ b. b == 32) line)
+words_in line = filter (λ word. not (length word == 0)) (slice_split is_space line)
 
 -- one byte was read, or the end was met
 abbrev pub ReadsByte : Option (List ℕ) → Option ℕ → Option (List ℕ) → Type 0

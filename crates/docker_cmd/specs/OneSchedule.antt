@@ -1,9 +1,9 @@
 -- A file of one permanent schedule, new or revised, that calls at its origin and its terminus alone.
 use Rattle.std.specs.Prelude.{◌≡◌, ℕ, false, List, [], ◌∷◌, map, slice_index_or, Option, Some}
-use Rattle.docker_model.specs.Record.{Kind, header, basic_schedule, origin_location, terminating_location, trailer, kind_of, column}
-use Rattle.docker_model.specs.Field.{is_deletion}
-use Rattle.docker_model.specs.File.{IsFile}
-use Rattle.docker_model.specs.FileFault.{IsFileText}
+use Rattle.docker_model.specs.records.Record.{Kind, header, basic_schedule, origin_location, terminating_location, trailer, kind_of, column}
+use Rattle.docker_model.specs.records.Field.{is_deletion}
+use Rattle.docker_model.specs.file.File.{IsFile}
+use Rattle.docker_model.specs.file.FileFault.{IsFileText}
 
 -- the kinds of its five records
 abbrev pub one_schedule_kinds : List (Option Kind)

@@ -1,22 +1,18 @@
 -- What a job has read, and what it writes.
-use Rattle.std.specs.Prelude.{◌≡◌, ℕ, ◌≤◌, List, [], ◌∷◌, ◌++◌, length, Option, Some, None, ⊤}
-use Rattle.docker_model.specs.Change.{changes}
-use Rattle.docker_model.specs.Table.{Table, IsPlainTable}
-use Rattle.docker_model.specs.DockerText.{IsDockerText}
-use Rattle.docker_model.specs.FileFault.{FileCause, IsFileFault, IsFileText}
-use Rattle.docker_model.specs.FileFault as model
-use Rattle.docker_model.specs.FaultSoFar.{IsFaultSoFar}
-use Rattle.cif_file.specs.Meaning.{cause_meant}
+use Rattle.std.specs.Prelude.{◌≡◌, ℕ, List, [], ◌∷◌, length, Option, Some}
+use Rattle.docker_model.specs.file.Change.{changes}
+use Rattle.docker_model.specs.state.Table.{Table, IsPlainTable}
+use Rattle.docker_model.specs.docker.DockerText.{IsDockerText}
+use Rattle.docker_model.specs.file.FileFault.{IsFileText}
 use Rattle.cif_file.specs.FileRead.{FileRead, IsOfRecords}
-use Rattle.cif_file.specs.ParserRead.{IsOfFileText}
-use Rattle.cif_file.specs.declared.fault.FileFault.{FileFault}
-use Rattle.cif_line.specs.Device.{Reads, Takes, TakesPart}
+use Rattle.cif_file.specs.SourceRead.{Held, ReadsText}
+use Rattle.cif_line.specs.Device.{Takes, TakesPart}
 use Rattle.docker_cmd.specs.CheckLine.{check_line}
 use Rattle.docker_cmd.specs.Job.{JobView}
 use Rattle.docker_cmd.specs.OneSchedule.{IsOneSchedule, IsOneScheduleText}
 use Rattle.docker_cmd.specs.Schedule.{AreRecordsOf}
-use Rattle.docker_cmd.specs.declared.preparing.Content.{Content}
-use Rattle.docker_cmd.specs.declared.preparing.Content.TheVariants.{File, Schedule}
+use Rattle.docker_cmd.specs.declared.prepared_job.Content.{Content}
+use Rattle.docker_cmd.specs.declared.prepared_job.Content.TheVariants.{File, Schedule}
 
 -- the most records that a file may have
 abbrev pub most_records : ℕ
@@ -25,14 +21,6 @@ most_records = 4294967294
 -- the most bytes that are read at once
 abbrev pub most_at_once : ℕ
 most_at_once = 65536
-
--- what was read has no record at fault so far before its last piece, which was read at once
-pub record ReadsNoFurther (old new : Option (List ℕ)) : Type 0 where
-  pub before : List ℕ
-  pub piece : List ℕ
-  pub sound : (fault : model.FileFault) → ¬ IsFaultSoFar most_records before fault
-  pub at_once : length piece ≤ most_at_once
-  pub read : Reads old (before ++ piece) new
 
 -- what a job has read: a file, or the records of a schedule, which are its basic schedule, its origin and its terminus
 pub data ReadView : Type 0 where
@@ -58,11 +46,6 @@ IsReadOf (schedule_read basic origin terminus) records = AreRecordsOf basic orig
 abbrev pub IsPreparedOf : PreparedView → List (List ℕ) → Type 0
 IsPreparedOf prepared file = IsReadOf prepared.read file
 
--- a source that tells its bytes held this text
-abbrev pub Held : Option (List ℕ) → List ℕ → Type 0
-Held None text = ⊤
-Held (Some told) text = told ≡ text
-
 -- the schedule is that of a file of one schedule whose text the source held
 pub record ReadsSchedule (left : Option (List ℕ)) (prepared : PreparedView) : Type 0 where
   pub text : List ℕ
@@ -71,17 +54,11 @@ pub record ReadsSchedule (left : Option (List ℕ)) (prepared : PreparedView) : 
   pub is_text : IsOneScheduleText most_records text file
   pub of_file : IsPreparedOf prepared file
 
--- the file is of a text that the source held
-pub record ReadsText (left : Option (List ℕ)) (file : FileRead) : Type 0 where
-  pub text : List ℕ
-  pub held : Held left text
-  pub of_text : IsOfFileText file most_records text
-
--- what was read is such a file
+-- what was read is the file of a text that the source held
 pub record ReadsFile (left : Option (List ℕ)) (prepared : PreparedView) : Type 0 where
   pub file : FileRead
   pub read_is : prepared.read ≡ file_read file
-  pub reads : ReadsText left file
+  pub reads : ReadsText most_records left file
 
 -- the source held the text of a file, but of none of one schedule
 pub record HoldsOtherFile (left : Option (List ℕ)) : Type 0 where
@@ -90,18 +67,6 @@ pub record HoldsOtherFile (left : Option (List ℕ)) : Type 0 where
   pub file : List (List ℕ)
   pub is_text : IsFileText most_records text file
   pub other : ¬ IsOneSchedule file
-
--- the fault is this text's, and no want of memory
-pub record IsFaultOf (text : List ℕ) (fault : FileFault) : Type 0 where
-  pub cause : FileCause
-  pub cause_is : cause_meant fault.cause ≡ Some cause
-  pub is : IsFileFault most_records text (record { number = fault.number; cause = cause })
-
--- the fault is that of a text that the source held
-pub record IsFileRefused (left : Option (List ℕ)) (fault : FileFault) : Type 0 where
-  pub text : List ℕ
-  pub held : Held left text
-  pub is : IsFaultOf text fault
 
 -- the docker text of the plain table of this one file, at the job's timing point and on its day
 pub record IsDockerOutput (job : JobView) (file : List (List ℕ)) (text : List ℕ) : Type 0 where

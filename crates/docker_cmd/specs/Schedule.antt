@@ -1,6 +1,7 @@
 -- The schedule of a file that was read, by its first change.
 use Rattle.std.specs.Prelude.{◌≡◌, ℕ, ◌==◌, List, [], ◌∷◌, length, Option, Some, None, if◌then◌else◌}
-use Rattle.docker_model.specs.Change.{Change, Key, tiploc_key, association_key, schedule_key, Act, delete, put, tiploc_body, association_body, schedule_body, as_new}
+use Rattle.docker_model.specs.file.Change.{Change, Key, tiploc_key, association_key, schedule_key, Act, delete, put, tiploc_body, association_body, schedule_body}
+use Rattle.docker_model.specs.records.Field.{as_new}
 use Rattle.docker_cmd.specs.OneSchedule.{IsOneSchedule}
 
 -- the lines that an act puts

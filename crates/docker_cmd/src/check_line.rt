@@ -6,9 +6,6 @@ use crate::buffer::put;
 use arrayvec::ArrayVec;
 use itoa::Buffer;
 
-#[cfg(test)]
-mod tests;
-
 /// The line, with its line feed. It has room for any two counts.
 pub(crate) type CheckText = ArrayVec<u8, 64>;
 

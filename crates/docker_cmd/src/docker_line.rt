@@ -1,6 +1,6 @@
 //! A line of a docker: what happens at a timing point, when, and of which train.
 ghost use Rattle.std.specs.Prelude.{◌≡◌, [], ◌∷◌};
-ghost use Rattle.docker_model.specs.DockerText.{occasion_text};
+ghost use Rattle.docker_model.specs.docker.DockerText.{occasion_text};
 ghost use Rattle.docker_cmd.specs.Docker.{occasion_meant};
 
 use cif_line::{Day, Stp, Time, Tiploc, Uid};

@@ -1,12 +1,12 @@
 //! The list of a docker: the events at a timing point on a day.
 ghost use Rattle.std.specs.Prelude.{◌≡◌, ℕ, ◌-◌, ◌≤◌, List, [], ◌∷◌, IsTrue};
 ghost use Rattle.std.specs.Option.{SomeIff};
-ghost use Rattle.docker_model.specs.Record.{column};
-ghost use Rattle.docker_model.specs.Table.{Table, IsPlainTable};
-ghost use Rattle.docker_model.specs.DockerList.{IsDockerList};
-ghost use Rattle.docker_laws.proofs.OneTable.{IsOneSchedule};
-ghost use Rattle.docker_laws.proofs.OneTrain.{falls_between};
-ghost use Rattle.docker_laws.proofs.OneDocker.{departure_line, arrival_line, leaves_then, comes_then, docker_lines};
+ghost use Rattle.docker_model.specs.records.Record.{column};
+ghost use Rattle.docker_model.specs.state.Table.{Table, IsPlainTable};
+ghost use Rattle.docker_model.specs.docker.DockerList.{IsDockerList};
+ghost use Rattle.docker_laws.proofs.dockers.TableOfOne.{IsOneSchedule};
+ghost use Rattle.docker_laws.proofs.dockers.TrainOfOne.{falls_between};
+ghost use Rattle.docker_laws.proofs.dockers.DockerOfOne.{departure_line, arrival_line, leaves_then, comes_then, docker_lines};
 ghost use Rattle.docker_cmd.specs.Docker.{line_meant, lines_meant};
 
 use crate::docker_line::{DockerLine, Occasion};
@@ -35,8 +35,10 @@ pub(crate) fn docker_lines<'a>(
 ) -> Docker<'a>
     requires new { column 3 basic.now ≡ 78 }
     requires permanent { column 80 basic.now ≡ 80 }
-    ensures lines { lines_meant result ≡ docker_lines basic.now origin.now terminus.now place.now day }
-    ensures docker { (hd zz : List ℕ) (live : Table) → IsOneSchedule hd basic.now origin.now terminus.now zz
+    ensures lines { lines_meant result
+        ≡ docker_lines basic.now origin.now terminus.now place.now day }
+    ensures docker { (hd zz : List ℕ) (live : Table)
+        → IsOneSchedule hd basic.now origin.now terminus.now zz
         → IsPlainTable ((hd ∷ basic.now ∷ origin.now ∷ terminus.now ∷ zz ∷ []) ∷ []) live
         → IsDockerList live place.now day (lines_meant result) }
 {
@@ -74,7 +76,8 @@ fn comes(
     day: Day,
 ) -> Option<Day>
     requires new { column 3 basic.now ≡ 78 }
-    ensures { SomeIff result (IsTrue (comes_then basic.now origin.now terminus.now place.now day)) (day - falls_between origin.now terminus.now) }
+    ensures { SomeIff result (IsTrue (comes_then basic.now origin.now terminus.now place.now day))
+        (day - falls_between origin.now terminus.now) }
 {
     if terminus.tiploc() != *place {
         return None;
@@ -89,7 +92,8 @@ fn comes(
 
 /// The day on which a train starts that comes to its terminus on a day: the day before, where its time there is below that of its departure.
 fn start_of_arrival(origin: &Origin<'_>, terminus: &Terminus<'_>, day: Day) -> Option<Day>
-    ensures { SomeIff result (falls_between origin.now terminus.now ≤ day) (day - falls_between origin.now terminus.now) }
+    ensures { SomeIff result (falls_between origin.now terminus.now ≤ day)
+        (day - falls_between origin.now terminus.now) }
 {
     if terminus.arrival() < origin.departure() {
         day.plus(-1)

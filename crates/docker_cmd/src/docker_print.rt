@@ -2,12 +2,12 @@
 ghost use Rattle.std.specs.Prelude.{◌≡◌, ℕ, ◌+◌, ◌≤◌, List, [], ◌∷◌, ◌++◌, length, codes, take};
 ghost use Rattle.std.specs.Option.{option_map_or};
 ghost use Rattle.arrayvec.specs.ArrayVec.{array_vec_len};
-ghost use Rattle.docker_model.specs.Record.{column};
-ghost use Rattle.docker_model.specs.Table.{Table, IsPlainTable};
-ghost use Rattle.docker_model.specs.DockerLine.{spaces};
-ghost use Rattle.docker_model.specs.DockerText.{IsDockerText, day_text, time_text, line_text, last_line, ended};
-ghost use Rattle.docker_laws.proofs.OneTable.{IsOneSchedule};
-ghost use Rattle.docker_laws.proofs.OneResult.{one_docker_text};
+ghost use Rattle.docker_model.specs.records.Record.{column};
+ghost use Rattle.docker_model.specs.state.Table.{Table, IsPlainTable};
+ghost use Rattle.docker_model.specs.records.PrintedTime.{spaces, day_text, time_text};
+ghost use Rattle.docker_model.specs.docker.DockerText.{IsDockerText, line_text, last_line, ended};
+ghost use Rattle.docker_laws.proofs.dockers.TableOfOne.{IsOneSchedule};
+ghost use Rattle.docker_laws.proofs.dockers.ResultOfOne.{one_docker_text};
 ghost use Rattle.docker_cmd.specs.Docker.{line_meant};
 
 use crate::buffer::put;
@@ -15,9 +15,6 @@ use crate::docker_line::DockerLine;
 use crate::docker_list::{Docker, docker_lines};
 use arrayvec::ArrayVec;
 use cif_line::{Basic, Day, Origin, Terminus, Time, Tiploc};
-
-#[cfg(test)]
-mod tests;
 
 /// The bytes of a line, of 56 columns and a line feed.
 const WIDTH: usize = 57;
@@ -36,7 +33,8 @@ pub(crate) fn docker_text(
     requires new { column 3 basic.now ≡ 78 }
     requires permanent { column 80 basic.now ≡ 80 }
     ensures text { result.items ≡ one_docker_text basic.now origin.now terminus.now place.now day }
-    ensures docker { (hd zz : List ℕ) (live : Table) → IsOneSchedule hd basic.now origin.now terminus.now zz
+    ensures docker { (hd zz : List ℕ) (live : Table)
+        → IsOneSchedule hd basic.now origin.now terminus.now zz
         → IsPlainTable ((hd ∷ basic.now ∷ origin.now ∷ terminus.now ∷ zz ∷ []) ∷ []) live
         → IsDockerText live place.now day result.items }
 {
@@ -56,7 +54,8 @@ pub(crate) fn docker_text(
 
 /// The heading, with no description of the place, and a line feed.
 fn heading(place: &Tiploc, day: Day) -> [u8; WIDTH]
-    ensures { result ≡ ended (codes "DOCKER " ++ place.now ++ spaces 1 ++ day_text day ++ spaces 1 ++ spaces 26 ++ spaces 4) }
+    ensures { result ≡ ended (codes "DOCKER " ++ place.now ++ spaces 1 ++ day_text day
+        ++ spaces 1 ++ spaces 26 ++ spaces 4) }
 {
     let mut text = ArrayVec::new();
     put(&mut text, b"DOCKER ");

@@ -1,5 +1,6 @@
 //! Why a job is refused.
 use cif_file::FileFault;
+use std::alloc::AllocError;
 use thiserror::Error;
 
 /// Why words or a line give no job.
@@ -14,6 +15,17 @@ pub enum JobFault {
     /// The source of the line failed.
     #[error("device failed")]
     Source,
+}
+
+impl From<AllocError> for JobFault {
+    ghost use Rattle.docker_cmd.specs.declared.fault.JobFault.TheVariants.{Memory};
+    ghost use Rattle.std.specs.Prelude.{◌≡◌};
+
+    ghost from_gives = { λ _ fault. fault ≡ Memory };
+
+    fn from(_refused: AllocError) -> JobFault {
+        JobFault::Memory
+    }
 }
 
 /// Why a job is refused.
@@ -38,4 +50,26 @@ pub enum Fault {
     Job(JobFault),
     /// The job is refused.
     Office(OfficeFault),
+}
+
+impl From<JobFault> for Fault {
+    ghost use Rattle.docker_cmd.specs.declared.fault.Fault.TheVariants.{Job};
+    ghost use Rattle.std.specs.Prelude.{◌≡◌};
+
+    ghost from_gives = { λ cause fault. fault ≡ Job cause };
+
+    fn from(cause: JobFault) -> Fault {
+        Fault::Job(cause)
+    }
+}
+
+impl From<OfficeFault> for Fault {
+    ghost use Rattle.docker_cmd.specs.declared.fault.Fault.TheVariants.{Office};
+    ghost use Rattle.std.specs.Prelude.{◌≡◌};
+
+    ghost from_gives = { λ cause fault. fault ≡ Office cause };
+
+    fn from(cause: OfficeFault) -> Fault {
+        Fault::Office(cause)
+    }
 }

@@ -1,8 +1,7 @@
 //! The job that words name.
 ghost use Rattle.std.specs.Prelude.{OnErr, ◌≡◌, ◌≢◌, ◌↔◌, ◌≤◌, ◌-◌, ◌++◌, ℕ, List, length, IfOk, IfSome, IsSome, IsTrue, Some, Err, map, string_bytes};
-ghost use Rattle.docker_model.specs.Date.{last_day};
-ghost use Rattle.docker_model.specs.DockerLine.{spaces};
-ghost use Rattle.docker_model.specs.DockerText.{day_text};
+ghost use Rattle.docker_model.specs.records.Date.{last_day};
+ghost use Rattle.docker_model.specs.records.PrintedTime.{spaces, day_text};
 ghost use Rattle.cif_line.specs.Tiploc.{IsTiplocText};
 ghost use Rattle.docker_cmd.specs.Words.{NamedJob, texts, job_of, named};
 ghost use Rattle.docker_cmd.specs.declared.jobs.Subcommand.TheVariants.{Day as day_subcommand};
@@ -36,21 +35,19 @@ pub fn job(alloc: Global, words: &[&str]) -> Result<Job, JobFault>
 /// The timing point and the day that two words name.
 fn place_and_day(tiploc: &str, date: &str) -> Option<(Tiploc, Day)>
     ensures readable { IsSome result ↔ AreReadable tiploc.now date.now }
-    ensures place { IfSome result (λ pair. IsTiplocText tiploc.now × (pair.0 ≡ tiploc.now ++ spaces (7 - length tiploc.now))) }
+    ensures place { IfSome result (λ pair. IsTiplocText tiploc.now
+        × (pair.0 ≡ tiploc.now ++ spaces (7 - length tiploc.now))) }
     ensures day { IfSome result (λ pair. (pair.1 ≤ last_day) × (date.now ≡ day_text pair.1)) }
 {
-    let Some(place) = Tiploc::from_text(tiploc) else {
-        return None;
-    };
-    let Some(day) = Day::from_iso(date) else {
-        return None;
-    };
+    let place = Tiploc::from_text(tiploc)?;
+    let day = Day::from_iso(date)?;
     Some((place, day))
 }
 
 /// The words of a subcommand are what it requires: of three the last two name a timing point and a day.
 fn are_readable(words: &[&str]) -> bool
-    ensures { (named : NamedJob) → job_of (texts words.now) ≡ Some named → IsTrue result ↔ IsReadable named }
+    ensures { (named : NamedJob) → job_of (texts words.now) ≡ Some named
+        → IsTrue result ↔ IsReadable named }
 {
     match words {
         [_, _, tiploc, date] => place_and_day(tiploc, date).is_some(),
@@ -76,10 +73,8 @@ fn files_job(alloc: Global, subcommand: Subcommand, words: &[&str]) -> Result<Jo
     ensures job { IfOk result (λ job. IsFilesJob subcommand (texts words.now) job) }
     ensures memory { OnErr result (result ≡ Err JobFault.Memory) }
 {
-    match owned(alloc, words) {
-        Ok(words) => Ok(Job::of_files(subcommand, words)),
-        Err(_) => Err(JobFault::Memory),
-    }
+    let words = owned_words(alloc, words)?;
+    Ok(Job::of_files(subcommand, words))
 }
 
 /// The job of `day` with its words.
@@ -88,17 +83,13 @@ fn day_job(alloc: Global, file: &str, tiploc: &str, date: &str) -> Result<Job, J
     ensures usage { (result ≡ Err JobFault.Usage) ↔ (¬ AreReadable tiploc.now date.now) }
     ensures source { result ≢ Err JobFault.Source }
 {
-    let Some((place, day)) = place_and_day(tiploc, date) else {
-        return Err(JobFault::Usage);
-    };
-    match owned(alloc, &[file, tiploc, date]) {
-        Ok(words) => Ok(Job::of_day(words, place, day)),
-        Err(_) => Err(JobFault::Memory),
-    }
+    let (place, day) = place_and_day(tiploc, date).ok_or(JobFault::Usage)?;
+    let words = owned_words(alloc, &[file, tiploc, date])?;
+    Ok(Job::of_day(words, place, day))
 }
 
-/// Words of our own.
-fn owned(alloc: Global, words: &[&str]) -> Result<Vec<String>, AllocError>
+/// Copies of the words, which outlive them.
+fn owned_words(alloc: Global, words: &[&str]) -> Result<Vec<String>, AllocError>
     ensures { IfOk result (λ owned. map (λ word. string_bytes word) owned.items ≡ texts words.now) }
 {
     let mut owned = Vec::with_capacity(alloc, words.len())?;

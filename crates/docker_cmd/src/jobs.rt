@@ -37,7 +37,8 @@ impl Model for Job {
       day = job.day;
     } };
 
-    ghost invariant = { λ job. (job.subcommand ≡ day_subcommand) → IsSome job.tiploc × IsSome job.day };
+    ghost invariant = { λ job. (job.subcommand ≡ day_subcommand) → IsSome job.tiploc
+        × IsSome job.day };
 }
 
 impl Job {

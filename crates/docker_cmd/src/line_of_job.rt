@@ -1,10 +1,10 @@
 //! The job line: the words of a program that is given none, on the first line of its standard input.
-ghost use Rattle.std.specs.Prelude.{◌≡◌, ℕ, ◌+◌, ◌*◌, ◌-◌, ◌^◌, ◌<◌, ◌≤◌, ◌↔◌, ◌≢◌, List, [], ◌∷◌, ◌++◌, length, Some, IfOk, OnOk, OnErr, Err, MatchOption, IfSome, ◌==◌, if◌then◌else◌};
+ghost use Rattle.std.specs.Prelude.{◌≡◌, ℕ, ◌+◌, ◌*◌, ◌-◌, ◌^◌, ◌<◌, ◌≤◌, ◌↔◌, ◌≢◌, List, [], ◌∷◌, ◌++◌, length, Some, IfOk, OnOk, OnErr, Err, MatchOption, IfSome};
 ghost use Rattle.std.specs.List.{position_or_len, before_first, after_first};
-ghost use Rattle.docker_model.specs.Record.{is_printable};
+ghost use Rattle.docker_model.specs.records.Record.{is_printable};
 ghost use Rattle.docker_cmd.specs.Job.{IsJobOf, NameNoJob};
 ghost use Rattle.arrayvec.specs.ArrayVec.{array_vec_len};
-ghost use Rattle.docker_cmd.specs.JobLine.{HasJob, HasNoJob, HasNoLine, IsLineText, ReadsAtMost, ReadsByte, ReadsJob, ReadsLine, words_in};
+ghost use Rattle.docker_cmd.specs.JobLine.{HasJob, HasNoJob, HasNoLine, IsLineText, ReadsAtMost, ReadsByte, ReadsJob, ReadsLine, is_space, word_or_none, words_in};
 ghost use Rattle.docker_cmd.specs.Words.{texts};
 
 use crate::fault::JobFault;
@@ -36,13 +36,13 @@ pub fn job_line<S: Source>(alloc: Global, source: &mut S) -> Result<Job, JobFaul
     ensures usage { (result ≡ Err JobFault.Usage) → HasNoJob (S.left source.old) }
     ensures memory { (result ≡ Err JobFault.Memory) → HasJob (S.left source.old) }
     ensures few { ReadsAtMost 256 (S.left source.old) (S.left source.new) }
-    ensures source { (result ≡ Err JobFault.Source) ↔ (S.failures source.new ≡ S.failures source.old + 1) }
-    ensures no_failure { result ≢ Err JobFault.Source → S.failures source.new ≡ S.failures source.old }
+    ensures source { (result ≡ Err JobFault.Source)
+        ↔ (S.failures source.new ≡ S.failures source.old + 1) }
+    ensures no_failure { result ≢ Err JobFault.Source
+        → S.failures source.new ≡ S.failures source.old }
 {
-    match read_line(source) {
-        Ok(line) => job_of_line(alloc, line.as_slice()),
-        Err(fault) => Err(fault),
-    }
+    let line = read_line(source)?;
+    job_of_line(alloc, line.as_slice())
 }
 
 /// The job that a line names.
@@ -87,10 +87,13 @@ fn read_byte<S: Source>(source: &mut S) -> Result<Option<u8>, JobFault>
 
 /// The piece before the first space, and what stands behind that.
 fn split_at_space(text: &str) -> Option<(&str, &str)>
-    ensures pieces { MatchOption result (position_or_len (λ b. b == 32) text.now ≡ length text.now) (λ parts.
-        (parts.0.now ≡ before_first (λ b. b == 32) text.now) × (parts.1.now ≡ after_first (λ b. b == 32) text.now)
-        × (position_or_len (λ b. b == 32) text.now < length text.now)) }
-    ensures lengths { IfSome result (λ parts. length parts.0.now + 1 + length parts.1.now ≡ length text.now) }
+    ensures pieces { MatchOption result (position_or_len is_space text.now
+        ≡ length text.now) (λ parts.
+        (parts.0.now ≡ before_first is_space text.now)
+        × (parts.1.now ≡ after_first is_space text.now)
+        × (position_or_len is_space text.now < length text.now)) }
+    ensures lengths { IfSome result (λ parts.
+        length parts.0.now + 1 + length parts.1.now ≡ length text.now) }
 {
     text.split_once(' ')
 }
@@ -98,8 +101,9 @@ fn split_at_space(text: &str) -> Option<(&str, &str)>
 /// Appends a piece that is a word.
 fn push_word<'a>(words: &mut LineWords<'a>, piece: &'a str)
     requires { 0 < length piece.now → array_vec_len words.old < 128 }
-    ensures word { texts words.new.items ≡ texts words.old.items ++ (if length piece.now == 0 then [] else piece.now ∷ []) }
-    ensures len { 2 * array_vec_len words.new ≤ 2 * array_vec_len words.old + length piece.now + 1 }
+    ensures word { texts words.new.items ≡ texts words.old.items ++ word_or_none piece.now }
+    ensures len { 2 * array_vec_len words.new
+        ≤ 2 * array_vec_len words.old + length piece.now + 1 }
 {
     if !piece.is_empty() {
         words.push(piece);
@@ -107,7 +111,7 @@ fn push_word<'a>(words: &mut LineWords<'a>, piece: &'a str)
 }
 
 /// The words of a line: its longest pieces without a space.
-#[tactic(auto, using(crate::proofs::LinePieces::words_at_space, crate::proofs::LinePieces::words_without_space))]
+#[tactic(auto, using(crate::proofs::LineWords::words_at_space, crate::proofs::LineWords::words_without_space))]
 fn words_in(line: &str) -> LineWords<'_>
     requires { length line.now ≤ 255 }
     ensures { texts result.items ≡ words_in line.now }
@@ -127,12 +131,15 @@ fn words_in(line: &str) -> LineWords<'_>
 /// is not printable or has no line feed is a usage fault.
 fn read_line<S: Source>(source: &mut S) -> Result<Line, JobFault>
     requires { S.failures source.old < 2 ^ 64 - 1 }
-    ensures line { IfOk result (λ line. ReadsLine (S.left source.old) line.items (S.left source.new)) }
+    ensures line { IfOk result (λ line. ReadsLine (S.left source.old) line.items
+        (S.left source.new)) }
     ensures usage { (result ≡ Err JobFault.Usage) → HasNoLine (S.left source.old) }
     ensures memory { result ≢ Err JobFault.Memory }
     ensures few { ReadsAtMost 256 (S.left source.old) (S.left source.new) }
-    ensures failure { (result ≡ Err JobFault.Source) ↔ (S.failures source.new ≡ S.failures source.old + 1) }
-    ensures no_failure { result ≢ Err JobFault.Source → S.failures source.new ≡ S.failures source.old }
+    ensures source { (result ≡ Err JobFault.Source)
+        ↔ (S.failures source.new ≡ S.failures source.old + 1) }
+    ensures no_failure { result ≢ Err JobFault.Source
+        → S.failures source.new ≡ S.failures source.old }
 {
     let mut line = Line::new();
     for _ in 0..=LONGEST {

@@ -1,7 +1,7 @@
 //! The days on which a schedule runs.
 ghost use Rattle.std.specs.Prelude.{◌≡◌, false};
-ghost use Rattle.docker_model.specs.Field.{is_deletion};
-ghost use Rattle.docker_model.specs.Choice.{schedule_runs};
+ghost use Rattle.docker_model.specs.records.Field.{is_deletion};
+ghost use Rattle.docker_model.specs.docker.Choice.{schedule_runs};
 
 use cif_line::{Basic, Day};
 

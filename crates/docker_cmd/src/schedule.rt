@@ -1,7 +1,7 @@
 //! The schedule of a file of one schedule.
 ghost use Rattle.std.specs.Prelude.{◌≡◌, ◌==◌, List, ℕ, map, option_map, option_and_then, IfSome, IsNone};
-ghost use Rattle.docker_model.specs.File.{IsFile};
-ghost use Rattle.docker_model.specs.Record.{basic_schedule, origin_location, terminating_location, column};
+ghost use Rattle.docker_model.specs.file.File.{IsFile};
+ghost use Rattle.docker_model.specs.records.Record.{basic_schedule, origin_location, terminating_location, column};
 ghost use Rattle.cif_line.specs.View.{IsGood};
 ghost use Rattle.cif_file.specs.FileRead.{IsOfRecords};
 ghost use Rattle.cif_file.specs.Meaning.{act_meant, change_meant, key_meant};
@@ -29,9 +29,11 @@ pub(crate) struct Schedule {
 
 /// The schedule of a file that was read. None where the file is of another shape than that of one such schedule.
 pub(crate) fn schedule_of(file: CifFile) -> Option<Schedule>
-    ensures some { IfSome result (λ schedule. (records : List (List ℕ)) → IsFile records → IsOfRecords file records
+    ensures some { IfSome result (λ schedule. (records : List (List ℕ)) → IsFile records
+        → IsOfRecords file records
         → AreRecordsOf schedule.basic schedule.origin schedule.terminus records) }
-    ensures none { IsNone result → (records : List (List ℕ)) → IsFile records → IsOfRecords file records → ¬ IsOneSchedule records }
+    ensures none { IsNone result → (records : List (List ℕ)) → IsFile records
+        → IsOfRecords file records → ¬ IsOneSchedule records }
 {
     if file.records() != RECORDS {
         return None;
@@ -57,7 +59,8 @@ fn schedule_lines(file: CifFile) -> Option<[Line; 3]>
 
 /// The lines that the first change puts at the key of a permanent schedule.
 fn put_lines(changes: &[Change]) -> Option<&Lines>
-    ensures { option_map (λ lines. lines.now) result ≡ first_permanent (map change_meant changes.now) }
+    ensures { option_map (λ lines. lines.now) result
+        ≡ first_permanent (map change_meant changes.now) }
 {
     match changes {
         [] => None,

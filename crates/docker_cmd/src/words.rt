@@ -11,9 +11,6 @@ use clap::error::ErrorKind;
 use std::alloc::Global;
 use thiserror::Error;
 
-#[cfg(test)]
-mod tests;
-
 /// A subcommand and the words behind it.
 #[derive(Clone, Copy, Debug, PartialEq, Eq)]
 pub(crate) enum JobWords<'a> {
@@ -80,7 +77,8 @@ fn fault_at(kind: ErrorKind, words: &[&str]) -> WordsFault
 
 /// The word that `clap` found at an id.
 fn word_at<'a>(words: &ArgMatches<'a>, id: &str) -> Option<&'a str>
-    ensures { option_map (λ word. word.now) result ≡ first_of id.now (rows_of (found_of words.now)) }
+    ensures { option_map (λ word. word.now) result
+        ≡ first_of id.now (rows_of (found_of words.now)) }
 {
     words.get_str(id)
 }

@@ -2,11 +2,12 @@
 use Rattle.std.proofs.Common.{List, [], ◌∷◌, map}
 use Rattle.std.specs.List.{AllByRecursion}
 use Rattle.std.specs.declared.cmp.Ordering.{Ordering}
-use Rattle.docker_model.specs.Order.{IsBelow, IsStrictlyAscending}
-use Rattle.docker_laws.proofs.Pairs.{all_map}
+use Rattle.docker_model.specs.state.Order.{IsBelow, IsStrictlyAscending}
+use Rattle.docker_laws.proofs.lists.AllOf.{all_map}
 
 -- an order of what a function makes of the elements
-pub ascending_meant : {A B : Type 0} (f : A → B) (cmp : B → B → Ordering) (xs : List A) → IsStrictlyAscending (λ a b. cmp (f a) (f b)) xs → IsStrictlyAscending cmp (map f xs)
+pub ascending_meant : {A B : Type 0} (f : A → B) (cmp : B → B → Ordering) (xs : List A) → IsStrictlyAscending (λ a b. cmp (f a) (f b)) xs
+    → IsStrictlyAscending cmp (map f xs)
 ascending_meant f cmp [] up = tt
 ascending_meant f cmp (x ∷ xs) up = (all_map f (IsBelow cmp (f x)) xs up.0, ascending_meant f cmp xs up.1)
 
@@ -15,6 +16,7 @@ all_back f P [] all = tt
 all_back f P (x ∷ xs) all = (all.0, all_back f P xs all.1)
 
 -- and back
-pub meant_ascending : {A B : Type 0} (f : A → B) (cmp : B → B → Ordering) (xs : List A) → IsStrictlyAscending cmp (map f xs) → IsStrictlyAscending (λ a b. cmp (f a) (f b)) xs
+pub meant_ascending : {A B : Type 0} (f : A → B) (cmp : B → B → Ordering) (xs : List A) → IsStrictlyAscending cmp (map f xs)
+    → IsStrictlyAscending (λ a b. cmp (f a) (f b)) xs
 meant_ascending f cmp [] up = tt
 meant_ascending f cmp (x ∷ xs) up = (all_back f (IsBelow cmp (f x)) xs up.0, meant_ascending f cmp xs up.1)

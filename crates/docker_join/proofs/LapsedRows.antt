@@ -2,12 +2,12 @@
 use Rattle.std.proofs.Common.{◌≡◌, ℕ, ◌+◌, ◌<◌, ◌≤◌, List, [], ◌∷◌, ◌++◌, map, length, get_or, take, drop, set, ap, sym, ◌∙◌, subst, append_assoc, arith}
 use Rattle.std.specs.declared.cmp.Ordering.{Ordering}
 use Rattle.std.proofs.lemmas.List.{map-append, drop_more, take_more_set, drop-set-lt, take_all, drop_all, append-nil}
-use Rattle.docker_model.specs.Change as model
-use Rattle.docker_model.specs.Op as ops
-use Rattle.docker_model.specs.Op.{key_cmp}
-use Rattle.docker_model.specs.Lapse.{lapse_entry, lapse_keyed, lapse_entries}
-use Rattle.docker_model.specs.Order.{IsStrictlyAscending}
-use Rattle.docker_laws.proofs.Kept.{lapse_ascends}
+use Rattle.docker_model.specs.file.Change as model
+use Rattle.docker_model.specs.state.Op as ops
+use Rattle.docker_model.specs.state.Op.{key_cmp}
+use Rattle.docker_model.specs.state.Lapse.{lapse_entry, lapse_keyed, lapse_entries}
+use Rattle.docker_model.specs.state.Order.{IsStrictlyAscending}
+use Rattle.docker_laws.proofs.states.KeptEntries.{lapse_ascends}
 use Rattle.cif_file.specs.declared.key.Key.{Key}
 use Rattle.cif_file.specs.Meaning.{key_meant}
 use Rattle.docker_join.specs.declared.entry.Entry.{Entry}
@@ -38,7 +38,8 @@ one_more horizon all rows i d after within is same =
     ∙ same
 
 -- at the end all have
-pub all_lapsed : (horizon : ℕ) (all : List (model.Key × ops.Entry)) (rows : List Row) (i : ℕ) → length rows ≤ i → lapsed_from horizon i rows ≡ all → map row_meant rows ≡ all
+pub all_lapsed : (horizon : ℕ) (all : List (model.Key × ops.Entry)) (rows : List Row) (i : ℕ) → length rows ≤ i → lapsed_from horizon i rows ≡ all
+    → map row_meant rows ≡ all
 all_lapsed horizon all rows i over same =
     sym (ap (map row_meant) (take_all i rows over)) ∙ sym (append-nil (map row_meant (take i rows)))
     ∙ sym (ap (λ xs. map row_meant (take i rows) ++ lapse_entries horizon (map row_meant xs)) (drop_all i rows over)) ∙ same
@@ -49,7 +50,8 @@ written_back new old n size same =
     ap (take n) (ap (λ xs. new ++ xs) (drop_all (length new) old (omega arith)) ∙ append-nil new) ∙ take_all n new (omega arith)
 
 -- lapsed rows ascend
-pub lapsed_ascend : (horizon : ℕ) (rows after : List Row) → map row_meant after ≡ lapse_entries horizon (map row_meant rows) → AreAscending rows → AreAscending after
+pub lapsed_ascend : (horizon : ℕ) (rows after : List Row) → map row_meant after ≡ lapse_entries horizon (map row_meant rows) → AreAscending rows
+    → AreAscending after
 lapsed_ascend horizon rows after same up =
     meant_ascending row_meant by_key after
     (subst (IsStrictlyAscending by_key) (sym same) (lapse_ascends horizon (map row_meant rows) (ascending_meant row_meant by_key rows up)))

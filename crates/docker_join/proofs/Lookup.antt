@@ -8,10 +8,10 @@ use Rattle.std.specs.declared.cmp.Ordering.{Ordering}
 use Rattle.std.specs.declared.cmp.Ordering.TheVariants.{Less, Equal, Greater}
 use Rattle.std.specs.Ordering.{ordering_index, ordering_reverse}
 use Rattle.std.specs.Cmp.{tied_itself}
-use Rattle.docker_model.specs.Change as model
-use Rattle.docker_model.specs.Op.{key_cmp}
-use Rattle.docker_model.specs.Order.{IsBelow}
-use Rattle.docker_laws.proofs.Orders.{key_total, exact_key}
+use Rattle.docker_model.specs.file.Change as model
+use Rattle.docker_model.specs.state.Op.{key_cmp}
+use Rattle.docker_model.specs.state.Order.{IsBelow}
+use Rattle.docker_laws.proofs.orders.Orders.{key_total, exact_key}
 use Rattle.cif_file.specs.declared.key.Key.{Key}
 use Rattle.cif_file.specs.Meaning.{key_meant}
 use Rattle.docker_join.specs.Rows.{row_cmp, AreAscending, value_at}
@@ -22,7 +22,8 @@ abbrev pub by_key : {E : Type 0} → model.Key → Key × E → Ordering
 by_key key row = key_cmp (key_meant row.0) key
 
 module _ {E : Type 0} where
-  above_at : (low : Key × E) (rows : List (Key × E)) (j : ℕ) (d : Key × E) → AllByRecursion (IsBelow row_cmp low) rows → j < length rows → row_cmp low (get_or rows j d) ≡ Less
+  above_at : (low : Key × E) (rows : List (Key × E)) (j : ℕ) (d : Key × E) → AllByRecursion (IsBelow row_cmp low) rows → j < length rows
+      → row_cmp low (get_or rows j d) ≡ Less
   above_at low [] j d above within = absurd (let none : j < length {A = ℕ} [] = within in omega arith)
   above_at low (row ∷ rows) zero d above within = above.0
   above_at low (row ∷ rows) (suc j) d above within = above_at low rows j d above.1 (omega arith)
@@ -40,17 +41,22 @@ module _ {E : Type 0} where
     where
       by : (o : Ordering) → by_key key x ≡ o → (p : Ordering) → by_key key y ≡ p → ordering_index o ≤ ordering_index p
       by Less at_x p at_y = omega arith
-      by Equal at_x Less at_y = absurd (let same = key_total.congr (key_meant x.0) key (key_meant y.0) at_x in let back = key_total.antisymm (key_meant y.0) key in let r = ap ordering_reverse (sym same ∙ below) in cc)
+      by Equal at_x Less at_y =
+          absurd (let same = key_total.congr (key_meant x.0) key (key_meant y.0) at_x in let back = key_total.antisymm (key_meant y.0) key in
+          let r = ap ordering_reverse (sym same ∙ below) in cc)
       by Equal at_x Equal at_y = omega arith
       by Equal at_x Greater at_y = omega arith
       by Greater at_x Less at_y = absurd (let far = key_total.trans (key_meant x.0) (key_meant y.0) key below at_y in cc)
-      by Greater at_x Equal at_y = absurd (let far = key_total.antisymm (key_meant x.0) key in let same = key_total.congr (key_meant y.0) key (key_meant x.0) at_y in let turned = key_total.antisymm (key_meant y.0) (key_meant x.0) in let r = ap ordering_reverse below in cc)
+      by Greater at_x Equal at_y =
+          absurd (let far = key_total.antisymm (key_meant x.0) key in let same = key_total.congr (key_meant y.0) key (key_meant x.0) at_y in
+          let turned = key_total.antisymm (key_meant y.0) (key_meant x.0) in let r = ap ordering_reverse below in cc)
       by Greater at_x Greater at_y = omega arith
 
   pub rising : (rows : List (Key × E)) (key : model.Key) → AreAscending rows → IsNonDecreasingBy (λ row. ordering_index (by_key key row)) rows
   rising rows key up = λ i j d before within. by i j d before within (cases_lt i j)
     where
-      by : (i j : ℕ) (d : Key × E) → i ≤ j → j < length rows → (i < j) ⊎ (j ≤ i) → ordering_index (by_key key (get_or rows i d)) ≤ ordering_index (by_key key (get_or rows j d))
+      by : (i j : ℕ) (d : Key × E) → i ≤ j → j < length rows → (i < j) ⊎ (j ≤ i)
+          → ordering_index (by_key key (get_or rows i d)) ≤ ordering_index (by_key key (get_or rows j d))
       by i j d before within (inl strictly) = rises key (get_or rows i d) (get_or rows j d) (below_at rows i j d up strictly within)
       by i j d before within (inr after) =
           let same : i ≡ j = omega arith in

@@ -7,10 +7,10 @@ use Rattle.std.specs.List.{AllByRecursion}
 use Rattle.std.specs.declared.cmp.Ordering.{Ordering}
 use Rattle.std.specs.declared.cmp.Ordering.TheVariants.{Less, Equal, Greater}
 use Rattle.std.specs.Ordering.{ordering_reverse}
-use Rattle.docker_model.specs.Change as model
-use Rattle.docker_model.specs.Op.{key_cmp}
-use Rattle.docker_model.specs.Order.{IsBelow}
-use Rattle.docker_laws.proofs.Orders.{key_total, exact_key}
+use Rattle.docker_model.specs.file.Change as model
+use Rattle.docker_model.specs.state.Op.{key_cmp}
+use Rattle.docker_model.specs.state.Order.{IsBelow}
+use Rattle.docker_laws.proofs.orders.Orders.{key_total, exact_key}
 use Rattle.cif_file.specs.declared.key.Key.{Key}
 use Rattle.cif_file.specs.Meaning.{key_meant}
 use Rattle.docker_join.specs.Rows.{row_cmp, AreAscending, value_at, picked_value, IsJoinOfRows}
@@ -88,7 +88,8 @@ module _ {E : Type 0} (picked : E → E → E) where
   Both xs ys key = picked_value picked (value_at xs key) (value_at ys key)
 
   -- a row of the first table alone goes out
-  first_out : (x : Key × E) (xs ys tail : List (Key × E)) (key : model.Key) → Above x ys → value_at tail key ≡ Both xs ys key → value_at (x ∷ tail) key ≡ Both (x ∷ xs) ys key
+  first_out : (x : Key × E) (xs ys tail : List (Key × E)) (key : model.Key) → Above x ys → value_at tail key ≡ Both xs ys key
+      → value_at (x ∷ tail) key ≡ Both (x ∷ xs) ys key
   first_out x xs ys tail key above later = by (key_cmp (key_meant x.0) key) refl
     where
       behind : ¬ (key_cmp (key_meant x.0) key ≡ Equal) → value_at (x ∷ tail) key ≡ Both (x ∷ xs) ys key
@@ -102,7 +103,8 @@ module _ {E : Type 0} (picked : E → E → E) where
           value_here x tail key is ∙ sym (λ i. picked_value picked (value_here x xs key is i) (none i))
 
   -- a row of the second table alone goes out
-  second_out : (y : Key × E) (xs ys tail : List (Key × E)) (key : model.Key) → Above y xs → value_at tail key ≡ Both xs ys key → value_at (y ∷ tail) key ≡ Both xs (y ∷ ys) key
+  second_out : (y : Key × E) (xs ys tail : List (Key × E)) (key : model.Key) → Above y xs → value_at tail key ≡ Both xs ys key
+      → value_at (y ∷ tail) key ≡ Both xs (y ∷ ys) key
   second_out y xs ys tail key above later = by (key_cmp (key_meant y.0) key) refl
     where
       behind : ¬ (key_cmp (key_meant y.0) key ≡ Equal) → value_at (y ∷ tail) key ≡ Both xs (y ∷ ys) key
@@ -143,10 +145,12 @@ module _ {E : Type 0} (picked : E → E → E) where
   from_values x xs up_x behind (y ∷ ys) up_y key = by (row_cmp x y) refl (from_values x xs up_x behind ys up_y.1 key)
     where
       by : (o : Ordering) → row_cmp x y ≡ o → value_at (walk_from picked x (walk picked xs) ys) key ≡ Both (x ∷ xs) ys key
-          → value_at (placed picked o x y (walk picked xs (y ∷ ys)) (walk picked xs ys) (walk_from picked x (walk picked xs) ys)) key ≡ Both (x ∷ xs) (y ∷ ys) key
+          → value_at (placed picked o x y (walk picked xs (y ∷ ys)) (walk picked xs ys) (walk_from picked x (walk picked xs) ys)) key ≡ Both (x ∷ xs)
+          (y ∷ ys) key
       by Less is later = first_out x xs (y ∷ ys) (walk picked xs (y ∷ ys)) key (is, above_lower x y ys is up_y.0) (behind (y ∷ ys) up_y key)
       by Equal is later = both_out x y xs ys (walk picked xs ys) key is (behind ys up_y.1 key)
-      by Greater is later = second_out y (x ∷ xs) ys (walk_from picked x (walk picked xs) ys) key (turned x y is, above_lower y x xs (turned x y is) up_x.0) later
+      by Greater is later =
+          second_out y (x ∷ xs) ys (walk_from picked x (walk picked xs) ys) key (turned x y is, above_lower y x xs (turned x y is) up_x.0) later
 
   walk_values : (xs ys : List (Key × E)) → AreAscending xs → AreAscending ys → (key : model.Key) → value_at (walk picked xs ys) key ≡ Both xs ys key
   walk_values [] ys up_x up_y key = refl
@@ -157,7 +161,8 @@ module _ {E : Type 0} (picked : E → E → E) where
   walk_joins xs ys up_x up_y = record { ascends = walk_ascends xs ys up_x up_y; values = walk_values xs ys up_x up_y }
 
 -- where nothing is in hand and none is left behind it, there are no rows
-pub none_left : {A : Type 0} (hand : Option A) (rest : List A) (n : ℕ) → hand ≡ None → n ≡ length rest → MatchOption hand (n ≡ 0) (λ _. ⊤) → option_to_list hand ++ rest ≡ []
+pub none_left : {A : Type 0} (hand : Option A) (rest : List A) (n : ℕ) → hand ≡ None → n ≡ length rest → MatchOption hand (n ≡ 0) (λ _. ⊤)
+    → option_to_list hand ++ rest ≡ []
 none_left None [] n is size done = refl
 none_left None (x ∷ xs) n is size done = absurd (omega arith)
 none_left (Some x) rest n is size done = cc

@@ -5,12 +5,12 @@ use Rattle.std.specs.List.{concat}
 use Rattle.std.specs.declared.cmp.Ordering.TheVariants.{Equal}
 use Rattle.std.specs.Ordering.{on, nat_cmp}
 use Rattle.std.proofs.lemmas.Map.Lookups.{exact_unsigned, exact_bytes}
-use Rattle.docker_model.specs.Record.{IsRecord}
-use Rattle.docker_model.specs.Order.{bytes_cmp}
-use Rattle.docker_model.specs.Stamp.{file_stamp_cmp, stamp_cmp}
-use Rattle.docker_model.specs.Op.{op_cmp, entry_cmp, body_cmp, body_end, body_bytes, body_tag}
-use Rattle.docker_laws.proofs.Orders as laws
-use Rattle.docker_laws.proofs.StateRun.{same_front}
+use Rattle.docker_model.specs.records.Record.{IsRecord}
+use Rattle.docker_model.specs.state.Order.{bytes_cmp}
+use Rattle.docker_model.specs.state.Stamp.{file_stamp_cmp, stamp_cmp}
+use Rattle.docker_model.specs.state.Op.{op_cmp, entry_cmp, body_cmp, body_end, body_bytes, body_tag}
+use Rattle.docker_laws.proofs.orders.Orders as laws
+use Rattle.docker_laws.proofs.texts.TextStages.{same_front}
 use Rattle.std.proofs.lemmas.List.Elements.{All-head, All-tail}
 use Rattle.cif_file.specs.declared.change.Body.{Body}
 use Rattle.cif_file.specs.declared.change.Body.TheVariants as body
@@ -55,8 +55,10 @@ same_lines (x ∷ xs) (y ∷ ys) good_x good_y same =
 exact_body : (a b : Body) → IsOfRecords (body_meant a) → IsOfRecords (body_meant b) → body_cmp (body_meant a) (body_meant b) ≡ Equal → a ≡ b
 exact_body a b good_a good_b tied =
     let after_end = laws.then_equal (nat_cmp (body_end (body_meant a)) (body_end (body_meant b))) _ tied in
-    let parts = laws.then_equal (bytes_cmp (body_bytes (body_meant a)) (body_bytes (body_meant b))) (nat_cmp (body_tag (body_meant a)) (body_tag (body_meant b))) after_end.1 in
-    by a b good_a good_b (exact_bytes (body_bytes (body_meant a)) (body_bytes (body_meant b)) parts.0) (exact_unsigned (body_tag (body_meant a)) (body_tag (body_meant b)) parts.1)
+    let parts = laws.then_equal (bytes_cmp (body_bytes (body_meant a)) (body_bytes (body_meant b)))
+    (nat_cmp (body_tag (body_meant a)) (body_tag (body_meant b))) after_end.1 in
+    by a b good_a good_b (exact_bytes (body_bytes (body_meant a)) (body_bytes (body_meant b)) parts.0)
+    (exact_unsigned (body_tag (body_meant a)) (body_tag (body_meant b)) parts.1)
   where
     by : (x y : Body) → IsOfRecords (body_meant x) → IsOfRecords (body_meant y) → body_bytes (body_meant x) ≡ body_bytes (body_meant y)
         → body_tag (body_meant x) ≡ body_tag (body_meant y) → x ≡ y

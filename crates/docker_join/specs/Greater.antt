@@ -1,7 +1,7 @@
 -- The greater of two values.
 use Rattle.std.specs.Prelude.{◌≡◌, ◌⊎◌}
 use Rattle.std.specs.declared.cmp.Ordering.{Ordering}
-use Rattle.docker_model.specs.Order.{IsAtMost}
+use Rattle.docker_model.specs.state.Order.{IsAtMost}
 
 -- it is one of the two, and neither is above it
 pub record IsGreater {A : Type 0} (cmp : A → A → Ordering) (a b greater : A) : Type 0 where

@@ -4,10 +4,8 @@ use Rattle.std.specs.declared.cmp.Ordering.{Ordering}
 use Rattle.std.specs.declared.cmp.Ordering.TheVariants.{Less, Equal, Greater}
 use Rattle.std.specs.Ordering.{ord_max, is_lt}
 use Rattle.std.specs.Cmp.{IsTotalOrder}
-use Rattle.docker_model.specs.Order.{IsAtMost}
-use Rattle.docker_laws.proofs.Unique.{level}
-use Rattle.docker_laws.proofs.PlainTable.{at_most_trans}
-use Rattle.docker_laws.proofs.UnionSummary.{at_most_itself, at_most_below}
+use Rattle.docker_model.specs.state.Order.{IsAtMost}
+use Rattle.docker_laws.proofs.orders.AtMost.{level, at_most_trans, at_most_itself, at_most_below}
 use Rattle.docker_join.specs.Greater.{IsGreater}
 
 -- the order tells valid values apart

@@ -1,8 +1,8 @@
 -- What stamps, ops and entries of the code mean, as the definitions name them.
-use Rattle.docker_model.specs.Change as changes
-use Rattle.docker_model.specs.Stamp as model
-use Rattle.docker_model.specs.Op as ops
-use Rattle.docker_model.specs.Op.{deleted, lapsed, put_with}
+use Rattle.docker_model.specs.file.Change as changes
+use Rattle.docker_model.specs.state.Stamp as model
+use Rattle.docker_model.specs.state.Op as ops
+use Rattle.docker_model.specs.state.Op.{deleted, lapsed, put_with}
 use Rattle.cif_file.specs.Meaning.{body_meant, key_meant}
 use Rattle.cif_file.specs.declared.key.Key.{Key}
 use Rattle.docker_join.specs.declared.stamp.FileStamp.{FileStamp}

@@ -1,8 +1,8 @@
 -- Bodies and ops that are of records, which their order tells apart.
 use Rattle.std.specs.Prelude.{⊤, All}
-use Rattle.docker_model.specs.Record.{IsRecord}
-use Rattle.docker_model.specs.Change.{Body, tiploc_body, association_body, schedule_body}
-use Rattle.docker_model.specs.Op.{Op, deleted, lapsed, put_with}
+use Rattle.docker_model.specs.records.Record.{IsRecord}
+use Rattle.docker_model.specs.file.Change.{Body, tiploc_body, association_body, schedule_body}
+use Rattle.docker_model.specs.state.Op.{Op, deleted, lapsed, put_with}
 
 -- the lines of the body are records
 abbrev pub IsOfRecords : Body → Type 0

@@ -7,15 +7,14 @@ use Rattle.std.specs.declared.cmp.Ordering.{Ordering}
 use Rattle.std.specs.declared.cmp.Ordering.TheVariants.{Less, Equal, Greater}
 use Rattle.std.specs.Ordering.{is_eq}
 use Rattle.std.specs.Cmp.{IsTotalOrder, on_total, tied_itself}
-use Rattle.docker_model.specs.Change as model
-use Rattle.docker_model.specs.Op.{key_cmp}
-use Rattle.docker_model.specs.Order.{IsBelow}
-use Rattle.docker_laws.proofs.Orders.{key_total, exact_key}
-use Rattle.docker_laws.proofs.Ascending.{Contains-cons, cons-Contains, cons-Contains-first, nil-Contains, below_by_recursion, same_list}
-use Rattle.docker_laws.proofs.JoinValid.{all_members}
-use Rattle.docker_laws.proofs.JoinLaws.{member_of}
-use Rattle.cif_line.specs.declared.letter.Stp.{Stp}
-use Rattle.cif_line.specs.declared.letter.Stp.TheVariants as stp
+use Rattle.docker_model.specs.file.Change as model
+use Rattle.docker_model.specs.state.Op.{key_cmp}
+use Rattle.docker_model.specs.state.Order.{IsBelow}
+use Rattle.docker_laws.proofs.orders.Orders.{key_total, exact_key}
+use Rattle.docker_laws.proofs.lists.Membership.{Contains-cons, cons-Contains, cons-Contains-first, nil-Contains, below_by_recursion, all_members, member_of}
+use Rattle.docker_laws.proofs.orders.Ascending.{same_list}
+use Rattle.cif_field.specs.declared.letter.Stp.{Stp}
+use Rattle.cif_field.specs.declared.letter.Stp.TheVariants as stp
 use Rattle.cif_line.specs.Letter.{stp_letter}
 use Rattle.cif_file.specs.declared.key.Key.{Key}
 use Rattle.cif_file.specs.declared.key.Key.TheVariants as key
@@ -91,10 +90,12 @@ module _ {E : Type 0} where
 
   -- the value at the key of the first row
   pub value_here : (row : Key × E) (rows : List (Key × E)) (key : model.Key) → key_cmp (key_meant row.0) key ≡ Equal → value_at (row ∷ rows) key ≡ Some row.1
-  value_here row rows key tied = λ i. option_map (λ (r : Key × E). r.1) (cond (is_eq (tied i)) (Some row) (find (λ (r : Key × E). is_eq (key_cmp (key_meant r.0) key)) rows))
+  value_here row rows key tied =
+      λ i. option_map (λ (r : Key × E). r.1) (cond (is_eq (tied i)) (Some row) (find (λ (r : Key × E). is_eq (key_cmp (key_meant r.0) key)) rows))
 
   -- at another key the value is that of the rows behind it
-  pub value_behind : (row : Key × E) (rows : List (Key × E)) (key : model.Key) → ¬ (key_cmp (key_meant row.0) key ≡ Equal) → value_at (row ∷ rows) key ≡ value_at rows key
+  pub value_behind : (row : Key × E) (rows : List (Key × E)) (key : model.Key) → ¬ (key_cmp (key_meant row.0) key ≡ Equal)
+      → value_at (row ∷ rows) key ≡ value_at rows key
   value_behind row rows key other = by (key_cmp (key_meant row.0) key) refl
     where
       by : (o : Ordering) → key_cmp (key_meant row.0) key ≡ o → value_at (row ∷ rows) key ≡ value_at rows key
@@ -114,8 +115,10 @@ module _ {E : Type 0} where
   value_of [] row up among = absurd (nil-Contains row among)
   value_of (first ∷ rows) row up among = by (value_of rows row up.1) (Contains-cons first rows row among)
     where
-      by : (Contains rows row → value_at rows (key_meant row.0) ≡ Some row.1) → (first ≡ row) ⊎ Contains rows row → value_at (first ∷ rows) (key_meant row.0) ≡ Some row.1
-      by rest (inl same) = subst (λ r. value_at (first ∷ rows) (key_meant r.0) ≡ Some r.1) same (value_here first rows (key_meant first.0) (tied_itself key_total (key_meant first.0)))
+      by : (Contains rows row → value_at rows (key_meant row.0) ≡ Some row.1) → (first ≡ row) ⊎ Contains rows row
+          → value_at (first ∷ rows) (key_meant row.0) ≡ Some row.1
+      by rest (inl same) = subst (λ r. value_at (first ∷ rows) (key_meant r.0) ≡ Some r.1) same
+          (value_here first rows (key_meant first.0) (tied_itself key_total (key_meant first.0)))
       by rest (inr inside) =
           value_behind first rows (key_meant row.0)
           (λ tied. let below : row_cmp first row ≡ Less = below_by_recursion (IsBelow row_cmp first) rows row up.0 inside in cc)
@@ -227,7 +230,8 @@ module _ {E : Type 0} (valid : E → Type 0) (picked : E → E → E) (laws : Ar
     is.ascends,
     all_members (λ (row : Key × E). valid row.1) c (λ row among.
         subst (IsValidValue valid) (sym (is.values (key_meant row.0)) ∙ value_of c row is.ascends among)
-        (values_closed (value_at a (key_meant row.0)) (value_at b (key_meant row.0)) (valid_at a (key_meant row.0) good_a) (valid_at b (key_meant row.0) good_b))),
+        (values_closed (value_at a (key_meant row.0)) (value_at b (key_meant row.0)) (valid_at a (key_meant row.0) good_a)
+        (valid_at b (key_meant row.0) good_b))),
   )
 
   pub joins_commute : (a b c : List (Key × E)) → AreValidRows valid a → AreValidRows valid b → IsJoinOfRows picked a b c → IsJoinOfRows picked b a c

@@ -3,16 +3,15 @@ ghost use Rattle.std.specs.Prelude.{◌≡◌, IfOk, IsOk, if◌then◌else◌};
 ghost use Rattle.std.specs.Ordering.{on, as_partial_cmp, eq_by_cmp, ord_max};
 ghost use Rattle.std.specs.Cmp.{partial_equiv_from_equiv, on_equiv, on_total, eq_by_cmp_equiv, partial_order_from_total};
 ghost use Rattle.std.proofs.Common.{refl};
-ghost use Rattle.docker_model.specs.Op.{lapsed, op_cmp, entry_cmp};
-ghost use Rattle.docker_model.specs.Lapse.{lapse, lapse_entry};
-ghost use Rattle.docker_laws.proofs.Orders.{op_total, entry_total};
+ghost use Rattle.docker_model.specs.state.Op.{lapsed, op_cmp, entry_cmp};
+ghost use Rattle.docker_model.specs.state.Lapse.{lapse, lapse_entry};
+ghost use Rattle.docker_laws.proofs.orders.Orders.{op_total, entry_total};
 ghost use Rattle.docker_join.specs.Meaning.{op_meant, entry_meant};
 ghost use Rattle.docker_join.specs.Greater.{IsGreater};
 ghost use Rattle.docker_join.specs.GreaterLaws.{greater_closed, greater_one, greater_commutes, greater_associates, greater_itself, greater_max};
 ghost use Rattle.docker_join.specs.Records.{HasRecords};
 ghost use Rattle.docker_join.specs.Exact.{exact_entry};
 
-use crate::end::end_number;
 use crate::merge::{Merge, Pick};
 use crate::stamp::Stamp;
 use cif_file::Body;
@@ -44,12 +43,13 @@ impl Op {
 
     /// Whether it is a put whose end number is below a horizon.
     fn ends_before(&self, horizon: u16) -> bool
-        ensures { lapse horizon (op_meant self.now) ≡ (if result then lapsed else op_meant self.now) }
+        ensures { lapse horizon (op_meant self.now) ≡
+            (if result then lapsed else op_meant self.now) }
     {
         match self {
             Op::Deleted => false,
             Op::Lapsed => false,
-            Op::Put(body) => end_number(body) < horizon,
+            Op::Put(body) => body.end_number() < horizon,
         }
     }
 }
@@ -168,15 +168,20 @@ impl Merge for Entry {
 
     ghost is_join = { IsGreater (on entry_meant entry_cmp) };
 
-    ghost closed = { greater_closed (λ entry. HasRecords (op_meant entry.op)) (on_total entry_meant entry_total) };
+    ghost closed = { greater_closed (λ entry. HasRecords (op_meant entry.op))
+        (on_total entry_meant entry_total) };
 
-    ghost one = { greater_one (λ entry. HasRecords (op_meant entry.op)) (on_total entry_meant entry_total) exact_entry };
+    ghost one = { greater_one (λ entry. HasRecords (op_meant entry.op))
+        (on_total entry_meant entry_total) exact_entry };
 
-    ghost commutative = { greater_commutes (λ entry. HasRecords (op_meant entry.op)) (on_total entry_meant entry_total) };
+    ghost commutative = { greater_commutes (λ entry. HasRecords (op_meant entry.op))
+        (on_total entry_meant entry_total) };
 
-    ghost associative = { greater_associates (λ entry. HasRecords (op_meant entry.op)) (on_total entry_meant entry_total) exact_entry };
+    ghost associative = { greater_associates (λ entry. HasRecords (op_meant entry.op))
+        (on_total entry_meant entry_total) exact_entry };
 
-    ghost idempotent = { greater_itself (λ entry. HasRecords (op_meant entry.op)) (on_total entry_meant entry_total) };
+    ghost idempotent = { greater_itself (λ entry. HasRecords (op_meant entry.op))
+        (on_total entry_meant entry_total) };
 
     /// The greater of two, which takes no memory.
     fn join(self, _alloc: Global, other: Entry) -> Result<Entry, (Entry, Entry)>
@@ -190,7 +195,8 @@ impl Merge for Entry {
 impl Pick for Entry {
     ghost picked = { ord_max (on entry_meant entry_cmp) };
 
-    ghost joins = { greater_max (λ entry. HasRecords (op_meant entry.op)) (on_total entry_meant entry_total) };
+    ghost joins = { greater_max (λ entry. HasRecords (op_meant entry.op))
+        (on_total entry_meant entry_total) };
 
     /// The greater of two.
     fn pick(self, other: Entry) -> Entry {

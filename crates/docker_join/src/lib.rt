@@ -1,7 +1,6 @@
 //! Stamps, ops and entries with their order, the lapse of what ended before a day, and the join of tables of them.
 #![tactic(auto)]
 
-mod end;
 mod entry;
 mod merge;
 mod stamp;

@@ -20,7 +20,8 @@ pub trait Merge: Sized {
     ghost closed: { (a b c : Self) → is_valid a → is_valid b → is_join a b c → is_valid c };
 
     // two valid values have at most one join
-    ghost one: { (a b c d : Self) → is_valid a → is_valid b → is_join a b c → is_join a b d → c ≡ d };
+    ghost one: { (a b c d : Self) → is_valid a → is_valid b → is_join a b c → is_join a b d
+        → c ≡ d };
 
     ghost commutative: { (a b c : Self) → is_valid a → is_valid b → is_join a b c → is_join b a c };
 

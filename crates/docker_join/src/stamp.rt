@@ -3,8 +3,8 @@ ghost use Rattle.std.specs.Prelude.{◌≡◌, IfOk, IsOk, ⊤};
 ghost use Rattle.std.specs.Ordering.{on, as_partial_cmp, eq_by_cmp, ord_max};
 ghost use Rattle.std.specs.Cmp.{partial_equiv_from_equiv, on_equiv, on_total, eq_by_cmp_equiv, partial_order_from_total};
 ghost use Rattle.std.proofs.Common.{refl};
-ghost use Rattle.docker_model.specs.Stamp.{file_stamp_cmp, stamp_cmp};
-ghost use Rattle.docker_laws.proofs.Orders.{file_stamp_total, stamp_total};
+ghost use Rattle.docker_model.specs.state.Stamp.{file_stamp_cmp, stamp_cmp};
+ghost use Rattle.docker_laws.proofs.orders.Orders.{file_stamp_total, stamp_total};
 ghost use Rattle.docker_join.specs.Meaning.{file_stamp_meant, stamp_meant};
 ghost use Rattle.docker_join.specs.Greater.{IsGreater};
 ghost use Rattle.docker_join.specs.GreaterLaws.{greater_closed, greater_one, greater_commutes, greater_associates, greater_itself, greater_max};
@@ -29,7 +29,8 @@ pub struct FileStamp {
 impl PartialEq for FileStamp {
     ghost eq = { on file_stamp_meant (eq_by_cmp file_stamp_cmp) };
 
-    ghost laws = { partial_equiv_from_equiv (on_equiv file_stamp_meant (eq_by_cmp_equiv file_stamp_total)) };
+    ghost laws = { partial_equiv_from_equiv
+        (on_equiv file_stamp_meant (eq_by_cmp_equiv file_stamp_total)) };
 
     fn eq(&self, other: &FileStamp) -> bool {
         self.cmp(other).is_eq()
@@ -74,11 +75,13 @@ impl Merge for FileStamp {
 
     ghost closed = { greater_closed (λ _. ⊤) (on_total file_stamp_meant file_stamp_total) };
 
-    ghost one = { greater_one (λ _. ⊤) (on_total file_stamp_meant file_stamp_total) exact_file_stamp };
+    ghost one = { greater_one (λ _. ⊤)
+        (on_total file_stamp_meant file_stamp_total) exact_file_stamp };
 
     ghost commutative = { greater_commutes (λ _. ⊤) (on_total file_stamp_meant file_stamp_total) };
 
-    ghost associative = { greater_associates (λ _. ⊤) (on_total file_stamp_meant file_stamp_total) exact_file_stamp };
+    ghost associative = { greater_associates (λ _. ⊤)
+        (on_total file_stamp_meant file_stamp_total) exact_file_stamp };
 
     ghost idempotent = { greater_itself (λ _. ⊤) (on_total file_stamp_meant file_stamp_total) };
 
@@ -162,7 +165,8 @@ impl Merge for Stamp {
 
     ghost commutative = { greater_commutes (λ _. ⊤) (on_total stamp_meant stamp_total) };
 
-    ghost associative = { greater_associates (λ _. ⊤) (on_total stamp_meant stamp_total) exact_stamp };
+    ghost associative = { greater_associates (λ _. ⊤)
+        (on_total stamp_meant stamp_total) exact_stamp };
 
     ghost idempotent = { greater_itself (λ _. ⊤) (on_total stamp_meant stamp_total) };
 

@@ -2,9 +2,10 @@
 ghost use Rattle.std.specs.Prelude.{◌≡◌, ◌==◌, ◌+◌, ◌≤◌, [], length, map, vec_len, vec_capacity, IfSome};
 ghost use Rattle.std.specs.Option.{option_copied};
 ghost use Rattle.cif_file.specs.Meaning.{key_meant};
-ghost use Rattle.docker_model.specs.Lapse.{lapse_entries};
+ghost use Rattle.docker_model.specs.state.Lapse.{lapse_entries};
 ghost use Rattle.docker_join.specs.Meaning.{row_meant};
 ghost use Rattle.docker_join.specs.Rows.{AreAscending, value_at, IsJoinOfRows};
+ghost use Rattle.docker_join.specs.Room.{HasRoomForRows};
 
 use crate::entry::Entry;
 use crate::merge::{Merge, Pick};
@@ -103,6 +104,24 @@ impl Table<Entry> {
     }
 }
 
+impl<E: Pick> Table<E> {
+    /// An empty vector with room for the rows of the join with another table. None where memory is wanting.
+    pub fn room_for_join(&self, alloc: Global, other: &Table<E>) -> Option<Vec<(Key, E)>>
+        ensures { IfSome result (HasRoomForRows (length self.now + length other.now)) }
+    {
+        let count = self.len().checked_add(other.len())?;
+        Vec::with_capacity(alloc, count).ok()
+    }
+
+    /// The table of the keys of both, each with what the one table knows of it, or the join of what both know. It takes no memory but that of the vector, which is empty and has room for the rows of both.
+    pub fn join_in(self, other: Table<E>, rows: Vec<(Key, E)>) -> Table<E>
+        requires { HasRoomForRows (length self + length other) rows }
+        ensures { IsJoinOfRows E.picked self other result }
+    {
+        Table::from_rows(join_of(self.into_rows(), other.into_rows(), rows))
+    }
+}
+
 impl<E: Pick> Merge for Table<E> {
     ghost use Rattle.docker_join.specs.Rows.{AreValidRows, IsJoinOfRows};
     ghost use Rattle.docker_join.specs.RowLaws.{pick_laws, joins_closed, joins_one, joins_commute, joins_associate, joins_itself};
@@ -112,35 +131,31 @@ impl<E: Pick> Merge for Table<E> {
 
     ghost is_join = { IsJoinOfRows E.picked };
 
-    ghost closed = { joins_closed E.is_valid E.picked (pick_laws E.is_valid E.is_join E.picked E.closed E.one E.commutative E.associative E.idempotent E.joins) };
+    ghost closed = { joins_closed E.is_valid E.picked
+        (pick_laws E.is_valid E.is_join E.picked E.closed E.one E.commutative E.associative E.idempotent E.joins) };
 
     ghost one = { joins_one E.is_valid E.picked };
 
-    ghost commutative = { joins_commute E.is_valid E.picked (pick_laws E.is_valid E.is_join E.picked E.closed E.one E.commutative E.associative E.idempotent E.joins) };
+    ghost commutative = { joins_commute E.is_valid E.picked
+        (pick_laws E.is_valid E.is_join E.picked E.closed E.one E.commutative E.associative E.idempotent E.joins) };
 
-    ghost associative = { joins_associate E.is_valid E.picked (pick_laws E.is_valid E.is_join E.picked E.closed E.one E.commutative E.associative E.idempotent E.joins) };
+    ghost associative = { joins_associate E.is_valid E.picked
+        (pick_laws E.is_valid E.is_join E.picked E.closed E.one E.commutative E.associative E.idempotent E.joins) };
 
-    ghost idempotent = { joins_itself E.is_valid E.picked (pick_laws E.is_valid E.is_join E.picked E.closed E.one E.commutative E.associative E.idempotent E.joins) };
+    ghost idempotent = { joins_itself E.is_valid E.picked
+        (pick_laws E.is_valid E.is_join E.picked E.closed E.one E.commutative E.associative E.idempotent E.joins) };
 
     /// The table of the keys of both, each with what the one table knows of it, or the join of what both know. Want of memory, before a row was moved, hands both back as they were.
     fn join(self, alloc: Global, other: Table<E>) -> Result<Table<E>, (Table<E>, Table<E>)> {
-        match room_for(alloc, self.len(), other.len()) {
-            Some(rows) => Ok(Table::from_rows(joined(self.into_rows(), other.into_rows(), rows))),
+        match self.room_for_join(alloc, &other) {
+            Some(rows) => Ok(self.join_in(other, rows)),
             None => Err((self, other)),
         }
     }
 }
 
-/// An empty vector with room for the rows of two tables. None where memory is wanting.
-fn room_for<E>(alloc: Global, first: usize, second: usize) -> Option<Vec<(Key, E)>>
-    ensures empty { IfSome result (λ rows. (rows.items ≡ []) × (vec_len rows ≡ 0)) }
-    ensures room { IfSome result (λ rows. first + second ≤ vec_capacity rows) }
-{
-    Vec::with_capacity(alloc, first.checked_add(second)?).ok()
-}
-
 /// The rows of the join of two tables, in a vector that has room for the rows of both.
-fn joined<E: Pick>(
+fn join_of<E: Pick>(
     first: Vec<(Key, E)>,
     second: Vec<(Key, E)>,
     mut rows: Vec<(Key, E)>,

@@ -21,6 +21,8 @@ pub trait Files: Source {
     fn open(&mut self, name: &str) -> Result<(), OpenFault>
         requires { Self.failures self.old < 2 ^ 64 - 1 }
         ensures opened { OnOk result (Self.left self.new ≡ held self.old name.now) }
-        ensures counted { (result ≡ Err OpenFault.Failed) ↔ (Self.failures self.new ≡ Self.failures self.old + 1) }
-        ensures no_failure { result ≢ Err OpenFault.Failed → Self.failures self.new ≡ Self.failures self.old };
+        ensures counted { (result ≡ Err OpenFault.Failed)
+            ↔ (Self.failures self.new ≡ Self.failures self.old + 1) }
+        ensures no_failure { result ≢ Err OpenFault.Failed
+            → Self.failures self.new ≡ Self.failures self.old };
 }

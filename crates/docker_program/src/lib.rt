@@ -1,15 +1,15 @@
 //! The program: what it does with its words and its devices, and the real devices that it runs on.
 #![tactic(auto)]
 
-mod asking;
 mod devices;
+mod fault_report;
 mod files;
-mod performing;
-mod reading;
-mod running;
-mod telling;
+mod host;
+mod job_input;
+mod program;
+mod request;
 
+pub use fault_report::tell;
 pub use files::{Files, OpenFault};
-pub use performing::perform;
-pub use running::{run, run_words};
-pub use telling::tell;
+pub use host::{run, run_words};
+pub use program::perform;

@@ -2,14 +2,15 @@
 use Rattle.std.proofs.Common.{◌≡◌, List, ◌++◌, ap, sym, ◌∙◌, inl, inr, ◌⊎◌, Contains}
 use Rattle.std.specs.Ordering.{on}
 use Rattle.std.proofs.lemmas.List.Elements.{Contains-append_left, Contains-append_right, Contains-append_cases}
-use Rattle.docker_model.specs.Order.{IsAtMost}
-use Rattle.docker_model.specs.Stamp as stamps
-use Rattle.docker_model.specs.Stamp.{LedgerItem, file_stamp_cmp, IsFull, HasNoFull, IsGreatestFull}
-use Rattle.docker_laws.proofs.Orders.{file_stamp_total}
-use Rattle.docker_laws.proofs.PlainTable.{at_most_trans}
+use Rattle.docker_model.specs.state.Order.{IsAtMost}
+use Rattle.docker_model.specs.state.Stamp as stamps
+use Rattle.docker_model.specs.state.Stamp.{LedgerItem, file_stamp_cmp, IsFull, HasNoFull, IsGreatestFull}
+use Rattle.docker_laws.proofs.orders.Orders.{file_stamp_total}
+use Rattle.docker_laws.proofs.orders.AtMost.{at_most_trans}
 use Rattle.docker_join.specs.Greater.{IsGreater}
 
 module _ (left right : List LedgerItem) where
+  -- two ledgers without a full extract have none
   pub neither_full : HasNoFull left → HasNoFull right → HasNoFull (left ++ right)
   neither_full one other item among full = by (Contains-append_cases left right item among)
     where
@@ -17,6 +18,7 @@ module _ (left right : List LedgerItem) where
       by (inl here) = one item here full
       by (inr here) = other item here full
 
+  -- the floor of the first where the second has none
   pub left_full : (stamp : stamps.FileStamp) → IsGreatestFull left stamp → HasNoFull right → IsGreatestFull (left ++ right) stamp
   left_full stamp one other = record {
     full = one.full;
@@ -30,6 +32,7 @@ module _ (left right : List LedgerItem) where
       by item full (inl here) = one.greatest item here full
       by item full (inr here) = absurd (other item here full)
 
+  -- the floor of the second where the first has none
   pub right_full : (stamp : stamps.FileStamp) → HasNoFull left → IsGreatestFull right stamp → IsGreatestFull (left ++ right) stamp
   right_full stamp one other = record {
     full = other.full;
@@ -43,7 +46,9 @@ module _ (left right : List LedgerItem) where
       by item full (inl here) = absurd (one item here full)
       by item full (inr here) = other.greatest item here full
 
-  pub both_full : (first second greater : stamps.FileStamp) → IsGreatestFull left first → IsGreatestFull right second → IsGreater file_stamp_cmp first second greater
+  -- the greater of both floors
+  pub both_full : (first second greater : stamps.FileStamp) → IsGreatestFull left first → IsGreatestFull right second
+      → IsGreater file_stamp_cmp first second greater
       → IsGreatestFull (left ++ right) greater
   both_full first second greater one other is = by is.among
     where

@@ -3,11 +3,11 @@ use Rattle.std.proofs.Common.{◌≡◌, List, [], ◌∷◌, refl, ap, sym, ◌
 use Rattle.std.specs.Prelude.{◌↔◌}
 use Rattle.std.specs.List.{AllByRecursion}
 use Rattle.std.specs.declared.cmp.Ordering.TheVariants.{Less}
-use Rattle.docker_model.specs.Change.{Key, Body}
-use Rattle.docker_model.specs.Op.{Op, deleted, lapsed, put_with, Entry, key_cmp, body_of}
-use Rattle.docker_model.specs.State.{State, AreAscending, IsValid, live_table}
-use Rattle.docker_laws.proofs.Ascending.{Contains-cons, cons-Contains, cons-Contains-first, nil-Contains}
-use Rattle.docker_laws.proofs.PlainTable.{Found, NotFound, find_in, one_per_key, live_at, live_none}
+use Rattle.docker_model.specs.file.Change.{Key, Body}
+use Rattle.docker_model.specs.state.Op.{Op, deleted, lapsed, put_with, Entry, key_cmp, body_of}
+use Rattle.docker_model.specs.state.State.{State, AreAscending, IsValid, live_table}
+use Rattle.docker_laws.proofs.lists.Membership.{Contains-cons, cons-Contains, cons-Contains-first, nil-Contains}
+use Rattle.docker_laws.proofs.states.PlainTable.{Found, NotFound, find_in, one_per_key, live_at, live_none}
 use Rattle.docker_state.specs.Live.{put_before, live_rows, AreInKeyOrder}
 
 -- a key with a body
@@ -18,10 +18,11 @@ abbrev SameRow : Row → Row → Type 0
 SameRow a b = a ≡ b
 
 -- an entry of the key that puts the body
-abbrev PutThere : List (Key × Entry) → Key → Body → Type 0
+abbrev pub PutThere : List (Key × Entry) → Key → Body → Type 0
 PutThere entries key body = (entry : Entry) × Contains entries (key, entry) × (entry.op ≡ put_with body)
 
-from_live : (entries : List (Key × Entry)) (key : Key) (body : Body) → Contains (live_rows entries) (key, body) → PutThere entries key body
+-- what the walk has is put there
+pub from_live : (entries : List (Key × Entry)) (key : Key) (body : Body) → Contains (live_rows entries) (key, body) → PutThere entries key body
 from_live [] key body among = absurd (nil-Contains (key, body) among)
 from_live (first ∷ entries) key body among = by first.1.op refl (from_live entries key body) among
   where
@@ -43,7 +44,9 @@ from_live (first ∷ entries) key body among = by first.1.op refl (from_live ent
         cases (inl same) = here other is same
         cases (inr behind) = later (rest behind)
 
-to_live : (entries : List (Key × Entry)) (key : Key) (entry : Entry) (body : Body) → entry.op ≡ put_with body → Contains entries (key, entry) → Contains (live_rows entries) (key, body)
+-- and what is put the walk has
+pub to_live : (entries : List (Key × Entry)) (key : Key) (entry : Entry) (body : Body) → entry.op ≡ put_with body → Contains entries (key, entry)
+    → Contains (live_rows entries) (key, body)
 to_live [] key entry body is among = absurd (nil-Contains (key, entry) among)
 to_live (first ∷ entries) key entry body is among = by (to_live entries key entry body is) (Contains-cons first entries (key, entry) among)
   where
@@ -52,7 +55,8 @@ to_live (first ∷ entries) key entry body is among = by (to_live entries key en
     before lapsed inside = inside
     before (put_with other) inside = cons-Contains (first.0, other) (live_rows entries) (key, body) inside
 
-    by : (Contains entries (key, entry) → Contains (live_rows entries) (key, body)) → (first ≡ (key, entry)) ⊎ Contains entries (key, entry) → Contains (live_rows (first ∷ entries)) (key, body)
+    by : (Contains entries (key, entry) → Contains (live_rows entries) (key, body)) → (first ≡ (key, entry)) ⊎ Contains entries (key, entry)
+        → Contains (live_rows (first ∷ entries)) (key, body)
     by rest (inl same) =
         let op : first.1.op ≡ put_with body = (λ i. (same i).1.op) ∙ is in
         subst (λ (o : Op). Contains (put_before first.0 o (live_rows entries)) (key, body)) (sym op)
@@ -64,23 +68,33 @@ put_of deleted body is = cc
 put_of lapsed body is = cc
 put_of (put_with other) body is = let same : other ≡ body = cc in ap put_with same
 
+-- what an entry puts is live
+pub live_put : (state : State) → IsValid state → (key : Key) (body : Body) → PutThere state.entries key body → live_table state key ≡ Some body
+live_put state valid key body put = by (find_in state.entries key)
+  where
+    by : Found state.entries key ⊎ NotFound state.entries key → live_table state key ≡ Some body
+    by (inl found) =
+        let same = one_per_key state.entries valid.entries.1 key found.0.1 put.0 found.2 put.1 in
+        live_at state key found.0 found.1 ∙ (λ i. body_of (same i).op) ∙ ap body_of put.2
+    by (inr gone) = absurd (gone.1 put.0 put.1)
+
+-- and what is live is put by an entry
+pub live_has : (state : State) (key : Key) (body : Body) → live_table state key ≡ Some body → PutThere state.entries key body
+live_has state key body is = by (find_in state.entries key)
+  where
+    by : Found state.entries key ⊎ NotFound state.entries key → PutThere state.entries key body
+    by (inl found) = (found.0.1, found.2, put_of found.0.1.op body (sym (live_at state key found.0 found.1) ∙ is))
+    by (inr gone) = absurd (let none : None ≡ Some body = sym (live_none state key gone.0) ∙ is in cc)
+
 -- the walk has a key with a body exactly where the live table has that body there
 pub live_walks : (state : State) → IsValid state → (walked : List (Key × Body)) → walked ≡ live_rows state.entries
     → (key : Key) (body : Body) → Contains walked (key, body) ↔ (live_table state key ≡ Some body)
 live_walks state valid walked walked_is key body = (
-  λ among. there (from_live state.entries key body (subst (λ (rows : List (Key × Body)). Contains rows (key, body)) walked_is among)) (find_in state.entries key),
-  λ is. subst (λ (rows : List (Key × Body)). Contains rows (key, body)) (sym walked_is) (back is (find_in state.entries key)),
+  λ among. live_put state valid key body (from_live state.entries key body (subst (λ (rows : List (Key × Body)). Contains rows (key, body)) walked_is among)),
+  λ is.
+      let put = live_has state key body is in
+      subst (λ (rows : List (Key × Body)). Contains rows (key, body)) (sym walked_is) (to_live state.entries key put.0 body put.2 put.1),
 )
-  where
-    there : PutThere state.entries key body → Found state.entries key ⊎ NotFound state.entries key → live_table state key ≡ Some body
-    there put (inl found) =
-        let same = one_per_key state.entries valid.entries.1 key found.0.1 put.0 found.2 put.1 in
-        live_at state key found.0 found.1 ∙ (λ i. body_of (same i).op) ∙ ap body_of put.2
-    there put (inr gone) = absurd (gone.1 put.0 put.1)
-
-    back : live_table state key ≡ Some body → Found state.entries key ⊎ NotFound state.entries key → Contains (live_rows state.entries) (key, body)
-    back is (inl found) = to_live state.entries key found.0.1 body (put_of found.0.1.op body (sym (live_at state key found.0 found.1) ∙ is)) found.2
-    back is (inr gone) = let none : None ≡ Some body = sym (live_none state key gone.0) ∙ is in cc
 
 live_above : (key : Key) (entries : List (Key × Entry)) → AllByRecursion (λ (entry : Key × Entry). key_cmp key entry.0 ≡ Less) entries
     → AllByRecursion (λ (row : Key × Body). key_cmp key row.0 ≡ Less) (live_rows entries)
@@ -93,7 +107,8 @@ live_above key (first ∷ entries) above = by first.1.op (live_above key entries
     by lapsed rest = rest
     by (put_with body) rest = (above.0, rest)
 
-ascends : (entries : List (Key × Entry)) → AreAscending entries → AreInKeyOrder (live_rows entries)
+-- the walk over what ascends ascends
+pub ascends : (entries : List (Key × Entry)) → AreAscending entries → AreInKeyOrder (live_rows entries)
 ascends [] up = tt
 ascends (first ∷ entries) up = by first.1.op (ascends entries up.1)
   where

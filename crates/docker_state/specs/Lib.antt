@@ -2,3 +2,6 @@ pub mod Meaning
 pub mod Live
 pub mod Parts
 pub mod Rows
+pub mod Staging
+pub mod UidPiece
+pub mod Indexed

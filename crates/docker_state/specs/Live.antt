@@ -1,9 +1,9 @@
 -- The keys of a state that are put, each with its body.
 use Rattle.std.specs.Prelude.{List, [], ◌∷◌}
-use Rattle.docker_model.specs.Change.{Key, Body}
+use Rattle.docker_model.specs.file.Change.{Key, Body}
 use Rattle.std.specs.Ordering.{on}
-use Rattle.docker_model.specs.Order.{IsStrictlyAscending}
-use Rattle.docker_model.specs.Op.{Op, deleted, lapsed, put_with, Entry, key_cmp}
+use Rattle.docker_model.specs.state.Order.{IsStrictlyAscending}
+use Rattle.docker_model.specs.state.Op.{Op, deleted, lapsed, put_with, Entry, key_cmp}
 
 -- a key with its body where the op is a put, before further ones
 abbrev pub put_before : Key → Op → List (Key × Body) → List (Key × Body)

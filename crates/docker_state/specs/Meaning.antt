@@ -1,10 +1,13 @@
 -- What ledger items, rows and states of the code mean, as the definitions name them.
-use Rattle.std.specs.Prelude.{ℕ, List, map}
-use Rattle.docker_model.specs.Stamp as stamps
-use Rattle.docker_model.specs.State as states
+use Rattle.std.specs.Prelude.{ℕ, List, map, Option}
+use Rattle.std.specs.Option.{option_map}
+use Rattle.docker_model.specs.state.Stamp as stamps
+use Rattle.docker_model.specs.state.State as states
 use Rattle.cif_line.specs.Letter.{extract_letter}
 use Rattle.cif_file.specs.declared.key.Key.{Key}
+use Rattle.docker_join.specs.declared.stamp.FileStamp.{FileStamp}
 use Rattle.docker_join.specs.declared.entry.Entry.{Entry}
+use Rattle.docker_join.specs.Meaning.{file_stamp_meant}
 pub use Rattle.docker_join.specs.Meaning.{row_meant}
 use Rattle.docker_state.specs.declared.item.LedgerItem.{LedgerItem}
 
@@ -15,6 +18,10 @@ item_meant item = record {
   indicator = extract_letter item.indicator;
   last_reference = item.last_reference;
 }
+
+-- a floor
+abbrev pub floor_meant : Option FileStamp → Option stamps.FileStamp
+floor_meant floor = option_map file_stamp_meant floor
 
 -- the state of a horizon, a ledger and rows
 abbrev pub state_meant : ℕ → List LedgerItem → List (Key × Entry) → states.State

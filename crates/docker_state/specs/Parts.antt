@@ -1,8 +1,8 @@
 -- What the parts of a state tell.
 use Rattle.std.specs.Prelude.{List, length, ◌-◌, slice_get, Option}
 use Rattle.std.specs.Option.{option_map}
-use Rattle.docker_model.specs.Change.{Key}
-use Rattle.docker_model.specs.Op.{Entry}
+use Rattle.docker_model.specs.file.Change.{Key}
+use Rattle.docker_model.specs.state.Op.{Entry}
 
 -- the key of the last entry, if there is one
 abbrev pub last_key : List (Key × Entry) → Option Key

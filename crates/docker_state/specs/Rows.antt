@@ -1,19 +1,15 @@
 -- The rows that changes of a file make.
 use Rattle.std.specs.Prelude.{◌≡◌, ℕ, Contains, Bool, false, if◌then◌else◌, List, [], ◌∷◌, Option, Some, None}
 use Rattle.std.specs.Ordering.{is_eq}
-use Rattle.docker_model.specs.Change as model
-use Rattle.docker_model.specs.Stamp.{FileStamp, IsKept}
-use Rattle.docker_model.specs.Lapse.{lapse_entry}
-use Rattle.docker_model.specs.Op as ops
-use Rattle.docker_model.specs.Op.{op_of, key_cmp}
+use Rattle.docker_model.specs.file.Change as model
+use Rattle.docker_model.specs.state.Stamp.{FileStamp, IsKept}
+use Rattle.docker_model.specs.state.Lapse.{lapse_entry}
+use Rattle.docker_model.specs.state.Op as ops
+use Rattle.docker_model.specs.state.Op.{op_of, key_cmp}
 use Rattle.cif_file.specs.declared.key.Key.{Key}
 use Rattle.cif_file.specs.Meaning.{key_meant}
 use Rattle.docker_join.specs.declared.entry.Entry.{Entry}
-
--- an entry of the key among these, kept under the floor, lapses under the horizon to this one
-abbrev pub LapsesTo : List (model.Key × ops.Entry) → Option FileStamp → ℕ → model.Key → ops.Entry → Type 0
-LapsesTo entries floor horizon key entry =
-    (before : ops.Entry) × Contains entries (key, before) × IsKept floor before.stamp.file × (lapse_entry horizon before ≡ entry)
+pub use Rattle.docker_index.specs.Joined.{LapsesTo}
 
 -- the key of a change, with the entry that it makes in a file of this stamp
 abbrev pub made_by : FileStamp → model.Change → model.Key × ops.Entry

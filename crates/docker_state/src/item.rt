@@ -3,8 +3,9 @@ ghost use Rattle.std.specs.Prelude.{◌≡◌, ◌==◌};
 ghost use Rattle.std.specs.Ordering.{on, as_partial_cmp, eq_by_cmp};
 ghost use Rattle.std.specs.Cmp.{partial_equiv_from_equiv, on_equiv, on_total, eq_by_cmp_equiv, partial_order_from_total};
 ghost use Rattle.std.proofs.Common.{refl};
-ghost use Rattle.docker_model.specs.Stamp.{ledger_item_cmp, ledger_item_of, first_record};
-ghost use Rattle.docker_laws.proofs.Orders.{ledger_item_total};
+ghost use Rattle.docker_model.specs.state.Stamp.{ledger_item_cmp, ledger_item_of};
+ghost use Rattle.docker_model.specs.file.File.{first_record};
+ghost use Rattle.docker_laws.proofs.orders.Orders.{ledger_item_total};
 ghost use Rattle.docker_join.specs.Meaning.{file_stamp_meant};
 ghost use Rattle.docker_state.specs.Meaning.{item_meant};
 
@@ -49,7 +50,8 @@ impl LedgerItem {
 
 /// What a state keeps of the file with this header.
 pub(crate) fn item_of(header: &Header) -> LedgerItem
-    ensures { (file : _) → header.now ≡ first_record file → item_meant result ≡ ledger_item_of file }
+    ensures { (file : _) → header.now ≡ first_record file
+        → item_meant result ≡ ledger_item_of file }
 {
     LedgerItem {
         day: header.day(),
@@ -63,7 +65,8 @@ pub(crate) fn item_of(header: &Header) -> LedgerItem
 impl PartialEq for LedgerItem {
     ghost eq = { on item_meant (eq_by_cmp ledger_item_cmp) };
 
-    ghost laws = { partial_equiv_from_equiv (on_equiv item_meant (eq_by_cmp_equiv ledger_item_total)) };
+    ghost laws = { partial_equiv_from_equiv
+        (on_equiv item_meant (eq_by_cmp_equiv ledger_item_total)) };
 
     fn eq(&self, other: &LedgerItem) -> bool {
         self.cmp(other).is_eq()

@@ -1,10 +1,9 @@
 //! The union of two ledgers, and what is kept of it.
 ghost use Rattle.std.specs.Prelude.{◌≡◌, ◌+◌, ◌≤◌, ◌↔◌, ◌++◌, [], length, map, vec_len, vec_capacity, IfSome, IsTrue, Contains};
-ghost use Rattle.std.specs.Option.{option_map};
-ghost use Rattle.docker_model.specs.Stamp.{ledger_item_cmp, IsKept};
-ghost use Rattle.docker_model.specs.Order.{IsStrictlyAscending};
-ghost use Rattle.docker_join.specs.Meaning.{file_stamp_meant};
-ghost use Rattle.docker_state.specs.Meaning.{item_meant};
+ghost use Rattle.docker_model.specs.state.Stamp.{ledger_item_cmp, IsKept};
+ghost use Rattle.docker_model.specs.state.Order.{IsStrictlyAscending};
+ghost use Rattle.docker_state.specs.Meaning.{floor_meant, item_meant};
+ghost use Rattle.docker_state.specs.Staging.{HasIfKept, HasKeptItems};
 
 use crate::floor::is_kept;
 use crate::item::LedgerItem;
@@ -21,7 +20,7 @@ pub(crate) fn room_for(alloc: Global, first: usize, second: usize) -> Option<Vec
 }
 
 /// The items of two ledgers, each once and ascending, in a vector that has room for the items of both.
-pub(crate) fn united(
+pub(crate) fn union_of(
     mut first: &[LedgerItem],
     mut second: &[LedgerItem],
     mut items: Vec<LedgerItem>,
@@ -32,7 +31,8 @@ pub(crate) fn united(
     requires none { vec_len items ≡ 0 }
     requires room { length first.now + length second.now ≤ vec_capacity items }
     ensures ascending { IsStrictlyAscending ledger_item_cmp (map item_meant result.items) }
-    ensures members { (item : _) → Contains (map item_meant result.items) item ↔ Contains (map item_meant first.entry.now ++ map item_meant second.entry.now) item }
+    ensures members { (item : _) → Contains (map item_meant result.items) item
+        ↔ Contains (map item_meant first.entry.now ++ map item_meant second.entry.now) item }
 {
     loop {
         let item = match (first, second) {
@@ -71,7 +71,7 @@ pub(crate) fn kept_items(mut items: Vec<LedgerItem>, floor: &Option<FileStamp>) 
     requires { IsStrictlyAscending ledger_item_cmp (map item_meant items.items) }
     ensures ascending { IsStrictlyAscending ledger_item_cmp (map item_meant result.items) }
     ensures members { (item : _) → Contains (map item_meant result.items) item
-        ↔ (Contains (map item_meant items.items) item × IsKept (option_map file_stamp_meant floor.now) item.stamp) }
+        ↔ (Contains (map item_meant items.items) item × IsKept (floor_meant floor.now) item.stamp) }
 {
     items.retain(|item| is_kept_item(floor, item));
     items
@@ -79,7 +79,43 @@ pub(crate) fn kept_items(mut items: Vec<LedgerItem>, floor: &Option<FileStamp>) 
 
 /// Whether an item is kept under a floor.
 fn is_kept_item(floor: &Option<FileStamp>, item: &LedgerItem) -> bool
-    ensures { IsTrue result ↔ IsKept (option_map file_stamp_meant floor.now) (item_meant item.now).stamp }
+    ensures { IsTrue result ↔ IsKept (floor_meant floor.now) (item_meant item.now).stamp }
 {
     is_kept(floor, &item.stamp())
+}
+
+/// Whether a ledger has each of these items that is kept under a floor.
+pub(crate) fn has_kept_items(
+    ledger: &[LedgerItem],
+    items: &[LedgerItem],
+    floor: &Option<FileStamp>,
+) -> bool
+    requires { IsStrictlyAscending ledger_item_cmp (map item_meant ledger.now) }
+    ensures { IsTrue result
+        ↔ HasKeptItems (map item_meant ledger.now) (map item_meant items.now)
+        (floor_meant floor.now) }
+{
+    for item in items {
+        if !has_if_kept(ledger, item, floor) {
+            return false;
+        }
+    }
+    true
+}
+
+/// Whether a ledger has an item, if that is kept under a floor.
+fn has_if_kept(ledger: &[LedgerItem], item: &LedgerItem, floor: &Option<FileStamp>) -> bool
+    requires { IsStrictlyAscending ledger_item_cmp (map item_meant ledger.now) }
+    ensures { IsTrue result
+        ↔ HasIfKept (map item_meant ledger.now) (item_meant item.now) (floor_meant floor.now) }
+{
+    !is_kept_item(floor, item) || has_item(ledger, item)
+}
+
+/// Whether an item is among those of a ledger. By a binary search.
+fn has_item(ledger: &[LedgerItem], item: &LedgerItem) -> bool
+    requires { IsStrictlyAscending ledger_item_cmp (map item_meant ledger.now) }
+    ensures { IsTrue result ↔ Contains (map item_meant ledger.now) (item_meant item.now) }
+{
+    ledger.binary_search(item).is_ok()
 }

@@ -7,11 +7,15 @@ mod ledger;
 mod live;
 mod parts;
 mod rows;
+mod staging;
 mod state;
+mod uid_rows;
 
+pub use docker_index::Standing;
 pub use item::LedgerItem;
 pub use live::Live;
 pub use parts::Parts;
+pub use staging::Staging;
 pub use state::State;
 
 #[cfg(test)]

@@ -17,7 +17,7 @@ pub struct Live<'a> {
 
 impl<'a> Model for Live<'a> {
     ghost use Rattle.std.specs.Prelude.{List, map};
-    ghost use Rattle.docker_model.specs.Change as model;
+    ghost use Rattle.docker_model.specs.file.Change as model;
     ghost use Rattle.docker_state.specs.Meaning.{row_meant};
     ghost use Rattle.docker_state.specs.Live.{live_rows};
 
@@ -38,7 +38,8 @@ impl<'a> Live<'a> {
 impl<'a> Iterator for Live<'a> {
     type Item = (&'a Key, &'a Body);
 
-    ghost next_gives = { YieldsFirstBy (λ row. (key_meant row.0.now, body_meant row.1.now)) (λ live. live) };
+    ghost next_gives = { YieldsFirstBy (λ row. (key_meant row.0.now, body_meant row.1.now))
+        (λ live. live) };
 
     ghost remaining = { item_count (λ live. live) };
 

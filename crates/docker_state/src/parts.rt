@@ -1,8 +1,8 @@
 //! A state built from its parts, in their order.
 ghost use Rattle.std.specs.Prelude.{◌≡◌, ◌++◌, [], ◌∷◌, length, ◌-◌, map, slice_get, IsOk, IsErr, IfOk};
 ghost use Rattle.std.specs.Option.{option_copied, option_map};
-ghost use Rattle.docker_model.specs.State.{IsLedger, IsOpOf};
-ghost use Rattle.docker_model.specs.StateFault.{IsStampHere};
+ghost use Rattle.docker_model.specs.state.State.{IsLedger, IsOpOf};
+ghost use Rattle.docker_model.specs.state.StatePart.{IsStampHere};
 ghost use Rattle.cif_file.specs.Meaning.{key_meant};
 ghost use Rattle.docker_join.specs.Meaning.{entry_meant};
 ghost use Rattle.docker_state.specs.Meaning.{item_meant, row_meant};
@@ -12,6 +12,7 @@ use crate::item::LedgerItem;
 use crate::state::State;
 use cif_file::Key;
 use cif_line::Memory;
+use docker_index::Index;
 use docker_join::Entry;
 use std::alloc::Global;
 use std::marker::Model;
@@ -24,8 +25,8 @@ pub struct Parts {
 }
 
 impl Model for Parts {
-    ghost use Rattle.docker_model.specs.State as states;
-    ghost use Rattle.docker_model.specs.State.{IsValid};
+    ghost use Rattle.docker_model.specs.state.State as states;
+    ghost use Rattle.docker_model.specs.state.State.{IsValid};
     ghost use Rattle.docker_state.specs.Meaning.{state_meant};
 
     ghost Value = { states.State };
@@ -50,7 +51,8 @@ impl Parts {
     pub fn item(&mut self, item: LedgerItem) -> Result<(), Memory>
         requires before_entries { self.old.entries ≡ [] }
         requires ledger { IsLedger (self.old.ledger ++ item_meant item ∷ []) }
-        ensures ok { IsOk result → self.new ≡ record { horizon = 0; ledger = self.old.ledger ++ item_meant item ∷ []; entries = [] } }
+        ensures ok { IsOk result → self.new
+            ≡ record { horizon = 0; ledger = self.old.ledger ++ item_meant item ∷ []; entries = [] } }
         ensures err { IsErr result → self.new ≡ self.old }
     {
         self.ledger.push(item)?;
@@ -61,7 +63,12 @@ impl Parts {
     pub fn entry(&mut self, key: Key, entry: Entry) -> Result<(), Memory>
         requires here { IsStampHere self.old (key_meant key) (entry_meant entry).stamp }
         requires op { IsOpOf (key_meant key) (entry_meant entry).op }
-        ensures ok { IsOk result → self.new ≡ record { horizon = 0; ledger = self.old.ledger; entries = self.old.entries ++ (key_meant key, entry_meant entry) ∷ [] } }
+        ensures ok { IsOk result → self.new
+            ≡ record {
+              horizon = 0;
+              ledger = self.old.ledger;
+              entries = self.old.entries ++ (key_meant key, entry_meant entry) ∷ [];
+            } }
         ensures err { IsErr result → self.new ≡ self.old }
     {
         self.entries.push((key, entry))?;
@@ -96,6 +103,7 @@ impl Parts {
     pub fn finish(self) -> Result<State, Memory>
         ensures { IfOk result (λ state. state ≡ self) }
     {
-        Ok(State::of_rows(self.ledger, self.entries))
+        let index = Index::for_rows(*self.entries.allocator(), self.entries.as_slice())?;
+        Ok(State::of_rows(self.ledger, self.entries, index))
     }
 }

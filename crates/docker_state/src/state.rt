@@ -1,26 +1,33 @@
 //! The state of files.
-ghost use Rattle.std.specs.Prelude.{◌≡◌, ℕ, List, [], ◌∷◌, ◌++◌, ◌↔◌, map, max, ◌==◌, if◌then◌else◌, Contains, IfOk, IfErr};
-ghost use Rattle.docker_model.specs.Change as model;
-ghost use Rattle.docker_model.specs.State.{entry_at, live_table, raise_horizon, IsDay, IsValid, IsJoin};
-ghost use Rattle.docker_model.specs.Lapse.{lapse_table};
+ghost use Rattle.std.specs.Prelude.{◌≡◌, ℕ, List, [], ◌∷◌, ◌++◌, ◌↔◌, map, max, ◌==◌, if◌then◌else◌, Contains, IfOk, IfErr, IfSome};
+ghost use Rattle.docker_model.specs.file.Change as model;
+ghost use Rattle.docker_model.specs.state.State as states;
+ghost use Rattle.docker_model.specs.state.Index.{AreCalling, AreLinked, AreOfUid};
+ghost use Rattle.docker_index.specs.Rooms.{HasRoomFor};
+ghost use Rattle.docker_index.specs.Spots.{IsIndexOf};
+ghost use Rattle.docker_model.specs.state.State.{entry_at, live_table, raise_horizon, IsValid, IsJoin};
+ghost use Rattle.docker_model.specs.records.Date.{IsDay};
+ghost use Rattle.docker_model.specs.state.Lapse.{lapse_table};
 ghost use Rattle.std.specs.Option.{option_copied, option_map};
 ghost use Rattle.cif_file.specs.Meaning.{key_meant};
-ghost use Rattle.docker_model.specs.Stamp.{IsFloor};
+ghost use Rattle.docker_model.specs.state.Stamp.{IsFloor};
 ghost use Rattle.docker_join.specs.Meaning.{entry_meant, file_stamp_meant};
-ghost use Rattle.docker_model.specs.Summary.{IsSummary, HaveDistinctMoments};
-ghost use Rattle.docker_model.specs.Table as tables;
-ghost use Rattle.docker_model.specs.Table.{IsPlainTable};
+ghost use Rattle.docker_model.specs.state.Summary.{IsSummary, HaveDistinctMoments};
+ghost use Rattle.docker_model.specs.state.Table as tables;
+ghost use Rattle.docker_model.specs.state.Table.{IsPlainTable};
 ghost use Rattle.cif_file.specs.FileRead.{IsOfRecords};
 ghost use Rattle.docker_state.specs.Live.{live_rows, AreInKeyOrder};
-ghost use Rattle.docker_state.specs.Meaning.{item_meant, row_meant, state_meant};
+ghost use Rattle.docker_state.specs.Meaning.{floor_meant, item_meant, row_meant, state_meant};
 
-use crate::floor::{common_floor, first_full};
+use crate::floor::{common_floor, floor_of};
 use crate::item::{LedgerItem, item_of};
-use crate::ledger::{kept_items, room_for, united};
+use crate::ledger::{kept_items, room_for, union_of};
 use crate::live::Live;
 use crate::rows::{greatest_rows, kept_rows, made_rows};
+use crate::uid_rows::rows_of_uid;
 use cif_file::{CifFile, Key};
-use cif_line::Day;
+use cif_line::{Day, Tiploc, Uid};
+use docker_index::{Index, Moves, Standing};
 use docker_join::{Entry, FileStamp, Merge, Table};
 use std::alloc::Global;
 use std::marker::Model;
@@ -31,30 +38,35 @@ pub struct State {
     horizon: u16,
     ledger: Vec<LedgerItem>,
     entries: Table<Entry>,
+    index: Index,
 }
 
 impl Model for State {
-    ghost use Rattle.docker_model.specs.State as states;
-    ghost use Rattle.docker_model.specs.State.{IsValid};
+    ghost use Rattle.docker_model.specs.state.State as states;
+    ghost use Rattle.docker_state.specs.Indexed.{IsIndexed};
     ghost use Rattle.docker_state.specs.Meaning.{state_meant};
 
     ghost Value = { states.State };
 
     ghost view = { λ state. state_meant state.horizon state.ledger.items state.entries };
 
-    ghost invariant = { λ state. IsValid (state_meant state.horizon state.ledger.items state.entries) };
+    ghost invariant = { λ state.
+        IsIndexed state.horizon state.ledger.items state.entries state.index };
 }
 
 impl State {
-    /// The state of ledger items and rows that are valid, without a horizon.
-    pub(crate) fn of_rows(ledger: Vec<LedgerItem>, rows: Vec<(Key, Entry)>) -> State
-        requires { IsValid (state_meant 0 ledger.items rows.items) }
+    /// The state of ledger items and rows that are valid, without a horizon, with an empty index that has room for that of the rows.
+    pub(crate) fn of_rows(ledger: Vec<LedgerItem>, rows: Vec<(Key, Entry)>, index: Index) -> State
+        requires valid { IsValid (state_meant 0 ledger.items rows.items) }
+        requires room { HasRoomFor (map row_meant rows.items) index }
         ensures { result ≡ state_meant 0 ledger.items rows.items }
     {
+        let index = index.of_rows(rows.as_slice());
         State {
             horizon: 0,
             ledger,
             entries: Table::from_rows(rows),
+            index,
         }
     }
 
@@ -67,12 +79,14 @@ impl State {
             horizon: 0,
             ledger: Vec::new(alloc),
             entries: Table::new(alloc),
+            index: Index::new(alloc),
         }
     }
 
     /// The state of the one file. Want of memory, before the file was taken apart, hands it back as it was.
     pub fn of_file(alloc: Global, file: CifFile) -> Result<State, CifFile>
-        ensures ok { (records : List (List ℕ)) → IsOfRecords file records → IfOk result (IsSummary (records ∷ []) 0) }
+        ensures ok { (records : List (List ℕ)) → IsOfRecords file records
+            → IfOk result (IsSummary (records ∷ []) 0) }
         ensures err { IfErr result (λ back. back ≡ file) }
     {
         let count = file.changes().len();
@@ -86,14 +100,13 @@ impl State {
         let Ok(rows) = Vec::with_capacity(alloc, count) else {
             return Err(file);
         };
+        let Ok(index) = Index::for_changes(alloc, file.changes()) else {
+            return Err(file);
+        };
         ledger.push_reserved(item);
         let made = made_rows(file.into_changes(), &item.stamp(), made);
-        let entries = Table::from_rows(greatest_rows(made, rows));
-        Ok(State {
-            horizon: 0,
-            ledger,
-            entries,
-        })
+        let rows = greatest_rows(made, rows);
+        Ok(State::of_rows(ledger, rows, index))
     }
 
     /// The horizon, a day number from 0 for 1960-01-01: nothing that is put ends before that day. 0 where none was set.
@@ -107,13 +120,14 @@ impl State {
     /// Sets a horizon: what is put and ends before this day lapses. Its body goes and its stamp stays, so that no older file brings it back. A day that is not after the horizon changes nothing.
     pub fn set_horizon(&mut self, day: Day)
         ensures raised { self.new ≡ raise_horizon day self.old }
-        ensures summary { (files : List (List (List ℕ))) (horizon : ℕ) → IsSummary files horizon self.old
-            → IsSummary files (max horizon day) self.new }
+        ensures summary { (files : List (List (List ℕ))) (horizon : ℕ)
+            → IsSummary files horizon self.old → IsSummary files (max horizon day) self.new }
     {
         let horizon = day.number();
         if self.horizon < horizon {
             self.horizon = horizon;
             self.entries.lapse(horizon);
+            self.index.lapse(self.entries.as_slice());
         }
     }
 
@@ -135,7 +149,9 @@ impl State {
 
     /// The entry of a key. None where the state does not have the key. By a binary search.
     pub fn get(&self, key: &Key) -> Option<&Entry>
-        ensures { option_map entry_meant (option_copied result) ≡ entry_at self.now (key_meant key.now) }
+        ensures entry { option_map entry_meant (option_copied result)
+            ≡ entry_at self.now (key_meant key.now) }
+        ensures valid { IsValid self.now }
     {
         self.entries.get(key)
     }
@@ -143,31 +159,72 @@ impl State {
     /// The live table: the keys that are put, each with its body, in the order of the keys.
     pub fn live(&self) -> Live<'_>
         ensures rows { result ≡ live_rows self.now.entries }
-        ensures table { (key : model.Key) (body : model.Body) → Contains result (key, body) ↔ (live_table self.now key ≡ Some body) }
+        ensures table { (key : model.Key) (body : model.Body)
+            → Contains result (key, body) ↔ (live_table self.now key ≡ Some body) }
         ensures ascending { AreInKeyOrder result }
-        ensures plain { (files : List (List (List ℕ))) → IsSummary files 0 self.now → HaveDistinctMoments files → IsPlainTable files (live_table self.now) }
-        ensures lapsed { (files : List (List (List ℕ))) (horizon : ℕ) (table : tables.Table) → IsSummary files horizon self.now
+        ensures plain { (files : List (List (List ℕ))) → IsSummary files 0 self.now
+            → HaveDistinctMoments files → IsPlainTable files (live_table self.now) }
+        ensures lapsed { (files : List (List (List ℕ))) (horizon : ℕ) (table : tables.Table)
+            → IsSummary files horizon self.now
             → IsPlainTable files table → live_table self.now ≡ lapse_table horizon table }
     {
         Live::of(self.entries.as_slice())
+    }
+
+    /// The live schedules that call at a TIPLOC, by an LO, an LI or an LT, each once with its lines, in the order of the keys. By a binary search, without memory.
+    pub fn calling(&self, tiploc: &Tiploc) -> Standing<'_>
+        ensures { AreCalling (live_table self.now) tiploc.now result }
+    {
+        self.index.calling(self.entries.as_slice(), tiploc)
+    }
+
+    /// The live associations at a location, each with its line, in the order of the keys. By a binary search, without memory.
+    pub fn linked(&self, tiploc: &Tiploc) -> Standing<'_>
+        ensures { AreLinked (live_table self.now) tiploc.now result }
+    {
+        self.index.linked(self.entries.as_slice(), tiploc)
+    }
+
+    /// The live schedules of a UID, each with its lines, in the order of the keys. By a binary search, without memory.
+    pub fn of_uid(&self, uid: &Uid) -> Live<'_>
+        ensures { AreOfUid (live_table self.now) uid.now result }
+    {
+        Live::of(rows_of_uid(self.entries.as_slice(), uid))
+    }
+
+    /// The index of the rows of the join with another state, made before a row is moved. None where memory is wanting.
+    fn index_of_join(&self, alloc: Global, other: &State) -> Option<Index>
+        ensures { IfSome result (λ index. (joined : states.State) → IsJoin self.now other.now joined
+            → IsIndexOf joined.entries index) }
+    {
+        let (first, second) = (self.entries.as_slice(), other.entries.as_slice());
+        let moves = Moves::with_room(alloc, first.len(), second.len()).ok()?;
+        let index = Index::for_join(alloc, &self.index, &other.index).ok()?;
+        let floor = self.floor_with(other);
+        let horizon = self.horizon.max(other.horizon);
+        let moves = moves.of_tables(first, second, &floor, horizon);
+        Some(index.of_join(&self.index, &other.index, &moves))
     }
 
     /// The file stamp of the newest full extract among the files that are known. None where there is none.
     pub fn floor(&self) -> Option<FileStamp>
         ensures { IsFloor self.now.ledger (option_map file_stamp_meant result) }
     {
-        match first_full(self.ledger.as_slice()) {
-            Some(item) => Some(item.stamp()),
-            None => None,
-        }
+        floor_of(self.ledger.as_slice())
+    }
+
+    /// The floor of this ledger and that of another state together.
+    fn floor_with(&self, other: &State) -> Option<FileStamp>
+        ensures { IsFloor (self.now.ledger ++ other.now.ledger) (floor_meant result) }
+    {
+        common_floor(self.floor(), other.floor())
     }
 }
 
 impl Merge for State {
-    ghost use Rattle.docker_model.specs.State.{IsValid, IsJoin};
-    ghost use Rattle.docker_laws.proofs.JoinValid.{join_is_valid};
-    ghost use Rattle.docker_laws.proofs.JoinLaws.{join_unique, join_commutes};
-    ghost use Rattle.docker_laws.proofs.JoinLaws.{join_associates, join_idempotent};
+    ghost use Rattle.docker_model.specs.state.State.{IsValid, IsJoin};
+    ghost use Rattle.docker_laws.proofs.joins.JoinValid.{join_is_valid};
+    ghost use Rattle.docker_laws.proofs.joins.JoinLaws.{join_unique, join_commutes, join_associates, join_idempotent};
 
     ghost is_valid = { IsValid };
 
@@ -187,49 +244,43 @@ impl Merge for State {
     fn join(self, alloc: Global, other: State) -> Result<State, (State, State)>
         ensures ok { IfOk result (IsJoin self other) }
         ensures err { IfErr result (λ both. (both.0 ≡ self) × (both.1 ≡ other)) }
-        ensures summary { (files others : List (List (List ℕ))) (g h : ℕ) → IsSummary files g self → IsSummary others h other
+        ensures summary { (files others : List (List (List ℕ))) (g h : ℕ)
+            → IsSummary files g self → IsSummary others h other
             → IfOk result (IsSummary (files ++ others) (max g h)) }
     {
+        let Some(index) = self.index_of_join(alloc, &other) else {
+            return Err((self, other));
+        };
         let Some(items) = room_for(alloc, self.ledger.len(), other.ledger.len()) else {
             return Err((self, other));
         };
-        let floor = common_floor(self.floor(), other.floor());
+        let Some(rows) = self.entries.room_for_join(alloc, &other.entries) else {
+            return Err((self, other));
+        };
+        let floor = self.floor_with(&other);
         let State {
             horizon: own,
             ledger: first,
             entries: left,
+            index: _,
         } = self;
         let State {
             horizon: theirs,
             ledger: second,
             entries: right,
+            index: _,
         } = other;
-        match left.join(alloc, right) {
-            Ok(joined) => {
-                let items = united(first.as_slice(), second.as_slice(), items);
-                let ledger = kept_items(items, &floor);
-                let rows = kept_rows(joined.into_rows(), &floor, yet_to_lapse(own, theirs));
-                let entries = Table::from_rows(rows);
-                Ok(State {
-                    horizon: own.max(theirs),
-                    ledger,
-                    entries,
-                })
-            }
-            Err((left, right)) => {
-                let one = State {
-                    horizon: own,
-                    ledger: first,
-                    entries: left,
-                };
-                let two = State {
-                    horizon: theirs,
-                    ledger: second,
-                    entries: right,
-                };
-                Err((one, two))
-            }
-        }
+        let joined = left.join_in(right, rows);
+        let items = union_of(first.as_slice(), second.as_slice(), items);
+        let ledger = kept_items(items, &floor);
+        let rows = kept_rows(joined.into_rows(), &floor, yet_to_lapse(own, theirs));
+        let entries = Table::from_rows(rows);
+        Ok(State {
+            horizon: own.max(theirs),
+            ledger,
+            entries,
+            index,
+        })
     }
 }
 

@@ -1,6 +1,6 @@
-use crate::{LedgerItem, Parts, State};
+use crate::{LedgerItem, Parts, Staging, State};
 use cif_file::{Body, Key, read_pieces};
-use cif_line::{Day, Tiploc};
+use cif_line::{Day, Tiploc, Uid};
 use docker_join::{Entry, FileStamp, Merge, Op};
 use std::alloc::{AllocError, Global};
 use std::process::Abort;
@@ -117,6 +117,38 @@ const TI: &[u8] =
 /// Its amendment: another code and description.
 const TA: &[u8] =
     b"TAASHFELD         ASHFIELD NEW                                          ASHFLDN ";
+
+/// A schedule of C30001, on 10 June 2024.
+const BS_C30001: &[u8] =
+    b"BSNC300012406102406101000000 POO3C30                                           P";
+
+/// A schedule of C30002, on that day.
+const BS_C30002: &[u8] =
+    b"BSNC300022406102406101000000 POO3C32                                           P";
+
+/// Its deletion.
+const BS_C30002_DELETED: &[u8] =
+    b"BSDC30002240610              POO                                               P";
+
+/// A call at Colwell, 10:10.
+const LI_COLWELL: &[u8] =
+    b"LICOLWELL 1010 1012      000000003                                              ";
+
+/// A second call there, 10:40.
+const LI_COLWELL_AGAIN: &[u8] =
+    b"LICOLWELL21040 1042      000000004                                              ";
+
+/// An origin: Colwell, 10:45.
+const LO_COLWELL: &[u8] =
+    b"LOCOLWELL 1045 00005                                                            ";
+
+/// A terminus: Dunmere, 11:00.
+const LT_DUNMERE: &[u8] =
+    b"LTDUNMERE 1100 00001                                                            ";
+
+/// An association of C30001 and C30002 at Colwell on 10 June 2024.
+const AA_COLWELL: &[u8] =
+    b"AANC30001C300022406102406101000000VVSCOLWELL2 TP                               P";
 
 /// A trailer.
 const ZZ: &[u8] =
@@ -667,5 +699,156 @@ fn parts(rt: HostRuntime) -> Result<(), Fail> {
     let again = rebuilt(&rt, rt.alloc(), &one)?;
     let (one, again) = (told(rt.alloc(), &one)?, told(rt.alloc(), &again)?);
     assert_eq!(rt; again.as_slice(), one.as_slice());
+    Ok(())
+}
+
+/// Receives a state of one deletion, and answers how many entries were staged.
+fn receive(alloc: Global, own: &mut State, other: &State) -> Result<u64, Fail> {
+    let (items, rows) = (other.ledger(), other.entries());
+    if items.len() != 1 {
+        return Err("one item")?;
+    }
+    if rows.len() != 1 {
+        return Err("one entry")?;
+    }
+    let (item, row) = (items[0], &rows[0]);
+    let mut ledger = Vec::new(alloc);
+    ledger.push(item)?;
+    let mut staging = Staging::new(alloc, own, ledger)?;
+    let stamp = row.1.stamp;
+    let op = Op::Deleted;
+    staging.offer(own, row.0, Entry { stamp, op })?;
+    let count = staging.len();
+    own.commit(staging)?;
+    Ok(count)
+}
+
+#[test]
+fn staging(rt: HostRuntime) -> Result<(), Fail> {
+    let cases: [(&[&[u8]], &[&[u8]], u64, &[&[u8]], &str); 4] = [
+        (
+            &[HD_9A, BS, LO, LT, ZZ],
+            &[HD_10B, BS_DELETED, ZZ],
+            1,
+            &[
+                b"item 23536 1260 DFROC1A U DFROC1Z",
+                b"item 23537 1260 DFROC1B U DFROC1A",
+                b"C10001 23537: record 2 of 23537 1260 DFROC1B",
+                b"deleted",
+            ],
+            "a later deletion",
+        ),
+        (
+            &[HD_10B, BS_DELETED, ZZ],
+            &[HD_9A, BS_DELETED, ZZ],
+            0,
+            &[
+                b"item 23536 1260 DFROC1A U DFROC1Z",
+                b"item 23537 1260 DFROC1B U DFROC1A",
+                b"C10001 23537: record 2 of 23537 1260 DFROC1B",
+                b"deleted",
+            ],
+            "an earlier one",
+        ),
+        (
+            &[HD_7B, BS_DELETED, ZZ],
+            &[HD_5A, BS_C10003, ZZ],
+            0,
+            &[
+                b"item 23534 1260 DFROC1B F DFROC1A",
+                b"floor 23534 1260 DFROC1B",
+                b"C10001 23537: record 2 of 23534 1260 DFROC1B",
+                b"deleted",
+            ],
+            "what is below the floor",
+        ),
+        (
+            &[HD_5A, BS_C10003, ZZ],
+            &[HD_7B, BS_DELETED, ZZ],
+            1,
+            &[
+                b"item 23534 1260 DFROC1B F DFROC1A",
+                b"floor 23534 1260 DFROC1B",
+                b"C10001 23537: record 2 of 23534 1260 DFROC1B",
+                b"deleted",
+            ],
+            "a late full extract",
+        ),
+    ];
+    for (one, other, wanted, lines, name) in cases {
+        let (mut own, received) = (state(rt.alloc(), one)?, state(rt.alloc(), other)?);
+        let count = receive(rt.alloc(), &mut own, &received)?;
+        assert_eq!(rt; count, wanted, "{name}");
+        check(&rt, rt.alloc(), &own, lines, name)?;
+        let again = receive(rt.alloc(), &mut own, &received)?;
+        assert_eq!(rt; again, 0, "{name}, again");
+        check(&rt, rt.alloc(), &own, lines, name)?;
+    }
+    Ok(())
+}
+
+/// What calls and what is linked at a TIPLOC, and the schedules of a UID, as text.
+fn found(alloc: Global, state: &State, tiploc: &str, uid: &[u8; 6]) -> Result<Vec<u8>, Fail> {
+    let mut text = Vec::new(alloc);
+    let tiploc = Tiploc::from_text(tiploc).ok_or("a TIPLOC")?;
+    for (key, _) in state.calling(&tiploc) {
+        text.extend_from_slice(b"calls ")?;
+        text.extend_from_slice(key_text(alloc, key)?.as_bytes())?;
+        text.push(b'\n')?;
+    }
+    for (key, _) in state.linked(&tiploc) {
+        text.extend_from_slice(b"linked ")?;
+        text.extend_from_slice(key_text(alloc, key)?.as_bytes())?;
+        text.push(b'\n')?;
+    }
+    let uid = Uid::from_field(uid).ok_or("a UID")?;
+    for (key, _) in state.of_uid(&uid) {
+        text.extend_from_slice(b"of it ")?;
+        text.extend_from_slice(key_text(alloc, key)?.as_bytes())?;
+        text.push(b'\n')?;
+    }
+    Ok(text)
+}
+
+#[test]
+fn places(rt: HostRuntime) -> Result<(), Fail> {
+    let file: &[&[u8]] = &[
+        HD_9A,
+        AA_COLWELL,
+        BS_C30001,
+        LO,
+        LI_COLWELL,
+        LI_COLWELL_AGAIN,
+        LT_1130,
+        BS_C30002,
+        LO_COLWELL,
+        LT_DUNMERE,
+        ZZ,
+    ];
+    let one = state(rt.alloc(), file)?;
+    let later = state(rt.alloc(), &[HD_10B, BS_C30002_DELETED, BS, LO, LT, ZZ])?;
+    let both = joined(rt.alloc(), later, state(rt.alloc(), file)?)?;
+    let lapsed = set_on(rt.alloc(), file, &["2024-06-11"])?;
+    let all: &[&[u8]] = &[
+        b"calls C30001 23537",
+        b"calls C30002 23537",
+        b"linked C30001",
+        b"of it C30002 23537",
+    ];
+    let left: &[&[u8]] = &[b"calls C30001 23537", b"linked C30001"];
+    let start: &[&[u8]] = &[b"calls C10001 23537", b"calls C30001 23537"];
+    let none: &[&[u8]] = &[];
+    let cases = [
+        (&one, "COLWELL", all, "two calls and a link"),
+        (&one, "ELM", &all[3..], "no call"),
+        (&both, "COLWELL", left, "one is deleted"),
+        (&both, "ASHFELD", start, "one of each file"),
+        (&lapsed, "COLWELL", none, "the day after"),
+    ];
+    for (state, tiploc, lines, name) in cases {
+        let found = found(rt.alloc(), state, tiploc, b"C30002")?;
+        let wanted = text(rt.alloc(), lines)?;
+        assert_eq!(rt; found.as_slice(), wanted.as_slice(), "{name}");
+    }
     Ok(())
 }

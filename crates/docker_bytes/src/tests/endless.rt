@@ -1,6 +1,7 @@
 //! Texts without end, and texts whose counts are huge.
 
-use super::{BS, HEAD, ITEM, LO, LT, MARK, MOST, ONE, joined_text, refused};
+use super::records::{BS, HEAD, ITEM, LO, LT, MARK, MOST, ONE};
+use super::{joined_text, refused};
 use crate::{ReadFault, StateCause, StateFault, read_state};
 use cif_line::{Failed, Source};
 use std::test::Fail;

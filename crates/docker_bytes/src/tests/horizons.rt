@@ -1,44 +1,16 @@
 //! Texts under a horizon, and what has lapsed.
 
-use super::{
-    AA, BS, HD, HEAD, ITEM, LO, LT, ONE, TI, ZZ, goes_round, joined_text, refused, state, written,
+use super::records::{
+    AA, AFTER, ASHFELD_HEAD, BS, GREATEST, HD, HEAD, HEAD_LAPSED, ITEM, JOINS_HEAD, LAPSED, LAST,
+    LO, LT, NOTHING, ONE, PUT, SCHEDULE_HEAD, TI, TOO_LATE, ZZ,
 };
+use super::{goes_round, joined_text, refused, state, written};
 use crate::{StateCause, read_state};
 use cif_line::{Bytes, Day};
 use docker_state::State;
 use std::alloc::{AllocError, Global};
 use std::process::Abort;
 use std::test::Fail;
-
-/// The last day of the schedule, 2024-06-14.
-const LAST: &[u8] = b"\x5b\xf5";
-
-/// The day after it.
-const AFTER: &[u8] = b"\x5b\xf6";
-
-/// The last day of all, 2059-12-31.
-const GREATEST: &[u8] = b"\x8e\xac";
-
-/// One too many.
-const TOO_LATE: &[u8] = b"\x8e\xad";
-
-/// Two empty counts.
-const NOTHING: &[u8] = b"\0\0\0\0\0\0\0\0\0\0\0\0\0\0\0\0";
-
-/// The tag, the key and the stamp of the schedule of C10001.
-const SCHEDULE: &[u8] = b"\x03C10001\x5b\xf1P\x5b\xf0\x04\xecDFROC1A\x00\x00\x00\x02";
-
-/// The same of the association of C10001 and C10002.
-const JOINS: &[u8] = b"\x02C10001C10002\x5b\xf1ASHFELD P\x5b\xf0\x04\xecDFROC1A\x00\x00\x00\x02";
-
-/// The same of the TIPLOC ASHFELD.
-const ASHFELD: &[u8] = b"\x01ASHFELD\x5b\xf0\x04\xecDFROC1A\x00\x00\x00\x02";
-
-/// The op of a put.
-const PUT: &[u8] = b"\x01";
-
-/// The op of what has lapsed.
-const LAPSED: &[u8] = b"\x02";
 
 /// The text of one file and of one entry of these parts, under a horizon.
 fn under(alloc: Global, horizon: &[u8], parts: &[&[u8]]) -> Result<Vec<u8>, AllocError> {
@@ -95,7 +67,7 @@ fn puts_that_end_before_the_horizon(rt: HostRuntime) -> Result<(), Fail> {
     refused_under(&rt, alloc, AFTER, &[HEAD, BS], bad)?;
     let front = BS.get(..79).ok_or("short")?;
     refused_under(&rt, alloc, AFTER, &[HEAD, front], (41, StateCause::Short))?;
-    let association: &[&[u8]] = &[JOINS, PUT, AA];
+    let association: &[&[u8]] = &[JOINS_HEAD, PUT, AA];
     accepted(
         &rt,
         alloc,
@@ -108,7 +80,7 @@ fn puts_that_end_before_the_horizon(rt: HostRuntime) -> Result<(), Fail> {
     let without_end = under(alloc, GREATEST, &[HEAD, endless, LO, LT])?;
     accepted(&rt, alloc, without_end.as_slice(), 36524)?;
     let central = b"         ASHFIELD CENTRAL                                      ";
-    let tiploc = under(alloc, GREATEST, &[ASHFELD, PUT, central])?;
+    let tiploc = under(alloc, GREATEST, &[ASHFELD_HEAD, PUT, central])?;
     accepted(&rt, alloc, tiploc.as_slice(), 36524)
 }
 
@@ -116,25 +88,24 @@ fn puts_that_end_before_the_horizon(rt: HostRuntime) -> Result<(), Fail> {
 fn what_has_lapsed_has_no_body(rt: HostRuntime) -> Result<(), Fail> {
     let alloc = rt.alloc();
     for (horizon, number) in [(b"\0\0".as_slice(), 0), (AFTER, 23542), (GREATEST, 36524)] {
-        for (entry, len) in [(ASHFELD, 65), (JOINS, 81), (SCHEDULE, 67)] {
+        for (entry, len) in [(ASHFELD_HEAD, 65), (JOINS_HEAD, 81), (SCHEDULE_HEAD, 67)] {
             let text = under(alloc, horizon, &[entry, LAPSED])?;
             assert_eq!(rt; text.len(), len);
             accepted(&rt, alloc, text.as_slice(), number)?;
         }
     }
-    let head = b"\x03C10001\x5b\xf1P\x5b\xf0\x04\xecDFROC1A\x00\x00\x00\x02\x02\x00\x00\x00\x03";
     refused_under(
         &rt,
         alloc,
         b"\0\0",
-        &[head, BS, LO, LT],
+        &[HEAD_LAPSED, BS, LO, LT],
         (67, StateCause::Tail),
     )?;
     refused_under(
         &rt,
         alloc,
         AFTER,
-        &[SCHEDULE, b"\x03"],
+        &[SCHEDULE_HEAD, b"\x03"],
         (41, StateCause::Body),
     )
 }
@@ -155,9 +126,9 @@ fn a_state_with_a_horizon_goes_round(rt: HostRuntime) -> Result<(), Fail> {
     assert_eq!(rt; written(alloc, &known)?.as_slice(), wanted.as_slice());
     goes_round(&rt, alloc, &known, 311, 1)?;
     let gone = lapsed(alloc, records, "2024-06-15")?;
-    let wanted = under(alloc, AFTER, &[SCHEDULE, LAPSED])?;
+    let wanted = under(alloc, AFTER, &[SCHEDULE_HEAD, LAPSED])?;
     assert_eq!(rt; written(alloc, &gone)?.as_slice(), wanted.as_slice());
     goes_round(&rt, alloc, &gone, 67, 1)?;
-    let place = lapsed(alloc, &[HD, TI, ZZ], "2059-12-31")?;
-    goes_round(&rt, alloc, &place, 128, 7)
+    let tiploc = lapsed(alloc, &[HD, TI, ZZ], "2059-12-31")?;
+    goes_round(&rt, alloc, &tiploc, 128, 7)
 }

@@ -1,88 +1,19 @@
-//! Texts of states of several files, joined in every order.
+//! Texts of states of several files, joined and received in every order.
+ghost use Rattle.std.specs.Prelude.{◌<◌};
 
-use super::{
-    BS, BS_DELETED, HD, HD_10B, HEAD, ITEM, ITEM_7B, LO, LT, MARK, ONE, TWO, ZZ, goes_round,
-    joined_text, state, written,
+use super::records::{
+    BS, BS_C10002, BS_C10003, BS_DELETED, BS_LONGER, BS_REVISED, HD, HD_5A, HD_7B, HD_9C, HD_10B,
+    HEAD, HEAD_9C, HEAD_10B, HEAD_C10002, ITEM, ITEM_7B, ITEM_9C, ITEM_10B, LO, LO_0850, LO_0905,
+    LO_1000, LO_1100, LT, LT_0935, LT_1030, LT_1130, MARK, ONE, TWO, ZZ,
 };
+use super::{goes_round, joined_text, state, written};
+use crate::join_state;
+use cif_line::Bytes;
 use docker_join::Merge;
 use docker_state::State;
 use std::alloc::Global;
 use std::process::Abort;
 use std::test::Fail;
-
-/// The header of an update of 5 June 2024, 21:00.
-const HD_5A: &[u8] =
-    b"HDTPS.UDFROC1.PD2406090506242100DFROC1ADFROC1ZUA                                ";
-
-/// The header of a full extract of 7 June.
-const HD_7B: &[u8] =
-    b"HDTPS.UDFROC1.PD2406090706242100DFROC1BDFROC1AFA                                ";
-
-/// The header of a third update of 9 June.
-const HD_9C: &[u8] =
-    b"HDTPS.UDFROC1.PD2406090906242100DFROC1CDFROC1BUA                                ";
-
-/// The revision of the schedule of C10001.
-const BS_REVISED: &[u8] =
-    b"BSRC100012406102406141111100 POO1A10                                           P";
-
-/// The same schedule to 21 June.
-const BS_LONGER: &[u8] =
-    b"BSNC100012406102406211111100 POO1A10                                           P";
-
-/// A schedule of C10002.
-const BS_C10002: &[u8] =
-    b"BSNC100022406102406141111100 POO1A20                                           P";
-
-/// The deletion of a schedule of C10003.
-const BS_C10003: &[u8] =
-    b"BSDC10003240610              POO                                               P";
-
-/// An origin: Ashfeld, 08:50.
-const LO_0850: &[u8] =
-    b"LOASHFELD 0850 08501  SL                                                        ";
-
-/// The same at 09:05.
-const LO_0905: &[u8] =
-    b"LOASHFELD 0905 09051  SL                                                        ";
-
-/// The same at 10:00.
-const LO_1000: &[u8] =
-    b"LOASHFELD 1000 10001  SL                                                        ";
-
-/// The same at 11:00.
-const LO_1100: &[u8] =
-    b"LOASHFELD 1100 11001  SL                                                        ";
-
-/// A terminus: Brayton, 09:35.
-const LT_0935: &[u8] =
-    b"LTBRAYTON 0935 09372  FL                                                        ";
-
-/// The same at 10:30.
-const LT_1030: &[u8] =
-    b"LTBRAYTON 1030 10322  FL                                                        ";
-
-/// The same at 11:30.
-const LT_1130: &[u8] =
-    b"LTBRAYTON 1130 11322  FL                                                        ";
-
-/// The ledger item of the update of 10 June.
-const ITEM_10B: &[u8] = b"\x5b\xf1\x04\xecDFROC1BUDFROC1A";
-
-/// The ledger item of the third update of 9 June.
-const ITEM_9C: &[u8] = b"\x5b\xf0\x04\xecDFROC1CUDFROC1B";
-
-/// The entry of the schedule of C10001, put by the update of 10 June, up to its lines.
-const HEAD_10B: &[u8] =
-    b"\x03C10001\x5b\xf1P\x5b\xf1\x04\xecDFROC1B\x00\x00\x00\x02\x01\x00\x00\x00\x03";
-
-/// The same, put by the third update of 9 June.
-const HEAD_9C: &[u8] =
-    b"\x03C10001\x5b\xf1P\x5b\xf0\x04\xecDFROC1C\x00\x00\x00\x02\x01\x00\x00\x00\x03";
-
-/// The entry of the schedule of C10002, put by the full extract, up to its lines.
-const HEAD_C10002: &[u8] =
-    b"\x03C10002\x5b\xf1P\x5b\xee\x04\xecDFROC1B\x00\x00\x00\x02\x01\x00\x00\x00\x03";
 
 /// The join of the states of some files, one behind the other.
 fn merged(alloc: Global, files: &[&[&[u8]]]) -> Result<State, Fail> {
@@ -96,7 +27,34 @@ fn merged(alloc: Global, files: &[&[&[u8]]]) -> Result<State, Fail> {
     Ok(all)
 }
 
-/// That the states of these files, joined in this order, have this text.
+/// That a state which receives the texts of the states of these files, in this order and so many bytes at a read, has this text in the end, and receives it again
+/// with no change.
+fn receives(
+    rt: &impl Abort,
+    alloc: Global,
+    files: &[&[&[u8]]],
+    wanted: &[u8],
+    step: usize,
+) -> Result<(), Fail>
+    requires { 0 < step }
+{
+    let mut all = State::empty(alloc);
+    for file in files {
+        let text = written(alloc, &state(alloc, file)?)?;
+        join_state(
+            alloc,
+            &mut all,
+            &mut Bytes::new(text.as_slice(), step),
+            1000,
+        )?;
+    }
+    assert_eq!(rt; written(alloc, &all)?.as_slice(), wanted);
+    join_state(alloc, &mut all, &mut Bytes::new(wanted, step), 1000)?;
+    assert_eq!(rt; written(alloc, &all)?.as_slice(), wanted);
+    Ok(())
+}
+
+/// That the states of these files, joined in this order, and a state that receives their texts, have this text.
 fn merges_to(
     rt: &impl Abort,
     alloc: Global,
@@ -108,6 +66,8 @@ fn merges_to(
     let wanted = joined_text(alloc, pieces)?;
     let text = written(alloc, &all)?;
     assert_eq!(rt; text.as_slice(), wanted.as_slice(), "{name}");
+    receives(rt, alloc, files, wanted.as_slice(), 1)?;
+    receives(rt, alloc, files, wanted.as_slice(), 4096)?;
     goes_round(rt, alloc, &all, wanted.len(), 80)
 }
 

@@ -1,9 +1,10 @@
 //! Texts that tell no horizon.
 
-use super::{
-    BS, HEAD, ITEM, ITEM_5A, ITEM_7B, ITEM_LATE, LO, LT, MOST, OLD_MARK, ONE, TWO, joined_text,
-    known_text, written,
+use super::records::{
+    BS, BS_REVISED, HEAD, HEAD_LAPSED, HEAD_OF_NO_FILE, HEAD_OF_NO_TAG, ITEM, ITEM_5A, ITEM_7B,
+    ITEM_LATE, LO, LT, MOST, OLD_MARK, ONE, TWO,
 };
+use super::{joined_text, known_text, written};
 use crate::{ReadFault, StateCause, migrate};
 use cif_line::Bytes;
 use std::alloc::{AllocError, Global};
@@ -121,13 +122,10 @@ fn old_texts_with_a_bad_ledger(rt: HostRuntime) -> Result<(), Fail> {
 #[test]
 fn old_texts_with_a_bad_entry(rt: HostRuntime) -> Result<(), Fail> {
     let alloc = rt.alloc();
-    let tag = b"\x04C10001\x5b\xf1P\x5b\xf0\x04\xecDFROC1A\x00\x00\x00\x02\x01\x00\x00\x00\x03";
-    let other = b"\x03C10001\x5b\xf1P\x5b\xf0\x04\xecDFROC1B\x00\x00\x00\x02\x01\x00\x00\x00\x03";
-    let op = b"\x03C10001\x5b\xf1P\x5b\xf0\x04\xecDFROC1A\x00\x00\x00\x02\x02\x00\x00\x00\x03";
     let rows: [(&[u8], StateCause); 3] = [
-        (tag, StateCause::Tag),
-        (other, StateCause::Stamp),
-        (op, StateCause::Body),
+        (HEAD_OF_NO_TAG, StateCause::Tag),
+        (HEAD_OF_NO_FILE, StateCause::Stamp),
+        (HEAD_LAPSED, StateCause::Body),
     ];
     for (head, cause) in rows {
         refused(
@@ -138,12 +136,10 @@ fn old_texts_with_a_bad_entry(rt: HostRuntime) -> Result<(), Fail> {
             (39, cause),
         )?;
     }
-    let revised =
-        b"BSRC100012406102406141111100 POO1A10                                           P";
     refused(
         &rt,
         alloc,
-        &[OLD_MARK, ONE, ITEM, ONE, HEAD, revised, LO, LT],
+        &[OLD_MARK, ONE, ITEM, ONE, HEAD, BS_REVISED, LO, LT],
         1000,
         (39, StateCause::Body),
     )?;

@@ -1,37 +1,15 @@
 //! Each kind of part at its bounds: keys, record numbers, bodies, counts of lines and last lines.
 
-use super::{
-    AA, BS, BS_DELETED, ITEM, LO, LT, MARK, ONE, goes_round, joined_text, refused, written,
+use super::records::{
+    AA, ASHFELD, BS, BS_DELETED, C10001, CENTRAL, DELETED, FILE, ITEM, JOINS, LO, LT, MARK, ONE,
+    PUT, SECOND,
 };
+use super::{goes_round, joined_text, refused, written};
 use crate::{StateCause, read_state};
 use cif_line::Bytes;
 use std::alloc::Global;
 use std::process::Abort;
 use std::test::Fail;
-
-/// The tag and the key of the TIPLOC ASHFELD.
-const ASHFELD: &[u8] = b"\x01ASHFELD";
-
-/// The tag and the key of the association of C10001 and C10002.
-const JOINS: &[u8] = b"\x02C10001C10002\x5b\xf1ASHFELD P";
-
-/// The tag and the key of the schedule of C10001.
-const C10001: &[u8] = b"\x03C10001\x5b\xf1P";
-
-/// The file stamp of the file of 9 June.
-const FILE: &[u8] = b"\x5b\xf0\x04\xecDFROC1A";
-
-/// The number of the first record behind a header.
-const SECOND: &[u8] = b"\x00\x00\x00\x02";
-
-/// The op of a deletion.
-const DELETED: &[u8] = b"\x00";
-
-/// The op of a put.
-const PUT: &[u8] = b"\x01";
-
-/// The body of a TIPLOC: 63 printable bytes, the least and the greatest among them.
-const CENTRAL: &[u8] = b"         ASHFIELD CENTRAL                                     ~";
 
 /// The parts of an entry behind a ledger of one file.
 fn with_entry(alloc: Global, parts: &[&[u8]]) -> Result<Vec<u8>, Fail> {

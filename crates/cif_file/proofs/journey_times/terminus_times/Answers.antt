@@ -1,11 +1,11 @@
 -- The one time of the line.
 use Rattle.std.proofs.Common.{[], ◌∷◌, sym, ap, ◌∙◌, refl}
-use Rattle.docker_model.specs.Record.{columns}
-use Rattle.docker_model.specs.Clock.{half_minutes}
-use Rattle.cif_file.proofs.Journeys.{terminus_time}
+use Rattle.docker_model.specs.records.Record.{columns}
+use Rattle.docker_model.specs.records.Clock.{half_minutes}
+use Rattle.cif_file.proofs.JourneyLemmas.{terminus_time}
 use Rattle.cif_file.proofs.journey_times.terminus_times.Goals as goal
 
-pub returns-in-Ok-clause-value : goal.returns-in-Ok-clause-value
-returns-in-Ok-clause-value c =
-    terminus_time c.args.line.now c.requires.kind (c.in-Ok.ensures.ok.0 refl)
-    ∙ (λ i. sym (c.arrival.ensures ∙ ap (λ view. half_minutes (columns 11 15 view)) c.in-Ok.ensures.value) i ∷ [])
+pub returns-clause-value : goal.returns-clause-value
+returns-clause-value c =
+    terminus_time c.args.line.now c.requires.kind (c.in_ok-view.ensures.ok.0 refl)
+    ∙ (λ i. sym (c.arrival.ensures ∙ ap (λ view. half_minutes (columns 11 15 view)) c.in_ok-view.ensures.value) i ∷ [])

@@ -2,8 +2,8 @@
 use Rattle.std.proofs.Common.{◌≡◌, ℕ, ◌+◌, ◌-◌, ◌≤◌, List, length, take, drop, Some, sym, ap, ◌∙◌, arith, length-drop}
 use Rattle.std.specs.Prelude.{position, option_map, ◌==◌}
 use Rattle.std.proofs.lemmas.List.{take_all}
-use Rattle.docker_model.specs.Record.{IsRecord}
-use Rattle.cif_file.proofs.LineFeed.{feed_behind}
+use Rattle.docker_model.specs.records.Record.{IsRecord}
+use Rattle.cif_file.proofs.TextLemmas.{feed_behind}
 use Rattle.cif_file.proofs.text.line_feed.Goals as goal
 
 told : (text : List ℕ) (found : _) → (80 ≤ length text) × IsRecord (take 80 text) → found ≡ position (λ b. b == 10) (take (length text - 80) (drop 80 text))
@@ -13,8 +13,12 @@ told text found begins at =
     (at ∙ ap (position (λ b. b == 10)) (take_all (length text - 80) (drop 80 text) (let size = length-drop 80 text in omega arith)))
     ∙ sym (feed_behind text 80 begins.0 begins.1)
 
-pub returns-in-Some : goal.returns-in-Some
-returns-in-Some c = record { place = told c.args.text.now (Some c.in-Some.at) (c.begins_with_record.ensures.0 c.if-not-begins_with_record.false) c.in-Some.ensures.place }
+pub returns : goal.returns
+returns c = record {
+  place = told c.args.text.now _ (c.begins_with_record.ensures.0 c.if-not-begins_with_record.false) c.in_ok-at.ensures.place;
+}
 
-pub returns-in-None : goal.returns-in-None
-returns-in-None c = record { place = told c.args.text.now _ (c.begins_with_record.ensures.0 c.if-not-begins_with_record.false) c.in-None.ensures.place }
+pub returns-in_err-at : goal.returns-in_err-at
+returns-in_err-at c =
+    rw c.from_residual.ensures
+    (record { place = told c.args.text.now _ (c.begins_with_record.ensures.0 c.if-not-begins_with_record.false) c.in_err-at.ensures.place })

@@ -1,5 +1,5 @@
 use Rattle.cif_file.specs.Meaning.{key_meant}
-use Rattle.docker_bytes.proofs.KeyTold.{same_key}
+use Rattle.docker_bytes.proofs.KeyLemmas.{same_key}
 use Rattle.docker_bytes.proofs.body.is_same.Goals as goal
 
 pub returns : goal.returns

@@ -1,6 +1,6 @@
 use Rattle.std.proofs.Common.{ap, ◌∙◌, arith}
 use Rattle.std.proofs.lemmas.List.{take_all}
-use Rattle.docker_model.specs.Change.{tiploc_body}
+use Rattle.docker_model.specs.file.Change.{tiploc_body}
 use Rattle.docker_bytes.proofs.body.tiploc_body.Goals as goal
 
 pub returns : goal.returns

@@ -1,6 +1,6 @@
 use Rattle.std.proofs.Common.{sym}
 use Rattle.docker_state.specs.Meaning.{item_meant}
-use Rattle.docker_bytes.proofs.ItemTold.{items_above}
+use Rattle.docker_bytes.proofs.ItemLemmas.{items_above}
 use Rattle.docker_bytes.proofs.item.is_above.Goals as goal
 
 pub returns-in-Some : goal.returns-in-Some

@@ -1,6 +1,6 @@
 use Rattle.std.proofs.Common.{◌∙◌, ◌+◌}
 use Rattle.docker_state.specs.Meaning.{row_meant}
-use Rattle.docker_bytes.proofs.TextLength.{entry_length}
+use Rattle.docker_bytes.proofs.LengthLemmas.{entry_length}
 use Rattle.docker_bytes.proofs.length.row_len.Goals as goal
 
 pub returns-clause-value : goal.returns-clause-value

@@ -1,6 +1,6 @@
 use Rattle.docker_state.specs.Meaning.{row_meant}
 use Rattle.docker_bytes.specs.Entries.{IsOfWidth}
-use Rattle.docker_bytes.proofs.WrittenText.{at_mapped}
+use Rattle.docker_bytes.proofs.WriteLemmas.{at_mapped}
 use Rattle.docker_bytes.proofs.length.rows_len.Goals as goal
 
 pub row_len-total-requires : goal.row_len-total-requires

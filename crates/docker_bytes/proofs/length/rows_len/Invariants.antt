@@ -1,6 +1,6 @@
 use Rattle.std.proofs.Common.{◌≡◌, ◌*◌, ◌^◌, ◌≤◌, length, take, map}
 use Rattle.std.specs.List.{flat_map}
-use Rattle.docker_model.specs.StateText.{entry_bytes}
+use Rattle.docker_model.specs.state.StateText.{entry_bytes}
 use Rattle.docker_state.specs.Meaning.{row_meant}
 use Rattle.docker_bytes.proofs.length.rows_len.Given as goal
 

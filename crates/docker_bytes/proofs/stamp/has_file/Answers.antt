@@ -2,7 +2,7 @@ use Rattle.std.proofs.Common.{rules}
 use Rattle.std.proofs.lemmas.Fn.{always_returns_same}
 use Rattle.docker_join.specs.Meaning.{file_stamp_meant}
 use Rattle.docker_state.specs.Meaning.{item_meant}
-use Rattle.docker_bytes.proofs.KeyTold.{stamp_order, file_found, file_missing, stamps_rise}
+use Rattle.docker_bytes.proofs.StampLemmas.{stamp_order, file_found, file_missing, stamps_rise}
 use Rattle.docker_bytes.proofs.stamp.has_file.Goals as goal
 
 pub returns-in-Ok : goal.returns-in-Ok

@@ -16,12 +16,15 @@ returns-clause-text c =
       | in-Empty w ↦ no_line_behind text head lines (ap lines_meant w.in-Empty.is) ((λ i. (w.text-is i).items) ∙ begun)
       | in-One w ↦ one_line_behind text head w.line_text.result (line_meant w.in-One.line) lines (ap lines_meant w.in-One.is) w.line_text.ensures
           ((λ i. (w.text-is i).items) ∙ w.put-in-One.ensures.items ∙ (λ i. begun i ++ w.line_text.result))
-      | in-Two w ↦ two_lines_behind text head w.line_text-in-Two.result w.line_text-in-Two-2.result (line_meant w.in-Two.first) (line_meant w.in-Two.second) lines
+      | in-Two w ↦ two_lines_behind text head w.line_text-in-Two.result w.line_text-in-Two-2.result (line_meant w.in-Two.first)
+          (line_meant w.in-Two.second) lines
           (ap lines_meant w.in-Two.is) w.line_text-in-Two.ensures w.line_text-in-Two-2.ensures
-          ((λ i. (w.text-is i).items) ∙ w.put-in-Two-2.ensures.items ∙ (λ i. (w.put-in-Two.ensures.items ∙ (λ j. begun j ++ w.line_text-in-Two.result)) i ++ w.line_text-in-Two-2.result))
+          ((λ i. (w.text-is i).items) ∙ w.put-in-Two-2.ensures.items
+          ∙ (λ i. (w.put-in-Two.ensures.items ∙ (λ j. begun j ++ w.line_text-in-Two.result)) i ++ w.line_text-in-Two-2.result))
     ] in
     whole_text c.args.basic.now c.args.origin.now c.args.terminus.now c.args.place.now c.args.day lines c.put-2.new.text.items text head c.last_line.result
     c.docker_lines.ensures.lines c.heading.ensures middle c.last_line.ensures c.put-2.ensures.items
 
 pub returns-clause-docker : goal.returns-clause-docker
-returns-clause-docker c = text_of_lines c.args.basic.now c.args.origin.now c.args.terminus.now c.args.place.now c.args.day c.put-2.new.text.items (returns-clause-text c)
+returns-clause-docker c = text_of_lines c.args.basic.now c.args.origin.now c.args.terminus.now c.args.place.now c.args.day c.put-2.new.text.items
+    (returns-clause-text c)

@@ -10,7 +10,8 @@ of_ids name ids = record { top = words_shape name ids; subs = [] }
 
 -- one more word
 one_more : (name : Text) (ids : List (Bor Text)) (i : ℕ) (d : Bor Text) → i < length ids
-    → with_rule (of_ids name (map (λ id. id.now) (take i ids))) (required_rule (slice_index_or ids i d).now) ≡ of_ids name (map (λ id. id.now) (take (i + 1) ids))
+    → with_rule (of_ids name (map (λ id. id.now) (take i ids))) (required_rule (slice_index_or ids i d).now)
+    ≡ of_ids name (map (λ id. id.now) (take (i + 1) ids))
 one_more name ids i d lt =
     let texts : map (λ id. id.now) (take (i + 1) ids) ≡ map (λ id. id.now) (take i ids) ++ (slice_index_or ids i d).now ∷ [] =
     ap (map (λ id. id.now)) (take_more ids i d lt) ∙ map-append (λ id. id.now) (take i ids) (slice_index_or ids i d ∷ []) in
@@ -22,6 +23,7 @@ loop-id-preserved c =
     let added = c.in_ok-command.ensures in
     let local = c.required_word.ensures.local in
     record {
-      shape = added.shape local ∙ ap₂ with_rule c.loop-id.invariant.shape c.required_word.ensures.rule ∙ one_more c.args.name.now c.args.ids.now c.loop-id.id-index _ c.loop-id-test.true;
+      shape = added.shape local ∙ ap₂ with_rule c.loop-id.invariant.shape c.required_word.ensures.rule
+          ∙ one_more c.args.name.now c.args.ids.now c.loop-id.id-index _ c.loop-id-test.true;
       local = added.globals ∙ ap₂ (λ a b. a || b) c.loop-id.invariant.local local;
     }

@@ -1,7 +1,7 @@
 use Rattle.std.proofs.Common.{◌≡◌, refl, false}
 use Rattle.docker_cmd.specs.Words.{texts}
 use Rattle.docker_cmd.specs.Job.{IsReadable}
-use Rattle.docker_cmd.proofs.JobFaults.{unreadable_named, readable_named, names_job}
+use Rattle.docker_cmd.proofs.JobOfWordsLemmas.{unreadable_named, readable_named, names_job}
 use Rattle.docker_cmd.proofs.job_of_words.job.Goals as goal
 
 pub returns-in-Ok-clause-usage : goal.returns-in-Ok-clause-usage

@@ -1,6 +1,6 @@
 use Rattle.std.proofs.Common.{◌≡◌, length}
 use Rattle.cif_line.specs.Device.{Reads}
-use Rattle.docker_cmd.proofs.JobLines.{ArePrintable}
+use Rattle.docker_cmd.proofs.LineOfJobLemmas.{ArePrintable}
 use Rattle.docker_cmd.proofs.line_of_job.read_line.Given as goal
 
 -- the line so far was read, a byte a turn

@@ -1,5 +1,5 @@
 use Rattle.std.proofs.lemmas.Str.{IsUtf8-from_ascii}
-use Rattle.docker_cmd.proofs.JobLines.{line_ascii}
+use Rattle.docker_cmd.proofs.LineOfJobLemmas.{line_ascii}
 use Rattle.docker_cmd.proofs.line_of_job.text_of.Goals as goal
 
 pub unreachable-requires : goal.unreachable-requires

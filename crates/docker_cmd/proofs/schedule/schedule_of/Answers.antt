@@ -1,5 +1,5 @@
 use Rattle.std.proofs.Common.{◌≡◌, [], ◌∷◌, None, Some, ap, ◌∙◌, sym, subst}
-use Rattle.docker_model.specs.Record.{basic_schedule, origin_location, terminating_location, column}
+use Rattle.docker_model.specs.records.Record.{basic_schedule, origin_location, terminating_location, column}
 use Rattle.cif_line.specs.View.{IsGood}
 use Rattle.docker_cmd.specs.OneSchedule.{IsOneSchedule}
 use Rattle.docker_cmd.proofs.FileSchedule.{has_lines, found_of_one, one_schedule_length, good_lines, first_three, one_of_kept}
@@ -7,7 +7,8 @@ use Rattle.docker_cmd.proofs.schedule.schedule_of.Goals as goal
 
 pub invariant_of-result : goal.invariant_of-result
 invariant_of-result c =
-    let has = has_lines c.args.file c.records.ensures.read.records c.in-Some.lines c.records.ensures.read.is_file c.records.ensures.read.of_records (sym c.records.ensures.count ∙ c.if-records-ne-RECORDS.false)
+    let has = has_lines c.args.file c.records.ensures.read.records c.in-Some.lines c.records.ensures.read.is_file c.records.ensures.read.of_records
+    (sym c.records.ensures.count ∙ c.if-records-ne-RECORDS.false)
     (sym c.schedule_lines.ensures ∙ c.in-Some.is) in
     let good = good_lines has.hd has.bs has.lo has.lt has.zz has.are in
     let three = first_three c.in-Some.lines _ has.lo has.lt c.index-lines-0.result c.index-lines-1.result c.index-lines-2.result has.lines_are in
@@ -21,7 +22,8 @@ invariant_of-result c =
 
 pub returns-in-Some-clause-some : goal.returns-in-Some-clause-some
 returns-in-Some-clause-some c = λ records is of.
-    let has = has_lines c.args.file records c.in-Some.lines is of (sym c.records.ensures.count ∙ c.if-records-ne-RECORDS.false) (sym c.schedule_lines.ensures ∙ c.in-Some.is) in
+    let has = has_lines c.args.file records c.in-Some.lines is of (sym c.records.ensures.count ∙ c.if-records-ne-RECORDS.false)
+    (sym c.schedule_lines.ensures ∙ c.in-Some.is) in
     let three = first_three c.in-Some.lines _ has.lo has.lt c.index-lines-0.result c.index-lines-1.result c.index-lines-2.result has.lines_are in
     record {
       header = has.hd;

@@ -1,7 +1,7 @@
 use Rattle.std.proofs.Common.{◌∙◌, ap, refl, subst, sym}
 use Rattle.docker_cmd.specs.Grammar.{job_in}
 use Rattle.docker_cmd.specs.Words.{texts}
-use Rattle.docker_cmd.proofs.Outcomes.{IsRead, MayFailBy, not_plain, plain_texts, read_found, read_refused}
+use Rattle.docker_cmd.proofs.WordsLemmas.{IsRead, MayFailBy, not_plain, plain_texts, read_found, read_refused}
 use Rattle.docker_cmd.proofs.words.read_words.Goals as goal
 
 pub returns-then-not-are_plain-clause-usage : goal.returns-then-not-are_plain-clause-usage

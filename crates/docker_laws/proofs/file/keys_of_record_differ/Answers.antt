@@ -1,4 +1,4 @@
-use Rattle.docker_laws.proofs.ChangeOrder.{record_keys_differ, file_keys_differ}
+use Rattle.docker_laws.proofs.files.ChangeOrder.{record_keys_differ, file_keys_differ}
 use Rattle.docker_laws.proofs.file.keys_of_record_differ.Goals as goal
 
 pub returns-clause-record : goal.returns-clause-record

@@ -1,4 +1,4 @@
-use Rattle.docker_laws.proofs.ByteOrder.{key_order, item_order}
+use Rattle.docker_laws.proofs.orders.ByteOrder.{key_order, item_order}
 use Rattle.docker_laws.proofs.text.order_of_bytes.Goals as goal
 
 pub returns-clause-keys : goal.returns-clause-keys

@@ -1,21 +1,22 @@
 use Rattle.std.proofs.Common.{List, map, sym, subst, Contains}
 use Rattle.std.proofs.lemmas.List.Elements.{All-contains}
 use Rattle.std.proofs.lemmas.List.Sorted.{Contains-permutation, IsPermutation-sym, IsPermutation-map}
-use Rattle.docker_model.specs.Change as model
-use Rattle.docker_model.specs.Op as ops
-use Rattle.docker_model.specs.State.{IsGreatestAmong}
+use Rattle.docker_model.specs.file.Change as model
+use Rattle.docker_model.specs.state.Op as ops
+use Rattle.docker_model.specs.state.State.{IsGreatestAmong}
 use Rattle.cif_file.specs.declared.key.Key.{Key}
 use Rattle.docker_join.specs.declared.entry.Entry.{Entry}
 use Rattle.docker_join.specs.Meaning.{op_meant}
 use Rattle.docker_join.specs.Records.{HasRecords}
 use Rattle.docker_join.specs.Rows.{AreAscending}
 use Rattle.docker_state.specs.Meaning.{row_meant}
-use Rattle.docker_state.proofs.Lasts.{lasts_ascend}
-use Rattle.docker_state.proofs.Greatest.{sorted_rows, last_is_greatest, greatest_is_last}
+use Rattle.docker_state.proofs.LastRows.{lasts_ascend}
+use Rattle.docker_state.proofs.GreatestRows.{sorted_rows, last_is_greatest, greatest_is_last}
 use Rattle.docker_state.proofs.rows.greatest_rows.Goals as goal
 
 -- what is the greatest among rows is so in every order of them
-along : (xs ys : List (model.Key × ops.Entry)) → ((pair : model.Key × ops.Entry) → Contains xs pair → Contains ys pair) → ((pair : model.Key × ops.Entry) → Contains ys pair → Contains xs pair)
+along : (xs ys : List (model.Key × ops.Entry)) → ((pair : model.Key × ops.Entry) → Contains xs pair → Contains ys pair)
+    → ((pair : model.Key × ops.Entry) → Contains ys pair → Contains xs pair)
     → (key : model.Key) (entry : ops.Entry) → IsGreatestAmong xs key entry → IsGreatestAmong ys key entry
 along xs ys to from key entry best = record { among = to (key, entry) best.among; greatest = λ other among. best.greatest other (from (key, other) among) }
 
@@ -31,11 +32,19 @@ returns-clause-greatest c = λ key entry.
     let sorted = sorted_rows new c.sort_unstable.ensures.sorted in
     let moved = c.sort_unstable.ensures.permutation in
     let meant = IsPermutation-map row_meant old new moved in
-    let to : (pair : model.Key × ops.Entry) → Contains (map row_meant old) pair → Contains (map row_meant new) pair = λ pair among. Contains-permutation (map row_meant old) (map row_meant new) pair meant among in
-    let from : (pair : model.Key × ops.Entry) → Contains (map row_meant new) pair → Contains (map row_meant old) pair = λ pair among. Contains-permutation (map row_meant new) (map row_meant old) pair (IsPermutation-sym (map row_meant old) (map row_meant new) meant) among in
-    let records : (row : Key × Entry) → Contains new row → HasRecords (op_meant row.1.op) = λ row among. All-contains (λ (r : Key × Entry). HasRecords (op_meant r.1.op)) old row c.requires.records (Contains-permutation new old row (IsPermutation-sym old new moved) among) in (
+    let to : (pair : model.Key × ops.Entry) → Contains (map row_meant old) pair
+    → Contains (map row_meant new) pair = λ pair among. Contains-permutation (map row_meant old) (map row_meant new) pair meant among in
+    let from : (pair : model.Key × ops.Entry) → Contains (map row_meant new) pair
+    → Contains (map row_meant old) pair =
+    λ pair among. Contains-permutation (map row_meant new) (map row_meant old) pair
+    (IsPermutation-sym (map row_meant old) (map row_meant new) meant) among in
+    let records : (row : Key × Entry) → Contains new row
+    → HasRecords (op_meant row.1.op) =
+    λ row among. All-contains (λ (r : Key × Entry). HasRecords (op_meant r.1.op)) old row c.requires.records
+    (Contains-permutation new old row (IsPermutation-sym old new moved) among) in (
       λ among. along (map row_meant new) (map row_meant old) from to key entry
-          (last_is_greatest new sorted records key entry (subst (λ (rows : List (Key × Entry)). Contains (map row_meant rows) (key, entry)) c.last_of_each.ensures among)),
+          (last_is_greatest new sorted records key entry
+          (subst (λ (rows : List (Key × Entry)). Contains (map row_meant rows) (key, entry)) c.last_of_each.ensures among)),
       λ best. subst (λ (rows : List (Key × Entry)). Contains (map row_meant rows) (key, entry)) (sym c.last_of_each.ensures)
           (greatest_is_last new sorted records key entry (along (map row_meant old) (map row_meant new) to from key entry best)),
     )

@@ -1,17 +1,20 @@
 -- More bytes of a line, within 81 or not.
 use Rattle.std.proofs.Common.{refl, sym, ◌∙◌}
 use Rattle.std.proofs.lemmas.Bool.{false≢true}
-use Rattle.cif_file.proofs.Parsing.{kept_read, kept_long, later_long}
-use Rattle.docker_laws.proofs.ToldLines.{told_lines}
+use Rattle.cif_file.proofs.ParserLemmas.{kept_read, kept_long, later_long}
+use Rattle.docker_laws.specs.LinesTold.{told_lines}
 use Rattle.cif_file.proofs.parser.Reading.keep.Goals as goal
 
 pub returns-then-not-extend-clause-err : goal.returns-then-not-extend-clause-err
 returns-then-not-extend-clause-err c = λ limit text reading.
-    kept_long c.args.self.now limit text c.args.more.now c.too_long.result reading c.requires (λ few. false≢true (sym c.if-not-extend.true ∙ c.extend.ensures.fits.1 few)) (c.too_long.ensures limit (told_lines text) reading.counted)
+    kept_long c.args.self.now limit text c.args.more.now c.too_long.result reading c.requires
+    (λ few. false≢true (sym c.if-not-extend.true ∙ c.extend.ensures.fits.1 few)) (c.too_long.ensures limit (told_lines text) reading.counted)
 
 pub returns-clause-read : goal.returns-clause-read
-returns-clause-read c = λ limit text reading _.
-    kept_read c.args.self.now _ limit text c.args.more.now reading c.requires (c.extend.ensures.fits.0 c.if-not-extend.false) refl (c.extend.ensures.items c.if-not-extend.false)
+returns-clause-read c = λ limit text reading.
+    kept_read c.args.self.now _ limit text c.args.more.now reading c.requires (c.extend.ensures.fits.0 c.if-not-extend.false) refl
+    (c.extend.ensures.items c.if-not-extend.false)
 
 pub returns-then-not-extend-clause-later : goal.returns-then-not-extend-clause-later
-returns-then-not-extend-clause-later c = later_long c.args.self.now c.too_long.result (λ limit text reading. c.too_long.ensures limit (told_lines text) reading.counted)
+returns-then-not-extend-clause-later c =
+    later_long c.args.self.now c.too_long.result (λ limit text reading. c.too_long.ensures limit (told_lines text) reading.counted)

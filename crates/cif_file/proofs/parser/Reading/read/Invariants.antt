@@ -2,7 +2,7 @@
 use Rattle.std.proofs.Common.{◌≡◌, ℕ, List, ◌++◌, length}
 use Rattle.cif_file.specs.declared.parser.Reading.{Reading}
 use Rattle.cif_file.specs.ParserRead.{IsReading}
-use Rattle.cif_file.proofs.Parsing.{before_rest}
+use Rattle.cif_file.proofs.ParserLemmas.{before_rest}
 use Rattle.cif_file.proofs.parser.Reading.read.Given as goal
 
 -- what stands before the rest was read

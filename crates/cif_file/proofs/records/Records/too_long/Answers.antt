@@ -1,9 +1,9 @@
 -- Above the limit, else behind the trailer, else of a wrong length.
 use Rattle.std.proofs.Common.{◌≡◌, ap, subst, refl, true, false}
 use Rattle.std.specs.Prelude.{◌↔◌}
-use Rattle.docker_model.specs.File.{IsFile}
+use Rattle.docker_model.specs.file.File.{IsFile}
 use Rattle.cif_file.specs.Meaning.{cause_meant}
-use Rattle.cif_file.proofs.Parsing.{long_over, long_within}
+use Rattle.cif_file.proofs.ParserLemmas.{long_over, long_within}
 use Rattle.cif_file.proofs.records.Records.too_long.Goals as goal
 use Rattle.cif_file.proofs.records.Records.too_long.Goals.{then-self, else-self+then-is_ended, else-self+else-is_ended}
 
@@ -12,7 +12,9 @@ returns c = λ limit records counted.
     elim c.if-self.branch [
       | then-self w ↦ long_over c.args.self.now limit records _ counted refl w.if-self.true (ap cause_meant w.cause-is)
       | else-self+then-is_ended w ↦
-          long_within c.args.self.now limit records _ true counted refl w.if-self.false (subst (λ b. (b ≡ true) ↔ IsFile records) w.if-is_ended.true (w.is_ended.ensures records counted.has)) (ap cause_meant w.cause-is)
+          long_within c.args.self.now limit records _ true counted refl w.if-self.false
+          (subst (λ b. (b ≡ true) ↔ IsFile records) w.if-is_ended.true (w.is_ended.ensures records counted.has)) (ap cause_meant w.cause-is)
       | else-self+else-is_ended w ↦
-          long_within c.args.self.now limit records _ false counted refl w.if-self.false (subst (λ b. (b ≡ true) ↔ IsFile records) w.if-is_ended.false (w.is_ended.ensures records counted.has)) (ap cause_meant w.cause-is)
+          long_within c.args.self.now limit records _ false counted refl w.if-self.false
+          (subst (λ b. (b ≡ true) ↔ IsFile records) w.if-is_ended.false (w.is_ended.ensures records counted.has)) (ap cause_meant w.cause-is)
     ]

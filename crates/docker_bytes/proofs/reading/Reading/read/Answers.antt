@@ -1,33 +1,34 @@
-use Rattle.std.proofs.Common.{refl, sym, [], ◌<◌, ◌+◌, length, append-nil, arith}
-use Rattle.docker_model.specs.StateFault.{width}
+use Rattle.std.proofs.Common.{refl, ◌∙◌, sym, [], ◌<◌, ◌+◌, length, append-nil, arith}
+use Rattle.std.proofs.lemmas.Result.{err_from_is_err_and}
+use Rattle.docker_model.specs.state.StatePart.{width}
 use Rattle.docker_bytes.specs.FaultMeaning.{cause_meant}
 use Rattle.docker_bytes.specs.Reading.{before_of}
-use Rattle.docker_bytes.proofs.PartByPart.{open_text, told_of_piece, rest_more, reads_further}
+use Rattle.docker_bytes.proofs.ReadingLemmas.{open_text, told_of_piece, rest_more, reads_further}
 use Rattle.docker_bytes.proofs.reading.Reading.read.Goals as goal
 
 pub returns-then-rest-missing-clause-step : goal.returns-then-rest-missing-clause-step
 returns-then-rest-missing-clause-step c =
-    let wide = c.width-width.ensures.value c.parts.self.parts c.parts.self.lines in
+    let wide = c.width-width.ensures.value c.parts.self.parts.told c.parts.self.lines in
     let kept = c.len.ensures.value in
     let below = c.if-rest-missing.true in
     let short : length c.parts.self.partial.items + length c.parts.rest.now < width (before_of c.parts.self) = omega arith in (
       refl,
-      open_text c.args.self.now c.parts.self c.args.piece.now c.parts.rest.now c.parts.invariant.whole c.parts.invariant.on c.keep.new.self short (c.in_default.ensures.ok refl),
+      open_text c.args.self.now c.parts.self c.args.piece.now c.parts.rest.now c.parts.invariant.whole c.parts.invariant.on c.keep.new.self short
+          (c.in_ok-keep.ensures.ok refl),
     )
 
-pub returns-in-Err-clause-err : goal.returns-in-Err-clause-err
-returns-in-Err-clause-err c =
-    told_of_piece c.args.self.now c.parts.self c.args.piece.now c.parts.rest.now c.parts.invariant.whole c.parts.invariant.on c.parts.rest.now []
-    c.in-Err.fault.at (cause_meant c.in-Err.fault.cause) (sym (append-nil c.parts.rest.now)) c.in-Err.ensures.err
-
-pub returns-in-Err-take-clause-err : goal.returns-in-Err-take-clause-err
-returns-in-Err-take-clause-err c =
-    told_of_piece c.args.self.now c.parts.self c.args.piece.now c.parts.rest.now c.parts.invariant.whole c.parts.invariant.on c.split_at.result.0.now c.split_at.result.1.now
-    c.in-Err-take.fault.at (cause_meant c.in-Err-take.fault.cause) c.split_at.ensures.by_index.0 c.in-Err-take.ensures.err
+pub returns-in_err-take-clause-err : goal.returns-in_err-take-clause-err
+returns-in_err-take-clause-err c =
+    let same = err_from_is_err_and c.from_residual-in_err-take.result c.from_residual-in_err-take.ensures.1 in
+    let fault = c.in_err-take.field-0.0 in
+    rw (same.1, same.2) (told_of_piece c.args.self.now c.parts.self c.args.piece.now c.parts.rest.now c.parts.invariant.whole c.parts.invariant.on
+    c.split_at.result.0.now c.split_at.result.1.now fault.at (cause_meant fault.cause) c.split_at.ensures.by_index.0 c.in_err-take.ensures.err)
 
 pub parts-preserved : goal.parts-preserved
 parts-preserved c = record {
   whole = (rest_more c.args.piece.now c.parts.rest.now c.split_at.result.0.now c.split_at.result.1.now c.parts.invariant.whole c.split_at.ensures.by_index.0).1;
-  on = reads_further c.args.self.now c.parts.self c.args.piece.now c.parts.rest.now c.parts.invariant.whole c.parts.invariant.on c.take.new.self c.split_at.result.0.now c.split_at.result.1.now
-      c.split_at.ensures.by_index.0 (c.in_default-take.ensures.ok refl);
+  on = reads_further c.args.self.now c.parts.self c.args.piece.now c.parts.rest.now c.parts.invariant.whole c.parts.invariant.on c.take.new.self
+      c.split_at.result.0.now c.split_at.result.1.now
+      c.split_at.ensures.by_index.0 (c.in_ok-take.ensures.ok refl);
+  own = c.in_ok-take.ensures.own ∙ c.parts.invariant.own;
 }

@@ -1,13 +1,14 @@
 -- The bytes before the rest were read.
 use Rattle.std.proofs.Common.{◌≡◌, ◌++◌, length}
 use Rattle.docker_bytes.specs.Reading.{ReadsOn}
-use Rattle.docker_bytes.proofs.PartByPart.{before_rest}
+use Rattle.docker_bytes.proofs.ReadingLemmas.{before_rest}
 use Rattle.docker_bytes.proofs.reading.Reading.read.Given as goal
 
 abbrev pub invariant-parts : goal.invariant-parts
 invariant-parts l = record {
   whole : before_rest l.piece l.rest ++ l.rest ≡ l.piece;
   on : ReadsOn l.fn.self l.self (before_rest l.piece l.rest);
+  own : l.self.parts.own ≡ l.fn.self.parts.own;
 }
 
 abbrev pub decreases-parts : goal.decreases-parts

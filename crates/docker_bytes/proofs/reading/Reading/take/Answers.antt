@@ -2,7 +2,7 @@ use Rattle.std.proofs.Common.{rules, ◌≡◌, [], ◌++◌, ap, sym, ◌∙◌
 use Rattle.std.proofs.lemmas.List.{nil_from_length}
 use Rattle.std.proofs.lemmas.Result.{IfErr-weaker}
 use Rattle.docker_bytes.specs.FaultMeaning.{cause_meant}
-use Rattle.docker_bytes.proofs.PartByPart.{part_refused}
+use Rattle.docker_bytes.proofs.ReadingLemmas.{part_refused}
 use Rattle.docker_bytes.proofs.reading.Reading.take.Goals as goal
 
 pub returns-then-is_empty-clause-err : goal.returns-then-is_empty-clause-err
@@ -12,7 +12,8 @@ returns-then-is_empty-clause-err c =
     let low = c.if-len-front.false in
     IfErr-weaker c.judge.result _ _
     (λ fault told.
-    part_refused c.args.self.now c.args.front.now c.args.front.now fault.at (cause_meant fault.cause) c.requires.reading (ap (λ xs. xs ++ c.args.front.now) (sym none))
+    part_refused c.args.self.now c.args.front.now c.args.front.now fault.at (cause_meant fault.cause) c.requires.reading
+    (ap (λ xs. xs ++ c.args.front.now) (sym none))
     (omega arith) c.requires.some (omega arith) told.0 told.1)
     c.judge.ensures.err
 
@@ -23,5 +24,6 @@ returns-clause-err c =
     let low = c.if-len-front.false in
     IfErr-weaker c.judge-2.result _ _
     (λ fault told.
-    part_refused c.args.self.now c.args.front.now c.as_slice.result.now fault.at (cause_meant fault.cause) c.requires.reading whole (omega arith) c.requires.some (omega arith) told.0 told.1)
+    part_refused c.args.self.now c.args.front.now c.as_slice.result.now fault.at (cause_meant fault.cause) c.requires.reading whole (omega arith)
+    c.requires.some (omega arith) told.0 told.1)
     c.judge-2.ensures.err

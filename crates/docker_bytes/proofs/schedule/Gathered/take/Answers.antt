@@ -1,7 +1,7 @@
 use Rattle.std.proofs.Common.{rules, inl, inr, subst, ◌∷◌, ◌++◌, []}
 use Rattle.std.specs.Prelude.{IsOk}
 use Rattle.cif_file.specs.JourneyRead.{HasLines}
-use Rattle.docker_bytes.proofs.LineTold.{incomplete, begin_up_to}
+use Rattle.docker_bytes.proofs.ScheduleLemmas.{incomplete, begin_up_to}
 use Rattle.docker_bytes.proofs.schedule.Gathered.take.Goals as goal
 use Rattle.docker_bytes.proofs.schedule.Gathered.take.Goals.{else-is_last-via-then-is_last+else-not-complete, else-is_last-via-else-is_last}
 
@@ -12,22 +12,26 @@ returns-then-not-complete-clause-err c =
     incomplete c.args.count c.args.self.now c.args.line.now c.has_more-is_last.result c.complete.result c.has_more-is_last.ensures c.requires c.if-is_last.true
     (c.complete.ensures (c.args.self.now ++ c.args.line.now ∷ []) has) c.if-not-complete.true
 
-pub returns-in-Ok-clause-goes_on : goal.returns-in-Ok-clause-goes_on
-returns-in-Ok-clause-goes_on c = λ done.
+pub returns-clause-goes_on : goal.returns-clause-goes_on
+returns-clause-goes_on c = λ done.
     let ok : IsOk c.line.result = search rules in
     let here = subst (HasLines c.self.inside.journey) c.self.view_is c.self.invariant in
-    begin_up_to c.args.count c.args.self.now c.args.line.now c.has_more-is_last.result c.has_more-is_last.ensures ((c.line.ensures.ok c.args.self.now here).0 ok)
+    begin_up_to c.args.count c.args.self.now c.args.line.now c.has_more-is_last.result c.has_more-is_last.ensures
+    ((c.line.ensures.ok c.args.self.now here).0 ok)
     (elim c.else-is_last.branch [
-      | else-is_last-via-then-is_last+else-not-complete w ↦ inr ((w.complete.ensures (c.args.self.now ++ c.args.line.now ∷ []) (c.line.ensures.read c.args.self.now here ok)).0 w.if-not-complete.false)
+      | else-is_last-via-then-is_last+else-not-complete w ↦
+          inr ((w.complete.ensures (c.args.self.now ++ c.args.line.now ∷ []) (c.line.ensures.read c.args.self.now here ok)).0 w.if-not-complete.false)
       | else-is_last-via-else-is_last w ↦ inl w.if-is_last.false
     ])
 
-pub returns-in-Err-clause-err : goal.returns-in-Err-clause-err
-returns-in-Err-clause-err c =
+pub returns-then-is_err-2-clause-err : goal.returns-then-is_err-2-clause-err
+returns-then-is_err-2-clause-err c =
     let ok : IsOk c.line.result = search rules in
     let here = subst (HasLines c.self.inside.journey) c.self.view_is c.self.invariant in
-    begin_up_to c.args.count c.args.self.now c.args.line.now c.has_more-is_last.result c.has_more-is_last.ensures ((c.line.ensures.ok c.args.self.now here).0 ok)
+    begin_up_to c.args.count c.args.self.now c.args.line.now c.has_more-is_last.result c.has_more-is_last.ensures
+    ((c.line.ensures.ok c.args.self.now here).0 ok)
     (elim c.else-is_last.branch [
-      | else-is_last-via-then-is_last+else-not-complete w ↦ inr ((w.complete.ensures (c.args.self.now ++ c.args.line.now ∷ []) (c.line.ensures.read c.args.self.now here ok)).0 w.if-not-complete.false)
+      | else-is_last-via-then-is_last+else-not-complete w ↦
+          inr ((w.complete.ensures (c.args.self.now ++ c.args.line.now ∷ []) (c.line.ensures.read c.args.self.now here ok)).0 w.if-not-complete.false)
       | else-is_last-via-else-is_last w ↦ inl w.if-is_last.false
     ])

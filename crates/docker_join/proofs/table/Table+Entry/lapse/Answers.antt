@@ -1,5 +1,5 @@
 use Rattle.std.proofs.Common.{List, map, length, ap, sym, ◌∙◌, subst, arith}
-use Rattle.docker_model.specs.Lapse.{lapse_entries}
+use Rattle.docker_model.specs.state.Lapse.{lapse_entries}
 use Rattle.cif_file.specs.declared.key.Key.{Key}
 use Rattle.docker_join.specs.declared.entry.Entry.{Entry}
 use Rattle.docker_join.specs.Rows.{AreAscending}
@@ -20,5 +20,6 @@ invariant_of-self c =
     let len = c.self.inside.rows.ok.0 in
     subst (λ (rows : List (Key × Entry)). AreAscending rows) (sym (written_back new old c.self.inside.rows.len (omega arith) (omega arith)))
     (lapsed_ascend c.args.horizon old new
-    (all_lapsed c.args.horizon _ new c.loop-row.row-index (omega arith) c.loop-row.invariant ∙ (λ i. lapse_entries c.args.horizon (map row_meant (c.deref_mut-row-items.ensures.value i))))
+    (all_lapsed c.args.horizon _ new c.loop-row.row-index (omega arith) c.loop-row.invariant
+    ∙ (λ i. lapse_entries c.args.horizon (map row_meant (c.deref_mut-row-items.ensures.value i))))
     c.self.invariant)

@@ -1,5 +1,5 @@
 use Rattle.std.proofs.Common.{◌≡◌, map}
-use Rattle.docker_model.specs.Lapse.{lapse_entries}
+use Rattle.docker_model.specs.state.Lapse.{lapse_entries}
 use Rattle.docker_join.specs.Meaning.{row_meant}
 use Rattle.docker_join.proofs.LapsedRows.{lapsed_from}
 use Rattle.docker_join.proofs.table.Table+Entry.lapse.Given as goal

@@ -1,7 +1,8 @@
 use Rattle.std.proofs.Common.{[], arith}
-use Rattle.docker_laws.proofs.LedgerGrown.{no_items}
-use Rattle.docker_laws.proofs.StateGrown.{valid_without}
+use Rattle.docker_laws.proofs.texts.LedgerGrown.{no_items}
+use Rattle.docker_laws.proofs.texts.StateGrown.{valid_without}
 use Rattle.docker_state.proofs.state.State.empty.Goals as goal
 
 pub invariant_of-result : goal.invariant_of-result
-invariant_of-result c = rw (c.new.ensures.items, c.new-2.ensures) (valid_without 0 [] (omega arith) no_items)
+invariant_of-result c =
+    rw (c.new.ensures.items, c.new-2.ensures) (record { valid = valid_without 0 [] (omega arith) no_items; indexed = c.new-3.ensures })

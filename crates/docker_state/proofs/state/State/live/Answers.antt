@@ -1,6 +1,6 @@
 use Rattle.std.proofs.Common.{map, ap, ◌∙◌, subst}
-use Rattle.docker_model.specs.State.{State, IsValid}
-use Rattle.docker_laws.proofs.PrintedDocker.{live_table_is_plain, live_is_lapsed_plain}
+use Rattle.docker_model.specs.state.State.{State, IsValid}
+use Rattle.docker_laws.proofs.dockers.PrintedDocker.{live_table_is_plain, live_is_lapsed_plain}
 use Rattle.docker_state.specs.Live.{live_rows}
 use Rattle.docker_state.specs.Meaning.{row_meant}
 use Rattle.docker_state.proofs.LiveTable.{live_walks, live_ascends}
@@ -8,12 +8,12 @@ use Rattle.docker_state.proofs.state.State.live.Goals as goal
 
 pub returns-clause-table : goal.returns-clause-table
 returns-clause-table c =
-    live_walks c.args.self.now (subst IsValid c.self.view_is c.self.invariant) c.of.result
+    live_walks c.args.self.now (subst IsValid c.self.view_is c.self.invariant.valid) c.of.result
     (c.of.ensures ∙ (λ i. live_rows (map row_meant (c.as_slice.ensures.rows i))) ∙ ap (λ (s : State). live_rows s.entries) c.self.view_is)
 
 pub returns-clause-ascending : goal.returns-clause-ascending
 returns-clause-ascending c =
-    live_ascends c.args.self.now (subst IsValid c.self.view_is c.self.invariant) c.of.result
+    live_ascends c.args.self.now (subst IsValid c.self.view_is c.self.invariant.valid) c.of.result
     (c.of.ensures ∙ (λ i. live_rows (map row_meant (c.as_slice.ensures.rows i))) ∙ ap (λ (s : State). live_rows s.entries) c.self.view_is)
 
 pub returns-clause-plain : goal.returns-clause-plain

@@ -1,0 +1,12 @@
+-- A write goes on from what was written so far.
+use Rattle.std.proofs.Common.{rules}
+use Rattle.cif_device.proofs.DeviceLemmas.{Takes-take, take-drop_all}
+use Rattle.cif_device.proofs.device.write_all.Goals as goal
+
+pub loop-done-preserved : goal.loop-done-preserved
+loop-done-preserved g c = record {
+  within = search rules;
+  no_failure = search rules;
+  written = Takes-take _ _ _ c.args.piece.now c.loop-done.done c.in_ok-done.field-0 c.loop-done.invariant.written
+      (rw take-drop_all at c.in_ok-done.ensures.moved);
+}

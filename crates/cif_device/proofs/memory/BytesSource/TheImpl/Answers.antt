@@ -1,0 +1,13 @@
+-- A read is always Ok, so that what a source promises of a failure holds of it.
+use Rattle.std.proofs.Common.{Some, ap, refl}
+use Rattle.cif_device.proofs.memory.BytesSource.TheImpl.Goals as goal
+
+pub read-tells : goal.read-tells
+read-tells g c = record {
+  within = c.ensures.within;
+  moved = rw c.ensures.count (ap Some (rw c.ensures.count at c.ensures.moved));
+  end = c.ensures.end;
+  no_failure = rw c.ensures.count refl;
+  counted = rw c.ensures.count tt;
+  unmoved = rw c.ensures.count tt;
+}

@@ -1,0 +1,94 @@
+//! What a source and a sink of bytes promise, and the writing of a whole piece.
+ghost use Rattle.std.specs.Prelude.{◌≡◌, ℕ, ◌+◌, ◌-◌, ◌^◌, ◌<◌, ◌≤◌, List, Option, length, take, IfOk, OnOk, OnErr};
+ghost use Rattle.cif_device.specs.Device.{Reads, IsEnd, Takes, TakesPart};
+
+use std::alloc::{AllocError, AllocFailed};
+use thiserror::Error;
+
+/// A device answered that it failed.
+#[derive(Clone, Copy, Debug, PartialEq, Eq, Hash, Error)]
+#[error("the device failed")]
+pub struct Failed;
+
+/// A growth was refused.
+#[derive(Clone, Copy, Debug, PartialEq, Eq, Hash, Error)]
+#[error("out of memory")]
+pub struct Memory;
+
+impl From<AllocError> for Memory {
+    fn from(_refused: AllocError) -> Memory {
+        Memory
+    }
+}
+
+impl<T: Drop> From<AllocFailed<T>> for Memory {
+    fn from(_refused: AllocFailed<T>) -> Memory {
+        Memory
+    }
+}
+
+/// A device that bytes are read from.
+pub trait Source {
+    // The bytes that are left, or None where the device can't tell them, as a file can't.
+    ghost left: { Self → Option (List ℕ) };
+
+    // How often it has failed so far.
+    ghost failures: { Self → ℕ };
+
+    /// Reads the next bytes into the front of the buffer and answers how many they are; into a
+    /// buffer with room, 0 is the end. The buffer past them holds anything.
+    fn read(&mut self, into: &mut [u8]) -> Result<usize, Failed>
+        requires { failures self.old < 2 ^ 64 - 1 }
+        ensures within { IfOk result (λ n. n ≤ length into.new) }
+        ensures moved { IfOk result (λ n.
+            Reads (left self.old) (take n into.new) (left self.new)) }
+        ensures end { IfOk result (λ n. n ≡ 0 → 0 < length into.new → IsEnd (left self.old)) }
+        ensures no_failure { OnOk result (failures self.new ≡ failures self.old) }
+        ensures counted { OnErr result (failures self.new ≡ failures self.old + 1) }
+        ensures unmoved { OnErr result (left self.new ≡ left self.old) };
+
+    /// How often it has failed so far.
+    fn failures(&self) -> u64
+        ensures { result ≡ failures self.now };
+}
+
+/// A device that bytes are written to.
+pub trait Sink {
+    // The bytes that it took, or None where the device can't tell them, as a file can't.
+    ghost taken: { Self → Option (List ℕ) };
+
+    // How often it has failed so far.
+    ghost failures: { Self → ℕ };
+
+    /// Writes the first bytes of the piece and answers how many they are, at least one where the
+    /// piece has any.
+    fn write(&mut self, piece: &[u8]) -> Result<usize, Failed>
+        requires { failures self.old < 2 ^ 64 - 1 }
+        ensures within { IfOk result (λ n. n ≤ length piece.now) }
+        ensures moved { IfOk result (λ n.
+            Takes (taken self.old) (take n piece.now) (taken self.new)) }
+        ensures progress { IfOk result (λ n. 0 < length piece.now → 0 < n) }
+        ensures no_failure { OnOk result (failures self.new ≡ failures self.old) }
+        ensures counted { OnErr result (failures self.new ≡ failures self.old + 1) }
+        ensures unmoved { OnErr result (taken self.new ≡ taken self.old) };
+
+    /// How often it has failed so far.
+    fn failures(&self) -> u64
+        ensures { result ≡ failures self.now };
+}
+
+/// Writes the whole piece, by as many writes as that takes. It stops at the first write that
+/// fails, and the sink then has a beginning of the piece.
+pub fn write_all<K: Sink>(sink: &mut K, piece: &[u8]) -> Result<(), Failed>
+    requires { K.failures sink.old < 2 ^ 64 - 1 }
+    ensures whole { OnOk result (Takes (K.taken sink.old) piece.now (K.taken sink.new)) }
+    ensures part { OnErr result (TakesPart (K.taken sink.old) piece.now (K.taken sink.new)) }
+    ensures no_failure { OnOk result (K.failures sink.new ≡ K.failures sink.old) }
+    ensures counted { OnErr result (K.failures sink.new ≡ K.failures sink.old + 1) }
+{
+    let mut done = 0;
+    while done < piece.len() {
+        done += sink.write(&piece[done..])?;
+    }
+    Ok(())
+}

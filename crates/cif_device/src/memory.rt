@@ -1,0 +1,153 @@
+//! A source and a sink in memory.
+ghost use Rattle.std.specs.Prelude.{◌≡◌, ◌+◌, ◌-◌, ◌^◌, ◌<◌, ◌≤◌, ◌↔◌, min, [], ◌++◌, length, take, Some, Ok, IfOk, IsOk, IsErr, OnOk, OnErr};
+ghost use Rattle.cif_device.specs.Device.{read_count, room_left};
+
+use crate::device::{Failed, Memory, Sink, Source};
+use std::alloc::Global;
+use std::marker::Model;
+
+#[cfg(test)]
+mod tests;
+
+/// A source over a slice. It never fails.
+#[derive(Clone, Debug, Drop)]
+pub struct Bytes<'a> {
+    rest: &'a [u8],
+    step: usize,
+}
+
+impl<'a> Model for Bytes<'a> {
+    ghost use Rattle.std.specs.Prelude.{◌<◌};
+    ghost use Rattle.cif_device.specs.Device.{Feed};
+
+    ghost Value = { Feed };
+
+    ghost view = { λ bytes. record { left = bytes.rest.now; step = bytes.step } };
+
+    ghost invariant = { λ bytes. 0 < bytes.step };
+}
+
+impl<'a> Bytes<'a> {
+    /// A source of these bytes, at most `step` of them at a read.
+    pub fn new(bytes: &'a [u8], step: usize) -> Self
+        requires { 0 < step }
+        ensures left { result.left ≡ bytes.now }
+        ensures step { result.step ≡ step }
+    {
+        Bytes { rest: bytes, step }
+    }
+
+    /// The bytes that are left.
+    pub fn left(&self) -> &[u8]
+        ensures { result.now ≡ self.now.left }
+    {
+        self.rest
+    }
+}
+
+impl Source for Bytes<'_> {
+    ghost left = { λ bytes. Some bytes.left };
+
+    ghost failures = { λ _. 0 };
+
+    fn read(&mut self, into: &mut [u8]) -> Result<usize, Failed>
+        ensures within { IfOk result (λ n. n ≤ length into.new) }
+        ensures moved { IfOk result (λ n. self.old.left ≡ take n into.new ++ self.new.left) }
+        ensures end { IfOk result (λ n. n ≡ 0 → 0 < length into.new → self.old.left ≡ []) }
+
+        // What a source promises is above, and what this one adds below.
+        ensures count { result ≡ Ok (read_count self.old (length into.old)) }
+        ensures step { self.new.step ≡ self.old.step }
+    {
+        let n = self.step.min(into.len()).min(self.rest.len());
+        into[..n].copy_from_slice(&self.rest[..n]);
+        self.rest = &self.rest[n..];
+        Ok(n)
+    }
+
+    fn failures(&self) -> u64 {
+        0
+    }
+}
+
+/// A sink that keeps what it takes, in room that is reserved once. It fails only where it is full.
+#[derive(Debug, Drop)]
+pub struct Kept {
+    bytes: Vec<u8>,
+    room: usize,
+    failures: u64,
+}
+
+impl Model for Kept {
+    ghost use Rattle.std.specs.Prelude.{◌≤◌, length, vec_capacity};
+    ghost use Rattle.cif_device.specs.Device.{Store};
+
+    ghost Value = { Store };
+
+    ghost view = { λ kept. record {
+      taken = kept.bytes.items;
+      room = kept.room;
+      failures = kept.failures;
+    } };
+
+    ghost invariant = { λ kept.
+        (length kept.bytes.items ≤ kept.room) × (kept.room ≤ vec_capacity kept.bytes) };
+}
+
+impl Kept {
+    /// An empty sink with room for so many bytes. `Memory` where the allocator refuses that room.
+    pub fn new(alloc: Global, room: usize) -> Result<Kept, Memory>
+        ensures empty { IfOk result (λ kept. kept.taken ≡ []) }
+        ensures room { IfOk result (λ kept. kept.room ≡ room) }
+        ensures no_failure { IfOk result (λ kept. kept.failures ≡ 0) }
+        ensures without_room { room ≡ 0 → IsOk result }
+    {
+        let bytes = Vec::with_capacity(alloc, room)?;
+        Ok(Kept {
+            bytes,
+            room,
+            failures: 0,
+        })
+    }
+
+    /// The bytes that it took.
+    pub fn bytes(&self) -> &[u8]
+        ensures bytes { result.now ≡ self.now.taken }
+        ensures within { length self.now.taken ≤ self.now.room }
+    {
+        self.bytes.as_slice()
+    }
+}
+
+impl Sink for Kept {
+    ghost taken = { λ kept. Some kept.taken };
+
+    ghost failures = { λ kept. kept.failures };
+
+    fn write(&mut self, piece: &[u8]) -> Result<usize, Failed>
+        requires { self.old.failures < 2 ^ 64 - 1 }
+        ensures within { IfOk result (λ n. n ≤ length piece.now) }
+        ensures moved { IfOk result (λ n. self.new.taken ≡ self.old.taken ++ take n piece.now) }
+        ensures progress { IfOk result (λ n. 0 < length piece.now → 0 < n) }
+        ensures no_failure { OnOk result (self.new.failures ≡ self.old.failures) }
+        ensures counted { OnErr result (self.new.failures ≡ self.old.failures + 1) }
+        ensures unmoved { OnErr result (self.new.taken ≡ self.old.taken) }
+
+        // What a sink promises is above, and what this one adds below.
+        ensures count { IfOk result (λ n. n ≡ min (length piece.now) (room_left self.old)) }
+        ensures full { IsErr result ↔ ((0 < length piece.now) × (room_left self.old ≡ 0)) }
+        ensures room { self.new.room ≡ self.old.room }
+    {
+        let n = piece.len().min(self.room - self.bytes.len());
+        if n == 0 && !piece.is_empty() {
+            self.failures += 1;
+            return Err(Failed);
+        }
+        self.bytes.extend_from_slice(&piece[..n]).unwrap();
+        Ok(n)
+    }
+
+    fn failures(&self) -> u64 {
+        self.failures
+    }
+}

@@ -1,0 +1,173 @@
+-- Each day number up to the last is the number of one day of the calendar.
+use Rattle.std.proofs.Common.{◌≡◌, ℕ, ℤ, zero, suc, ◌+◌, ◌<◌, ◌≤◌, ◌⊎◌, refl, ap, subst, pos, negsuc, ◌+ℤ◌, ◌<ℤ◌, arith, inl, inr}
+use Rattle.std.specs.Prelude.{unsigned_abs}
+use Rattle.std.proofs.lemmas.Bool.{cases_order}
+use Rattle.std.proofs.lemmas.Int.{by_lt_z}
+use Rattle.jiff.specs.Words.{IsBetween, epoch_day}
+use Rattle.jiff_core.specs.declared.civil.date.Date.{Date}
+use Rattle.jiff_core.specs.Calendar.{IsCivilDate, days_in_month, day_count, days_of_years, days_of_months}
+use Rattle.jiff_core.proofs.SignedLemmas.{signed_arith}
+use Rattle.jiff_core.proofs.DateLemmas.{civil}
+use Rattle.jiff_core.proofs.CalendarLemmas.{days_from_civil-day_count, day_count-lt_year, day_count-day, day_count-next_month, day_count-next_year, day_count-last_of_year, days_in_month_bounds}
+use Rattle.docker_model.specs.records.Date.{day_number, last_day}
+use Rattle.docker_model.specs.records.PrintedTime.{day_text, date_text}
+use Rattle.docker_laws.proofs.records.Dates.{day_number-day_count, day_text-day_number}
+
+-- a day of the years 1960 to 2059
+pub record IsDayOf (number year month day : ℕ) : Type 0 where
+  pub low : 1960 ≤ year
+  pub high : year ≤ 2059
+  pub is_civil : IsCivilDate (pos year) month day
+  pub count : day_count (pos year) month day ≡ number + 4_368_300
+
+-- the day counts of 1 January 1960, 31 December 2059 and 1 January 2060
+start_of_1960 : day_count (pos 1960) 1 1 ≡ 4_368_300
+unfolding day_count days_of_years days_of_months
+start_of_1960 = refl
+
+end_of_2059 : day_count (pos 2059) 12 31 ≡ 4_404_824
+unfolding day_count days_of_years days_of_months
+end_of_2059 = refl
+
+start_of_2060 : day_count (pos 2060) 1 1 ≡ 4_404_825
+unfolding day_count days_of_years days_of_months
+start_of_2060 = refl
+
+-- its number is its day number
+pub number_is : (number year month day : ℕ) → IsDayOf number year month day → day_number year month day ≡ number
+number_is number year month day h =
+    let there = day_number-day_count year month day h.low (omega (arith, h.high)) h.is_civil.1.0 h.is_civil.2.0 in
+    omega (arith, h.count)
+
+-- it is printed as itself
+pub text_is : (number year month day : ℕ) → IsDayOf number year month day → day_text number ≡ date_text year month day
+text_is number year month day h =
+    subst (λ n. day_text n ≡ date_text year month day) (number_is number year month day h) (day_text-day_number year month day h.low h.high h.is_civil)
+
+-- a date from the first day to the last is of these years
+years_between : (year : ℤ) (month day : ℕ) → IsCivilDate year month day → 4_368_300 ≤ day_count year month day → day_count year month day ≤ 4_404_824
+    → IsBetween (pos 1960) (pos 2059) year
+years_between year month day is_civil low high =
+    let last_is : IsCivilDate (pos 2059) 12 31 = (omega (arith, signed_arith), (omega arith, omega arith), (omega arith, omega arith)) in
+    let first : (year <ℤ pos 1960) → ⊥ =
+    λ lt. absurd (omega (arith, start_of_1960, day_count-lt_year year month day (pos 1960) 1 1 is_civil (omega arith) lt)) in
+    let last : (pos 2059 <ℤ year) → ⊥ = λ lt. absurd (omega (arith, end_of_2059, day_count-lt_year (pos 2059) 12 31 year month day last_is is_civil.2.0 lt)) in
+    (by_lt_z year (pos 1960) (λ lt. absurd (first lt)) (λ ge. ge), by_lt_z (pos 2059) year (λ lt. absurd (last lt)) (λ ge. ge))
+
+-- the day count of a date, from the days since -9999-01-01
+count_of : (date : Date) (days : ℕ) → epoch_day date +ℤ pos 4_371_587 ≡ pos days → day_count date.year date.month date.day ≡ days + 366
+count_of date days since =
+    let count = days_from_civil-day_count date.year date.month date.day in
+    omega (arith, signed_arith)
+
+-- a date of these years is a day of them
+pub day_of_date : (date : Date) (number : ℕ) → number ≤ last_day → epoch_day date +ℤ pos 4_371_587 ≡ pos (4_367_934 + number)
+    → IsBetween (pos 1960) (pos 2059) date.year × IsDayOf number (unsigned_abs date.year) date.month date.day
+day_of_date date number low since =
+    let count = count_of date (4_367_934 + number) since in
+    let years = years_between date.year date.month date.day (civil date) (omega arith) (omega arith) in
+    (years, by date.year (civil date) count years)
+  where
+    by : (year : ℤ) → IsCivilDate year date.month date.day → day_count year date.month date.day ≡ 4_367_934 + number + 366
+        → IsBetween (pos 1960) (pos 2059) year
+        → IsDayOf number (unsigned_abs year) date.month date.day
+    by (pos year) is_civil count years =
+        record { low = omega (arith, signed_arith, years.0); high = omega (arith, signed_arith, years.1); is_civil = is_civil; count = omega arith }
+    by (negsuc year) is_civil count years = absurd (omega (arith, signed_arith, years.0))
+
+-- a year that ends before the last day is not the last
+before_2059 : (number year : ℕ) → suc number ≤ last_day → year ≤ 2059 → day_count (pos year) 12 31 ≡ number + 4_368_300 → year < 2059
+before_2059 number year low high count = by (cases_order year 2059)
+  where
+    by : (year ≡ 2059) ⊎ ((year < 2059) ⊎ (2059 < year)) → year < 2059
+    by (inl same) = absurd (omega (arith, end_of_2059, subst (λ y. day_count (pos y) 12 31 ≡ number + 4_368_300) same count))
+    by (inr (inl lt)) = lt
+    by (inr (inr gt)) = absurd (omega arith)
+
+-- one number is below another or not
+by_lt : {P : Type 0} (a b : ℕ) → (a < b → P) → (b ≤ a → P) → P
+by_lt {P = P} a b below above = by (cases_order a b)
+  where
+    by : (a ≡ b) ⊎ ((a < b) ⊎ (b < a)) → P
+    by (inl same) = above (omega arith)
+    by (inr (inl lt)) = below lt
+    by (inr (inr gt)) = above (omega arith)
+
+-- the day that follows, in the month, in the year or in the next year
+module _ (number year month day : ℕ) (low : suc number ≤ last_day) (h : IsDayOf number year month day) where
+  next_day : day < days_in_month (pos year) month → IsDayOf (suc number) year month (day + 1)
+  next_day lt =
+      let step = day_count-day (pos year) month day (day + 1) h.is_civil.2.0 (omega arith) in
+      record { low = h.low; high = h.high; is_civil = (h.is_civil.0, h.is_civil.1, (omega arith, omega arith)); count = omega (arith, h.count) }
+
+  next_month : days_in_month (pos year) month ≤ day → month < 12 → IsDayOf (suc number) year (month + 1) 1
+  next_month last lt =
+      let step = day_count-day (pos year) month day 1 h.is_civil.2.0 (omega arith) in
+      let month_step = day_count-next_month (pos year) month h.is_civil.1.0 in
+      record {
+        low = h.low;
+        high = h.high;
+        is_civil = (h.is_civil.0, (omega arith, omega arith), (omega arith, omega (arith, days_in_month_bounds (pos year) (month + 1))));
+        count = omega (arith, h.count, h.is_civil.2.1);
+      }
+
+  next_year : days_in_month (pos year) month ≤ day → 12 ≤ month → IsDayOf (suc number) (year + 1) 1 1
+  next_year last end =
+      let december : month ≡ 12 = omega (arith, h.is_civil.1.1) in
+      by (subst (λ m. IsDayOf number year m day) december h) (subst (λ m. days_in_month (pos year) m ≤ day) december last)
+    where
+      by : IsDayOf number year 12 day → 31 ≤ day → IsDayOf (suc number) (year + 1) 1 1
+      by here last =
+          let same : day ≡ 31 = omega (arith, here.is_civil.2.1) in
+          let count : day_count (pos year) 12 31 ≡ number + 4_368_300 = subst (λ d. day_count (pos year) 12 d ≡ number + 4_368_300) same here.count in
+          let step = day_count-next_year (pos year) (pos (year + 1)) (omega (arith, signed_arith)) (omega (arith, signed_arith)) in
+          let end_of_year = day_count-last_of_year (pos year) in
+          let high : year < 2059 = before_2059 number year low here.high count in
+          record {
+            low = omega (arith, here.low);
+            high = omega arith;
+            is_civil = (omega (arith, signed_arith), (omega arith, omega arith), (omega arith, omega arith));
+            count = omega arith;
+          }
+
+-- each number up to the last is the number of one
+pub day_at : (number : ℕ) → number ≤ last_day → (year : ℕ) × (month : ℕ) × (day : ℕ) × IsDayOf number year month day
+day_at zero low = (
+  1960,
+  1,
+  1,
+  record {
+    low = omega arith;
+    high = omega arith;
+    is_civil = (omega (arith, signed_arith), (omega arith, omega arith), (omega arith, omega arith));
+    count = start_of_1960;
+  },
+)
+day_at (suc number) low = let before = day_at number (omega arith) in by before.0 before.1 before.2 before.3
+  where
+    by : (year month day : ℕ) → IsDayOf number year month day → (y : ℕ) × (m : ℕ) × (d : ℕ) × IsDayOf (suc number) y m d
+    by year month day h =
+        by_lt day (days_in_month (pos year) month) (λ lt. (year, month, day + 1, next_day number year month day low h lt))
+        (λ last. by_lt month 12 (λ lt. (year, month + 1, 1, next_month number year month day low h last lt))
+        (λ end. (year + 1, 1, 1, next_year number year month day low h last end)))
+
+-- a date of these parts has their day number
+pub day_of_parts : (date : Date) (days year month day : ℕ) → 1960 ≤ year → year ≤ 2059 → date.year ≡ pos year → pos date.month ≡ pos month
+    → pos date.day ≡ pos day
+    → epoch_day date +ℤ pos 4_371_587 ≡ pos days → (days ≡ day_number year month day + 4_367_934) × (day_number year month day ≤ last_day)
+day_of_parts date days year month day low high years months ds since =
+    let day_is = ap unsigned_abs ds in
+    let month_is = ap unsigned_abs months in
+    by (subst (λ d. IsCivilDate (pos year) month d) day_is
+    (subst (λ m. IsCivilDate (pos year) m date.day) month_is (subst (λ y. IsCivilDate y date.month date.day) years (civil date))))
+    (subst (λ d. day_count (pos year) month d ≡ days + 366) day_is
+    (subst (λ m. day_count (pos year) m date.day ≡ days + 366) month_is
+    (subst (λ y. day_count y date.month date.day ≡ days + 366) years (count_of date days since))))
+  where
+    by : IsCivilDate (pos year) month day → day_count (pos year) month day ≡ days + 366
+        → (days ≡ day_number year month day + 4_367_934) × (day_number year month day ≤ last_day)
+    by is_civil count =
+        let there = day_number-day_count year month day low (omega arith) is_civil.1.0 is_civil.2.0 in
+        let next = day_count-lt_year (pos year) month day (pos 2060) 1 1 is_civil (omega arith) (omega (arith, signed_arith)) in
+        let end = start_of_2060 in
+        (omega arith, omega arith)

@@ -1,0 +1,4 @@
+pub mod CivilDays
+pub mod DateFields
+pub mod Lanes
+pub mod Times

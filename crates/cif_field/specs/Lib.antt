@@ -1,0 +1,3 @@
+pub mod FieldRead
+pub mod Letter
+pub mod Tiploc

@@ -1,0 +1,200 @@
+//! Days of the calendar, by their number from 1 January 1960.
+ghost use Rattle.std.specs.Prelude.{◌≡◌, ℕ, ◌+◌, ◌<◌, ◌≤◌, ◌↔◌, pos, ◌+ℤ◌, IsTrue, IsSome, IfSome, Some, unsigned_abs};
+ghost use Rattle.std.specs.Int.{IsInRange};
+ghost use Rattle.std.specs.Option.{SomeIff};
+ghost use Rattle.std.specs.Str.{IsAscii};
+ghost use Rattle.jiff.specs.Words.{IsBetween};
+ghost use Rattle.docker_model.specs.records.Date.{is_date, date_number, is_date_day_first, date_number_day_first, is_calendar_day, day_number, last_day, weekday_of, full_year as full_year_of};
+ghost use Rattle.docker_model.specs.records.PrintedTime.{day_text, date_text};
+
+use crate::digits::{are_digits, two_digits};
+use jiff::civil::Date;
+use jiff_core::civil;
+use std::marker::Model;
+use std::{fmt, str};
+
+#[cfg(test)]
+mod tests;
+
+/// How many days after -9999-01-01, where the calendar begins, 1960-01-01 is.
+const FIRST: u32 = 4_367_934;
+
+/// The number of 2059-12-31.
+const LAST: u16 = 36524;
+
+/// A day from 1960-01-01 to 2059-12-31, as the number of days since 1960-01-01: 0 to 36524.
+#[derive(Clone, Copy, PartialEq, Eq, PartialOrd, Ord, Debug)]
+pub struct Day {
+    number: u16,
+}
+
+impl Model for Day {
+    ghost Value = { ℕ };
+
+    ghost view = { λ day. day.number };
+
+    ghost inverse = { λ number. record { number = number } };
+
+    ghost invariant = { λ day. day.number ≤ last_day };
+}
+
+impl Day {
+    /// The day of six digits YYMMDD, as in a basic schedule (BS): the years 60 to 99 are 1960 to 1999, and 00 to 59 are 2000 to 2059.
+    /// None where a byte is no digit or the calendar has no such day.
+    pub fn from_yymmdd(field: &[u8; 6]) -> Option<Day>
+        ensures some { IsSome result ↔ IsTrue (is_date field.now) }
+        ensures value { IfSome result (λ day. day ≡ date_number field.now) }
+    {
+        if !are_digits(field) {
+            return None;
+        }
+        let year = full_year(two_digits(field, 0));
+        day_of(year, two_digits(field, 2), two_digits(field, 4))
+    }
+
+    /// The day of six digits DDMMYY, as a header (HD) has its date of extract, with the same years.
+    /// None where a byte is no digit or the calendar has no such day.
+    pub fn from_ddmmyy(field: &[u8; 6]) -> Option<Day>
+        ensures some { IsSome result ↔ IsTrue (is_date_day_first field.now) }
+        ensures value { IfSome result (λ day. day ≡ date_number_day_first field.now) }
+    {
+        if !are_digits(field) {
+            return None;
+        }
+        let year = full_year(two_digits(field, 4));
+        day_of(year, two_digits(field, 2), two_digits(field, 0))
+    }
+
+    /// The day that `iso` writes so, as YYYY-MM-DD. None of any other text.
+    pub fn from_iso(text: &str) -> Option<Day>
+        ensures value { IfSome result (λ day. text.now ≡ day_text day) }
+        ensures read { (day : ℕ) → day ≤ last_day → text.now ≡ day_text day → result ≡ Some day }
+    {
+        let [_, _, y1, y2, _, m1, m2, _, d1, d2] = text.as_bytes() else {
+            return None;
+        };
+        let day = Day::from_yymmdd(&[*y1, *y2, *m1, *m2, *d1, *d2])?;
+        if day.iso().as_slice() == text.as_bytes() {
+            Some(day)
+        } else {
+            None
+        }
+    }
+
+    /// The day so many days after 1960-01-01. None above 36524.
+    pub fn from_number(number: u16) -> Option<Day>
+        ensures { SomeIff result (number ≤ last_day) number }
+    {
+        if number > LAST {
+            return None;
+        }
+        Some(Day { number })
+    }
+
+    /// The day as YYYY-MM-DD, in ten bytes of ASCII.
+    pub fn iso(&self) -> [u8; 10]
+        ensures text { result ≡ day_text self.now }
+        ensures ascii { IsAscii result }
+    {
+        let date = self.date();
+        let (century, year) = (date.year as u16 / 100, date.year as u16 % 100);
+        let (month, day) = (date.month as u16, date.day as u16);
+        [
+            digit(century / 10),
+            digit(century % 10),
+            digit(year / 10),
+            digit(year % 10),
+            b'-',
+            digit(month / 10),
+            digit(month % 10),
+            b'-',
+            digit(day / 10),
+            digit(day % 10),
+        ]
+    }
+
+    /// The days since 1960-01-01: 0 to 36524.
+    pub fn number(&self) -> u16
+        ensures value { result ≡ self.now }
+        ensures bound { result ≤ last_day }
+    {
+        self.number
+    }
+
+    /// The day of the week: 0 for Monday to 6 for Sunday.
+    pub fn weekday(&self) -> u8
+        ensures value { result ≡ weekday_of self.now }
+        ensures bound { result < 7 }
+    {
+        // Day 0 was a Friday.
+        ((self.number + 4) % 7) as u8
+    }
+
+    /// The day so many days later, or earlier where `days` is negative. None before 1960-01-01 and after 2059-12-31.
+    pub fn plus(&self, days: i32) -> Option<Day>
+        ensures some { IsSome result ↔ IsBetween (pos 0) (pos last_day) (pos self.now +ℤ days) }
+        ensures value { IfSome result (λ day. pos day ≡ pos self.now +ℤ days) }
+    {
+        let sum = self.number as i64 + days as i64;
+        if sum < 0 || sum > LAST as i64 {
+            return None;
+        }
+        Some(Day { number: sum as u16 })
+    }
+
+    /// The same day of the library's calendar.
+    fn date(&self) -> civil::Date
+        ensures years { IsBetween (pos 1960) (pos 2059) result.year }
+        ensures months { result.month ≤ 12 }
+        ensures days { result.day ≤ 31 }
+        ensures text { day_text self.now ≡
+            date_text (unsigned_abs result.year) result.month result.day }
+    {
+        civil::Date::from_days_since_min(FIRST + self.number as u32)
+    }
+}
+
+impl fmt::Display for Day {
+    ghost output = { λ day. Some (day_text day) };
+
+    fn fmt<W: fmt::Write>(&self, f: &mut fmt::Formatter<W>) -> fmt::Result {
+        match str::from_utf8(&self.iso()) {
+            Ok(text) => f.write_str(text),
+            Err(_) => unreachable!(),
+        }
+    }
+}
+
+/// The day of a year from 1960 to 2059, if the calendar has it.
+fn day_of(year: u16, month: u16, day: u16) -> Option<Day>
+    requires year_in { IsInRange 1960 2059 year }
+    requires month_in { month < 100 }
+    requires day_in { day < 100 }
+    ensures some { IsSome result ↔ IsTrue (is_calendar_day year month day) }
+    ensures value { IfSome result (λ d. d ≡ day_number year month day) }
+{
+    match Date::new(year as i16, month as i8, day as i8) {
+        Ok(date) => Some(Day {
+            number: (date.to_plain().days_since_min() - FIRST) as u16,
+        }),
+        Err(_) => None,
+    }
+}
+
+/// The year that a year of two digits means.
+fn full_year(year: u16) -> u16
+    requires { year < 100 }
+    ensures value { result ≡ full_year_of year }
+    ensures bound { IsInRange 1960 2059 result }
+{
+    if year >= 60 { 1900 + year } else { 2000 + year }
+}
+
+/// A number below 10 as its digit in ASCII.
+fn digit(n: u16) -> u8
+    requires { n < 10 }
+    ensures value { result ≡ 48 + n }
+    ensures ascii { result < 128 }
+{
+    b'0' + n as u8
+}

@@ -1,0 +1,53 @@
+//! The days run of a basic schedule (BS), or of an association (AA).
+ghost use Rattle.std.specs.Prelude.{◌≡◌, ℕ, ◌<◌, ◌↔◌, List, IsTrue, IsSome, IfSome};
+ghost use Rattle.docker_model.specs.records.Date.{is_days, runs_on_weekday};
+
+use std::marker::Model;
+
+/// On which weekdays something runs: seven marks, Monday's first, `1` where it does and `0` where not.
+#[derive(Clone, Copy, PartialEq, Eq, Debug)]
+pub struct Days {
+    marks: [u8; 7],
+}
+
+impl Model for Days {
+    ghost use Rattle.std.specs.Prelude.{ℕ, List, IsTrue};
+    ghost use Rattle.docker_model.specs.records.Date.{is_days};
+
+    ghost Value = { List ℕ };
+
+    ghost view = { λ days. days.marks };
+
+    ghost inverse = { λ marks. record { marks = marks } };
+
+    ghost invariant = { λ days. IsTrue (is_days days.marks) };
+}
+
+impl Days {
+    /// The weekdays of seven marks. None where a byte is neither `0` nor `1`.
+    pub fn from_field(field: &[u8; 7]) -> Option<Days>
+        ensures some { IsSome result ↔ IsTrue (is_days field.now) }
+        ensures value { IfSome result (λ days. days ≡ field.now) }
+    {
+        if are_marks(field) {
+            Some(Days { marks: *field })
+        } else {
+            None
+        }
+    }
+
+    /// Whether it runs on a weekday: 0 for Monday to 6 for Sunday.
+    pub fn on(&self, weekday: u8) -> bool
+        requires { weekday < 7 }
+        ensures { result ≡ runs_on_weekday self.now weekday }
+    {
+        self.marks[weekday as usize] == b'1'
+    }
+}
+
+/// Each byte is `0` or `1`.
+fn are_marks(field: &[u8; 7]) -> bool
+    ensures { result ≡ is_days field.now }
+{
+    field.iter().all(|b| *b == b'0' || *b == b'1')
+}

@@ -1,0 +1,47 @@
+//! Train UIDs, as a basic schedule (BS) and an association (AA) have them.
+ghost use Rattle.std.specs.Prelude.{◌≡◌, ◌↔◌, IsSome, IfSome};
+ghost use Rattle.docker_model.specs.records.Record.{IsTextOfLength};
+
+use crate::line::are_printable;
+use std::marker::Model;
+
+/// The UID of a train: six printable bytes.
+#[derive(Clone, Copy, PartialEq, Eq, PartialOrd, Ord, Debug)]
+pub struct Uid {
+    bytes: [u8; 6],
+}
+
+impl Model for Uid {
+    ghost use Rattle.std.specs.Prelude.{List, ℕ};
+    ghost use Rattle.docker_model.specs.records.Record.{IsTextOfLength};
+
+    ghost Value = { List ℕ };
+
+    ghost view = { λ uid. uid.bytes };
+
+    ghost invariant = { λ uid. IsTextOfLength 6 uid.bytes };
+
+    ghost inverse = { λ bytes. record { bytes = bytes } };
+}
+
+impl Uid {
+    /// The UID of a field. None where a byte is not printable.
+    pub fn from_field(field: &[u8; 6]) -> Option<Uid>
+        ensures some { IsSome result ↔ IsTextOfLength 6 field.now }
+        ensures value { IfSome result (λ uid. uid ≡ field.now) }
+    {
+        if are_printable(field) {
+            Some(Uid { bytes: *field })
+        } else {
+            None
+        }
+    }
+
+    /// The six bytes of the UID.
+    pub fn bytes(&self) -> &[u8; 6]
+        ensures bytes { result.now ≡ self.now }
+        ensures text { IsTextOfLength 6 self.now }
+    {
+        &self.bytes
+    }
+}

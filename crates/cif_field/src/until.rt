@@ -1,0 +1,49 @@
+//! The end date of a basic schedule (BS), or of an association (AA).
+ghost use Rattle.std.specs.Prelude.{◌≡◌, ℕ, ◌≤◌, ◌⊎◌, ◌↔◌, IsTrue, IsSome, IfSome};
+ghost use Rattle.docker_model.specs.records.Date.{is_end_date, end_number, last_day, no_end_number};
+
+use crate::Day;
+use std::marker::Model;
+
+/// The end number of what has no end: it is greater than the number of each day.
+pub const NO_END: u16 = 65535;
+
+/// The last day on which something runs, or no end, which is later than each day: the number of the day, or 65535.
+#[derive(Clone, Copy, PartialEq, Eq, PartialOrd, Ord, Debug)]
+pub struct Until {
+    number: u16,
+}
+
+impl Model for Until {
+    ghost Value = { ℕ };
+
+    ghost view = { λ end. end.number };
+
+    ghost inverse = { λ number. record { number = number } };
+
+    ghost invariant = { λ end. (end.number ≤ last_day) ⊎ (end.number ≡ no_end_number) };
+}
+
+impl Until {
+    /// The end date of six digits: `999999` for no end, and otherwise a day YYMMDD. None where it is neither.
+    pub fn from_field(field: &[u8; 6]) -> Option<Until>
+        ensures some { IsSome result ↔ IsTrue (is_end_date field.now) }
+        ensures value { IfSome result (λ end. end ≡ end_number field.now) }
+    {
+        if field == b"999999" {
+            return Some(Until { number: NO_END });
+        }
+        let day = Day::from_yymmdd(field)?;
+        Some(Until {
+            number: day.number(),
+        })
+    }
+
+    /// The days from 1960-01-01 to the last day, or 65535 for no end.
+    pub fn number(&self) -> u16
+        ensures value { result ≡ self.now }
+        ensures range { (result ≤ last_day) ⊎ (result ≡ no_end_number) }
+    {
+        self.number
+    }
+}

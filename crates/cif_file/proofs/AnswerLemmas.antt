@@ -1,0 +1,18 @@
+-- Answers of calls that are not known to be Ok or Err.
+use Rattle.std.proofs.Common.{◌≡◌, ℕ, List, true, refl}
+use Rattle.std.specs.Prelude.{Result, Ok, Err, IsOk, OnOk, IfErr}
+
+-- what holds if the answer is Ok
+pub on_ok_if : {A E P : Type 0} (answer : Result A E) → (IsOk answer → P) → OnOk answer P
+on_ok_if (Ok value) is = is refl
+on_ok_if (Err error) is = tt
+
+-- what an Ok answer tells, where it is Ok
+pub at_ok : {A E P : Type 0} (answer : Result A E) → OnOk answer P → IsOk answer → P
+at_ok (Ok value) told ok = told
+at_ok (Err error) told ok = absurd cc
+
+-- what follows of what an Err answer tells
+pub if_err_by : {A E : Type 0} {P Q : E → Type 0} (answer : Result A E) → ((error : E) → P error → Q error) → IfErr answer P → IfErr answer Q
+if_err_by (Ok value) by told = told
+if_err_by (Err error) by told = by error told

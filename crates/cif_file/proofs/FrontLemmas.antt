@@ -1,0 +1,699 @@
+-- The records that the reader of a file has taken, by what it keeps of them.
+use Rattle.std.proofs.Common.{◌≡◌, ℕ, ◌+◌, ◌<◌, inl, inr, Bool, true, false, cond, List, [], ◌∷◌, ◌++◌, length, map, subst, refl, ap, sym, ◌∙◌, Some, None, arith, append-nil, append_assoc, length-append, take}
+use Rattle.std.specs.Prelude.{Option, IsTrue, ◌↔◌, ◌&&◌, is_some, is_none, option_map, slice_index_or, OnOk, Result, Ok, Err}
+use Rattle.std.specs.List.{prefix_len}
+use Rattle.std.proofs.lemmas.List.{take-append-le}
+use Rattle.std.proofs.lemmas.List.Sums.{prefix_len-le-length}
+use Rattle.docker_model.specs.records.Record.{Kind, header, basic_schedule, trailer, kind_of, IsRecord, HasKind}
+use Rattle.docker_model.specs.file.File.{first_record, follows_basic, IsFile, IsSchedule, BeginsSchedule}
+use Rattle.docker_model.specs.records.Field.{HasGoodFields, leftmost_bad_field, is_deletion, as_new}
+use Rattle.docker_model.specs.file.Change.{Change, Key, Act, Body, schedule_rest, acts_by_kind, changes_of_record, changes_from, changes, schedule_named, schedule_body, delete, put}
+use Rattle.docker_model.specs.file.FileFault as fault
+use Rattle.docker_model.specs.file.FileFault.{bad_place, bad_kind, bad_field}
+use Rattle.docker_laws.proofs.files.UnitChanges.{unit_then, schedule_change}
+use Rattle.docker_laws.specs.RecordTest.{is_record, has_good_fields}
+use Rattle.docker_laws.proofs.lists.Tests.{test_by_none, none_by_test}
+use Rattle.docker_laws.specs.ScheduleStage.{Stage, after_basic, after_details, in_journey, after_journey, stage_after, stage_of, may_end, is_sound_next, next_stage}
+use Rattle.docker_laws.proofs.schedules.ScheduleStages.{stage_of_more, stage_of_first, begins_iff_stage, no_stage_of_none}
+use Rattle.docker_laws.specs.FileStage.{Place, before_header, between_units, in_schedule, after_end, unit_by_kind, place_in, carried, is_header_kind, place_by_kind, is_sound_at, next_place, IsPlaceOf}
+use Rattle.docker_laws.proofs.files.FileStages.{test_by_next, next_by_test, next_behind, stage_stops, file_iff_place, one_place, place_of_more, at_of_place}
+use Rattle.docker_laws.specs.RecordCause.{cause_of, kind_cause, place_cause, field_cause, with_column, is_after_end}
+use Rattle.docker_laws.proofs.schedules.ScheduleCauses.{no_unit_by_kind, next_place_of_stage, cause_of_record, cause_in_schedule, cause_behind_schedule, fault_of_schedule}
+use Rattle.cif_line.specs.declared.kind_of_record.Kind as code
+use Rattle.cif_line.specs.declared.kind_of_record.Kind.TheVariants.{Header, BasicSchedule, Trailer, TiplocInsert, TiplocAmend, TiplocDelete, Association}
+use Rattle.cif_line.specs.Kind.{meaning}
+use Rattle.cif_file.specs.declared.key.Key.TheVariants as key
+use Rattle.cif_file.specs.declared.opened.Opened.{Opened}
+use Rattle.cif_file.specs.declared.front.Front.{Front}
+use Rattle.cif_file.specs.declared.front.FileStage.TheVariants.{BeforeHeader, BetweenUnits, InSchedule, AfterEnd}
+use Rattle.cif_file.specs.Meaning.{key_meant, change_meant}
+use Rattle.cif_file.specs.FileRead.{FileRead, IsOfRecords}
+use Rattle.cif_file.specs.JourneyRead.{progress_meant, HasLines, IsScheduleCause, is_over_by}
+use Rattle.cif_file.specs.RecordsRead.{with_new_first, header_of, IsOpen, IsKept, HasRecords, IsOver, GoesOnWith, IsNoNext, IsNoNextCause, change_opened, IsWholeBy, StandsBefore}
+use Rattle.cif_file.proofs.JourneyLemmas.{whole_iff, first_line_is}
+
+abbrev Lines : Type 0
+Lines = List (List ℕ)
+
+-- ---- the changes of records in two parts
+
+acts_alike : (kind : Option Kind) (line : List ℕ) (following others : Lines) → schedule_rest following ≡ schedule_rest others
+    → acts_by_kind kind line following ≡ acts_by_kind kind line others
+acts_alike (Some basic_schedule) line following others same =
+    ap (λ rest. (schedule_named line, cond (is_deletion line) delete (put (schedule_body (as_new line ∷ rest)))) ∷ []) same
+acts_alike _ line following others same = refl
+
+abbrev as_change : ℕ → Key × Act → Change
+as_change n act = record { number = n; key = act.0; act = act.1 }
+
+numbered : (n : ℕ) (line : List ℕ) (following others : Lines) → schedule_rest following ≡ schedule_rest others
+    → changes_of_record n line following ≡ changes_of_record n line others
+numbered n line following others same = ap (map (as_change n)) (acts_alike (kind_of line) line following others same)
+
+-- what begins anew ends the lines of a schedule before it
+abbrev follows : List ℕ → Bool
+follows line = follows_basic (kind_of line)
+
+prefix_stops : (lines : Lines) (line : List ℕ) (more : Lines) → follows_basic (kind_of line) ≡ false
+    → prefix_len follows (lines ++ line ∷ more) ≡ prefix_len follows lines
+prefix_stops [] line more stops = λ i. cond (stops i) (1 + prefix_len follows more) 0
+prefix_stops (first ∷ lines) line more stops = ap (λ n. cond (follows first) (1 + n) 0) (prefix_stops lines line more stops)
+
+rest_stops : (lines : Lines) (line : List ℕ) (more : Lines) → follows_basic (kind_of line) ≡ false → schedule_rest (lines ++ line ∷ more) ≡ schedule_rest lines
+rest_stops lines line more stops =
+    ap (λ n. take n (lines ++ line ∷ more)) (prefix_stops lines line more stops)
+    ∙ take-append-le (prefix_len follows lines) lines (line ∷ more) (prefix_len-le-length follows lines)
+
+changes_append : (n : ℕ) (records : Lines) (line : List ℕ) (more : Lines) → follows_basic (kind_of line) ≡ false
+    → changes_from n (records ++ line ∷ more) ≡ changes_from n records ++ changes_from (n + length records) (line ∷ more)
+changes_append n [] line more stops = ap (λ k. changes_from k (line ∷ more)) (omega arith)
+changes_append n (record_first ∷ records) line more stops =
+    (λ i. numbered n record_first (records ++ line ∷ more) records (rest_stops records line more stops) i ++ changes_append (n + 1) records line more stops i)
+    ∙ sym (append_assoc (changes_of_record n record_first records) (changes_from (n + 1) records) (changes_from (n + 1 + length records) (line ∷ more)))
+    ∙ ap (λ k. (changes_of_record n record_first records ++ changes_from (n + 1) records) ++ changes_from k (line ∷ more)) (omega arith)
+
+-- one more record that begins anew
+pub changes_anew : (records : Lines) (line : List ℕ) → follows_basic (kind_of line) ≡ false
+    → changes (records ++ line ∷ []) ≡ changes records ++ changes_of_record (length records + 1) line []
+changes_anew records line stops =
+    changes_append 1 records line [] stops
+    ∙ ap (λ last. changes records ++ last) (append-nil (changes_of_record (1 + length records) line []))
+    ∙ ap (λ k. changes records ++ changes_of_record k line []) (omega arith)
+
+-- ---- lists
+
+-- the first of records that are some
+header_stays : (records more : Lines) → 0 < length records → header_of (records ++ more) ≡ header_of records
+header_stays [] more some = absurd (omega arith)
+header_stays (first ∷ records) more some = refl
+
+first_stays : (lines : Lines) (line : List ℕ) → 0 < length lines → first_record (lines ++ line ∷ []) ≡ first_record lines
+first_stays [] line some = absurd (omega arith)
+first_stays (basic ∷ others) line some = refl
+
+new_first_stays : (lines : Lines) (line : List ℕ) → 0 < length lines → with_new_first lines ++ line ∷ [] ≡ with_new_first (lines ++ line ∷ [])
+new_first_stays [] line some = absurd (omega arith)
+new_first_stays (basic ∷ others) line some = refl
+
+some_lines : (lines : Lines) (stage : Stage) → stage_of lines ≡ Some stage → 0 < length lines
+some_lines [] stage at = absurd cc
+some_lines (basic ∷ others) stage at = omega arith
+
+-- ---- a schedule that is whole
+
+same_change : (n m : ℕ) (k l : Key) (b c : Bool) (body : Body) → n ≡ m → k ≡ l → b ≡ c
+    → ◌≡◌ {A = Change} (record { number = n; key = k; act = cond b delete (put body) }) (record { number = m; key = l; act = cond c delete (put body) })
+same_change n m k l b c body numbers keys tests = λ i. record { number = numbers i; key = keys i; act = cond (tests i) delete (put body) }
+
+-- it makes its change
+pub changes_closed : (opened : Opened) (lines before : Lines) → HasLines (progress_meant opened.progress) lines → opened.number ≡ length before + 1
+    → key_meant (key.Schedule opened.key) ≡ schedule_named (first_record lines) → IsSchedule lines
+    → changes (before ++ lines) ≡ changes before ++ change_opened opened (with_new_first lines) ∷ []
+changes_closed opened [] before has number named is = absurd (let size = ap (λ (l : Lines). length l) is.whole in omega arith)
+changes_closed opened (basic ∷ others) before has number named is =
+    changes_append 1 before basic others (ap follows_basic kind)
+    ∙ ap (λ later. changes before ++ later) (
+    ap (changes_from (1 + length before)) (sym (append-nil (basic ∷ others)))
+    ∙ unit_then (1 + length before) (basic ∷ others) [] (inr is) tt
+    ∙ append-nil _
+    ∙ schedule_change (1 + length before) basic others is
+    ∙ ap (λ change. change ∷ []) (same_change (1 + length before) opened.number (schedule_named basic) (key_meant (key.Schedule opened.key))
+    (is_deletion basic) opened.progress.deletion
+    (schedule_body (as_new basic ∷ others)) (omega arith) (sym named) (sym has.deletion_is))
+    )
+  where
+    kind : HasKind basic_schedule basic
+    kind = subst (HasKind basic_schedule) (sym (ap first_record is.whole)) is.kind
+
+-- ---- records that begin anew
+
+-- a record that begins a unit follows no basic schedule
+pub anew_by_unit : (line : List ℕ) → is_some (unit_by_kind (kind_of line) line) ≡ true → follows_basic (kind_of line) ≡ false
+anew_by_unit line begins = by (follows_basic (kind_of line)) refl
+  where
+    by : (b : Bool) → follows_basic (kind_of line) ≡ b → follows_basic (kind_of line) ≡ false
+    by false h = h
+    by true h = let bad : false ≡ true = (λ i. is_some (sym (no_unit_by_kind (kind_of line) line h) i)) ∙ begins in cc
+
+-- they lead from whole units to their place
+pub place_over : (front : Front) (records : Lines) (line : List ℕ) (next : Place) → (over : IsOver front records) → IsRecord line → HasGoodFields line
+    → unit_by_kind (kind_of line) line ≡ Some next
+    → IsPlaceOf (records ++ line ∷ []) next
+place_over front records line next over is fields begins =
+    place_of_more records over.place line over.at
+    ∙ over.anew line (anew_by_unit line (λ i. is_some (begins i)))
+    ∙ test_by_next between_units line next (record { is = is; sound = test_by_none (leftmost_bad_field line) fields; place_is = begins })
+
+-- ---- one more unit
+
+-- the trailer
+pub trailer_added : (old new : Front) (records : Lines) (line : List ℕ) → IsOver old records → IsRecord line → HasKind trailer line → HasGoodFields line
+    → new.header ≡ old.header → new.stage ≡ AfterEnd → new.changes.items ≡ old.changes.items → HasRecords new (records ++ line ∷ [])
+trailer_added old new records line over is kind fields same_header place made = record {
+  place = after_end;
+  at = place_over old records line after_end over is fields (ap (λ k. unit_by_kind k line) kind);
+  header_is = same_header ∙ over.header_is ∙ sym (header_stays records (line ∷ []) over.some);
+  kept_are = subst (λ p. IsKept p new.lines.items (map change_meant new.changes.items) after_end (records ++ line ∷ [])) (sym place) (
+    refl,
+    ap (map change_meant) made ∙ over.made_are ∙ sym (append-nil (changes records))
+        ∙ ap (λ acts. changes records ++ map (as_change (length records + 1)) acts) (sym (ap (λ k. acts_by_kind k line []) kind))
+        ∙ sym (changes_anew records line (ap follows_basic kind)),
+  );
+}
+
+-- a single record
+pub single_added : (old new : Front) (records : Lines) (line : List ℕ) (number : ℕ) → IsOver old records → IsRecord line → HasGoodFields line
+    → unit_by_kind (kind_of line) line ≡ Some between_units
+    → number ≡ length records + 1 → new.header ≡ old.header → new.stage ≡ BetweenUnits
+    → map change_meant new.changes.items ≡ map change_meant old.changes.items ++ changes_of_record number line [] → HasRecords new (records ++ line ∷ [])
+single_added old new records line number over is fields begins counted same_header place made = record {
+  place = between_units;
+  at = place_over old records line between_units over is fields begins;
+  header_is = same_header ∙ over.header_is ∙ sym (header_stays records (line ∷ []) over.some);
+  kept_are = subst (λ p. IsKept p new.lines.items (map change_meant new.changes.items) between_units (records ++ line ∷ [])) (sym place) (
+    refl,
+    made ∙ (λ i. over.made_are i ++ changes_of_record (counted i) line [])
+        ∙ sym (changes_anew records line (anew_by_unit line (λ i. is_some (begins i)))),
+  );
+}
+
+-- a basic schedule
+pub basic_added : (old new : Front) (opened : Opened) (records : Lines) (line : List ℕ) → IsOver old records → IsRecord line → HasKind basic_schedule line
+    → HasGoodFields line
+    → opened.number ≡ length records + 1 → key_meant (key.Schedule opened.key) ≡ schedule_named line → HasLines (progress_meant opened.progress) (line ∷ [])
+    → new.header ≡ old.header → new.stage ≡ InSchedule opened → new.lines.items ≡ as_new line ∷ [] → new.changes.items ≡ old.changes.items
+    → HasRecords new (records ++ line ∷ [])
+basic_added old new opened records line over is kind fields number named has same_header place lines made = record {
+  place = in_schedule after_basic (line ∷ []);
+  at = place_over old records line (in_schedule after_basic (line ∷ [])) over is fields (ap (λ k. unit_by_kind k line) kind);
+  header_is = same_header ∙ over.header_is ∙ sym (header_stays records (line ∷ []) over.some);
+  kept_are =
+      subst (λ p. IsKept p new.lines.items (map change_meant new.changes.items) (in_schedule after_basic (line ∷ [])) (records ++ line ∷ [])) (sym place)
+      (record {
+        stage = after_basic;
+        lines = line ∷ [];
+        before = records;
+        place_is = refl;
+        stage_is = stage_of_first line ∙ (λ i. cond (first_line_is line is kind fields i) (Some after_basic) None);
+        whole = refl;
+        number_is = number;
+        key_is = named;
+        progress_is = has;
+        lines_are = lines;
+        made_are = ap (map change_meant) made ∙ over.made_are;
+      });
+}
+
+-- ---- whole units
+
+between_some : (records : Lines) → IsPlaceOf records between_units → 0 < length records
+between_some records at = let told = at_of_place records between_units at in let size = ap (λ (l : Lines). length l) told.whole in omega arith
+
+-- between units all units are whole
+pub over_of_between : (front : Front) (records : Lines) → HasRecords front records → front.stage ≡ BetweenUnits → IsOver front records
+over_of_between front records has place =
+    let told = subst (λ p. IsKept p front.lines.items (map change_meant front.changes.items) has.place records) place has.kept_are in
+    record {
+      place = has.place;
+      at = has.at;
+      header_is = has.header_is;
+      some = between_some records (has.at ∙ ap Some told.0);
+      made_are = told.1;
+      anew = λ line _. ap (λ p. next_place p line) told.0;
+    }
+
+-- what is kept of a schedule being read
+pub opened_of : (front : Front) (opened : Opened) (records : Lines) (has : HasRecords front records) → front.stage ≡ InSchedule opened
+    → IsOpen opened front.lines.items (map change_meant front.changes.items) has.place records
+opened_of front opened records has place = subst (λ p. IsKept p front.lines.items (map change_meant front.changes.items) has.place records) place has.kept_are
+
+-- behind a whole schedule all units are whole once its change is made
+pub over_of_closed : (old new : Front) (opened : Opened) (records : Lines) → HasRecords old records → old.stage ≡ InSchedule opened → IsWholeBy opened
+    → new.header ≡ old.header
+    → map change_meant new.changes.items ≡ map change_meant old.changes.items ++ change_opened opened old.lines.items ∷ [] → IsOver new records
+over_of_closed old new opened records has place whole same_header made =
+    let told = opened_of old opened records has place in
+    let is = whole told.lines told.progress_is in
+    let some = some_lines told.lines told.stage told.stage_is in
+    let size = ap (λ (l : Lines). length l) told.whole ∙ length-append told.before told.lines in
+    record {
+      place = has.place;
+      at = has.at;
+      header_is = same_header ∙ has.header_is;
+      some = omega arith;
+      made_are =
+          made ∙ (λ i. told.made_are i ++ change_opened opened (told.lines_are i) ∷ [])
+          ∙ sym (changes_closed opened told.lines told.before told.progress_is told.number_is told.key_is is) ∙ ap changes (sym told.whole);
+      anew =
+          λ line stops. ap (λ p. next_place p line) told.place_is ∙ next_behind told.stage told.lines line
+          ((whole_iff told.lines told.stage told.stage_is).0 is) stops;
+    }
+
+-- ---- one more line of a schedule
+
+-- a line that goes on with the schedule that is being read
+pub stands_before : (front : Front) (opened later : Opened) (records : Lines) (line : List ℕ) → HasRecords front records → front.stage ≡ InSchedule opened
+    → IsRecord line
+    → follows_basic (kind_of line) ≡ true → later.number ≡ opened.number → later.key ≡ opened.key
+    → ((lines : Lines) → HasLines (progress_meant opened.progress) lines → HasLines (progress_meant later.progress) (lines ++ line ∷ []))
+    → ((lines : Lines) → HasLines (progress_meant opened.progress) lines → BeginsSchedule (lines ++ line ∷ []))
+    → StandsBefore front later line records
+stands_before front opened later records line has place is follow number keys read begins =
+    let told = opened_of front opened records has place in
+    record {
+      is = is;
+      follows = follow;
+      stage = told.stage;
+      lines = told.lines;
+      before = told.before;
+      at = has.at ∙ ap Some told.place_is;
+      stage_is = told.stage_is;
+      header_is = has.header_is;
+      whole = told.whole;
+      number_is = number ∙ told.number_is;
+      key_is = ap (λ k. key_meant (key.Schedule k)) keys ∙ told.key_is;
+      progress_is = read told.lines told.progress_is;
+      goes_on = begins told.lines told.progress_is;
+      lines_are = told.lines_are;
+      made_are = told.made_are;
+    }
+
+stage_begun : (lines : Lines) (line : List ℕ) → BeginsSchedule (lines ++ line ∷ []) → (next : Stage) × (stage_of (lines ++ line ∷ []) ≡ Some next)
+stage_begun [] line begins = (begins_iff_stage line []).0 begins
+stage_begun (basic ∷ others) line begins = (begins_iff_stage basic (others ++ line ∷ [])).0 begins
+
+-- the place with the line is that of the schedule's next stage
+place_followed : (front : Front) (opened : Opened) (line : List ℕ) (records : Lines) (before : StandsBefore front opened line records) (next : Stage)
+    → stage_of (before.lines ++ line ∷ []) ≡ Some next → IsPlaceOf (records ++ line ∷ []) (place_in next (before.lines ++ line ∷ []))
+place_followed front opened line records before next at =
+    place_of_more records (in_schedule before.stage before.lines) line before.at
+    ∙ next_place_of_stage before.stage before.lines line (inr (no_unit_by_kind (kind_of line) line before.follows))
+    ∙ ap (option_map (λ n. place_in n (before.lines ++ line ∷ []))) (sym (stage_of_more before.lines before.stage line before.stage_is) ∙ at)
+
+stays_inside : (next : Stage) (lines : Lines) → is_over_by (Some next) ≡ false → place_in next lines ≡ in_schedule next lines
+stays_inside after_basic lines h = refl
+stays_inside after_details lines h = refl
+stays_inside in_journey lines h = refl
+stays_inside after_journey lines h = absurd cc
+
+goes_out : (next : Stage) (lines : Lines) → is_over_by (Some next) ≡ true → (next ≡ after_journey) × (place_in next lines ≡ between_units)
+goes_out after_basic lines h = absurd cc
+goes_out after_details lines h = absurd cc
+goes_out in_journey lines h = absurd cc
+goes_out after_journey lines h = (refl, refl)
+
+header_followed : (front : Front) (opened : Opened) (line : List ℕ) (records : Lines) → StandsBefore front opened line records
+    → front.header ≡ header_of (records ++ line ∷ [])
+header_followed front opened line records before =
+    let some = some_lines before.lines before.stage before.stage_is in
+    let size = ap (λ (l : Lines). length l) before.whole ∙ length-append before.before before.lines in
+    before.header_is ∙ sym (header_stays records (line ∷ []) (omega arith))
+
+-- a line that leaves the schedule open
+pub line_added : (old new : Front) (opened : Opened) (line : List ℕ) (records : Lines) → StandsBefore old opened line records
+    → is_over_by (progress_meant opened.progress).stage ≡ false
+    → new.header ≡ old.header → new.stage ≡ InSchedule opened → new.lines.items ≡ old.lines.items ++ line ∷ [] → new.changes.items ≡ old.changes.items
+    → HasRecords new (records ++ line ∷ [])
+line_added old new opened line records before inside same_header place lines made =
+    let next = stage_begun before.lines line before.goes_on in
+    let some = some_lines before.lines before.stage before.stage_is in
+    let here : is_over_by (Some next.0) ≡ false = ap is_over_by (sym next.1) ∙ ap is_over_by (sym before.progress_is.stage_is) ∙ inside in
+    record {
+      place = in_schedule next.0 (before.lines ++ line ∷ []);
+      at = place_followed old opened line records before next.0 next.1 ∙ ap Some (stays_inside next.0 (before.lines ++ line ∷ []) here);
+      header_is = same_header ∙ header_followed old opened line records before;
+      kept_are =
+          subst (λ p. IsKept p new.lines.items (map change_meant new.changes.items) (in_schedule next.0 (before.lines ++ line ∷ [])) (records ++ line ∷ []))
+          (sym place) (record {
+            stage = next.0;
+            lines = before.lines ++ line ∷ [];
+            before = before.before;
+            place_is = refl;
+            stage_is = next.1;
+            whole = (λ i. before.whole i ++ line ∷ []) ∙ append_assoc before.before before.lines (line ∷ []);
+            number_is = before.number_is;
+            key_is = before.key_is ∙ ap schedule_named (sym (first_stays before.lines line some));
+            progress_is = before.progress_is;
+            lines_are = lines ∙ ap (λ l. l ++ line ∷ []) before.lines_are ∙ new_first_stays before.lines line some;
+            made_are = ap (map change_meant) made ∙ before.made_are;
+          });
+    }
+
+-- a line that ends the schedule
+pub line_closed : (old new : Front) (opened : Opened) (line : List ℕ) (records : Lines) → StandsBefore old opened line records
+    → is_over_by (progress_meant opened.progress).stage ≡ true
+    → new.header ≡ old.header → new.stage ≡ BetweenUnits → map change_meant new.changes.items ≡ map change_meant old.changes.items ++ change_opened opened
+    (old.lines.items ++ line ∷ []) ∷ []
+    → HasRecords new (records ++ line ∷ [])
+line_closed old new opened line records before outside same_header place made =
+    let next = stage_begun before.lines line before.goes_on in
+    let some = some_lines before.lines before.stage before.stage_is in
+    let out = goes_out next.0 (before.lines ++ line ∷ []) (ap is_over_by (sym next.1) ∙ ap is_over_by (sym before.progress_is.stage_is) ∙ outside) in
+    let is = (whole_iff (before.lines ++ line ∷ []) after_journey (next.1 ∙ ap Some out.0)).1 refl in
+    record {
+      place = between_units;
+      at = place_followed old opened line records before next.0 next.1 ∙ ap Some out.1;
+      header_is = same_header ∙ header_followed old opened line records before;
+      kept_are = subst (λ p. IsKept p new.lines.items (map change_meant new.changes.items) between_units (records ++ line ∷ [])) (sym place) (
+        refl,
+        made
+            ∙ (λ i. before.made_are i ++ change_opened opened ((ap (λ l. l ++ line ∷ []) before.lines_are ∙ new_first_stays before.lines line some) i) ∷ [])
+            ∙ sym (changes_closed opened (before.lines ++ line ∷ []) before.before before.progress_is before.number_is
+            (before.key_is ∙ ap schedule_named (sym (first_stays before.lines line some))) is)
+            ∙ ap changes (sym ((λ i. before.whole i ++ line ∷ []) ∙ append_assoc before.before before.lines (line ∷ []))),
+      );
+    }
+
+-- ---- a line that goes on
+
+next_of_unit : (line : List ℕ) → is_some (unit_by_kind (kind_of line) line) ≡ true → (next : Place) × (unit_by_kind (kind_of line) line ≡ Some next)
+next_of_unit line begins = by (unit_by_kind (kind_of line) line) refl
+  where
+    by : (found : Option Place) → unit_by_kind (kind_of line) line ≡ found → (next : Place) × (unit_by_kind (kind_of line) line ≡ Some next)
+    by None h = absurd (let bad : false ≡ true = (λ i. is_some (sym h i)) ∙ begins in cc)
+    by (Some next) h = (next, h)
+
+-- behind whole units
+pub unit_goes_on : (front : Front) (records : Lines) (line : List ℕ) → HasRecords front records → front.stage ≡ BetweenUnits → IsRecord line
+    → HasGoodFields line
+    → is_some (unit_by_kind (kind_of line) line) ≡ true → GoesOnWith records line
+unit_goes_on front records line has place is fields begins =
+    let next = next_of_unit line begins in
+    (next.0, place_over front records line next.0 (over_of_between front records has place) is fields next.1)
+
+-- behind a whole schedule
+pub anew_goes_on : (front : Front) (opened : Opened) (records : Lines) (line : List ℕ) → HasRecords front records → front.stage ≡ InSchedule opened
+    → IsWholeBy opened → IsRecord line → HasGoodFields line
+    → is_some (unit_by_kind (kind_of line) line) ≡ true → GoesOnWith records line
+anew_goes_on front opened records line has place whole is fields begins =
+    let told = opened_of front opened records has place in
+    let next = next_of_unit line begins in (
+      next.0,
+      place_of_more records has.place line has.at
+          ∙ ap (λ p. next_place p line) told.place_is
+          ∙ next_behind told.stage told.lines line ((whole_iff told.lines told.stage told.stage_is).0 (whole told.lines told.progress_is))
+          (anew_by_unit line begins)
+          ∙ test_by_next between_units line next.0 (record { is = is; sound = test_by_none (leftmost_bad_field line) fields; place_is = next.1 }),
+    )
+
+-- in a schedule
+pub line_goes_on : (front : Front) (opened : Opened) (line : List ℕ) (records : Lines) → StandsBefore front opened line records → GoesOnWith records line
+line_goes_on front opened line records before =
+    let next = stage_begun before.lines line before.goes_on in
+    (place_in next.0 (before.lines ++ line ∷ []), place_followed front opened line records before next.0 next.1)
+
+-- ---- the end
+
+end_by_test : (place : Place) → is_after_end place ≡ true → place ≡ after_end
+end_by_test after_end h = refl
+end_by_test _ h = absurd cc
+
+-- records are a file exactly where the reader stands behind the trailer
+pub ended_iff : (front : Front) (records : Lines) (ended : Bool) → HasRecords front records
+    → ((place : Place) → IsKept front.stage front.lines.items (map change_meant front.changes.items) place records → is_after_end place ≡ ended)
+    → IsTrue ended ↔ IsFile records
+ended_iff front records ended has tells = (
+  λ is. (file_iff_place records).1 (has.at ∙ ap Some (end_by_test has.place (tells has.place has.kept_are ∙ is))),
+  λ file. let same =
+      one_place records after_end has.place ((file_iff_place records).0 file) has.at in sym (tells has.place has.kept_are) ∙ ap is_after_end (sym same),
+)
+
+-- it stands elsewhere before the header
+pub tells_before : (front : Front) (records : Lines) (place : Place) → front.stage ≡ BeforeHeader
+    → IsKept front.stage front.lines.items (map change_meant front.changes.items) place records → is_after_end place ≡ false
+tells_before front records place at told =
+    ap is_after_end (subst (λ p. IsKept p front.lines.items (map change_meant front.changes.items) place records) at told).0
+
+-- between units
+pub tells_between : (front : Front) (records : Lines) (place : Place) → front.stage ≡ BetweenUnits
+    → IsKept front.stage front.lines.items (map change_meant front.changes.items) place records → is_after_end place ≡ false
+tells_between front records place at told =
+    ap is_after_end (subst (λ p. IsKept p front.lines.items (map change_meant front.changes.items) place records) at told).0
+
+-- and in a schedule
+pub tells_inside : (front : Front) (opened : Opened) (records : Lines) (place : Place) → front.stage ≡ InSchedule opened
+    → IsKept front.stage front.lines.items (map change_meant front.changes.items) place records → is_after_end place ≡ false
+tells_inside front opened records place at told =
+    ap is_after_end (subst (λ p. IsKept p front.lines.items (map change_meant front.changes.items) place records) at told).place_is
+
+-- it stands there behind the trailer
+pub tells_ended : (front : Front) (records : Lines) (place : Place) → front.stage ≡ AfterEnd
+    → IsKept front.stage front.lines.items (map change_meant front.changes.items) place records → is_after_end place ≡ true
+tells_ended front records place at told =
+    ap is_after_end (subst (λ p. IsKept p front.lines.items (map change_meant front.changes.items) place records) at told).0
+
+-- ---- why a record does not go on
+
+none_of : (b : Bool) (o : Option Place) → o ≡ None → cond b o None ≡ None
+none_of true o h = h
+none_of false o h = refl
+
+-- its cause, where its kind is known and the file is not at its end
+told_cause : (records : Lines) (line : List ℕ) (place : Place) (cause : fault.FileCause) → IsRecord line → is_after_end place ≡ false
+    → kind_cause place line ≡ cause
+    → (limit : ℕ) → length records < limit → cause_of limit (length records) place line ≡ cause
+told_cause records line place cause is open_end same limit under = cause_of_record limit (length records) place line under open_end is ∙ same
+
+no_place : (place : Place) (line : List ℕ) → place_by_kind place None line ≡ None
+no_place before_header line = refl
+no_place between_units line = refl
+no_place (in_schedule stage lines) line =
+    (λ i. carried (lines ++ line ∷ []) (no_stage_of_none stage i) (cond (may_end stage lines) (unit_by_kind None line) None))
+    ∙ none_of (may_end stage lines) None refl
+no_place after_end line = refl
+
+-- a record of no kind does not go on
+pub no_kind : (front : Front) (records : Lines) (line : List ℕ) → HasRecords front records → ¬ IsFile records → IsRecord line → kind_of line ≡ None
+    → IsNoNext records line bad_kind
+no_kind front records line has unended is none = record {
+  place = has.place;
+  at = has.at;
+  nowhere =
+      none_of (is_record line && is_sound_at has.place line) (place_by_kind has.place (kind_of line) line)
+      (ap (λ k. place_by_kind has.place k line) none ∙ no_place has.place line);
+  is = told_cause records line has.place bad_kind is (by (is_after_end has.place) refl) (λ i. cond (is_none (none i)) bad_kind (place_cause has.place line));
+}
+  where
+    by : (b : Bool) → is_after_end has.place ≡ b → is_after_end has.place ≡ false
+    by false h = h
+    by true h = absurd (unended ((file_iff_place records).1 (has.at ∙ ap Some (end_by_test has.place h))))
+
+-- before the header
+pub no_header : (front : Front) (records : Lines) (line : List ℕ) (kind : Kind) → HasRecords front records → front.stage ≡ BeforeHeader → IsRecord line
+    → HasKind kind line → is_header_kind (Some kind) ≡ false
+    → IsNoNext records line bad_place
+no_header front records line kind has at is known other =
+    let here = (subst (λ p. IsKept p front.lines.items (map change_meant front.changes.items) has.place records) at has.kept_are).0 in
+    let none : place_by_kind before_header (kind_of line) line ≡ None = (λ i. cond (is_header_kind (known i)) (Some between_units) None)
+    ∙ (λ i. cond (other i) (Some between_units) None) in
+    record {
+      place = before_header;
+      at = has.at ∙ ap Some here;
+      nowhere = none_of (is_record line && has_good_fields line) (place_by_kind before_header (kind_of line) line) none;
+      is =
+          told_cause records line before_header bad_place is refl ((λ i. cond (is_none (known i)) bad_kind (place_cause before_header line)) ∙
+          (λ i. cond (is_none (none i)) bad_place (field_cause line)));
+    }
+
+unsound : (line : List ℕ) (at : ℕ) → leftmost_bad_field line ≡ Some at → has_good_fields line ≡ false
+unsound line at bad = ap is_none bad
+
+both_false : (b c : Bool) → c ≡ false → (b && c) ≡ false
+both_false true c h = h
+both_false false c h = refl
+
+-- nor a header with a bad field
+pub bad_header : (front : Front) (records : Lines) (line : List ℕ) (column : ℕ) → HasRecords front records → front.stage ≡ BeforeHeader → IsRecord line
+    → HasKind header line → leftmost_bad_field line ≡ Some column
+    → IsNoNext records line (bad_field column)
+bad_header front records line column has at is known bad =
+    let here = (subst (λ p. IsKept p front.lines.items (map change_meant front.changes.items) has.place records) at has.kept_are).0 in
+    record {
+      place = before_header;
+      at = has.at ∙ ap Some here;
+      nowhere =
+          λ i. cond (both_false (is_record line) (has_good_fields line) (unsound line column bad) i) (place_by_kind before_header (kind_of line) line) None;
+      is = told_cause records line before_header (bad_field column) is refl (
+          (λ i. cond (is_none (known i)) bad_kind (cond (is_none (cond (is_header_kind (known i)) (Some between_units) None)) bad_place (field_cause line)))
+          ∙ (λ i. with_column bad_field (bad i) fault.third_midnight)
+          );
+    }
+
+-- a good header is the first record
+pub header_added : (old new : Front) (records : Lines) (line : List ℕ) → HasRecords old records → old.stage ≡ BeforeHeader → IsRecord line
+    → HasKind header line → HasGoodFields line
+    → new.header ≡ Some line → new.stage ≡ BetweenUnits → new.changes.items ≡ old.changes.items → HasRecords new (records ++ line ∷ [])
+header_added old new records line has at is kind fields same_header place made =
+    let told = subst (λ p. IsKept p old.lines.items (map change_meant old.changes.items) has.place records) at has.kept_are in
+    let none : records ≡ [] = at_of_place records before_header (has.at ∙ ap Some told.0) in
+    record {
+      place = between_units;
+      at = place_of_more records before_header line (has.at ∙ ap Some told.0)
+          ∙ test_by_next before_header line between_units (record {
+            is = is;
+            sound = test_by_none (leftmost_bad_field line) fields;
+            place_is = λ i. cond
+                (is_header_kind (kind i)) (Some between_units) None;
+          });
+      header_is = same_header ∙ ap (λ r. header_of (r ++ line ∷ [])) (sym none);
+      kept_are = subst (λ p. IsKept p new.lines.items (map change_meant new.changes.items) between_units (records ++ line ∷ [])) (sym place) (
+        refl,
+        ap (map change_meant) made ∙ told.1 ∙ sym (append-nil (changes records))
+            ∙ ap (λ acts. changes records ++ map (as_change (length records + 1)) acts) (sym (ap (λ k. acts_by_kind k line []) kind))
+            ∙ sym (changes_anew records line (ap follows_basic kind)),
+      );
+    }
+
+-- a record that begins no unit, or whose fields are not good
+pub no_unit : (line : List ℕ) → ¬ ((is_some (unit_by_kind (kind_of line) line) ≡ true) × HasGoodFields line) → next_place between_units line ≡ None
+no_unit line bad = by (next_place between_units line) refl
+  where
+    by : (next : Option Place) → next_place between_units line ≡ next → next_place between_units line ≡ None
+    by None h = h
+    by (Some next) h =
+        let told = next_by_test between_units line next h in
+        absurd (bad ((λ i. is_some (told.place_is i)), none_by_test (leftmost_bad_field line) told.sound))
+
+cause_between : (line : List ℕ) (kind : Kind) → HasKind kind line → kind_cause between_units line ≡ place_cause between_units line
+cause_between line kind known = λ i. cond (is_none (known i)) bad_kind (place_cause between_units line)
+
+-- a record that begins no unit, or whose fields are not good, does not go on between units
+pub bad_between : (front : Front) (records : Lines) (line : List ℕ) (kind : Kind) → HasRecords front records → front.stage ≡ BetweenUnits → IsRecord line
+    → HasKind kind line
+    → ¬ ((is_some (unit_by_kind (kind_of line) line) ≡ true) × HasGoodFields line) → IsNoNext records line (place_cause between_units line)
+bad_between front records line kind has at is known bad =
+    let here = (subst (λ p. IsKept p front.lines.items (map change_meant front.changes.items) has.place records) at has.kept_are).0 in
+    record {
+      place = between_units;
+      at = has.at ∙ ap Some here;
+      nowhere = no_unit line bad;
+      is = told_cause records line between_units (place_cause between_units line) is refl (cause_between line kind known);
+    }
+
+-- nor behind a whole schedule
+pub bad_behind : (front : Front) (opened : Opened) (records : Lines) (line : List ℕ) (kind : Kind) → HasRecords front records
+    → front.stage ≡ InSchedule opened → IsWholeBy opened → IsRecord line → HasKind kind line
+    → follows_basic (kind_of line) ≡ false → ¬ ((is_some (unit_by_kind (kind_of line) line) ≡ true) × HasGoodFields line)
+    → IsNoNext records line (place_cause between_units line)
+bad_behind front opened records line kind has at whole is known stops bad =
+    let told = opened_of front opened records has at in
+    let may = (whole_iff told.lines told.stage told.stage_is).0 (whole told.lines told.progress_is) in
+    record {
+      place = in_schedule told.stage told.lines;
+      at = has.at ∙ ap Some told.place_is;
+      nowhere = next_behind told.stage told.lines line may stops ∙ no_unit line bad;
+      is = λ limit under.
+          cause_behind_schedule limit (length records) told.stage told.lines line under is may stops
+          ∙ cause_of_record limit (length records) between_units line under refl is ∙ cause_between line kind known;
+    }
+
+not_may : (stage : Stage) (lines : Lines) → ¬ (may_end stage lines ≡ true) → may_end stage lines ≡ false
+not_may stage lines bad = by (may_end stage lines) refl
+  where
+    by : (b : Bool) → may_end stage lines ≡ b → may_end stage lines ≡ false
+    by false h = h
+    by true h = absurd (bad h)
+
+-- nor does what begins anew, behind a schedule that is not whole
+pub not_whole : (front : Front) (opened : Opened) (records : Lines) (line : List ℕ) (kind : Kind) → HasRecords front records → front.stage ≡ InSchedule opened
+    → ((lines : Lines) → HasLines (progress_meant opened.progress) lines → ¬ IsSchedule lines) → IsRecord line → HasKind kind line
+    → follows_basic (kind_of line) ≡ false → IsNoNext records line bad_place
+not_whole front opened records line kind has at open_end is known stops =
+    let told = opened_of front opened records has at in
+    let may = not_may told.stage told.lines (λ m. open_end told.lines told.progress_is ((whole_iff told.lines told.stage told.stage_is).1 m)) in
+    let none = stage_stops told.stage (kind_of line) stops in
+    let nowhere : next_stage told.stage told.lines line ≡ None = none_stage (is_record line && is_sound_next told.lines line)
+    (stage_after told.stage (kind_of line)) none in
+    record {
+      place = in_schedule told.stage told.lines;
+      at = has.at ∙ ap Some told.place_is;
+      nowhere = next_place_of_stage told.stage told.lines line (inl may) ∙ ap (option_map (λ n. place_in n (told.lines ++ line ∷ []))) nowhere;
+      is = λ limit under.
+          cause_in_schedule limit (length records) told.stage told.lines line under is (inl may)
+          ∙ (λ i. cond (is_none (known i)) bad_kind (cond (is_none (stage_after told.stage (kind_of line))) bad_place (field_cause line)))
+          ∙ (λ i. cond (is_none (none i)) bad_place (field_cause line));
+    }
+  where
+    none_stage : (b : Bool) (o : Option Stage) → o ≡ None → cond b o None ≡ None
+    none_stage true o h = h
+    none_stage false o h = refl
+
+-- a line that a schedule does not go on with
+pub bad_line : (front : Front) (opened : Opened) (records : Lines) (line : List ℕ) (cause : Option fault.FileCause) → HasRecords front records
+    → front.stage ≡ InSchedule opened → IsRecord line
+    → follows_basic (kind_of line) ≡ true → ((lines : Lines) → HasLines (progress_meant opened.progress) lines → IsScheduleCause lines line cause)
+    → IsNoNextCause records line cause
+bad_line front opened records line None has at is follow told = let here = opened_of front opened records has at in absurd (told here.lines here.progress_is)
+bad_line front opened records line (Some cause) has at is follow told =
+    let here = opened_of front opened records has at in
+    let found : IsPlaceOf records (in_schedule here.stage here.lines) = has.at ∙ ap Some here.place_is in
+    let of = inr (no_unit_by_kind (kind_of line) line follow) in
+    record {
+      place = in_schedule here.stage here.lines;
+      at = found;
+      nowhere =
+          (fault_of_schedule (length records + 1) records here.stage here.lines line cause found (omega arith) is of (told here.lines here.progress_is)).0;
+      is = λ limit under. (fault_of_schedule limit records here.stage here.lines line cause found under is of (told here.lines here.progress_is)).1;
+    }
+
+-- ---- answers
+
+-- what follows of two facts that an Ok answer tells
+pub on_ok : {A E P Q R : Type 0} (answer : Result A E) → OnOk answer P → OnOk answer Q → (P → Q → R) → OnOk answer R
+on_ok (Ok value) p q both = both p q
+on_ok (Err error) p q both = p
+
+-- what follows of a fact that an Ok answer tells
+pub on_ok_one : {A E P R : Type 0} (answer : Result A E) → OnOk answer P → (P → R) → OnOk answer R
+on_ok_one (Ok value) p one = one p
+on_ok_one (Err error) p one = p
+
+-- ---- kinds of the code
+
+-- a kind that is no header's
+pub other_kind : (kind : code.Kind) → ¬ (kind ≡ Header) → is_header_kind (Some (meaning kind)) ≡ false
+other_kind Header bad = absurd (bad refl)
+other_kind _ bad = refl
+
+-- what begins a unit, but no basic schedule and no trailer, leads to whole units
+pub single_kind : (kind : code.Kind) (line : List ℕ) → HasKind (meaning kind) line → is_some (unit_by_kind (kind_of line) line) ≡ true
+    → ¬ (kind ≡ BasicSchedule) → ¬ (kind ≡ Trailer)
+    → unit_by_kind (kind_of line) line ≡ Some between_units
+single_kind kind line known begins no_basic no_trailer =
+    ap (λ k. unit_by_kind k line) known ∙ by kind (ap (λ k. is_some (unit_by_kind k line)) (sym known) ∙ begins) no_basic no_trailer
+  where
+    by : (k : code.Kind) → is_some (unit_by_kind (Some (meaning k)) line) ≡ true → ¬ (k ≡ BasicSchedule) → ¬ (k ≡ Trailer)
+        → unit_by_kind (Some (meaning k)) line ≡ Some between_units
+    by BasicSchedule h basic last = absurd (basic refl)
+    by Trailer h basic last = absurd (last refl)
+    by TiplocInsert h basic last = refl
+    by TiplocAmend h basic last = refl
+    by TiplocDelete h basic last = refl
+    by Association h basic last = refl
+    by _ h basic last = absurd cc
+
+-- no file goes on behind its trailer
+pub file_at_end : (front : Front) (records : Lines) → HasRecords front records → front.stage ≡ AfterEnd → IsFile records
+file_at_end front records has at =
+    (file_iff_place records).1 (has.at ∙ ap Some (subst (λ p. IsKept p front.lines.items
+    (map change_meant front.changes.items) has.place records) at has.kept_are).0)
+
+-- ---- the file
+
+-- the file of the records, behind the trailer
+pub file_made : (front : Front) (records : Lines) (count : ℕ) (told line : List ℕ) (file : FileRead) → HasRecords front records → front.stage ≡ AfterEnd
+    → front.header ≡ Some told → line ≡ told
+    → count ≡ length records → file ≡ record { header_line = line; record_count = count; changes_made = map change_meant front.changes.items }
+    → IsFile records × IsOfRecords file records
+file_made front records count told line file has at head same counted made = (
+  file_at_end front records has at,
+  subst (λ f. IsOfRecords f records) (sym made) (record {
+    header_is = same ∙ first records (sym head ∙ has.header_is);
+    count_is = counted;
+    changes_are = (subst (λ p. IsKept p front.lines.items (map change_meant front.changes.items) has.place records) at has.kept_are).1;
+  }),
+)
+  where
+    first : (some : Lines) → Some told ≡ header_of some → told ≡ slice_index_or some 0 []
+    first [] none = absurd cc
+    first (line_first ∷ rest) same_first = cc

@@ -1,0 +1,547 @@
+-- The lines that a parser has taken, and the faults that it tells.
+use Rattle.std.proofs.Common.{◌≡◌, ℕ, ◌+◌, ◌-◌, ◌≤◌, ◌<◌, inl, inr, Bool, true, false, cond, List, [], ◌∷◌, ◌++◌, length, subst, refl, ap, sym, ◌∙◌, Some, None, arith, append_assoc, length-append, eqb-true, take, drop, get_or, suc, drop-cons}
+use Rattle.std.specs.Prelude.{Option, ◌↔◌, ◌==◌, ◌&&◌, IfOk, IfErr, Result, Ok, Err, nat_le}
+use Rattle.std.specs.Str.Lines.{strip_carriage_return}
+use Rattle.std.specs.Prelude.{position}
+use Rattle.std.proofs.Math.Seq.{take-append_seam}
+use Rattle.std.specs.Prelude.{nat_lt}
+use Rattle.std.specs.List.{position_or_len}
+use Rattle.std.proofs.lemmas.Bool.{ltb-false}
+use Rattle.std.proofs.lemmas.List.Sums.{position_or_len_is, fails_before_first}
+use Rattle.std.proofs.lemmas.List.{take-append-drop, take-append-le, take_all, get_or-take, length-take-le}
+use Rattle.std.proofs.lemmas.List.Quantifiers.{position-Some}
+use Rattle.std.proofs.lemmas.Bool.{leb-true, leb-false, lt-leb, le-leb, eqb-false}
+use Rattle.docker_model.specs.records.Record.{IsRecord}
+use Rattle.docker_model.specs.file.Text.{lines_of}
+use Rattle.docker_model.specs.file.File.{IsFile, BeginsFile}
+use Rattle.docker_model.specs.file.FaultSoFar.{IsFaultSoFar, lines_told}
+use Rattle.docker_model.specs.file.FileFault.{IsFileFault, IsUnended, too_many, after_trailer, bad_byte, bad_length, no_end}
+use Rattle.docker_model.specs.file.FileFault as model
+use Rattle.docker_laws.specs.RecordTest.{is_record, has_good_fields}
+use Rattle.docker_laws.specs.FileStage.{Place, after_end, place_at, next_place}
+use Rattle.docker_laws.proofs.files.FileStages.{next_by_test, file_iff_place, begins_iff_place}
+use Rattle.docker_laws.specs.RecordCause.{end_cause, length_cause, is_after_end, cause_of_long}
+use Rattle.docker_laws.specs.LinesTold.{HasNoFeed, told_lines, open_line, line_left}
+use Rattle.docker_laws.proofs.files.ToldLines.{lines_of_told, lines_of_ended, lines_of_open, told_lines_plain, open_line_plain, told_lines_ended, open_line_ended, told_lines_stay, lines_told_grow}
+use Rattle.docker_laws.proofs.files.ToldFaults.{cause_of_length, not_80, no_next_place, lines_told_short, length_at_end, fault_at_feed, fault_at_long, fault_at_end, fault_stays, no_fault_told}
+use Rattle.cif_file.specs.declared.fault.FileCause.{FileCause}
+use Rattle.cif_file.specs.declared.fault.FileFault.{FileFault}
+use Rattle.cif_file.specs.declared.front.Front.{Front}
+use Rattle.cif_file.specs.declared.records.Records.{Records}
+use Rattle.cif_file.specs.declared.parser.Reading.{Reading}
+use Rattle.cif_file.specs.Cut.{IsCut}
+use Rattle.cif_file.specs.Meaning.{cause_meant}
+use Rattle.cif_file.specs.FileRead.{FileRead, IsOfRecords}
+use Rattle.cif_file.specs.RecordsRead.{HasRecords, GoesOnWith, IsNoNextCause}
+use Rattle.cif_file.specs.ParserRead.{IsOfFileText, ParserState, HasRead, IsReadingOrFault, HasCounted, IsCauseNext, IsCauseBehind, IsFaultNext, IsNoEndOf, FaultsNext, EndsCounted, EndsUnended, IsLongNext, IsReading, WantsMemoryAt, IsToldSoFar, IsFaultTold, IsCauseOf, IsRefused, HasNotFailed, IsLater, NamesLater, IsLast, NamesLast, GoesOn}
+
+abbrev Lines : Type 0
+Lines = List (List ℕ)
+
+abbrev nowhere : Option Place
+nowhere = None
+
+some_is : {A : Type 0} (x y : A) → Some x ≡ Some y → x ≡ y
+some_is x y same = cc
+
+above : (most n : ℕ) → ¬ (n ≤ most) → most + 1 ≤ n
+above most n many = by (nat_le n most) refl
+  where
+    by : (b : Bool) → nat_le n most ≡ b → most + 1 ≤ n
+    by true h = absurd (many (leb-true n most h))
+    by false h = let over = leb-false n most h in omega arith
+
+-- ---- want of memory
+
+-- at a line that goes on with a file behind these
+memory_told : (limit : ℕ) (records : Lines) (line : List ℕ) (number : ℕ) (all : Lines) → length records < limit → GoesOnWith records line
+    → number ≡ length records + 1 → all ≡ records ++ line ∷ []
+    → WantsMemoryAt limit all number
+memory_told limit records line number all under goes_on counted whole =
+    let size : length all ≡ length records + 1 = ap (λ (l : Lines). length l) whole ∙ length-append records (line ∷ []) in
+    record {
+      some = omega arith;
+      one = omega arith;
+      within = omega arith;
+      sound = subst BeginsFile (sym (take_all number all (omega arith))) (subst BeginsFile (sym whole) ((begins_iff_place (records ++ line ∷ [])).1 goes_on));
+    }
+
+-- more records change nothing
+memory_more : (limit : ℕ) (records others : Lines) (number : ℕ) → WantsMemoryAt limit records number → WantsMemoryAt limit (records ++ others) number
+memory_more limit records others number told = record {
+  some = told.some;
+  one = let one = told.one in let size = length-append records others in omega arith;
+  within = told.within;
+  sound = subst BeginsFile (sym (take-append-le number records others told.one)) told.sound;
+}
+
+end_by_test : (place : Place) → is_after_end place ≡ true → place ≡ after_end
+end_by_test after_end h = refl
+end_by_test _ h = absurd cc
+
+-- ---- the next record
+
+-- behind the trailer
+pub after_cause : (limit : ℕ) (front : Front) (records : Lines) (line : List ℕ) → HasRecords front records → IsFile records → length records < limit
+    → IsCauseNext limit records line after_trailer
+after_cause limit front records line has is under = record {
+  place = after_end;
+  at = (file_iff_place records).0 is;
+  here = inr (none (is_record line && has_good_fields line));
+  is = λ i. cond (lt-leb limit (length records) under i) too_many (end_cause after_end line);
+}
+  where
+    none : (b : Bool) → cond b nowhere nowhere ≡ nowhere
+    none true = refl
+    none false = refl
+
+-- a line that is no record
+pub line_cause : (limit : ℕ) (front : Front) (records : Lines) (line : List ℕ) (cause : Option model.FileCause) → HasRecords front records → ¬ IsFile records
+    → length records < limit → ¬ IsRecord line
+    → ((place : Place) → cause ≡ Some (length_cause place line)) → IsCauseBehind limit records line cause
+line_cause limit front records line None has unended under bad told = absurd (let never = told has.place in cc)
+line_cause limit front records line (Some cause) has unended under bad told = record {
+  place = has.place;
+  at = has.at;
+  here = inr (by (next_place has.place line) refl);
+  is =
+      (λ i. cond (lt-leb limit (length records) under i) too_many (end_cause has.place line))
+      ∙ (λ i. cond (open_end i) after_trailer (length_cause has.place line)) ∙ some_is (length_cause has.place line) cause (sym (told has.place));
+}
+  where
+    by : (next : Option Place) → next_place has.place line ≡ next → next_place has.place line ≡ None
+    by None h = h
+    by (Some next) h = absurd (bad (next_by_test has.place line next h).is)
+
+    open_end : is_after_end has.place ≡ false
+    open_end = test (is_after_end has.place) refl
+      where
+        test : (b : Bool) → is_after_end has.place ≡ b → is_after_end has.place ≡ false
+        test false h = h
+        test true h = absurd (unended ((file_iff_place records).1 (has.at ∙ ap Some (end_by_test has.place h))))
+
+-- a record that the front refuses
+pub front_cause : (limit : ℕ) (records : Lines) (line : List ℕ) (cause : FileCause) → length records < limit → IsNoNextCause records line (cause_meant cause)
+    → IsCauseBehind limit records line (cause_meant cause)
+front_cause limit records line cause under told = by (cause_meant cause) told
+  where
+    by : (meant : Option model.FileCause) → IsNoNextCause records line meant → IsCauseBehind limit records line meant
+    by None goes_on = (under, goes_on)
+    by (Some c) told_no = record { place = told_no.place; at = told_no.at; here = inr told_no.nowhere; is = told_no.is limit under }
+
+-- ---- a line that ends
+
+-- the line is taken with the bytes of it that came before
+pub ended_read : (old new : Reading) (limit : ℕ) (text front : List ℕ) → IsReading old limit text → HasNoFeed front
+    → HasCounted new.records limit (told_lines text ++ strip_carriage_return (open_line text ++ front) ∷ []) → new.partial.items ≡ []
+    → IsReading new limit (text ++ (front ++ 10 ∷ []))
+ended_read old new limit text front reading plain counted none = record {
+  counted = subst (HasCounted new.records limit) (sym (told_lines_ended text front plain)) counted;
+  partial_is = none ∙ sym (open_line_ended text front plain);
+  short = let size = ap (λ (l : List ℕ). length l) (open_line_ended text front plain) in omega arith;
+}
+
+-- and so is its fault told
+pub ended_fault : (old : Reading) (limit : ℕ) (text front : List ℕ) (fault : FileFault) → IsReading old limit text → HasNoFeed front
+    → IsFaultNext limit (told_lines text) (strip_carriage_return (open_line text ++ front)) fault → IsFaultTold limit (text ++ (front ++ 10 ∷ [])) fault
+ended_fault old limit text front fault reading plain next = by (cause_meant fault.cause) next.cause
+  where
+    by : (meant : Option model.FileCause) → IsCauseBehind limit (told_lines text) (strip_carriage_return (open_line text ++ front)) meant
+        → IsToldSoFar limit (text ++ (front ++ 10 ∷ [])) fault.number meant
+    by None told =
+        memory_told limit (told_lines text) (strip_carriage_return (open_line text ++ front)) fault.number
+        (told_lines (text ++ (front ++ 10 ∷ []))) told.0 told.1 next.number (told_lines_ended text front plain)
+    by (Some cause) told =
+        subst (λ f. IsFaultSoFar limit (text ++ (front ++ 10 ∷ [])) f) (λ i. record { number = sym next.number i; cause = told.is i })
+        (fault_at_feed limit text front [] told.place plain told.at reading.counted.within told.here)
+
+-- or it is too long
+pub ended_long : (old : Reading) (limit : ℕ) (text front : List ℕ) (fault : FileFault) → IsReading old limit text → HasNoFeed front
+    → 82 ≤ length (open_line text ++ front)
+    → IsLongNext limit (told_lines text) fault → IsFaultTold limit (text ++ (front ++ 10 ∷ [])) fault
+ended_long old limit text front fault reading plain many next =
+    let bad = not_80 (open_line text ++ front) many in
+    subst (IsToldSoFar limit (text ++ (front ++ 10 ∷ [])) fault.number) (sym next.cause)
+    (subst (λ f. IsFaultSoFar limit (text ++ (front ++ 10 ∷ [])) f) (λ i. record {
+      number = sym next.number i;
+      cause = cause_of_length limit
+          (length (told_lines text)) next.place (strip_carriage_return (open_line text ++ front)) bad i;
+    })
+    (fault_at_feed limit text front [] next.place plain next.at reading.counted.within
+    (inr (no_next_place next.place (strip_carriage_return (open_line text ++ front)) bad))))
+
+-- ---- more of a line
+
+-- more bytes of a line are kept
+pub kept_read : (old new : Reading) (limit : ℕ) (text more : List ℕ) → IsReading old limit text → HasNoFeed more
+    → length old.partial.items + length more ≤ 81 → new.records ≡ old.records
+    → new.partial.items ≡ old.partial.items ++ more → IsReading new limit (text ++ more)
+kept_read old new limit text more reading plain few records kept = record {
+  counted =
+      subst (λ r. HasCounted r limit (told_lines (text ++ more))) (sym records)
+      (subst (HasCounted old.records limit) (sym (told_lines_plain text more plain)) reading.counted);
+  partial_is = kept ∙ (λ i. reading.partial_is i ++ more) ∙ sym (open_line_plain text more plain);
+  short =
+      let size = ap (λ (l : List ℕ). length l) (open_line_plain text more plain) ∙ length-append (open_line text) more in
+      let same = ap (λ (l : List ℕ). length l) reading.partial_is in omega arith;
+}
+
+-- or it is too long
+pub kept_long : (old : Reading) (limit : ℕ) (text more : List ℕ) (fault : FileFault) → IsReading old limit text → HasNoFeed more
+    → ¬ (length old.partial.items + length more ≤ 81)
+    → IsLongNext limit (told_lines text) fault → IsFaultTold limit (text ++ more) fault
+kept_long old limit text more fault reading plain many next =
+    let size = ap (λ (l : List ℕ). length l) (open_line_plain text more plain) ∙ length-append (open_line text) more in
+    let same = ap (λ (l : List ℕ). length l) reading.partial_is in
+    let told = told_lines_plain text more plain in
+    let count = ap (λ (l : Lines). length l) told in
+    let within = reading.counted.within in
+    subst (IsToldSoFar limit (text ++ more) fault.number) (sym next.cause)
+    (subst (λ f. IsFaultSoFar limit (text ++ more) f) (λ i. record {
+      number = (ap (λ n. n + 1) count ∙ sym next.number) i;
+      cause = cause_of_long limit
+          (count i) next.place;
+    })
+    (fault_at_long limit (text ++ more) next.place (ap place_at told ∙ next.at) (omega arith)
+    (above 81 (length (open_line (text ++ more))) (λ few. many (omega arith)))))
+
+-- ---- what is told stays told
+
+-- a fault that a text tells it tells with more behind it
+pub told_stays : (limit : ℕ) (text more : List ℕ) (fault : FileFault) → IsFaultTold limit text fault → IsFaultTold limit (text ++ more) fault
+told_stays limit text more fault told = by (cause_meant fault.cause) told
+  where
+    by : (meant : Option model.FileCause) → IsToldSoFar limit text fault.number meant → IsToldSoFar limit (text ++ more) fault.number meant
+    by None here =
+        let stay = told_lines_stay text more in subst (λ (l : Lines). WantsMemoryAt limit l fault.number) (sym stay.1)
+        (memory_more limit (told_lines text) stay.0 fault.number here)
+    by (Some cause) here = fault_stays limit text more (record { number = fault.number; cause = cause }) here
+
+-- ---- the end
+
+counted_open : (records : Records) (limit : ℕ) (text : List ℕ) → 0 < length (open_line text)
+    → HasCounted records limit (told_lines text ++ strip_carriage_return (open_line text) ∷ []) → HasCounted records limit (lines_of text)
+counted_open records limit text some counted = subst (HasCounted records limit) (sym (lines_of_open text some)) counted
+
+-- where no line is open, all lines are told
+pub counted_ended : (reading : Reading) (limit : ℕ) (text : List ℕ) → IsReading reading limit text → reading.partial.items ≡ []
+    → HasCounted reading.records limit (lines_of text)
+counted_ended reading limit text is none = subst (HasCounted reading.records limit) (sym (lines_of_ended text (sym is.partial_is ∙ none))) is.counted
+
+-- a fault of the open line at the end is the text's
+pub end_fault : (reading : Reading) (limit : ℕ) (text : List ℕ) (fault : FileFault) → IsReading reading limit text → 0 < length (open_line text)
+    → IsFaultNext limit (told_lines text) (strip_carriage_return (open_line text)) fault → IsRefused limit text fault
+end_fault reading limit text fault is some next = by (cause_meant fault.cause) next.cause
+  where
+    by : (meant : Option model.FileCause) → IsCauseBehind limit (told_lines text) (strip_carriage_return (open_line text)) meant
+        → IsCauseOf limit text fault.number meant
+    by None told =
+        memory_told limit (told_lines text) (strip_carriage_return (open_line text)) fault.number (lines_of text) told.0 told.1 next.number
+        (lines_of_open text some)
+    by (Some cause) told =
+        subst (λ f. IsFileFault limit text f) (λ i. record { number = sym next.number i; cause = told.is i })
+        (fault_at_end limit text told.place told.at is.counted.within some told.here)
+
+-- the file of the text, whose lines were counted
+pub file_at_end : (records : Records) (limit : ℕ) (text : List ℕ) (file : FileRead) → HasCounted records limit (lines_of text) → EndsCounted records file
+    → IsOfFileText file limit text
+file_at_end records limit text file counted told =
+    let is = told limit (lines_of text) counted in
+    record { records = lines_of text; is_text = record { lines = refl; is = is.0; within = counted.within }; of_records = is.1 }
+
+-- the fault behind the last record of a text with no end is the text's
+pub no_end_at_end : (records : Records) (limit : ℕ) (text : List ℕ) (fault : FileFault) → HasCounted records limit (lines_of text) → EndsUnended records fault
+    → IsRefused limit text fault
+no_end_at_end records limit text fault counted ends =
+    let told = ends limit (lines_of text) counted in subst (IsCauseOf limit text fault.number) (sym told.1) (inr (record {
+      within = counted.within;
+      begin = (begins_iff_place (lines_of text)).1 (counted.has.place, counted.has.at);
+      unended = told.2;
+      number = told.0;
+      cause = refl;
+    }))
+
+-- no record that is told is at fault
+pub reading_tells_none : (reading : Reading) (limit : ℕ) (text : List ℕ) → IsReading reading limit text → (fault : model.FileFault)
+    → ¬ IsFaultSoFar limit text fault
+reading_tells_none reading limit text is = no_fault_told limit text is.counted.has.place is.counted.has.at is.counted.within is.short
+
+-- a fault that is told is the text's in the end
+pub told_refused : (limit : ℕ) (text : List ℕ) (fault : FileFault) → IsFaultTold limit text fault → IsRefused limit text fault
+told_refused limit text fault told = by (cause_meant fault.cause) told
+  where
+    by : (meant : Option model.FileCause) → IsToldSoFar limit text fault.number meant → IsCauseOf limit text fault.number meant
+    by None here =
+        subst (λ (l : Lines). WantsMemoryAt limit l fault.number) (sym (lines_of_told text))
+        (memory_more limit (told_lines text) (line_left (open_line text)) fault.number here)
+    by (Some cause) here = inl here.is
+
+-- ---- a line that is too long
+
+-- a record that is too long, above the limit
+pub long_over : (records : Records) (limit : ℕ) (taken : Lines) (fault : FileFault) → HasCounted records limit taken → fault.number ≡ records.next
+    → records.limit < records.next → cause_meant fault.cause ≡ Some too_many
+    → IsLongNext limit taken fault
+long_over records limit taken fault counted number over told = record {
+  number = number ∙ counted.next_is;
+  place = counted.has.place;
+  at = counted.has.at;
+  cause =
+      told ∙ (let next = counted.next_is in let same = counted.limit_is in let most : limit ≤ length taken = omega arith in
+      λ i. Some (cond (sym (le-leb limit (length taken) most) i) too_many (cond (is_after_end counted.has.place) after_trailer bad_length)));
+}
+
+-- and within it
+pub long_within : (records : Records) (limit : ℕ) (taken : Lines) (fault : FileFault) (ended : Bool) → HasCounted records limit taken
+    → fault.number ≡ records.next → records.next ≤ records.limit
+    → (ended ≡ true) ↔ IsFile taken → cause_meant fault.cause ≡ Some (cond ended after_trailer bad_length) → IsLongNext limit taken fault
+long_within records limit taken fault ended counted number within iff told = record {
+  number = number ∙ counted.next_is;
+  place = counted.has.place;
+  at = counted.has.at;
+  cause =
+      told ∙ (λ i. Some (cond (same i) after_trailer bad_length))
+      ∙ (let next = counted.next_is in let limits = counted.limit_is in let under : length taken < limit = omega arith in
+      λ i. Some (cond (sym (lt-leb limit (length taken) under) i) too_many (cond (is_after_end counted.has.place) after_trailer bad_length)));
+}
+  where
+    same : ended ≡ is_after_end counted.has.place
+    same = by ended (is_after_end counted.has.place) refl refl
+      where
+        by : (b d : Bool) → ended ≡ b → is_after_end counted.has.place ≡ d → ended ≡ is_after_end counted.has.place
+        by true true h k = h ∙ sym k
+        by false false h k = h ∙ sym k
+        by true false h k =
+            let at = some_is after_end counted.has.place (sym ((file_iff_place taken).0 (iff.0 h)) ∙ counted.has.at) in
+            let bad : true ≡ false = ap is_after_end at ∙ k in absurd cc
+        by false true h k =
+            let is = (file_iff_place taken).1 (counted.has.at ∙ ap Some (end_by_test counted.has.place k)) in
+            let bad : true ≡ false = sym (iff.1 is) ∙ h in absurd cc
+
+-- ---- a line that ends, by what was taken of it
+
+-- bytes that do not fit are more than 81 with those that came before
+pub ended_many : (old : Reading) (limit : ℕ) (text front : List ℕ) → IsReading old limit text → ¬ (length old.partial.items + length front ≤ 81)
+    → 82 ≤ length (open_line text ++ front)
+ended_many old limit text front reading many =
+    let same = ap (λ (l : List ℕ). length l) reading.partial_is in
+    let size = length-append (open_line text) front in
+    above 81 (length (open_line text ++ front)) (λ few. many (omega arith))
+
+-- the line that was taken is that of the text
+pub taken_is : (old : Reading) (limit : ℕ) (text front raw line : List ℕ) → IsReading old limit text → raw ≡ old.partial.items ++ front
+    → line ≡ strip_carriage_return raw
+    → line ≡ strip_carriage_return (open_line text ++ front)
+taken_is old limit text front raw line reading whole strip = strip ∙ ap strip_carriage_return (whole ∙ ap (λ l. l ++ front) reading.partial_is)
+
+-- the line that was taken is that which ended
+pub ended_ok : (old new : Reading) (limit : ℕ) (text front line : List ℕ) → IsReading old limit text → HasNoFeed front
+    → line ≡ strip_carriage_return (open_line text ++ front)
+    → HasCounted new.records limit (told_lines text ++ line ∷ []) → new.partial.items ≡ [] → IsReading new limit (text ++ (front ++ 10 ∷ []))
+ended_ok old new limit text front line reading plain same counted none =
+    ended_read old new limit text front reading plain (subst (λ l. HasCounted new.records limit (told_lines text ++ l ∷ [])) same counted) none
+
+-- a fault of the line that ends is the text's
+pub ended_err : (old : Reading) (limit : ℕ) (text front line : List ℕ) (fault : FileFault) → IsReading old limit text → HasNoFeed front
+    → line ≡ strip_carriage_return (open_line text ++ front) → FaultsNext old.records line fault → IsFaultTold limit (text ++ (front ++ 10 ∷ [])) fault
+ended_err old limit text front line fault reading plain same told =
+    ended_fault old limit text front fault reading plain
+    (subst (λ l. IsFaultNext limit (told_lines text) l fault) same (told limit (told_lines text) reading.counted))
+
+-- no bytes of the line came before
+pub empty_is : (old : Reading) → true ≡ (length old.partial.items == 0) → old.partial.items ≡ []
+empty_is old none = by old.partial.items (eqb-true (length old.partial.items) 0 (sym none))
+  where
+    by : (bytes : List ℕ) → length bytes ≡ 0 → bytes ≡ []
+    by [] h = refl
+    by (byte ∷ bytes) h = absurd (omega arith)
+
+-- where bytes are kept a line is open
+pub some_is_open : (old : Reading) (limit : ℕ) (text : List ℕ) → IsReading old limit text → false ≡ (length old.partial.items == 0)
+    → 0 < length (open_line text)
+some_is_open old limit text reading some =
+    let size = ap (λ (l : List ℕ). length l) reading.partial_is in
+    let not_none = eqb-false (length old.partial.items) 0 (sym some) in
+    above 0 (length (open_line text)) (λ none. not_none (omega (arith, size)))
+
+-- the last line, which no line feed ended, was taken
+pub counted_last : (old : Reading) (records : Records) (limit : ℕ) (text raw line : List ℕ) → IsReading old limit text
+    → false ≡ (length old.partial.items == 0) → raw ≡ old.partial.items
+    → line ≡ strip_carriage_return raw → HasCounted records limit (told_lines text ++ line ∷ []) → HasCounted records limit (lines_of text)
+counted_last old records limit text raw line reading some same strip counted =
+    counted_open records limit text (some_is_open old limit text reading some)
+    (subst (λ l. HasCounted records limit (told_lines text ++ l ∷ [])) (strip ∙ ap strip_carriage_return (same ∙ reading.partial_is)) counted)
+
+-- ---- bytes cut at a line feed
+
+-- the first line feed is the first place that passes
+feed_place : (text : List ℕ) (end : ℕ) → position (λ b. b == 10) text ≡ Some end → position_or_len (λ b. b == 10) text ≡ end
+feed_place text end found =
+    let at = position-Some (λ b. b == 10) text end 0 found in
+    position_or_len_is (λ b. b == 10) text end 0 (omega (arith, at.0)) at.2 (λ _. at.1)
+
+no_place : (place size : ℕ) (b : Bool) → nat_lt place size ≡ b → cond b (Some place) None ≡ None → size ≤ place
+no_place place size true h none = absurd cc
+no_place place size false h none = ltb-false place size h
+
+plain_front : (text : List ℕ) (end : ℕ) → end < length text → position (λ b. b == 10) text ≡ Some end → HasNoFeed (take end text)
+plain_front text end within found = λ k d below.
+    let place = feed_place text end found in
+    let size = length-take-le end text (omega arith) in
+    let before : k < end = omega arith in
+    ap (λ b. b == 10) (get_or-take end text k d before) ∙ fails_before_first (λ b. b == 10) text k d (omega arith)
+
+-- a text is cut at its first line feed
+pub cut_at : (text : List ℕ) (end : ℕ) → position (λ b. b == 10) text ≡ Some end → IsCut text (take end text) (drop (end + 1) text)
+cut_at text end found =
+    let at = position-Some (λ b. b == 10) text end 0 found in
+    let feed = eqb-true (get_or text end 0) 10 at.1 in
+    let after : suc end ≡ end + 1 = omega arith in
+    record {
+      whole = sym (take-append-drop end text) ∙ ap (λ rest. take end text ++ rest) (drop-cons text end 0 at.0 ∙ (λ i. feed i ∷ drop (after i) text));
+      plain = plain_front text end at.0 found;
+    }
+
+-- a text with no first line feed has none
+pub no_feed_by : (text : List ℕ) → position (λ b. b == 10) text ≡ None → HasNoFeed text
+no_feed_by text none = λ k d below.
+    let past = no_place (position_or_len (λ b. b == 10) text) (length text) _ refl none in
+    fails_before_first (λ b. b == 10) text k d (omega arith)
+
+-- the bytes before what is left of a piece
+abbrev pub before_rest : List ℕ → List ℕ → List ℕ
+before_rest piece rest = take (length piece - length rest) piece
+
+-- what stands before the rest, with the line that ended
+pub cut_more : (piece rest front behind : List ℕ) → before_rest piece rest ++ rest ≡ piece → IsCut rest front behind
+    → (before_rest piece behind ≡ before_rest piece rest ++ (front ++ 10 ∷ [])) × (before_rest piece behind ++ behind ≡ piece)
+cut_more piece rest front behind whole cut =
+    let done = before_rest piece rest ++ (front ++ 10 ∷ []) in
+    let all : done ++ behind ≡ piece =
+    append_assoc (before_rest piece rest) (front ++ 10 ∷ []) behind ∙ ap (λ l. before_rest piece rest ++ l)
+    (append_assoc front (10 ∷ []) behind ∙ sym cut.whole) ∙ whole in
+    let size = ap (λ (l : List ℕ). length l) (sym all) ∙ length-append done behind in
+    let count : length piece - length behind ≡ length done = omega arith in
+    let same : before_rest piece behind ≡ done = (λ i. take (count i) (sym all i)) ∙ take-append_seam done behind in
+    (same, ap (λ l. l ++ behind) same ∙ all)
+
+-- what is left gets shorter
+pub cut_shorter : (rest front behind : List ℕ) → IsCut rest front behind → length behind < length rest
+cut_shorter rest front behind cut = let size = ap (λ (l : List ℕ). length l) cut.whole ∙ length-append front (10 ∷ behind) in omega arith
+
+-- at first nothing stands before the rest
+pub cut_first : (piece : List ℕ) → (before_rest piece piece ≡ []) × (before_rest piece piece ++ piece ≡ piece)
+cut_first piece =
+    let none : length piece - length piece ≡ 0 = omega arith in
+    let same : before_rest piece piece ≡ [] = ap (λ n. take n piece) none ∙ take_none piece in
+    (same, ap (λ l. l ++ piece) same)
+  where
+    take_none : (l : List ℕ) → take 0 l ≡ []
+    take_none [] = refl
+    take_none (b ∷ l) = refl
+
+-- what was told of a piece's front is told of the piece
+pub told_of_piece : (limit : ℕ) (text piece rest front behind : List ℕ) (fault : FileFault) → before_rest piece rest ++ rest ≡ piece → IsCut rest front behind
+    → IsFaultTold limit ((text ++ before_rest piece rest) ++ (front ++ 10 ∷ [])) fault → IsFaultTold limit (text ++ piece) fault
+told_of_piece limit text piece rest front behind fault whole cut told =
+    let more = cut_more piece rest front behind whole cut in
+    let here = append_assoc text (before_rest piece rest) (front ++ 10 ∷ []) ∙ ap (λ l. text ++ l) (sym more.0) in
+    let all = append_assoc text (before_rest piece behind) behind ∙ ap (λ l. text ++ l) more.1 in
+    subst (λ t. IsFaultTold limit t fault) all (told_stays limit (text ++ before_rest piece behind) behind fault
+    (subst (λ t. IsFaultTold limit t fault) here told))
+
+-- a line more was read
+pub read_on : (reading : Reading) (limit : ℕ) (text piece rest front behind : List ℕ) → before_rest piece rest ++ rest ≡ piece → IsCut rest front behind
+    → IsReading reading limit ((text ++ before_rest piece rest) ++ (front ++ 10 ∷ [])) → IsReading reading limit (text ++ before_rest piece behind)
+read_on reading limit text piece rest front behind whole cut is =
+    let more = cut_more piece rest front behind whole cut in
+    subst (IsReading reading limit) (append_assoc text (before_rest piece rest) (front ++ 10 ∷ []) ∙ ap (λ l. text ++ l) (sym more.0)) is
+
+-- with the rest the whole piece was read
+pub whole_read : (text piece rest : List ℕ) → before_rest piece rest ++ rest ≡ piece → (text ++ before_rest piece rest) ++ rest ≡ text ++ piece
+whole_read text piece rest whole = append_assoc text (before_rest piece rest) rest ∙ ap (λ l. text ++ l) whole
+
+-- ---- a parser with a fault, and without one
+
+-- a parser that told a fault was fed a text that tells it
+pub read_at_fault : (parser : ParserState) (limit : ℕ) (text : List ℕ) (fault : FileFault) → parser.fault ≡ Some fault → IsFaultTold limit text fault
+    → HasRead parser limit text
+read_at_fault parser limit text fault at told = subst (IsReadingOrFault parser.reading limit text) (sym at) told
+
+-- and each text that it was fed tells it
+pub fault_at_read : (parser : ParserState) (limit : ℕ) (text : List ℕ) (fault : FileFault) → parser.fault ≡ Some fault → HasRead parser limit text
+    → IsFaultTold limit text fault
+fault_at_read parser limit text fault at has = subst (IsReadingOrFault parser.reading limit text) at has
+
+-- what a parser without a fault was fed, its reading has read
+pub reading_at_none : (parser : ParserState) (limit : ℕ) (text : List ℕ) → parser.fault ≡ None → HasRead parser limit text → IsReading parser.reading limit text
+reading_at_none parser limit text at has = subst (IsReadingOrFault parser.reading limit text) at has
+
+-- and the other way round
+pub none_at_reading : (parser : ParserState) (limit : ℕ) (text : List ℕ) → parser.fault ≡ None → IsReading parser.reading limit text → HasRead parser limit text
+none_at_reading parser limit text at is = subst (IsReadingOrFault parser.reading limit text) (sym at) is
+
+-- what a parser that told no fault was fed, its reading has read
+pub reading_of : (parser : ParserState) (reading : Reading) (limit : ℕ) (text : List ℕ) → parser.fault ≡ None → parser.reading ≡ reading
+    → HasRead parser limit text → IsReading reading limit text
+reading_of parser reading limit text none same has = subst (λ r. IsReading r limit text) same (reading_at_none parser limit text none has)
+
+-- a parser that told a fault is none that told no fault
+pub had_failed : (parser : ParserState) (fault : FileFault) → parser.fault ≡ Some fault → ¬ HasNotFailed parser
+had_failed parser fault at none = none fault at
+
+-- ---- a fault of a record that wasn't told before
+
+later_than : (reading : Reading) (limit : ℕ) (text : List ℕ) (fault : FileFault) → IsReading reading limit text → fault.number ≡ length (told_lines text) + 1
+    → lines_told text < fault.number
+later_than reading limit text fault is number = let same = lines_told_short text is.short in omega arith
+
+-- that of a line behind the text
+pub later_next : (reading : Reading) (line : List ℕ) (fault : FileFault) → FaultsNext reading.records line fault → IsLater reading fault
+later_next reading line fault told = λ limit text is. later_than reading limit text fault is (told limit (told_lines text) is.counted).number
+
+-- that of a line that is too long
+pub later_long : (reading : Reading) (fault : FileFault) → ((limit : ℕ) (text : List ℕ) → IsReading reading limit text → IsLongNext limit
+    (told_lines text) fault) → IsLater reading fault
+later_long reading fault told = λ limit text is. later_than reading limit text fault is (told limit text is).number
+
+-- what a longer text doesn't tell, its front doesn't
+later_front : (text more : List ℕ) (fault : FileFault) → lines_told (text ++ more) < fault.number → lines_told text < fault.number
+later_front text more fault later = let grown = lines_told_grow text more in omega arith
+
+-- what is behind a front that was read is behind what was read before it
+pub later_piece : (old new : Reading) (front : List ℕ) (fault : FileFault) → GoesOn (IsReading old) front (IsReading new) → IsLater new fault
+    → IsLater old fault
+later_piece old new front fault read later = λ limit text is. later_front text front fault (later limit (text ++ front) (read limit text is))
+
+-- such a fault is behind what the text tells
+pub later_end : (reading : Reading) (fault : FileFault) → ((limit : ℕ) (text : List ℕ) → IsReading reading limit text → IsNoEndOf (lines_of text) fault)
+    → IsLater reading fault
+later_end reading fault told = λ limit text is.
+    let same = lines_told_short text is.short in
+    let size = ap (λ (l : Lines). length l) (lines_of_told text) ∙ length-append (told_lines text) (line_left (open_line text)) in
+    let number = (told limit text is).0 in
+    omega arith
+
+-- and is no want of memory
+pub last_end : (reading : Reading) (fault : FileFault) → ((limit : ℕ) (text : List ℕ) → IsReading reading limit text → IsNoEndOf (lines_of text) fault)
+    → IsLast reading fault
+last_end reading fault told = λ memory limit text is.
+    let bad : ◌≡◌ {A = Option model.FileCause} None (Some no_end) = sym (ap cause_meant memory) ∙ (told limit text is).1 in absurd cc
+
+-- the open line is the last
+pub last_open : (reading : Reading) (line : List ℕ) (fault : FileFault) → false ≡ (length reading.partial.items == 0) → FaultsNext reading.records line fault
+    → IsLast reading fault
+last_open reading line fault some told =
+    λ _ limit text is. (told limit (told_lines text) is.counted).number ∙ sym (length_at_end text (some_is_open reading limit text is some))
+
+-- what is later than what was read is later than what a parser was fed that told no fault
+pub names_later : (parser : ParserState) (reading : Reading) (fault : FileFault) → parser.fault ≡ None → parser.reading ≡ reading → IsLater reading fault
+    → NamesLater parser fault
+names_later parser reading fault none same told = λ _ limit text has. told limit text (reading_of parser reading limit text none same has)
+
+-- and of the last record
+pub names_last : (parser : ParserState) (reading : Reading) (fault : FileFault) → parser.fault ≡ None → parser.reading ≡ reading → IsLast reading fault
+    → NamesLast parser fault
+names_last parser reading fault none same told =
+    λ _ memory limit text has. told memory limit text (reading_of parser reading limit text none same has)

@@ -1,0 +1,41 @@
+-- Pieces joined one after another.
+use Rattle.std.proofs.Common.{◌≡◌, ℕ, ◌+◌, ◌<◌, ◌≤◌, List, [], ◌∷◌, ◌++◌, length, map, take, drop, get_or, subst, ap, sym, ◌∙◌, append-nil}
+use Rattle.std.specs.List.{concat}
+use Rattle.std.proofs.lemmas.List.{map_more, map-append, take-append-drop, take_all}
+use Rattle.std.proofs.lemmas.List.Folds.{concat-append}
+use Rattle.cif_file.specs.declared.fault.FileFault.{FileFault}
+use Rattle.cif_file.specs.ParserRead.{ParserState, HasRead, IsFaultTold, IsRefused}
+use Rattle.cif_file.proofs.ParserLemmas.{told_stays, told_refused}
+
+module _ {X : Type 0} (f : X → List ℕ) where
+  -- one piece more
+  pub joined_more : (pieces : List X) (i : ℕ) (d : X) → i < length pieces
+      → concat (map f (take (i + 1) pieces)) ≡ concat (map f (take i pieces)) ++ f (get_or pieces i d)
+  joined_more pieces i d below =
+      ap concat (map_more f pieces i d below)
+      ∙ concat-append (map f (take i pieces)) (f (get_or pieces i d) ∷ [])
+      ∙ ap (λ last. concat (map f (take i pieces)) ++ last) (append-nil (f (get_or pieces i d)))
+
+  -- a parser that has read the pieces so far and then the next has read one piece more
+  pub read_more : (parser : ParserState) (limit : ℕ) (pieces : List X) (i : ℕ) (d : X) → i < length pieces
+      → HasRead parser limit (concat (map f (take i pieces)) ++ f (get_or pieces i d)) → HasRead parser limit (concat (map f (take (i + 1) pieces)))
+  read_more parser limit pieces i d below read = subst (HasRead parser limit) (sym (joined_more pieces i d below)) read
+
+  -- past the last piece it has read them all
+  pub read_all : (parser : ParserState) (limit : ℕ) (pieces : List X) (i : ℕ) → length pieces ≤ i → HasRead parser limit (concat (map f (take i pieces)))
+      → HasRead parser limit (concat (map f pieces))
+  read_all parser limit pieces i past read = subst (λ all. HasRead parser limit (concat (map f all))) (take_all i pieces past) read
+
+  -- a fault told of the first pieces is that of all
+  pub refused_front : (limit : ℕ) (pieces : List X) (i : ℕ) (d : X) (fault : FileFault) → i < length pieces
+      → IsFaultTold limit (concat (map f (take i pieces)) ++ f (get_or pieces i d)) fault
+      → IsRefused limit (concat (map f pieces)) fault
+  refused_front limit pieces i d fault below told =
+      let whole : concat (map f (take (i + 1) pieces)) ++ concat (map f (drop (i + 1) pieces)) ≡ concat (map f pieces) =
+      sym (concat-append (map f (take (i + 1) pieces)) (map f (drop (i + 1) pieces)))
+      ∙ ap concat (sym (map-append f (take (i + 1) pieces) (drop (i + 1) pieces)))
+      ∙ ap (λ all. concat (map f all)) (take-append-drop (i + 1) pieces) in
+      told_refused limit (concat (map f pieces)) fault
+      (subst (λ text. IsFaultTold limit text fault) whole
+      (told_stays limit (concat (map f (take (i + 1) pieces))) (concat (map f (drop (i + 1) pieces))) fault
+      (subst (λ text. IsFaultTold limit text fault) (sym (joined_more pieces i d below)) told)))

@@ -1,0 +1,63 @@
+-- What a source held.
+use Rattle.std.specs.Prelude.{◌≡◌, ℕ, ◌<◌, ◌≤◌, ◌⊎◌, List, [], ◌++◌, length, Option, Some, None, ⊤}
+use Rattle.docker_model.specs.file.Text.{lines_of}
+use Rattle.docker_model.specs.file.FaultSoFar.{IsFaultSoFar, lines_told}
+use Rattle.docker_model.specs.file.FileFault.{FileCause, IsFileFault}
+use Rattle.docker_model.specs.file.FileFault as model
+use Rattle.docker_laws.specs.LinesTold.{told_lines}
+use Rattle.cif_line.specs.Device.{Reads}
+use Rattle.cif_file.specs.declared.fault.FileFault.{FileFault}
+use Rattle.cif_file.specs.Meaning.{cause_meant}
+use Rattle.cif_file.specs.FileRead.{FileRead}
+use Rattle.cif_file.specs.ParserRead.{IsOfFileText, WantsMemoryAt}
+
+-- a source that tells its bytes held this text
+abbrev pub Held : Option (List ℕ) → List ℕ → Type 0
+Held None text = ⊤
+Held (Some left) text = left ≡ text
+
+-- the file is of a text that the source held, within the limit on records
+pub record ReadsText (limit : ℕ) (left : Option (List ℕ)) (file : FileRead) : Type 0 where
+  pub text : List ℕ
+  pub held : Held left text
+  pub of_text : IsOfFileText file limit text
+
+-- the fault is this text's, and no want of memory
+pub record IsFaultOf (limit : ℕ) (text : List ℕ) (fault : FileFault) : Type 0 where
+  pub cause : FileCause
+  pub cause_is : cause_meant fault.cause ≡ Some cause
+  pub is : IsFileFault limit text (record { number = fault.number; cause = cause })
+
+-- the fault is that of a text that the source held
+pub record RefusesText (limit : ℕ) (left : Option (List ℕ)) (fault : FileFault) : Type 0 where
+  pub text : List ℕ
+  pub held : Held left text
+  pub is : IsFaultOf limit text fault
+
+-- what was read has no record at fault so far before its last piece, which has at most so many bytes
+pub record ReadsNoFurther (most limit : ℕ) (old new : Option (List ℕ)) : Type 0 where
+  pub before : List ℕ
+  pub piece : List ℕ
+  pub sound : (fault : model.FileFault) → ¬ IsFaultSoFar limit before fault
+  pub at_once : length piece ≤ most
+  pub read : Reads old (before ++ piece) new
+
+-- memory was wanting for a record that the last piece, of at most so many bytes, is the first to tell, and no record up to it is at fault
+pub record WantsRecord (most limit : ℕ) (old new : Option (List ℕ)) : Type 0 where
+  pub before : List ℕ
+  pub piece : List ℕ
+  pub read : Reads old (before ++ piece) new
+  pub at_once : length piece ≤ most
+  pub number : ℕ
+  pub first : lines_told before < number
+  pub wanting : WantsMemoryAt limit (told_lines (before ++ piece)) number
+
+-- memory was wanting for the last record of a text that the source held, and no record of it is at fault
+pub record WantsLast (limit : ℕ) (left : Option (List ℕ)) : Type 0 where
+  pub text : List ℕ
+  pub held : Held left text
+  pub wanting : WantsMemoryAt limit (lines_of text) (length (lines_of text))
+
+-- memory was wanting: before a byte was read, for a record up to which none is at fault, or for the last one of such a text
+abbrev pub WantsMemory : ℕ → ℕ → Option (List ℕ) → Option (List ℕ) → Type 0
+WantsMemory most limit old new = Reads old [] new ⊎ WantsRecord most limit old new ⊎ WantsLast limit old

@@ -1,0 +1,82 @@
+//! The file that a source holds.
+ghost use Rattle.std.specs.Prelude.{◌≡◌, ◌≢◌, ℕ, ◌+◌, ◌-◌, ◌^◌, ◌<◌, ◌≤◌, ◌↔◌, List, length, IfOk, IsOk, Err};
+ghost use Rattle.docker_model.specs.file.Text.{lines_of};
+ghost use Rattle.cif_line.specs.Device.{IsEnd};
+ghost use Rattle.cif_file.specs.ParserRead.{HasRead, HasNotFailed, WantsMemoryAt, EndsAs};
+ghost use Rattle.cif_file.specs.SourceRead.{IsFaultOf, ReadsText, RefusesText, ReadsNoFurther, WantsMemory};
+
+use crate::fault::{FileCause, FileFault, ReadFault};
+use crate::file::CifFile;
+use crate::parser::FileParser;
+use crate::records::MOST_RECORDS;
+use cif_line::Source;
+use std::alloc::Global;
+
+/// How many bytes are read at once.
+const PIECE: usize = 65_536;
+
+/// The most bytes that a text without a fault has, of as many records as there may be: 82 for each of them, and 81 behind them.
+const MOST_BYTES: usize = 352_187_318_189;
+
+/// Reads a source to its end, and answers the file whose text it held, of at most `limit` records. It is read no further than to the piece, of at most 65,536
+/// bytes, that tells the first fault: so a source that never ends is read to the piece with the record above the limit at the latest.
+pub fn read_file<S: Source>(alloc: Global, source: &mut S, limit: u32) -> Result<CifFile, ReadFault>
+    requires failures { S.failures source.old < 2 ^ 64 - 1 }
+    requires limit { limit ≤ MOST_RECORDS }
+    ensures ok { IfOk result (ReadsText limit (S.left source.old)) }
+    ensures file { (fault : _) → result ≡ Err (ReadFault.File fault) →
+        RefusesText limit (S.left source.old) fault }
+    ensures memory { result ≡ Err ReadFault.Memory →
+        WantsMemory 65536 limit (S.left source.old) (S.left source.new) }
+    ensures end { IsOk result → IsEnd (S.left source.new) }
+    ensures no_further { ReadsNoFurther 65536 limit (S.left source.old) (S.left source.new) }
+    ensures source { (result ≡ Err ReadFault.Source) ↔
+        (S.failures source.new ≡ S.failures source.old + 1) }
+    ensures no_failure { result ≢ Err ReadFault.Source →
+        S.failures source.new ≡ S.failures source.old }
+{
+    let Ok(mut piece) = vec![in alloc; 0u8; PIECE] else {
+        return Err(ReadFault::Memory);
+    };
+    let mut parser = FileParser::new(alloc, limit);
+    for _ in 0..=MOST_BYTES {
+        let Ok(n) = source.read(piece.as_mut_slice()) else {
+            return Err(ReadFault::Source);
+        };
+        if n == 0 {
+            return file_of(parser);
+        }
+        if let Err(fault) = parser.feed(&piece[..n]) {
+            return Err(fault_of(fault));
+        }
+    }
+    unreachable!()
+}
+
+/// The file that a parser was fed.
+fn file_of(parser: FileParser) -> Result<CifFile, ReadFault>
+    ensures ok { IfOk result (EndsAs (HasRead parser)) }
+    ensures file { (limit : ℕ) (text : List ℕ) → HasRead parser limit text → (fault : _) →
+        result ≡ Err (ReadFault.File fault) → IsFaultOf limit text fault }
+    ensures memory { HasNotFailed parser → (limit : ℕ) (text : List ℕ) →
+        HasRead parser limit text → result ≡ Err ReadFault.Memory →
+        WantsMemoryAt limit (lines_of text) (length (lines_of text)) }
+    ensures source { result ≢ Err ReadFault.Source }
+{
+    match parser.finish() {
+        Ok(file) => Ok(file),
+        Err(fault) => Err(fault_of(fault)),
+    }
+}
+
+/// Want of memory is a fault of its own, and each other cause is the file's.
+fn fault_of(fault: FileFault) -> ReadFault
+    ensures memory { fault.cause ≡ FileCause.Memory → result ≡ ReadFault.Memory }
+    ensures file { fault.cause ≢ FileCause.Memory → result ≡ ReadFault.File fault }
+    ensures source { result ≢ ReadFault.Source }
+{
+    match fault.cause {
+        FileCause::Memory => ReadFault::Memory,
+        _ => ReadFault::File(fault),
+    }
+}

@@ -1,0 +1,346 @@
+-- Reading a source: what the parser was fed is what the source had.
+use Rattle.std.proofs.Common.{◌≡◌, ◌≢◌, ℕ, ◌+◌, ◌-◌, ◌<◌, ◌≤◌, List, [], ◌∷◌, ◌++◌, length, take, drop, refl, ap, sym, ◌∙◌, subst, inl, inr, ◌⊎◌, arith, append_assoc, append-nil, length-append, length-drop, Some, None, Err, Result}
+use Rattle.std.specs.Prelude.{Option, option_map, IfOk}
+use Rattle.std.proofs.lemmas.List.{take-append-drop, take-append-le, take-take}
+use Rattle.std.proofs.lemmas.Result.{IfOk-weaker}
+use Rattle.cif_line.specs.Device.{Reads, IsEnd}
+use Rattle.docker_model.specs.state.State.{State}
+use Rattle.docker_model.specs.state.StateText.{Format}
+use Rattle.docker_model.specs.state.StatePart.{text_before, before_mark}
+use Rattle.docker_model.specs.state.StateFault.{too_short, has_tail, IsStateFault, IsStateText, HasTail}
+use Rattle.docker_model.specs.state.StateFault as model
+use Rattle.docker_laws.proofs.texts.StateFaultStays.{bad_part_stays, long_stays}
+use Rattle.docker_bytes.specs.declared.fault.StateCause.{StateCause}
+use Rattle.docker_bytes.specs.declared.fault.StateCause.TheVariants as cause
+use Rattle.docker_bytes.specs.declared.fault.StateFault.{StateFault}
+use Rattle.docker_bytes.specs.declared.fault.Step.{Step}
+use Rattle.docker_bytes.specs.declared.fault.Step.TheVariants.{Done, More}
+use Rattle.docker_bytes.specs.declared.read.ReadFault.{ReadFault}
+use Rattle.docker_bytes.specs.declared.read.ReadFault.TheVariants as fault
+use Rattle.docker_bytes.specs.FaultMeaning.{cause_meant}
+use Rattle.docker_bytes.specs.Reading.{format_of, before_of, text_of, IsToldSoFar, IsFaultTold, IsToldAtEnd, IsUnended, IsWhole, IsWanting, IsStep, JoinsText}
+use Rattle.docker_bytes.specs.ParserRead.{ParserState, HasRead}
+use Rattle.docker_bytes.specs.SourceRead.{Held, ReadsState, IsCauseOf, IsFaultOf, RefusesState, ReadsOnePieceMore, ReadsAll, WantsSoFar, WantsMemory, JoinsState}
+use Rattle.docker_bytes.proofs.TextEnd.{sound_text}
+
+-- ---- causes
+
+none_is_memory : (c : StateCause) → cause_meant c ≡ None → c ≡ cause.Memory
+none_is_memory cause.Mark is = cc
+none_is_memory cause.Item is = cc
+none_is_memory cause.Order is = cc
+none_is_memory cause.Floor is = cc
+none_is_memory cause.Tag is = cc
+none_is_memory cause.Stamp is = cc
+none_is_memory cause.Body is = cc
+none_is_memory cause.Short is = cc
+none_is_memory cause.Tail is = cc
+none_is_memory cause.Long is = cc
+none_is_memory cause.Memory is = refl
+none_is_memory cause.Horizon is = cc
+
+memory_or_not : (c : StateCause) → (c ≡ cause.Memory) ⊎ (c ≢ cause.Memory)
+memory_or_not cause.Mark = inr (λ same. cc)
+memory_or_not cause.Item = inr (λ same. cc)
+memory_or_not cause.Order = inr (λ same. cc)
+memory_or_not cause.Floor = inr (λ same. cc)
+memory_or_not cause.Tag = inr (λ same. cc)
+memory_or_not cause.Stamp = inr (λ same. cc)
+memory_or_not cause.Body = inr (λ same. cc)
+memory_or_not cause.Short = inr (λ same. cc)
+memory_or_not cause.Tail = inr (λ same. cc)
+memory_or_not cause.Long = inr (λ same. cc)
+memory_or_not cause.Memory = inl refl
+memory_or_not cause.Horizon = inr (λ same. cc)
+
+-- a fault that is told as that of a state is the one that was found, and no want of memory
+not_memory : {A : Type 0} (found told : StateFault) (result : ReadFault) → (found.cause ≡ cause.Memory → result ≡ fault.Memory)
+    → (found.cause ≢ cause.Memory → result ≡ fault.State found)
+    → ◌≡◌ {A = Result A ReadFault} (Err result) (Err (fault.State told)) → (found ≡ told) × (found.cause ≢ cause.Memory)
+not_memory found told result memory state is = by (memory_or_not found.cause)
+  where
+    by : (found.cause ≡ cause.Memory) ⊎ (found.cause ≢ cause.Memory) → (found ≡ told) × (found.cause ≢ cause.Memory)
+    by (inl wanting) = absurd (let from = memory wanting in cc)
+    by (inr other) = (let from = state other in cc, other)
+
+told_so_far : (format : Format) (limit : ℕ) (text piece rest : List ℕ) (at : ℕ) (c : StateCause) → c ≢ cause.Memory
+    → IsToldSoFar format limit text piece at (cause_meant c)
+    → IsCauseOf format limit ((text ++ piece) ++ rest) at (cause_meant c)
+told_so_far format limit text piece rest at c other = by (cause_meant c) refl
+  where
+    by : (o : Option model.StateCause) → cause_meant c ≡ o → IsToldSoFar format limit text piece at o → IsCauseOf format limit ((text ++ piece) ++ rest) at o
+    by None is told = other (none_is_memory c is)
+    by (Some k) is (inl bad) = inl (bad_part_stays format limit (text ++ piece) rest (record { at = at; cause = k }) bad)
+    by (Some k) is (inr long) = inr (inl (long_stays format limit (text ++ piece) rest (record { at = at; cause = k }) long))
+
+told_at_end : (format : Format) (limit : ℕ) (text : List ℕ) (at : ℕ) (c : StateCause) → c ≢ cause.Memory → IsToldAtEnd format limit text at (cause_meant c)
+    → IsCauseOf format limit text at (cause_meant c)
+told_at_end format limit text at c other = by (cause_meant c) refl
+  where
+    by : (o : Option model.StateCause) → cause_meant c ≡ o → IsToldAtEnd format limit text at o → IsCauseOf format limit text at o
+    by None is told = other (none_is_memory c is)
+    by (Some k) is short = inr (inr (inl short))
+
+-- a fault that is told of a piece is that of all texts that begin so
+pub told_as_state : {A : Type 0} (format : Format) (limit : ℕ) (text piece rest : List ℕ) (found told : StateFault) (result : ReadFault)
+    → IsFaultTold format limit text piece found → (found.cause ≡ cause.Memory → result ≡ fault.Memory)
+    → (found.cause ≢ cause.Memory → result ≡ fault.State found) → ◌≡◌ {A = Result A ReadFault} (Err result) (Err (fault.State told))
+    → IsFaultOf format limit ((text ++ piece) ++ rest) told
+told_as_state format limit text piece rest found told result so_far memory state is =
+    let same = not_memory found told result memory state is in
+    subst (IsFaultOf format limit ((text ++ piece) ++ rest)) same.0 (told_so_far format limit text piece rest found.at found.cause same.1 so_far)
+
+-- a fault that is told at the end is the text's
+pub ended_as_state : {A : Type 0} (format : Format) (limit : ℕ) (text : List ℕ) (found told : StateFault) (result : ReadFault)
+    → IsUnended format limit text found → (found.cause ≡ cause.Memory → result ≡ fault.Memory)
+    → (found.cause ≢ cause.Memory → result ≡ fault.State found) → ◌≡◌ {A = Result A ReadFault} (Err result) (Err (fault.State told))
+    → IsFaultOf format limit text told
+ended_as_state format limit text found told result at_end memory state is =
+    let same = not_memory found told result memory state is in
+    subst (IsFaultOf format limit text) same.0 (told_at_end format limit text found.at found.cause same.1 at_end)
+
+-- want of memory is told where it was found
+is_memory : {A : Type 0} (found : StateFault) (result : ReadFault) → (found.cause ≢ cause.Memory → result ≡ fault.State found)
+    → ◌≡◌ {A = Result A ReadFault} (Err result) (Err fault.Memory)
+    → found.cause ≡ cause.Memory
+is_memory found result state is = by (memory_or_not found.cause)
+  where
+    by : (found.cause ≡ cause.Memory) ⊎ (found.cause ≢ cause.Memory) → found.cause ≡ cause.Memory
+    by (inl wanting) = wanting
+    by (inr other) = absurd (let from = state other in cc)
+
+-- want of memory that is told of a piece is of one of its parts
+pub told_as_memory : {A : Type 0} (format : Format) (limit : ℕ) (text piece : List ℕ) (found : StateFault) (result : ReadFault)
+    → IsFaultTold format limit text piece found
+    → (found.cause ≢ cause.Memory → result ≡ fault.State found) → ◌≡◌ {A = Result A ReadFault} (Err result) (Err fault.Memory)
+    → (at : ℕ) × IsWanting format limit text piece at
+told_as_memory format limit text piece found result so_far state is =
+    (found.at, subst (λ c. IsToldSoFar format limit text piece found.at (cause_meant c)) (is_memory found result state is) so_far)
+
+-- want of memory that is told at the end is of a whole text
+pub ended_as_memory : {A : Type 0} (format : Format) (limit : ℕ) (text : List ℕ) (found : StateFault) (result : ReadFault) → IsUnended format limit text found
+    → (found.cause ≢ cause.Memory → result ≡ fault.State found) → ◌≡◌ {A = Result A ReadFault} (Err result) (Err fault.Memory) → IsWhole format limit text
+ended_as_memory format limit text found result at_end state is =
+    let wanting = subst (λ c. IsToldAtEnd format limit text found.at (cause_meant c)) (is_memory found result state is) at_end in
+    wanting.0
+
+-- ---- bytes behind the state
+
+tail_of : (format : Format) (limit : ℕ) (text piece rest : List ℕ) (used : ℕ) (found : StateFault) → used < length piece
+    → IsWhole format limit (text ++ take used piece) → found.at ≡ length (text ++ take used piece)
+    → found.cause ≡ cause.Tail → IsFaultOf format limit ((text ++ piece) ++ rest) found
+tail_of format limit text piece rest used found below whole at is =
+    subst (λ c. IsCauseOf format limit ((text ++ piece) ++ rest) found.at (cause_meant c)) (sym is)
+    (inr (inr (inr (by (drop used piece) (take-append-drop used piece) (let size = length-drop used piece in omega arith)))))
+  where
+    by : (behind : List ℕ) → take used piece ++ behind ≡ piece → 0 < length behind
+        → HasTail format limit ((text ++ piece) ++ rest) (record { at = found.at; cause = has_tail })
+    by [] split some = absurd (let none : 0 < length {A = ℕ} [] = some in omega arith)
+    by (next ∷ behind) split some = record {
+      state = whole.0;
+      valid = whole.1.valid;
+      next = next;
+      rest = behind ++ rest;
+      whole = ap (λ xs. (text ++ xs) ++ rest) (sym split)
+          ∙ ap (λ xs. xs ++ rest) (sym (append_assoc text (take used piece) (next ∷ behind)))
+          ∙ append_assoc (text ++ take used piece) (next ∷ behind) rest
+          ∙ ap (λ xs. xs ++ (next ∷ behind ++ rest)) whole.1.is;
+      within = (let size = ap length whole.1.is in let within = whole.1.within in omega arith);
+      cause = refl;
+      end_at = at ∙ ap length whole.1.is;
+    }
+
+-- a piece of which a byte was not used has a tail
+pub tail_told : (format : Format) (limit : ℕ) (text piece rest : List ℕ) (used : ℕ) (step : Step) (found : StateFault) → used < length piece
+    → IsStep format limit text piece (used, step)
+    → found.at ≡ length (text ++ take used piece) → found.cause ≡ cause.Tail → IsFaultOf format limit ((text ++ piece) ++ rest) found
+tail_told format limit text piece rest used Done found below whole at is = tail_of format limit text piece rest used found below whole at is
+tail_told format limit text piece rest used More found below more at is = absurd (let all = more.0 in omega arith)
+
+-- ---- turns
+
+-- after so many turns the parser was fed a text, which is what the source lost
+record IsAtTurn (format : Format) (limit : ℕ) (initial : Option (List ℕ)) (parser : ParserState) (now : Option (List ℕ)) : Type 0 where
+  text : List ℕ
+  read : HasRead parser format limit text
+  lost : Reads initial text now
+
+-- the same, shut so that the search does not open it
+pub HasTurned : Format → ℕ → Option (List ℕ) → ParserState → Option (List ℕ) → Type 0
+HasTurned format limit initial parser now = IsAtTurn format limit initial parser now
+
+-- nothing is lost before the first read
+pub lost_nothing : (left : Option (List ℕ)) → Reads left [] left
+lost_nothing None = refl
+lost_nothing (Some bytes) = refl
+
+-- at first
+pub at_start : (format : Format) (limit : ℕ) (left : Option (List ℕ)) (parser : ParserState) → HasRead parser format limit []
+    → HasTurned format limit left parser left
+unfolding HasTurned
+at_start format limit left parser read = record { text = []; read = read; lost = lost_nothing left }
+
+-- what is read behind what was read
+lost_more : (initial now next : Option (List ℕ)) (text piece : List ℕ) → Reads initial text now → Reads now piece next → Reads initial (text ++ piece) next
+lost_more initial now None text piece first more = first ∙ ap (option_map (λ rest. text ++ rest)) more
+lost_more initial now (Some rest) text piece first more = first ∙ ap (option_map (λ r. text ++ r)) more ∙ ap (λ t. Some t) (sym (append_assoc text piece rest))
+
+-- a piece more
+pub next_turn : (format : Format) (limit : ℕ) (initial now next : Option (List ℕ)) (before after : ParserState) (piece : List ℕ)
+    → HasTurned format limit initial before now → 0 < length piece
+    → Reads now piece next → ((text : List ℕ) → HasRead before format limit text → HasRead after format limit (text ++ piece))
+    → HasTurned format limit initial after next
+unfolding HasTurned
+next_turn format limit initial now next before after piece at some more read = record {
+  text = at.text ++ piece;
+  read = read at.text at.read;
+  lost = lost_more initial now next at.text piece at.lost more;
+}
+
+-- how many bytes a parser has read
+abbrev pub read_length : ParserState → ℕ
+read_length parser = length (text_of parser.reading)
+
+-- each turn reads further, within the limit
+pub fewer_left : (format : Format) (limit : ℕ) (initial now : Option (List ℕ)) (before after : ParserState) (piece : List ℕ)
+    → HasTurned format limit initial before now → 0 < length piece
+    → ((text : List ℕ) → HasRead before format limit text → HasRead after format limit (text ++ piece))
+    → limit + 1 - read_length after < limit + 1 - read_length before
+unfolding HasTurned
+fewer_left format limit initial now before after piece at some read =
+    let was = at.read in
+    let has = read at.text at.read in
+    let old : length (text_of before.reading) ≡ length at.text = ap length was.text_is in
+    let grown : length (text_of after.reading) ≡ length at.text + length piece = ap length has.text_is ∙ length-append at.text piece in
+    let size = length-append (text_before (format_of after.reading) (before_of after.reading)) after.reading.partial.items in
+    let reached = has.sound.reached_is in
+    let within = has.sound.within in
+    let same = has.limit_is in
+    omega arith
+
+-- what was read to the end is what the source held
+held_all : (initial now : Option (List ℕ)) (text : List ℕ) → Reads initial text now → IsEnd now → Held initial text
+held_all None now text lost end = tt
+held_all (Some told) None text lost end = cc
+held_all (Some told) (Some rest) text lost end =
+    let same : told ≡ text ++ rest = cc in
+    same ∙ ap (λ r. text ++ r) end ∙ append-nil text
+
+-- a parser that has read to the end has read all
+pub reads_all : (format : Format) (limit : ℕ) (initial now : Option (List ℕ)) (parser : ParserState) → HasTurned format limit initial parser now
+    → IsEnd now → ReadsAll format limit initial parser
+unfolding HasTurned
+reads_all format limit initial now parser at end = record { text = at.text; held = held_all initial now at.text at.lost end; read = at.read }
+
+-- a parser that has read nothing of a format under a limit
+pub unread : (parser : ParserState) (format : Format) (limit : ℕ) (text : List ℕ) → HasRead parser format limit text
+    → HasRead parser (format_of parser.reading) parser.reading.limit text
+unread parser format limit text has =
+    record { no_fault = has.no_fault; sound = has.sound; format_is = refl; limit_is = refl; text_is = has.text_is }
+
+-- what holds of the parser's format and limit holds of those that it was made for
+pub as_asked : (parser : ParserState) (format : Format) (limit : ℕ) (text : List ℕ) (P : Format → ℕ → Type 0) → HasRead parser format limit text
+    → P (format_of parser.reading) parser.reading.limit → P format limit
+as_asked parser format limit text P has told = subst (λ n. P format n) has.limit_is (subst (λ f. P f parser.reading.limit) has.format_is told)
+
+-- the state of a text that was read to its end
+pub state_of_all : (format : Format) (limit : ℕ) (initial : Option (List ℕ)) (parser : ParserState) (result : Result State ReadFault)
+    → ReadsAll format limit initial parser
+    → ((text : List ℕ) → HasRead parser format limit text → IfOk result (λ state. IsStateText format limit text state))
+    → IfOk result (ReadsState format limit initial)
+state_of_all format limit initial parser result all is =
+    IfOk-weaker result _ (ReadsState format limit initial) (λ state told. record { text = all.text; held = all.held; is = told }) (is all.text all.read)
+
+-- the fault of a text that was read to its end
+pub refused_of_all : (format : Format) (limit : ℕ) (initial : Option (List ℕ)) (parser : ParserState) (found : StateFault)
+    → ReadsAll format limit initial parser → ((text : List ℕ) → HasRead parser format limit text → IsFaultOf format limit text found)
+    → RefusesState format limit initial found
+refused_of_all format limit initial parser found all is = record { text = all.text; held = all.held; is = is all.text all.read }
+
+-- want of memory at the end of a text
+pub wants_of_all : (format : Format) (most limit : ℕ) (initial next : Option (List ℕ)) (parser : ParserState) → ReadsAll format limit initial parser
+    → ((text : List ℕ) → HasRead parser format limit text → IsWhole format limit text) → WantsMemory format most limit initial next
+wants_of_all format most limit initial next parser all is =
+    let whole = is all.text all.read in
+    inr (inr (whole.0, record { text = all.text; held = all.held; is = whole.1 }))
+
+-- want of memory before the end of a text
+pub wants_more : (format : Format) (most limit : ℕ) (initial next : Option (List ℕ)) → WantsSoFar format most limit initial next
+    → WantsMemory format most limit initial next
+wants_more format most limit initial next (inl nothing) = inl nothing
+wants_more format most limit initial next (inr part) = inr (inl part)
+
+-- the join with the state of a text that was read to its end
+pub joined_of_all : (format : Format) (limit : ℕ) (initial : Option (List ℕ)) (parser : ParserState) (own after : State)
+    → ReadsAll format limit initial parser → ((text : List ℕ) → HasRead parser format limit text → JoinsText format limit text own after)
+    → JoinsState format limit initial own after
+joined_of_all format limit initial parser own after all is =
+    let joins = is all.text all.read in
+    record { received = joins.received; read = record { text = all.text; held = all.held; is = joins.is }; join = joins.join }
+
+-- a fault that a text tells is that of what the source held
+pub refused_within : (format : Format) (limit : ℕ) (initial now next : Option (List ℕ)) (parser : ParserState) (found : StateFault) (piece : List ℕ)
+    → HasTurned format limit initial parser now
+    → Reads now piece next → ((text : List ℕ) → HasRead parser format limit text → (rest : List ℕ) → IsFaultOf format limit ((text ++ piece) ++ rest) found)
+    → RefusesState format limit initial found
+unfolding HasTurned
+refused_within format limit initial now next parser found piece at more is = by initial next (lost_more initial now next at.text piece at.lost more)
+  where
+    by : (initial next : Option (List ℕ)) → Reads initial (at.text ++ piece) next → RefusesState format limit initial found
+    by None next lost = record { text = (at.text ++ piece) ++ []; held = tt; is = is at.text at.read [] }
+    by (Some told) None lost = cc
+    by (Some told) (Some rest) lost = record { text = (at.text ++ piece) ++ rest; held = cc; is = is at.text at.read rest }
+
+-- nothing is read before the first read
+pub stops_at_first : (format : Format) (most limit : ℕ) (left : Option (List ℕ)) → ReadsOnePieceMore format most limit left left
+stops_at_first format most limit left = record {
+  text = [];
+  piece = [];
+  lost = lost_nothing left;
+  few = omega arith;
+  sound = inl (
+    record { at = 0; cause = too_short },
+    record { before = before_mark; good = tt; rest = []; whole = refl; ends = omega arith; within = omega arith; cause = refl; item_at = refl },
+  );
+}
+
+-- nothing is read behind a piece
+pub stops_behind : (format : Format) (most limit : ℕ) (initial now next : Option (List ℕ)) (parser : ParserState) (piece : List ℕ)
+    → HasTurned format limit initial parser now → Reads now piece next → length piece ≤ most
+    → ReadsOnePieceMore format most limit initial next
+unfolding HasTurned
+stops_behind format most limit initial now next parser piece at more few = record {
+  text = at.text;
+  piece = piece;
+  lost = lost_more initial now next at.text piece at.lost more;
+  few = few;
+  sound = sound_text parser format limit at.text at.read;
+}
+
+-- a source that failed lost nothing more
+pub stops_where_failed : (format : Format) (most limit : ℕ) (initial now next : Option (List ℕ)) (parser : ParserState)
+    → HasTurned format limit initial parser now → next ≡ now → ReadsOnePieceMore format most limit initial next
+stops_where_failed format most limit initial now next parser at same =
+    stops_behind format most limit initial now next parser [] at (subst (Reads now []) (sym same) (lost_nothing now)) (omega arith)
+
+-- want of memory for a part of a piece
+pub wants_part : (format : Format) (most limit : ℕ) (initial now next : Option (List ℕ)) (parser : ParserState) (piece : List ℕ)
+    → HasTurned format limit initial parser now → Reads now piece next → length piece ≤ most
+    → ((text : List ℕ) → HasRead parser format limit text → (at : ℕ) × IsWanting format limit text piece at) → WantsSoFar format most limit initial next
+unfolding HasTurned
+wants_part format most limit initial now next parser piece at more few is =
+    let wanting = is at.text at.read in
+    inr (record {
+      text = at.text;
+      piece = piece;
+      lost = lost_more initial now next at.text piece at.lost more;
+      few = few;
+      at = wanting.0;
+      wanting = wanting.1;
+    })
+
+-- the bytes of a buffer that were read
+pub same_front : (n len : ℕ) (piece into items : List ℕ) → piece ≡ take len (into ++ drop (length into) items) → length into ≡ len → n ≤ length into
+    → take n piece ≡ take n into
+same_front n len piece into items is whole within = ap (take n) (is ∙ take-append-le len into (drop (length into) items) (omega arith))
+    ∙ take-take n len into (omega arith)

@@ -1,0 +1,116 @@
+-- A reading at the end of a state has read that state's text, and no other reading has.
+use Rattle.std.proofs.Common.{◌≡◌, ℕ, ◌<◌, ◌≤◌, List, [], ◌++◌, length, refl, ap, sym, ◌∙◌, subst, inl, inr, ◌⊎◌, arith, append-nil, length-append, None}
+use Rattle.docker_model.specs.state.State.{State}
+use Rattle.docker_model.specs.state.StateText.{Format, state_text}
+use Rattle.docker_model.specs.state.StatePart.{at_end, items_before, text_before, width, AreGood}
+use Rattle.docker_model.specs.state.StateFault.{too_short, IsStateText}
+use Rattle.docker_laws.proofs.texts.TextOrFault.{end_or_part}
+use Rattle.docker_laws.proofs.texts.OneStateFault.{no_fault_of_state}
+use Rattle.docker_bytes.specs.declared.stage.Stage.{Stage}
+use Rattle.docker_bytes.specs.declared.stage.Stage.TheVariants as stage
+use Rattle.docker_bytes.specs.declared.reading.Reading.{Reading}
+use Rattle.docker_bytes.specs.Stage.{stage_meant}
+use Rattle.docker_bytes.specs.Reading.{format_of, before_of, text_of, IsReading, IsWhole, IsOpen, IsToldAtEnd}
+use Rattle.docker_bytes.specs.ParserRead.{ParserState, HasRead}
+use Rattle.std.proofs.lemmas.Bool.{cases_lt}
+use Rattle.std.proofs.lemmas.List.{nil_from_length}
+
+state_at_end : (p : Stage) (parts state : State) (lines : List (List ℕ)) → stage_meant p parts lines ≡ at_end state → state ≡ parts
+state_at_end stage.Mark parts state lines is = cc
+state_at_end stage.Horizon parts state lines is = cc
+state_at_end stage.LedgerCount parts state lines is = cc
+state_at_end (stage.Item count) parts state lines is = cc
+state_at_end stage.EntryCount parts state lines is = cc
+state_at_end (stage.Tag count) parts state lines is = cc
+state_at_end (stage.Key count kind) parts state lines is = cc
+state_at_end (stage.Stamp count key) parts state lines is = cc
+state_at_end (stage.Op count key stamp) parts state lines is = cc
+state_at_end (stage.Body count key stamp) parts state lines is = cc
+state_at_end (stage.Line count key stamp n) parts state lines is = cc
+state_at_end stage.End parts state lines is = cc
+
+-- where no part is next, all parts are told
+at_its_end : (reading : Reading) → IsReading reading → width (before_of reading) ≡ 0 → before_of reading ≡ at_end reading.parts.told
+at_its_end reading is none = by (end_or_part (format_of reading) (before_of reading) is.ready.good)
+  where
+    by : ((state : State) × (before_of reading ≡ at_end state)) ⊎ (0 < width (before_of reading)) → before_of reading ≡ at_end reading.parts.told
+    by (inr some) = absurd (omega arith)
+    by (inl told) = told.1 ∙ ap at_end (state_at_end reading.stage reading.parts.told told.0 reading.lines told.1)
+
+-- where no part is next, the text is that of the parts
+pub whole_text : (reading : Reading) → IsReading reading → width (before_of reading) ≡ 0
+    → IsStateText (format_of reading) reading.limit (text_of reading) reading.parts.told
+whole_text reading is none = record {
+  valid = subst (AreGood (format_of reading)) end is.ready.good;
+  is = ap (λ b. text_before (format_of reading) b ++ reading.partial.items) end
+      ∙ ap (λ xs. (state_text (format_of reading) reading.parts.told ++ []) ++ xs) (nil_from_length reading.partial.items empty)
+      ∙ append-nil (state_text (format_of reading) reading.parts.told ++ []) ∙ append-nil (state_text (format_of reading) reading.parts.told);
+  within = (let size = length-append (text_before (format_of reading) (before_of reading)) reading.partial.items in let reached = is.reached_is in
+      let within = is.within in omega arith);
+}
+  where
+    end : before_of reading ≡ at_end reading.parts.told
+    end = at_its_end reading is none
+
+    empty : length reading.partial.items ≡ 0
+    empty = let short = is.short in omega arith
+
+-- and its end is where the next item would begin
+pub wanting_at_end : (reading : Reading) → IsReading reading → width (before_of reading) ≡ 0
+    → IsToldAtEnd (format_of reading) reading.limit (text_of reading) reading.item_at None
+wanting_at_end reading is none =
+    let whole = whole_text reading is none in
+    ((reading.parts.told, whole), is.item_is ∙ ap length (ap (items_before (format_of reading)) (at_its_end reading is none) ∙ sym whole.is))
+
+-- where a part is next the text is open
+pub open_reading : (reading : Reading) → IsReading reading → 0 < width (before_of reading) → IsOpen (format_of reading) reading.limit (text_of reading)
+open_reading reading is some = (
+  record { at = length (items_before (format_of reading) (before_of reading)); cause = too_short },
+  record {
+    before = before_of reading;
+    good = is.ready.good;
+    rest = reading.partial.items;
+    whole = refl;
+    ends = (let short = is.short in omega arith);
+    within = (let size = length-append (text_before (format_of reading) (before_of reading)) reading.partial.items in let reached = is.reached_is in
+        let within = is.within in omega arith);
+    cause = refl;
+    item_at = refl;
+  },
+)
+
+-- an open text is not whole
+pub not_both : (format : Format) (limit : ℕ) (text : List ℕ) → IsOpen format limit text → ¬ IsWhole format limit text
+not_both format limit text open_one whole = no_fault_of_state format limit text whole.0 open_one.0 whole.1 (inr (inr (inl open_one.1)))
+
+-- what a parser has read is not at fault
+pub sound_text : (parser : ParserState) (format : Format) (limit : ℕ) (text : List ℕ) → HasRead parser format limit text
+    → IsOpen format limit text ⊎ IsWhole format limit text
+sound_text parser format limit text has =
+    subst (λ f. IsOpen f limit text ⊎ IsWhole f limit text) has.format_is
+    (subst (λ n. IsOpen (format_of parser.reading) n text ⊎ IsWhole (format_of parser.reading) n text) has.limit_is
+    (subst (λ xs. IsOpen (format_of parser.reading) parser.reading.limit xs ⊎ IsWhole (format_of parser.reading) parser.reading.limit xs) has.text_is
+    (by (cases_lt 0 (width (before_of parser.reading))))))
+  where
+    by : (0 < width (before_of parser.reading)) ⊎ (width (before_of parser.reading) ≤ 0)
+        → IsOpen (format_of parser.reading) parser.reading.limit (text_of parser.reading) ⊎ IsWhole (format_of parser.reading) parser.reading.limit
+        (text_of parser.reading)
+    by (inl some) = inl (open_reading parser.reading has.sound some)
+    by (inr none) = inr (parser.reading.parts.told, whole_text parser.reading has.sound (omega arith))
+
+-- what a parser has read where a part is next is not whole
+pub not_whole_yet : (parser : ParserState) (reading : Reading) (format : Format) (limit : ℕ) (text : List ℕ) → parser.reading ≡ reading
+    → HasRead parser format limit text → ¬ (width (before_of reading) ≡ 0) → ¬ IsWhole format limit text
+not_whole_yet parser reading format limit text same has some whole =
+    let read = open_reading parser.reading has.sound
+    (above_none (width (before_of parser.reading)) (λ none. some (sym (ap (λ r. width (before_of r)) same) ∙ none))) in
+    not_both format limit text (subst (λ f. IsOpen f limit text) has.format_is
+    (subst (λ n. IsOpen (format_of parser.reading) n text) has.limit_is (subst (IsOpen (format_of parser.reading) parser.reading.limit) has.text_is read)))
+    whole
+  where
+    above_none : (n : ℕ) → ¬ (n ≡ 0) → 0 < n
+    above_none n not_none = by (cases_lt 0 n)
+      where
+        by : (0 < n) ⊎ (n ≤ 0) → 0 < n
+        by (inl some) = some
+        by (inr few) = absurd (not_none (omega arith))

@@ -1,0 +1,14 @@
+use Rattle.std.proofs.Common.{◌≡◌, sym, ap, true, false}
+use Rattle.docker_bytes.specs.ParserRead.{ParserState}
+use Rattle.docker_bytes.proofs.TextEnd.{not_whole_yet}
+use Rattle.docker_bytes.proofs.parser.Parser.feed.Goals as goal
+
+pub returns-in-Ok-clause-done : goal.returns-in-Ok-clause-done
+returns-in-Ok-clause-done c = λ format limit text has whole.
+    absurd (not_whole_yet c.args.self.now c.self.inside.reading format limit text (ap (λ (p : ParserState). p.reading) (sym c.self.view_is)) has
+    (λ none. let is : c.is_done.result ≡ true = c.is_done.ensures.1 none in let other : c.is_done.result ≡ false = c.if-is_done.false in cc) whole)
+
+pub returns-in-Err-clause-done : goal.returns-in-Err-clause-done
+returns-in-Err-clause-done c = λ format limit text has whole.
+    absurd (not_whole_yet c.args.self.now c.self.inside.reading format limit text (ap (λ (p : ParserState). p.reading) (sym c.self.view_is)) has
+    (λ none. let is : c.is_done.result ≡ true = c.is_done.ensures.1 none in let other : c.is_done.result ≡ false = c.if-is_done.false in cc) whole)

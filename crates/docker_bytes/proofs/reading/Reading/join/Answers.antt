@@ -1,0 +1,25 @@
+use Rattle.std.proofs.Common.{◌≡◌, sym, ap, subst, arith}
+use Rattle.std.specs.Prelude.{is_ok}
+use Rattle.docker_model.specs.state.StatePart.{width}
+use Rattle.docker_bytes.specs.declared.fault.StateCause.{StateCause}
+use Rattle.docker_bytes.specs.FaultMeaning.{cause_meant}
+use Rattle.docker_bytes.specs.Reading.{format_of, before_of, text_of, IsToldAtEnd}
+use Rattle.docker_bytes.proofs.TextEnd.{whole_text, wanting_at_end}
+use Rattle.docker_bytes.proofs.reading.Reading.join.Goals as goal
+
+pub returns-in-Ok-clause-ok : goal.returns-in-Ok-clause-ok
+returns-in-Ok-clause-ok c = λ ok own is.
+    let told = c.width.ensures.value c.args.self.parts.told c.args.self.lines in
+    let low = c.if-width-gt0.false in
+    let none : width (before_of c.args.self) ≡ 0 = omega arith in record {
+      received = c.args.self.parts.told;
+      is = whole_text c.args.self c.requires.reading none;
+      join = c.join-state.ensures.ok (ap is_ok c.in-Ok.is) own is;
+    }
+
+pub returns-clause-err : goal.returns-clause-err
+returns-clause-err c =
+    let told = c.width.ensures.value c.args.self.parts.told c.args.self.lines in
+    let low = c.if-width-gt0.false in
+    subst (λ (k : StateCause). IsToldAtEnd (format_of c.args.self) c.args.self.limit (text_of c.args.self) c.args.self.item_at (cause_meant k))
+    (sym c.from-cause.ensures) (wanting_at_end c.args.self c.requires.reading (omega arith))

@@ -1,0 +1,96 @@
+//! A state joined with the one that a source holds.
+ghost use Rattle.std.specs.Prelude.{◌≡◌, ◌≢◌, ℕ, ◌+◌, ◌-◌, ◌^◌, ◌<◌, ◌↔◌, List, IsOk, IsErr, IsSome, Err, Some};
+ghost use Rattle.docker_model.specs.state.State as states;
+ghost use Rattle.docker_model.specs.state.State.{IsValid};
+ghost use Rattle.docker_model.specs.state.StateText.{dks_2};
+ghost use Rattle.docker_model.specs.state.StateText as formats;
+ghost use Rattle.docker_bytes.specs.ParserRead.{HasRead, own_of};
+ghost use Rattle.docker_bytes.specs.Reading.{IsWhole, JoinsText};
+ghost use Rattle.docker_bytes.specs.SourceRead.{RefusesState, IsFaultOf, ReadsOnePieceMore, WantsMemory, JoinsState};
+
+use crate::parser::Parser;
+use crate::read::{ReadFault, fault_of, read_pieces};
+use cif_line::Source;
+use docker_state::State;
+use std::alloc::Global;
+use std::mem;
+
+/// Joins a state with the one whose text of the mark `DKS2` a source holds, which is read as `read_state` reads it. Of the entries received only those are kept
+/// that the state takes over, and it takes them over once the end of the source was seen: each refusal is one of `read_state`, and leaves the state as it was.
+pub fn join_state<S: Source>(
+    alloc: Global,
+    state: &mut State,
+    source: &mut S,
+    limit: u64,
+) -> Result<(), ReadFault>
+    requires { S.failures source.old < 2 ^ 64 - 1 }
+    ensures ok { IsOk result →
+        JoinsState dks_2 limit (S.left source.old) state.old state.new }
+    ensures unchanged { IsErr result → state.new ≡ state.old }
+    ensures state { (fault : _) → result ≡ Err (ReadFault.State fault) →
+        RefusesState dks_2 limit (S.left source.old) fault }
+    ensures memory { result ≡ Err ReadFault.Memory →
+        WantsMemory dks_2 65536 limit (S.left source.old) (S.left source.new) }
+    ensures few { ReadsOnePieceMore dks_2 65536 limit (S.left source.old) (S.left source.new) }
+    ensures source { (result ≡ Err ReadFault.Source) ↔
+        (S.failures source.new ≡ S.failures source.old + 1) }
+    ensures no_failure { result ≢ Err ReadFault.Source →
+        S.failures source.new ≡ S.failures source.old }
+{
+    // A state is valid, as its ledger tells.
+    let _ledger = state.ledger();
+    let own = mem::replace(state, State::empty(alloc));
+    let (after, result) = receive(alloc, own, source, limit);
+    *state = after;
+    result
+}
+
+/// The same of a state that is handed over, and back.
+fn receive<S: Source>(
+    alloc: Global,
+    own: State,
+    source: &mut S,
+    limit: u64,
+) -> (State, Result<(), ReadFault>)
+    requires failures { S.failures source.old < 2 ^ 64 - 1 }
+    requires valid { IsValid own }
+    ensures ok { IsOk result.1 → JoinsState dks_2 limit (S.left source.old) own result.0 }
+    ensures unchanged { IsErr result.1 → result.0 ≡ own }
+    ensures state { (fault : _) → result.1 ≡ Err (ReadFault.State fault) →
+        RefusesState dks_2 limit (S.left source.old) fault }
+    ensures memory { result.1 ≡ Err ReadFault.Memory →
+        WantsMemory dks_2 65536 limit (S.left source.old) (S.left source.new) }
+    ensures few { ReadsOnePieceMore dks_2 65536 limit (S.left source.old) (S.left source.new) }
+    ensures source { (result.1 ≡ Err ReadFault.Source) ↔
+        (S.failures source.new ≡ S.failures source.old + 1) }
+    ensures no_failure { result.1 ≢ Err ReadFault.Source →
+        S.failures source.new ≡ S.failures source.old }
+{
+    let mut parser = Parser::received_by(alloc, own, limit);
+    if let Err(fault) = read_pieces(alloc, source, &mut parser) {
+        return (parser.into_own(), Err(fault));
+    }
+    join(parser)
+}
+
+/// The state that receives what a parser was fed, joined with it.
+fn join(parser: Parser) -> (State, Result<(), ReadFault>)
+    requires { IsSome (own_of parser) }
+    ensures ok { (format : formats.Format) (limit : ℕ) (text : List ℕ) →
+        HasRead parser format limit text → IsOk result.1 → (own : states.State) →
+        own_of parser ≡ Some own → JoinsText format limit text own result.0 }
+    ensures back { IsErr result.1 → own_of parser ≡ Some result.0 }
+    ensures state { (format : formats.Format) (limit : ℕ) (text : List ℕ) →
+        HasRead parser format limit text → (fault : _) → result.1 ≡ Err (ReadFault.State fault) →
+        IsFaultOf format limit text fault }
+    ensures memory { (format : formats.Format) (limit : ℕ) (text : List ℕ) →
+        HasRead parser format limit text → result.1 ≡ Err ReadFault.Memory →
+        IsWhole format limit text }
+    ensures source { result.1 ≢ Err ReadFault.Source }
+{
+    let (state, done) = parser.join();
+    match done {
+        Ok(()) => (state, Ok(())),
+        Err(fault) => (state, Err(fault_of(fault))),
+    }
+}

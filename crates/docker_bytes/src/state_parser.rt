@@ -1,0 +1,79 @@
+//! A parser that is fed the text of a state piece by piece.
+ghost use Rattle.std.specs.Prelude.{◌≡◌, ℕ, ◌+◌, ◌≤◌, List, [], ◌++◌, length, take, IfOk, IfErr, Ok, Err};
+ghost use Rattle.docker_model.specs.state.StateText.{dks_2};
+ghost use Rattle.docker_model.specs.state.StateText as formats;
+ghost use Rattle.docker_model.specs.state.StateFault.{IsStateText};
+ghost use Rattle.docker_bytes.specs.Reading.{IsFaultTold, IsUnended, IsStep, IsWhole};
+ghost use Rattle.docker_bytes.specs.ParserRead.{HasRead, HasFailed};
+
+use crate::fault::{StateFault, Step};
+use crate::format::Format;
+use crate::parser::Parser;
+use docker_state::State;
+use std::alloc::Global;
+use std::marker::Model;
+
+/// A parser of the text of one state, which comes in pieces of any length. It keeps the parts so far, and at most 80 bytes of the one that comes next.
+#[derive(Debug, Drop)]
+pub struct StateParser {
+    parser: Parser,
+}
+
+impl Model for StateParser {
+    ghost use Rattle.std.specs.Prelude.{◌≡◌, None};
+    ghost use Rattle.docker_bytes.specs.ParserRead.{ParserState, own_of};
+
+    ghost Value = { ParserState };
+
+    ghost view = { λ it. it.parser };
+
+    ghost invariant = { λ it. own_of it.parser ≡ None };
+}
+
+impl StateParser {
+    /// A parser of a text of the mark `DKS2`, of at most `limit` bytes.
+    pub fn new(alloc: Global, limit: u64) -> StateParser
+        ensures { HasRead result dks_2 limit [] }
+    {
+        StateParser {
+            parser: Parser::new(alloc, Format::Dks2, limit),
+        }
+    }
+
+    /// Takes the next bytes of the text, and tells how many of them it used: at `More` all, and more are to come; at `Done` those up to the last byte of the
+    /// state, and from then on none. It is refused once a bad part is there, or a byte at the limit that the state needs, and it tells that fault; or where
+    /// memory is wanting for a part whose last byte it takes, at that part's item, and then no part up to it is bad. Each later call answers the same fault.
+    pub fn feed(&mut self, piece: &[u8]) -> Result<(usize, Step), StateFault>
+        ensures within { IfOk result (λ answer. answer.0 ≤ length piece.now) }
+        ensures read { (format : formats.Format) (limit : ℕ) (text : List ℕ) →
+            HasRead self.old format limit text →
+            IfOk result (λ answer. HasRead self.new format limit
+            (text ++ take answer.0 piece.now)) }
+        ensures step { (format : formats.Format) (limit : ℕ) (text : List ℕ) →
+            HasRead self.old format limit text → IfOk result (IsStep format limit text piece.now) }
+        ensures done { (format : formats.Format) (limit : ℕ) (text : List ℕ) →
+            HasRead self.old format limit text → IsWhole format limit text →
+            result ≡ Ok (0, Step.Done) }
+        ensures err { (format : formats.Format) (limit : ℕ) (text : List ℕ) →
+            HasRead self.old format limit text →
+            IfErr result (λ fault. IsFaultTold format limit text piece.now fault) }
+        ensures failed { IfErr result (λ fault. HasFailed self.new fault) }
+        ensures again { (fault : _) → HasFailed self.old fault → result ≡ Err fault }
+    {
+        self.parser.feed(piece)
+    }
+
+    /// The state whose text was read. `Short` where the text ends before the state does, at the item that is not whole; want of memory only of a whole text, at
+    /// its end. After a fault of `feed` it is that fault.
+    pub fn finish(self) -> Result<State, StateFault>
+        ensures ok { (format : formats.Format) (limit : ℕ) (text : List ℕ) →
+            HasRead self format limit text →
+            IfOk result (λ state. IsStateText format limit text state) }
+        ensures err { (format : formats.Format) (limit : ℕ) (text : List ℕ) →
+            HasRead self format limit text →
+            IfErr result (λ fault. IsUnended format limit text fault) }
+        ensures again { (fault : _) → HasFailed self fault → result ≡ Err fault }
+    {
+        self.parser.finish()
+    }
+}

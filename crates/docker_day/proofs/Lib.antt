@@ -1,0 +1,15 @@
+pub mod LineTimes
+pub mod Occurrences
+pub mod KeptLines
+pub mod FallsTold
+pub mod Along
+pub mod WalkOn
+pub mod Shown
+pub mod Days
+pub mod TrainLines
+pub mod Adding
+pub mod LinkLines
+pub mod Gathered
+pub mod Written
+pub mod RowPieces
+pub mod Printed

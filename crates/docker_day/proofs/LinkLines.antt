@@ -1,0 +1,96 @@
+-- The line of an association, from the events of its base train that a walk meets.
+use Rattle.std.proofs.Common.{◌≡◌, ℕ, Bool, true, false, cond, List, [], ◌∷◌, ◌++◌, map, refl, ap, sym, ◌∙◌, Some, None, append_assoc, append-nil}
+use Rattle.std.specs.Prelude.{Option, option_map, find}
+use Rattle.std.specs.List.{flat_map}
+use Rattle.std.specs.Str.{bytes_eq}
+use Rattle.docker_model.specs.records.Record.{columns}
+use Rattle.docker_model.specs.file.Change.{Key, tiploc_key, association_key, schedule_key, AssociationKey, Body, tiploc_body, association_body, schedule_body}
+use Rattle.docker_model.specs.file.Journey.{Occasion}
+use Rattle.docker_model.specs.docker.Event.{Event, events_of, event_line, first_event_at, is_at}
+use Rattle.docker_model.specs.docker.Choice.{Group}
+use Rattle.docker_model.specs.docker.Association.{category_occasion}
+use Rattle.docker_model.specs.state.Table.{Table}
+use Rattle.docker_model.specs.state.Row.{Row, AreRowsOf}
+use Rattle.docker_model.specs.docker.LiveRows.{Train, Link, train_in, link_in}
+use Rattle.docker_model.specs.docker.Gathering.{start_days, is_in_force, line_at, line_with, row_lines}
+use Rattle.docker_model.specs.docker.DockerLine.{DockerLine}
+use Rattle.docker_day.specs.Occurrences.{Occurrence, occurrence_of, occurrences}
+use Rattle.docker_day.specs.Lines.{Adds, is_call, link_line_by, link_line_with, link_piece, row_piece, row_back}
+use Rattle.docker_day.proofs.Days.{starts_split}
+
+abbrev no_line : List DockerLine
+no_line = []
+
+find_mapped : {A B : Type 0} (f : A → B) (p : B → Bool) (xs : List A) → find p (map f xs) ≡ option_map f (find (λ x. p (f x)) xs)
+find_mapped f p [] = refl
+find_mapped f p (x ∷ xs) = by (p (f x)) (find_mapped f p xs)
+  where
+    by : (b : Bool) → find p (map f xs) ≡ option_map f (find (λ y. p (f y)) xs)
+        → cond b (Some (f x)) (find p (map f xs)) ≡ option_map f (cond b (Some x) (find (λ y. p (f y)) xs))
+    by true rest = refl
+    by false rest = rest
+
+-- the first event of the call that a walk meets
+pub first_call_is : (lines : List (List ℕ)) (location : List ℕ) (suffix : ℕ)
+    → find (is_call location suffix) (occurrences lines) ≡ option_map (occurrence_of lines) (first_event_at lines location suffix)
+first_call_is lines location suffix = find_mapped (occurrence_of lines) (is_call location suffix) (events_of lines)
+
+-- the line of an association is that of the definitions
+link_line_is : (trains : List ℕ → ℕ → Option Train) (day start : ℕ) (link : Link) (occasion : Option Occasion) (base : Option Train)
+    → link_line_with trains day start link occasion base ≡ line_with trains day start link.key link.line occasion base
+link_line_is trains day start link None base = refl
+link_line_is trains day start link (Some occasion) None = refl
+link_line_is trains day start link (Some occasion) (Some base) =
+    ap (link_line_by trains day start link occasion base.key) (first_call_is base.lines link.key.location link.key.suffix)
+    ∙ by (first_event_at base.lines link.key.location link.key.suffix)
+  where
+    by : (event : Option Event) → link_line_by trains day start link occasion base.key (option_map (occurrence_of base.lines) event)
+        ≡ line_at trains day start link.key link.line occasion base event
+    by None = refl
+    by (Some event) = refl
+
+none_of_all : (days : List ℕ) → flat_map (λ (day : ℕ). no_line) days ≡ no_line
+none_of_all [] = refl
+none_of_all (day ∷ days) = none_of_all days
+
+-- the lines of a row are those of its start days
+row_pieces : (trains : List ℕ → ℕ → Option Train) (links : Group → ℕ → Option Link) (place : List ℕ) (day : ℕ) (key : Key) (body : Body)
+    → flat_map (row_piece trains links place day key body) (start_days day) ≡ row_lines trains links place day key body
+row_pieces trains links place day (schedule_key key) (schedule_body lines) = refl
+row_pieces trains links place day (association_key key) (association_body line) = by (bytes_eq key.location place)
+  where
+    by : (b : Bool) → flat_map (λ (start : ℕ). cond b (link_piece trains links day (record { key = key; line = line }) start) no_line) (start_days day)
+        ≡ cond b (flat_map (λ (start : ℕ). cond (is_in_force links start key line)
+        (line_with trains day start key line (category_occasion (columns 35 36 line)) (trains key.base start)) no_line) (start_days day)) no_line
+    by true = λ i. flat_map (λ (start : ℕ). cond (is_in_force links start key line)
+        (link_line_is trains day start (record { key = key; line = line }) (category_occasion (columns 35 36 line))
+        (trains key.base start) i) no_line) (start_days day)
+    by false = none_of_all (start_days day)
+row_pieces trains links place day (schedule_key key) (tiploc_body bytes) = none_of_all (start_days day)
+row_pieces trains links place day (schedule_key key) (association_body line) = none_of_all (start_days day)
+row_pieces trains links place day (association_key key) (tiploc_body bytes) = none_of_all (start_days day)
+row_pieces trains links place day (association_key key) (schedule_body lines) = none_of_all (start_days day)
+row_pieces trains links place day (tiploc_key code) body = none_of_all (start_days day)
+
+three_parts : (a b c d : List DockerLine) → ((a ++ b) ++ c) ++ d ≡ a ++ (b ++ (c ++ (d ++ no_line)))
+three_parts a b c d =
+    append_assoc (a ++ b) c d ∙ append_assoc a b (c ++ d) ∙ (λ i. a ++ (b ++ (c ++ sym (append-nil d) i)))
+
+module _ (place : List ℕ) (day : ℕ) (key : Key) (body : Body) where
+  three_at : (trains : List ℕ → ℕ → Option Train) (links : Group → ℕ → Option Link) (first second third last : List DockerLine)
+      → second ≡ first ++ row_back trains links place day key body 0 → third ≡ second ++ row_back trains links place day key body 1
+      → last ≡ third ++ row_back trains links place day key body 2 → last ≡ first ++ row_lines trains links place day key body
+  three_at trains links first second third last one two three =
+      three ∙ (λ i. two i ++ row_back trains links place day key body 2)
+      ∙ (λ i. (one i ++ row_back trains links place day key body 1) ++ row_back trains links place day key body 2)
+      ∙ three_parts first (row_back trains links place day key body 0) (row_back trains links place day key body 1) (row_back trains links place day key body 2)
+      ∙ ap (λ more. first ++ more) (sym (starts_split (row_piece trains links place day key body) day) ∙ row_pieces trains links place day key body)
+
+  -- so they are added by adding those of each start day that there is
+  pub three_backs : (live : Table) (first second third last : List DockerLine)
+      → Adds live (λ trains links. row_back trains links place day key body 0) first second
+      → Adds live (λ trains links. row_back trains links place day key body 1) second third
+      → Adds live (λ trains links. row_back trains links place day key body 2) third last
+      → Adds live (λ trains links. row_lines trains links place day key body) first last
+  three_backs live first second third last one two three =
+      λ rows are. three_at (train_in rows) (link_in rows) first second third last (one rows are) (two rows are) (three rows are)

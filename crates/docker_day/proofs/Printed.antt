@@ -1,0 +1,26 @@
+-- The text of a docker is that of the definitions.
+use Rattle.std.proofs.Common.{◌≡◌, ℕ, List, ◌++◌, refl, ap, sym, ◌∙◌, subst}
+use Rattle.std.specs.List.{flat_map}
+use Rattle.docker_model.specs.file.Change.{tiploc_key}
+use Rattle.docker_model.specs.state.Table.{Table}
+use Rattle.docker_model.specs.docker.DockerLine.{DockerLine}
+use Rattle.docker_model.specs.docker.DockerText.{IsDockerText, heading, description_in, line_text, last_line, ended}
+use Rattle.docker_day.specs.DockerValue.{Docker, head, text_of}
+use Rattle.docker_day.specs.Dockers.{IsDockerOf}
+
+head_is : (live : Table) (place : List ℕ) (day : ℕ) → head place day (description_in (live (tiploc_key place))) ≡ heading live place day
+unfolding head
+head_is live place day = refl
+
+-- of a docker of a table, a place and a day
+pub printed : (live : Table) (place : List ℕ) (day : ℕ) (docker : Docker) → IsDockerOf live place day docker → IsDockerText live place day (text_of docker)
+printed live place day docker is =
+    (docker.lines, is.list, ap (λ text. ended text ++ flat_map (λ line. ended (line_text line)) docker.lines ++ ended last_line) whole)
+  where
+    whole : head docker.place docker.day docker.description ≡ heading live place day
+    whole = (λ i. head (is.place_is i) (is.day_is i) (is.described i)) ∙ head_is live place day
+
+-- the heading that is written
+pub heading_is : (place given : List ℕ) (day told : ℕ) (description shown bytes : List ℕ) → given ≡ place → told ≡ day → shown ≡ description
+    → bytes ≡ ended (head given told shown) → bytes ≡ ended (head place day description)
+heading_is place given day told description shown bytes one two three is = is ∙ (λ i. ended (head (one i) (two i) (three i)))

@@ -1,0 +1,114 @@
+-- A text that is written part by part.
+use Rattle.std.proofs.Common.{◌≡◌, ℕ, suc, ◌+◌, ◌<◌, ◌≤◌, List, [], ◌∷◌, ◌++◌, length, take, drop, get_or, refl, ap, sym, ◌∙◌, subst, Some, None, Ok, Err, arith, append_assoc, append-nil, length-append}
+use Rattle.std.specs.Prelude.{Option, option_map, Result, OnErr}
+use Rattle.std.specs.List.{flat_map}
+use Rattle.std.proofs.Math.ListN.{drop_of_length-le}
+use Rattle.std.proofs.lemmas.List.{take-append-le}
+use Rattle.std.proofs.Math.Seq.{take-append-add, drop-cons}
+use Rattle.cif_line.specs.Device.{Takes, TakesPart}
+
+-- two parts, both taken
+pub both_taken : (first second third : Option (List ℕ)) (front back : List ℕ) → Takes first front second → Takes second back third
+    → Takes first (front ++ back) third
+both_taken None second third front back one two = two ∙ ap (option_map (λ taken. taken ++ back)) one
+both_taken (Some taken) second third front back one two =
+    two ∙ ap (option_map (λ out. out ++ back)) one ∙ ap Some (append_assoc taken front back)
+
+-- a beginning of the first is one of both
+pub part_of_front : (first second : Option (List ℕ)) (front back : List ℕ) → TakesPart first front second → TakesPart first (front ++ back) second
+part_of_front first second front back (n, short, taken) =
+    let long = length-append front back in
+    let same : take n (front ++ back) ≡ take n front = take-append-le n front back (omega arith) in
+    (n, omega arith, subst (λ bytes. Takes first bytes second) (sym same) taken)
+
+-- the first and a beginning of the second
+pub part_of_back : (first second third : Option (List ℕ)) (front back : List ℕ) → Takes first front second → TakesPart second back third
+    → TakesPart first (front ++ back) third
+part_of_back first second third front back one (n, short, taken) =
+    let long = length-append front back in (
+      length front + n,
+      omega arith,
+      subst (λ bytes. Takes first bytes third) (sym (take-append-add front back n))
+          (both_taken first second third front (take n back) one taken),
+    )
+
+-- what holds where a result is an error, of any result
+pub on_any_err : {A E : Type 0} (result : Result A E) {P : Type 0} → P → OnErr result P
+on_any_err (Ok a) holds = tt
+on_any_err (Err e) holds = holds
+
+-- three parts, each as it is
+module _ (first second third last : Option (List ℕ)) (a b c front middle back : List ℕ) (a_is : a ≡ front) (b_is : b ≡ middle) (c_is : c ≡ back) where
+  pub all_taken : Takes first a second → Takes second b third → Takes third c last → Takes first (front ++ middle ++ back) last
+  all_taken one two three =
+      both_taken first third last (front ++ middle) back
+      (both_taken first second third front middle (subst (λ bytes. Takes first bytes second) a_is one) (subst (λ bytes. Takes second bytes third) b_is two))
+      (subst (λ bytes. Takes third bytes last) c_is three)
+
+  pub part_of_first : TakesPart first a second → TakesPart first (front ++ middle ++ back) second
+  part_of_first one =
+      part_of_front first second (front ++ middle) back (part_of_front first second front middle (subst (λ bytes. TakesPart first bytes second) a_is one))
+
+  pub part_of_second : Takes first a second → TakesPart second b third → TakesPart first (front ++ middle ++ back) third
+  part_of_second one two =
+      part_of_front first third (front ++ middle) back
+      (part_of_back first second third front middle (subst (λ bytes. Takes first bytes second) a_is one)
+      (subst (λ bytes. TakesPart second bytes third) b_is two))
+
+  pub part_of_third : Takes first a second → Takes second b third → TakesPart third c last → TakesPart first (front ++ middle ++ back) last
+  part_of_third one two three =
+      part_of_back first third last (front ++ middle) back
+      (both_taken first second third front middle (subst (λ bytes. Takes first bytes second) a_is one) (subst (λ bytes. Takes second bytes third) b_is two))
+      (subst (λ bytes. TakesPart third bytes last) c_is three)
+
+-- ---- lines one by one
+
+-- what is written of lines from a place on leads from one sink to a later one, as what is written of all does
+pub record Leads {A : Type 0} (bytes : A → List ℕ) (lines rest : List A) (first now : Option (List ℕ)) : Type 0 where
+  pub whole : (last : Option (List ℕ)) → Takes now (flat_map bytes rest) last → Takes first (flat_map bytes lines) last
+  pub part : (last : Option (List ℕ)) → TakesPart now (flat_map bytes rest) last → TakesPart first (flat_map bytes lines) last
+
+drop_next : {A : Type 0} (i : ℕ) (xs : List A) (x : A) → i < length xs → x ≡ get_or xs i x → drop i xs ≡ x ∷ drop (i + 1) xs
+drop_next i xs x below at = drop-cons xs i x below ∙ (λ j. sym at j ∷ drop (one_more j) xs)
+  where
+    one_more : suc i ≡ i + 1
+    one_more = omega arith
+
+-- at first
+pub leads_first : {A : Type 0} (bytes : A → List ℕ) (lines : List A) (first : Option (List ℕ)) → Leads bytes lines (drop 0 lines) first first
+leads_first bytes lines first = record { whole = λ last taken. taken; part = λ last taken. taken }
+
+-- with one more line
+pub leads_on : {A : Type 0} (bytes : A → List ℕ) (lines : List A) (i : ℕ) (line : A) (text : List ℕ) (first now next : Option (List ℕ))
+    → i < length lines → line ≡ get_or lines i line
+    → text ≡ bytes line → Leads bytes lines (drop i lines) first now → Takes now text next → Leads bytes lines (drop (i + 1) lines) first next
+leads_on bytes lines i line text first now next below at is leads taken = record {
+  whole = λ last more. leads.whole last
+      (subst (λ b. Takes now b last) joined (both_taken now next last (bytes line) (flat_map bytes (drop (i + 1) lines)) here more));
+  part = λ last more. leads.part last
+      (subst (λ b. TakesPart now b last) joined (part_of_back now next last (bytes line) (flat_map bytes (drop (i + 1) lines)) here more));
+}
+  where
+    here : Takes now (bytes line) next
+    here = subst (λ b. Takes now b next) is taken
+
+    joined : bytes line ++ flat_map bytes (drop (i + 1) lines) ≡ flat_map bytes (drop i lines)
+    joined = ap (flat_map bytes) (sym (drop_next i lines line below at))
+
+-- a beginning of one more line
+pub leads_part : {A : Type 0} (bytes : A → List ℕ) (lines : List A) (i : ℕ) (line : A) (text : List ℕ) (first now next : Option (List ℕ))
+    → i < length lines → line ≡ get_or lines i line
+    → text ≡ bytes line → Leads bytes lines (drop i lines) first now → TakesPart now text next → TakesPart first (flat_map bytes lines) next
+leads_part bytes lines i line text first now next below at is leads part =
+    leads.part next
+    (subst (λ b. TakesPart now b next) (ap (flat_map bytes) (sym (drop_next i lines line below at)))
+    (part_of_front now next (bytes line) (flat_map bytes (drop (i + 1) lines)) (subst (λ b. TakesPart now b next) is part)))
+
+-- behind the last line
+pub leads_last : {A : Type 0} (bytes : A → List ℕ) (lines : List A) (i : ℕ) (first now : Option (List ℕ)) → length lines ≤ i
+    → Leads bytes lines (drop i lines) first now → Takes first (flat_map bytes lines) now
+leads_last {A} bytes lines i first now end leads = leads.whole now (nothing now (drop i lines) (drop_of_length-le lines end))
+  where
+    nothing : (sink : Option (List ℕ)) (rest : List A) → rest ≡ [] → Takes sink (flat_map bytes rest) sink
+    nothing None rest none = refl
+    nothing (Some taken) rest none = ap Some (sym (ap (λ r. taken ++ flat_map bytes r) none ∙ append-nil taken))

@@ -1,0 +1,13 @@
+use Rattle.std.specs.Prelude.{◌&&◌, ◌==◌, not}
+use Rattle.std.proofs.Common.{ap, ◌∙◌}
+use Rattle.docker_model.specs.file.Change.{AssociationKey}
+use Rattle.docker_model.specs.docker.Choice.{group_of}
+use Rattle.docker_model.specs.docker.Gathering.{counts_as}
+use Rattle.docker_model.specs.docker.LiveRows.{link_in}
+use Rattle.docker_day.proofs.link_lines.is_in_force.Goals as goal
+
+pub returns : goal.returns
+returns c = λ rows are.
+    let counts = c.counts_on.ensures rows are ∙ ap (λ (key : AssociationKey). counts_as (link_in rows (group_of key) c.args.start) key) c.key.ensures in
+    let stands = c.stands.ensures ∙ ap (λ (key : AssociationKey). not (key.indicator == 67)) c.key-2.ensures in
+    λ i. (counts i && stands i) && c.has_indicator.ensures i

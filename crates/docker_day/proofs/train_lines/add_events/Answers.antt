@@ -1,0 +1,20 @@
+use Rattle.std.proofs.Common.{◌++◌, ap, ◌∙◌, refl}
+use Rattle.std.proofs.lemmas.Result.{on_ok_weaker}
+use Rattle.docker_day.specs.Occurrences.{occurrences}
+use Rattle.docker_day.specs.Lines.{lines_there}
+use Rattle.docker_day.proofs.TrainLines.{event_lines_are, no_event_lines}
+use Rattle.docker_day.proofs.train_lines.add_events.Goals as goal
+
+pub returns-in-Some : goal.returns-in-Some
+returns-in-Some c =
+    let key = c.args.train.now.key in
+    let lines = c.args.train.now.lines in
+    on_ok_weaker c.add_there.result
+    (λ same. same ∙ ap (λ more. c.args.lines.now.items ++ more)
+    ((λ i. lines_there c.args.place.now c.args.day c.args.start key (c.in-Some.ensures.ends i) (occurrences lines))
+    ∙ event_lines_are c.args.place.now c.args.day c.args.start key lines))
+    c.add_there.ensures
+
+pub returns-in-None : goal.returns-in-None
+returns-in-None c =
+    no_event_lines c.args.place.now c.args.day c.args.start c.args.train.now.key c.args.train.now.lines c.args.lines.now.items (c.in-None.ensures.none refl)

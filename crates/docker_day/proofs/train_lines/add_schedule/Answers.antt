@@ -1,0 +1,13 @@
+use Rattle.std.proofs.Common.{sym, ◌∙◌, refl}
+use Rattle.std.proofs.lemmas.Result.{on_ok_weaker}
+use Rattle.docker_day.proofs.Adding.{added_if, not_added}
+use Rattle.docker_day.proofs.train_lines.add_schedule.Goals as goal
+
+pub returns-then-runs_by : goal.returns-then-runs_by
+returns-then-runs_by c =
+    on_ok_weaker c.add_events.result
+    (λ same. λ rows are. added_if _ _ _ _ (sym (c.runs_by.ensures rows are) ∙ c.if-runs_by.true) same)
+    c.add_events.ensures
+
+pub returns-else-runs_by : goal.returns-else-runs_by
+returns-else-runs_by c = λ rows are. not_added _ _ _ (sym (c.runs_by.ensures rows are) ∙ c.if-runs_by.false)

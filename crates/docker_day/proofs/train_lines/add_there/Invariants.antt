@@ -1,0 +1,11 @@
+use Rattle.std.proofs.Common.{◌≡◌, ◌++◌}
+use Rattle.docker_day.specs.Occurrences.{occurrences}
+use Rattle.docker_day.specs.Details.{detail_meant}
+use Rattle.docker_day.specs.Lines.{lines_there}
+use Rattle.docker_day.proofs.train_lines.add_there.Given as goal
+
+-- what is out and the lines of the events to come are all
+abbrev pub invariant-loop-event : goal.invariant-loop-event
+invariant-loop-event l =
+    l.lines.items ++ lines_there l.place l.day l.start l.train.key (detail_meant l.detail) l.event-iterator
+    ≡ l.initial.lines.items ++ lines_there l.place l.day l.start l.train.key (detail_meant l.detail) (occurrences l.train.lines)

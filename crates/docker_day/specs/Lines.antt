@@ -1,0 +1,125 @@
+-- The lines of a docker, from the events that a walk meets.
+use Rattle.std.specs.Prelude.{◌≡◌, ℕ, ◌+◌, ◌-◌, Bool, ◌&&◌, ◌==◌, nat_le, if◌then◌else◌, find, List, [], ◌∷◌, ◌++◌, Option, Some, None}
+use Rattle.std.specs.Str.{bytes_eq}
+use Rattle.docker_model.specs.records.Record.{kind_of, columns, column}
+use Rattle.docker_model.specs.file.Change.{Key, association_key, schedule_key, AssociationKey, ScheduleKey, Body, association_body, schedule_body}
+use Rattle.docker_model.specs.docker.Choice.{Group}
+use Rattle.docker_model.specs.file.Journey.{Occasion}
+use Rattle.docker_model.specs.docker.Event.{is_at}
+use Rattle.docker_model.specs.state.Table.{Table}
+use Rattle.docker_model.specs.docker.DockerLine.{DockerLine, Detail, partner, platform_by_kind, track_by_kind, path_by_kind, public_by_kind}
+use Rattle.docker_model.specs.records.PrintedTime.{spaces}
+use Rattle.docker_model.specs.state.Row.{Row, AreRowsOf}
+use Rattle.docker_model.specs.docker.LiveRows.{Train, Link, train_in, link_in}
+use Rattle.docker_model.specs.docker.Association.{category_occasion, partner_start}
+use Rattle.docker_model.specs.docker.Gathering.{event_lines, runs_by, partner_identity, is_in_force}
+use Rattle.docker_day.specs.Occurrences.{Occurrence, occurrences}
+
+-- the line of an event, of a schedule known by the key, on a start day, with these ends
+abbrev pub line_at_event : ScheduleKey → ℕ → Detail → Occurrence → DockerLine
+line_at_event key start detail event = record {
+  time = event.time;
+  occasion = event.occasion;
+  identity = event.identity;
+  uid = key.uid;
+  indicator = key.indicator;
+  suffix = column 10 event.line;
+  platform = platform_by_kind (kind_of event.line) event.line;
+  track = track_by_kind (kind_of event.line) event.line;
+  path = path_by_kind (kind_of event.line) event.line;
+  public_time = public_by_kind (kind_of event.line) event.occasion event.line;
+  start = start;
+  number = event.number;
+  detail = detail;
+}
+
+-- the line of an association at an event of the base train
+abbrev pub line_of_link : Occasion → AssociationKey → ScheduleKey → ℕ → Occurrence → List ℕ → DockerLine
+line_of_link occasion key base start event identity = record {
+  time = event.time;
+  occasion = occasion;
+  identity = event.identity;
+  uid = base.uid;
+  indicator = key.indicator;
+  suffix = column 10 event.line;
+  platform = platform_by_kind (kind_of event.line) event.line;
+  track = spaces 3;
+  path = spaces 3;
+  public_time = spaces 4;
+  start = start;
+  number = event.number;
+  detail = partner key.associated identity;
+}
+
+-- the event is at the place
+abbrev pub is_here : List ℕ → Occurrence → Bool
+is_here place event = bytes_eq (columns 3 9 event.line) place
+
+-- the event of a train that starts on a day is on the day
+abbrev pub is_today : ℕ → ℕ → Occurrence → Bool
+is_today day start event = start + event.falls == day
+
+-- the lines of those events that are at the place on the day
+abbrev pub lines_there : List ℕ → ℕ → ℕ → ScheduleKey → Detail → List Occurrence → List DockerLine
+lines_there place day start key detail [] = []
+lines_there place day start key detail (event ∷ events) =
+    (if is_here place event && is_today day start event then line_at_event key start detail event ∷ [] else [])
+    ++ lines_there place day start key detail events
+
+-- the event is of a call at the place and suffix
+abbrev pub is_call : List ℕ → ℕ → Occurrence → Bool
+is_call place suffix event = is_at place suffix event.line
+
+-- these lines were added, which the trains and associations of the table tell
+abbrev pub Adds : Table → ((List ℕ → ℕ → Option Train) → (Group → ℕ → Option Link) → List DockerLine) → List DockerLine → List DockerLine → Type 0
+Adds live more before after = (rows : List Row) → AreRowsOf live rows → after ≡ before ++ more (train_in rows) (link_in rows)
+
+-- a line, if there is one
+abbrev pub listed : Option DockerLine → List DockerLine
+listed None = []
+listed (Some line) = line ∷ []
+
+-- the lines of a schedule on a start day on which its train runs by it
+abbrev pub schedule_piece : (List ℕ → ℕ → Option Train) → List ℕ → ℕ → ScheduleKey → List (List ℕ) → ℕ → List DockerLine
+schedule_piece trains place day key lines start = if runs_by (trains key.uid start) key then event_lines place day start key lines else []
+
+-- the line of an association at an event of the base train, where that is on the day
+abbrev pub link_line_at : (List ℕ → ℕ → Option Train) → ℕ → ℕ → Link → Occasion → ScheduleKey → Occurrence → List DockerLine
+link_line_at trains day start link occasion base event =
+    if is_today day start event
+    then line_of_link occasion link.key base start event (partner_identity trains link.key.associated (partner_start (column 37 link.line) start)) ∷ []
+    else []
+
+-- the same at an event that there may not be
+abbrev pub link_line_by : (List ℕ → ℕ → Option Train) → ℕ → ℕ → Link → Occasion → ScheduleKey → Option Occurrence → List DockerLine
+link_line_by trains day start link occasion base None = []
+link_line_by trains day start link occasion base (Some event) = link_line_at trains day start link occasion base event
+
+-- the line of an association with the base train, where both there are
+abbrev pub link_line_with : (List ℕ → ℕ → Option Train) → ℕ → ℕ → Link → Option Occasion → Option Train → List DockerLine
+link_line_with trains day start link None base = []
+link_line_with trains day start link (Some occasion) None = []
+link_line_with trains day start link (Some occasion) (Some base) =
+    link_line_by trains day start link occasion base.key (find (is_call link.key.location link.key.suffix) (occurrences base.lines))
+
+-- the line of an association on a start day of its base train
+abbrev pub link_piece : (List ℕ → ℕ → Option Train) → (Group → ℕ → Option Link) → ℕ → Link → ℕ → List DockerLine
+link_piece trains links day link start =
+    if is_in_force links start link.key link.line
+    then link_line_with trains day start link (category_occasion (columns 35 36 link.line)) (trains link.key.base start)
+    else []
+
+-- the same where it is at the place
+abbrev pub link_here : (List ℕ → ℕ → Option Train) → (Group → ℕ → Option Link) → List ℕ → ℕ → Link → ℕ → List DockerLine
+link_here trains links place day link start = if bytes_eq link.key.location place then link_piece trains links day link start else []
+
+-- the lines of a row on a start day
+abbrev pub row_piece : (List ℕ → ℕ → Option Train) → (Group → ℕ → Option Link) → List ℕ → ℕ → Key → Body → ℕ → List DockerLine
+row_piece trains links place day (schedule_key key) (schedule_body lines) start = schedule_piece trains place day key lines start
+row_piece trains links place day (association_key key) (association_body line) start =
+    link_here trains links place day (record { key = key; line = line }) start
+row_piece trains links place day _ _ start = []
+
+-- the lines of a row so many days back, if there is such a day
+abbrev pub row_back : (List ℕ → ℕ → Option Train) → (Group → ℕ → Option Link) → List ℕ → ℕ → Key → Body → ℕ → List DockerLine
+row_back trains links place day key body back = if nat_le back day then row_piece trains links place day key body (day - back) else []

@@ -1,0 +1,37 @@
+//! The end of a docker's line.
+ghost use Rattle.std.specs.Prelude.{◌≡◌};
+ghost use Rattle.docker_model.specs.docker.DockerLine.{associated_uid};
+ghost use Rattle.docker_day.specs.Details.{detail_meant};
+
+use cif_line::Uid;
+
+/// The end of a line.
+#[derive(Clone, Copy, Debug)]
+pub enum Detail {
+    /// Of an event: where the train begins and where it ends.
+    Ends {
+        /// The TIPLOC of its origin.
+        origin: [u8; 7],
+        /// The TIPLOC of its terminus.
+        destination: [u8; 7],
+    },
+    /// Of an association: the associated train.
+    Partner {
+        /// Its UID.
+        uid: Uid,
+        /// Its identity on its start day, `????` where it does not run then.
+        identity: [u8; 4],
+    },
+}
+
+impl Detail {
+    /// The UID of the associated train, and no byte at an event.
+    pub(crate) fn associated_uid(&self) -> &[u8]
+        ensures { result.now ≡ associated_uid (detail_meant self.now) }
+    {
+        match self {
+            Detail::Ends { .. } => &[],
+            Detail::Partner { uid, .. } => uid.bytes(),
+        }
+    }
+}

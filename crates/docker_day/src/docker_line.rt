@@ -1,0 +1,270 @@
+//! A line of a docker, and the order of lines.
+ghost use Rattle.std.specs.Prelude.{◌≡◌};
+ghost use Rattle.std.specs.Ordering.{as_partial_cmp, eq_by_cmp};
+ghost use Rattle.std.specs.Cmp.{partial_equiv_from_equiv, eq_by_cmp_equiv, partial_order_from_total};
+ghost use Rattle.std.proofs.Common.{refl};
+ghost use Rattle.docker_model.specs.docker.DockerLine.{docker_line_cmp};
+ghost use Rattle.docker_laws.proofs.orders.Orders.{docker_line_total};
+ghost use Rattle.cif_line.specs.Letter.{stp_letter};
+ghost use Rattle.docker_day.specs.Meaning.{occasion_meant};
+ghost use Rattle.docker_day.specs.Details.{detail_meant};
+ghost use Rattle.docker_day.specs.Walk.{occurrence_meant};
+ghost use Rattle.docker_day.specs.Lines.{line_at_event, line_of_link};
+
+use crate::detail::Detail;
+use crate::link_view::LinkView;
+use crate::location::{Location, suffix_in};
+use crate::occasion::Occasion;
+use crate::schedule_view::ScheduleView;
+use crate::walk::Occurrence;
+use cif_line::{Day, Stp, Time, Uid};
+use std::cmp::Ordering;
+use std::marker::Model;
+
+/// A line of a docker: an event of a train, or an association of its train with another. In the order of time, occasion, UID, start day, event number and
+/// UID of the associated train.
+#[derive(Debug, Drop)]
+pub struct DockerLine<'a> {
+    time: Time,
+    occasion: Occasion,
+    identity: &'a [u8; 4],
+    uid: Uid,
+    stp: Stp,
+    suffix: u8,
+    platform: &'a [u8; 3],
+    track: &'a [u8; 3],
+    path: &'a [u8; 3],
+    public_time: &'a [u8; 4],
+    start: Day,
+    number: u64,
+    detail: Detail,
+}
+
+impl<'a> Model for DockerLine<'a> {
+    ghost use Rattle.docker_model.specs.docker.DockerLine as lines;
+    ghost use Rattle.cif_line.specs.Letter.{stp_letter};
+    ghost use Rattle.docker_day.specs.Meaning.{occasion_meant};
+    ghost use Rattle.docker_day.specs.Details.{detail_meant};
+
+    ghost Value = { lines.DockerLine };
+
+    ghost view = { λ line. record {
+      time = line.time;
+      occasion = occasion_meant line.occasion;
+      identity = line.identity.now;
+      uid = line.uid;
+      indicator = stp_letter line.stp;
+      suffix = line.suffix;
+      platform = line.platform.now;
+      track = line.track.now;
+      path = line.path.now;
+      public_time = line.public_time.now;
+      start = line.start;
+      number = line.number;
+      detail = detail_meant line.detail;
+    } };
+}
+
+impl<'a> DockerLine<'a> {
+    /// The line of an event of a train that starts on a day, with this end.
+    #[tactic(auto, using(crate::proofs::Shown::public_is))]
+    pub(crate) fn of_event(
+        train: &ScheduleView<'a>,
+        start: Day,
+        event: Occurrence<'a>,
+        detail: Detail,
+    ) -> DockerLine<'a>
+        ensures { result ≡ line_at_event train.now.key start (detail_meant detail)
+            (occurrence_meant event.entry) }
+    {
+        let key = train.key();
+        let location = Location::of(event.line);
+        DockerLine {
+            time: event.time,
+            occasion: event.occasion,
+            identity: event.identity,
+            uid: key.uid,
+            stp: key.stp,
+            suffix: suffix_in(event.line),
+            platform: location.platform,
+            track: location.track,
+            path: location.path,
+            public_time: location.public_time(event.occasion),
+            start,
+            number: event.number,
+            detail,
+        }
+    }
+
+    /// The line of an association at an event of its base train, which starts on a day. The associated train has this identity.
+    pub(crate) fn of_link(
+        link: &LinkView<'a>,
+        occasion: Occasion,
+        base: &ScheduleView<'a>,
+        start: Day,
+        event: &Occurrence<'a>,
+        identity: &'a [u8; 4],
+    ) -> DockerLine<'a>
+        ensures { result ≡ line_of_link (occasion_meant occasion) link.now.key base.now.key start
+            (occurrence_meant event.now) identity.entry.now }
+    {
+        DockerLine {
+            time: event.time,
+            occasion,
+            identity: event.identity,
+            uid: base.key().uid,
+            stp: link.key().stp,
+            suffix: suffix_in(event.line),
+            platform: Location::of(event.line).platform,
+            track: b"   ",
+            path: b"   ",
+            public_time: b"    ",
+            start,
+            number: event.number,
+            detail: Detail::Partner {
+                uid: link.key().associated,
+                identity: *identity,
+            },
+        }
+    }
+
+    /// The scheduled time.
+    pub fn time(&self) -> Time
+        ensures { result ≡ self.now.time }
+    {
+        self.time
+    }
+
+    /// What happens.
+    pub fn occasion(&self) -> Occasion
+        ensures { occasion_meant result ≡ self.now.occasion }
+    {
+        self.occasion
+    }
+
+    /// The identity of the train at the location.
+    pub fn identity(&self) -> &'a [u8; 4]
+        ensures { result.now ≡ self.now.identity }
+    {
+        self.identity
+    }
+
+    /// The UID of the train, at an association that of the base train.
+    pub fn uid(&self) -> Uid
+        ensures { result ≡ self.now.uid }
+    {
+        self.uid
+    }
+
+    /// The STP indicator of the schedule, at an association that of the association.
+    pub fn stp(&self) -> Stp
+        ensures { stp_letter result ≡ self.now.indicator }
+    {
+        self.stp
+    }
+
+    /// The suffix of the location, which tells apart several calls at one timing point.
+    pub fn suffix(&self) -> u8
+        ensures { result ≡ self.now.suffix }
+    {
+        self.suffix
+    }
+
+    /// The platform.
+    pub fn platform(&self) -> &'a [u8; 3]
+        ensures { result.now ≡ self.now.platform }
+    {
+        self.platform
+    }
+
+    /// The line on which the train leaves or passes, spaces at a terminus and at an association.
+    pub fn track(&self) -> &'a [u8; 3]
+        ensures { result.now ≡ self.now.track }
+    {
+        self.track
+    }
+
+    /// The path by which the train comes or passes, spaces at an origin and at an association.
+    pub fn path(&self) -> &'a [u8; 3]
+        ensures { result.now ≡ self.now.path }
+    {
+        self.path
+    }
+
+    /// The public time of the arrival or the departure as HHMM, spaces where there is none.
+    pub fn public_time(&self) -> &'a [u8; 4]
+        ensures { result.now ≡ self.now.public_time }
+    {
+        self.public_time
+    }
+
+    /// The day on which the train starts.
+    pub fn start(&self) -> Day
+        ensures { result ≡ self.now.start }
+    {
+        self.start
+    }
+
+    /// The number of the event among those of the train, from 1.
+    pub fn number(&self) -> u64
+        ensures { result ≡ self.now.number }
+    {
+        self.number
+    }
+
+    /// The ends of the train, or the associated train.
+    pub fn detail(&self) -> Detail
+        ensures { detail_meant result ≡ self.now.detail }
+    {
+        self.detail
+    }
+}
+
+impl PartialEq for DockerLine<'_> {
+    ghost eq = { eq_by_cmp docker_line_cmp };
+
+    ghost laws = { partial_equiv_from_equiv (eq_by_cmp_equiv docker_line_total) };
+
+    fn eq(&self, other: &Self) -> bool {
+        self.cmp(other).is_eq()
+    }
+}
+
+impl Eq for DockerLine<'_> {
+    ghost laws = { eq_by_cmp_equiv docker_line_total };
+}
+
+impl PartialOrd for DockerLine<'_> {
+    ghost partial_cmp = { as_partial_cmp docker_line_cmp };
+
+    ghost laws = { partial_order_from_total docker_line_total };
+
+    fn partial_cmp(&self, other: &Self) -> Option<Ordering> {
+        Some(self.cmp(other))
+    }
+}
+
+impl Ord for DockerLine<'_> {
+    ghost cmp = { docker_line_cmp };
+
+    ghost total = { docker_line_total };
+
+    ghost matches_partial_cmp = { λ a b. refl };
+
+    ghost matches_eq = { λ a b. refl };
+
+    fn cmp(&self, other: &Self) -> Ordering {
+        self.time
+            .half_minutes()
+            .cmp(&other.time.half_minutes())
+            .then(self.occasion.rank().cmp(&other.occasion.rank()))
+            .then(self.uid.bytes().cmp(other.uid.bytes()))
+            .then(self.start.number().cmp(&other.start.number()))
+            .then(self.number.cmp(&other.number))
+            .then(
+                self.detail
+                    .associated_uid()
+                    .cmp(other.detail.associated_uid()),
+            )
+    }
+}

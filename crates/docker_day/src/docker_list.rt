@@ -1,0 +1,80 @@
+//! A docker: its heading and its lines.
+ghost use Rattle.std.specs.Prelude.{◌≡◌};
+
+use crate::docker_line::DockerLine;
+use cif_line::{Day, Tiploc};
+use std::marker::Model;
+
+/// The docker of a timing point and a day.
+#[derive(Debug, Drop)]
+pub struct Docker<'a> {
+    place: Tiploc,
+    day: Day,
+    description: &'a [u8; 26],
+    lines: Vec<DockerLine<'a>>,
+}
+
+impl<'a> Model for Docker<'a> {
+    ghost use Rattle.docker_day.specs.DockerValue as value;
+
+    ghost Value = { value.Docker };
+
+    ghost view = { λ docker. record {
+      place = docker.place;
+      day = docker.day;
+      description = docker.description.now;
+      lines = docker.lines.items;
+    } };
+}
+
+impl<'a> Docker<'a> {
+    /// The docker of these parts.
+    pub(crate) fn of(
+        place: Tiploc,
+        day: Day,
+        description: &'a [u8; 26],
+        lines: Vec<DockerLine<'a>>,
+    ) -> Docker<'a>
+        ensures { result ≡ record {
+          place = place;
+          day = day;
+          description = description.entry.now;
+          lines = lines.entry.items;
+        } }
+    {
+        Docker {
+            place,
+            day,
+            description,
+            lines,
+        }
+    }
+
+    /// The timing point.
+    pub fn place(&self) -> Tiploc
+        ensures { result ≡ self.now.place }
+    {
+        self.place
+    }
+
+    /// The day.
+    pub fn day(&self) -> Day
+        ensures { result ≡ self.now.day }
+    {
+        self.day
+    }
+
+    /// The description of the timing point, 26 bytes: spaces where it is not live.
+    pub fn description(&self) -> &'a [u8; 26]
+        ensures { result.now ≡ self.now.description }
+    {
+        self.description
+    }
+
+    /// The lines, in their order.
+    pub fn lines(&self) -> &[DockerLine<'a>]
+        ensures { result.now ≡ self.now.lines }
+    {
+        self.lines.as_slice()
+    }
+}

@@ -1,0 +1,13 @@
+//! Why there is no docker.
+use thiserror::Error;
+
+/// Why there is no docker.
+#[derive(Clone, Copy, PartialEq, Eq, Debug, Error)]
+pub enum DockerFault {
+    /// The state has a horizon, and the day is before it plus three days.
+    #[error("lapsed")]
+    Lapsed,
+    /// A growth was refused.
+    #[error("out of memory")]
+    Memory,
+}

@@ -1,0 +1,151 @@
+//! The lines of a docker, gathered from the rows of a walk.
+ghost use Rattle.std.specs.Prelude.{◌≡◌, ◌≤◌, OnOk, None};
+ghost use Rattle.cif_file.specs.Meaning.{key_meant, body_meant};
+ghost use Rattle.docker_model.specs.state.State.{IsBodyOf, live_table};
+ghost use Rattle.docker_model.specs.docker.Gathering.{row_lines, gathered};
+ghost use Rattle.docker_model.specs.docker.LiveRows.{schedule_of};
+ghost use Rattle.docker_day.specs.Along.{AreGoodRows};
+ghost use Rattle.docker_day.specs.Lines.{Adds, link_here, row_piece, row_back};
+
+use crate::choice::schedule_of;
+use crate::docker_line::DockerLine;
+use crate::link_lines::link_line;
+use crate::link_view::LinkView;
+use crate::links::association_of;
+use crate::starts::day_before;
+use crate::train_lines::add_schedule;
+use cif_file::{Body, Key};
+use cif_line::{Day, Memory, Tiploc};
+use docker_state::{Standing, State};
+
+/// Adds the lines of rows at a place on a day. `Memory` where the growth is refused.
+pub(crate) fn add_rows<'a>(
+    lines: &mut Vec<DockerLine<'a>>,
+    state: &'a State,
+    rows: Standing<'a>,
+    place: &Tiploc,
+    day: Day,
+) -> Result<(), Memory>
+    requires good { AreGoodRows rows }
+    ensures { OnOk result
+        (Adds (live_table state.now)
+        (λ trains links. gathered trains links place.now day rows.entry)
+        lines.old.items lines.new.items) }
+{
+    for (key, body) in rows {
+        add_row(lines, state, key, body, place, day)?;
+    }
+    Ok(())
+}
+
+/// Adds the lines of a row: those on each start day whose trains can be there on the day.
+fn add_row<'a>(
+    lines: &mut Vec<DockerLine<'a>>,
+    state: &'a State,
+    key: &'a Key,
+    body: &'a Body,
+    place: &Tiploc,
+    day: Day,
+) -> Result<(), Memory>
+    requires good { IsBodyOf (key_meant key.now) (body_meant body.now) }
+    ensures { OnOk result (Adds (live_table state.now)
+        (λ trains links. row_lines trains links place.now day (key_meant key.entry.now)
+        (body_meant body.entry.now))
+        lines.old.items lines.new.items) }
+{
+    add_back(lines, state, key, body, place, day, 0)?;
+    add_back(lines, state, key, body, place, day, 1)?;
+    add_back(lines, state, key, body, place, day, 2)
+}
+
+/// Adds the lines of a row on the start day so many days back, if there is such a day.
+fn add_back<'a>(
+    lines: &mut Vec<DockerLine<'a>>,
+    state: &'a State,
+    key: &'a Key,
+    body: &'a Body,
+    place: &Tiploc,
+    day: Day,
+    back: u16,
+) -> Result<(), Memory>
+    requires good { IsBodyOf (key_meant key.now) (body_meant body.now) }
+    ensures { OnOk result (Adds (live_table state.now)
+        (λ trains links. row_back trains links place.now day (key_meant key.entry.now)
+        (body_meant body.entry.now) back)
+        lines.old.items lines.new.items) }
+{
+    match day_before(day, back) {
+        Some(start) => add_piece(lines, state, key, body, place, day, start),
+        None => Ok(()),
+    }
+}
+
+/// Adds the lines of a row on a start day.
+fn add_piece<'a>(
+    lines: &mut Vec<DockerLine<'a>>,
+    state: &'a State,
+    key: &'a Key,
+    body: &'a Body,
+    place: &Tiploc,
+    day: Day,
+    start: Day,
+) -> Result<(), Memory>
+    requires good { IsBodyOf (key_meant key.now) (body_meant body.now) }
+    requires past { start ≤ day }
+    ensures { OnOk result (Adds (live_table state.now)
+        (λ trains links. row_piece trains links place.now day (key_meant key.entry.now)
+        (body_meant body.entry.now) start)
+        lines.old.items lines.new.items) }
+{
+    match schedule_of(key, body) {
+        Some(train) => add_schedule(lines, state, &train, place, day, start),
+        None => add_other(lines, state, key, body, place, day, start),
+    }
+}
+
+/// The same of a row that is not of a schedule.
+fn add_other<'a>(
+    lines: &mut Vec<DockerLine<'a>>,
+    state: &'a State,
+    key: &'a Key,
+    body: &'a Body,
+    place: &Tiploc,
+    day: Day,
+    start: Day,
+) -> Result<(), Memory>
+    requires good { IsBodyOf (key_meant key.now) (body_meant body.now) }
+    requires past { start ≤ day }
+    requires other { schedule_of (key_meant key.now) (body_meant body.now) ≡ None }
+    ensures { OnOk result (Adds (live_table state.now)
+        (λ trains links. row_piece trains links place.now day (key_meant key.entry.now)
+        (body_meant body.entry.now) start)
+        lines.old.items lines.new.items) }
+{
+    match association_of(key, body) {
+        Some(link) => add_link(lines, state, &link, place, day, start),
+        None => Ok(()),
+    }
+}
+
+/// Adds the line of an association on a start day of its base train, if it is at the place.
+fn add_link<'a>(
+    lines: &mut Vec<DockerLine<'a>>,
+    state: &'a State,
+    link: &LinkView<'a>,
+    place: &Tiploc,
+    day: Day,
+    start: Day,
+) -> Result<(), Memory>
+    requires past { start ≤ day }
+    ensures { OnOk result (Adds (live_table state.now)
+        (λ trains links. link_here trains links place.now day link.now start)
+        lines.old.items lines.new.items) }
+{
+    if link.key().location != *place {
+        return Ok(());
+    }
+    if let Some(line) = link_line(state, link, day, start) {
+        lines.push(line)?;
+    }
+    Ok(())
+}

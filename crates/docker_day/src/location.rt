@@ -1,0 +1,108 @@
+//! What a docker shows of a location record.
+ghost use Rattle.std.specs.Prelude.{◌≡◌, ◌+◌, ◌-◌, ◌<◌, ◌≤◌, if◌then◌else◌};
+ghost use Rattle.std.specs.Str.{bytes_eq};
+ghost use Rattle.docker_model.specs.records.Record.{kind_of, columns, column};
+ghost use Rattle.docker_model.specs.docker.DockerLine.{platform_by_kind, track_by_kind, path_by_kind, public_by_kind};
+ghost use Rattle.docker_model.specs.records.PrintedTime.{shown_public, spaces};
+ghost use Rattle.docker_day.specs.Meaning.{occasion_meant};
+ghost use Rattle.docker_day.specs.Locations.{location_meant, location_by_kind, public_at};
+
+use crate::occasion::Occasion;
+use cif_line::{Kind, Line, kind};
+
+/// What a docker shows of a location record, as it is printed: what the record does not have is spaces.
+#[derive(Clone, Copy, Debug)]
+pub(crate) struct Location<'a> {
+    /// The platform.
+    pub(crate) platform: &'a [u8; 3],
+    /// The line on which a train leaves or passes.
+    pub(crate) track: &'a [u8; 3],
+    /// The path by which a train comes or passes.
+    pub(crate) path: &'a [u8; 3],
+    /// The public time of its arrival.
+    pub(crate) arrival: &'a [u8; 4],
+    /// The public time of its departure.
+    pub(crate) departure: &'a [u8; 4],
+}
+
+impl<'a> Location<'a> {
+    /// That of a line.
+    pub(crate) fn of(line: &'a Line) -> Location<'a>
+        ensures { location_meant result ≡ location_by_kind (kind_of line.entry.now) line.entry.now }
+    {
+        match kind(line) {
+            Some(Kind::OriginLocation) => Location {
+                platform: field(line, 20),
+                track: field(line, 23),
+                path: b"   ",
+                arrival: b"    ",
+                departure: shown_public(field(line, 16)),
+            },
+            Some(Kind::IntermediateLocation) => Location {
+                platform: field(line, 34),
+                track: field(line, 37),
+                path: field(line, 40),
+                arrival: shown_public(field(line, 26)),
+                departure: shown_public(field(line, 30)),
+            },
+            Some(Kind::TerminatingLocation) => Location {
+                platform: field(line, 20),
+                track: b"   ",
+                path: field(line, 23),
+                arrival: shown_public(field(line, 16)),
+                departure: b"    ",
+            },
+            _ => Location {
+                platform: field(line, 20),
+                track: b"   ",
+                path: b"   ",
+                arrival: b"    ",
+                departure: b"    ",
+            },
+        }
+    }
+
+    /// The public time of an occasion.
+    pub(crate) fn public_time(&self, occasion: Occasion) -> &'a [u8; 4]
+        ensures { result.now ≡ public_at (occasion_meant occasion) (location_meant self.now) }
+    {
+        match occasion {
+            Occasion::Arrival => self.arrival,
+            Occasion::Departure => self.departure,
+            _ => b"    ",
+        }
+    }
+}
+
+/// The TIPLOC of a location record.
+pub(crate) fn tiploc_in(line: &Line) -> &[u8; 7]
+    ensures { result.now ≡ columns 3 9 line.now }
+{
+    field(line, 3)
+}
+
+/// The suffix of a location record, which tells apart several calls at one timing point.
+pub(crate) fn suffix_in(line: &Line) -> u8
+    ensures { result ≡ column 10 line.now }
+{
+    line.bytes()[9]
+}
+
+/// A public time as it is printed: `0000` is none.
+fn shown_public(field: &[u8; 4]) -> &[u8; 4]
+    ensures { result.now ≡ shown_public field.entry.now }
+{
+    if field == b"0000" { b"    " } else { field }
+}
+
+/// The `N` bytes of a line from a column on, counted from 1.
+fn field<const N: usize>(line: &Line, first: usize) -> &[u8; N]
+    requires from { 0 < first }
+    requires within { first - 1 + N ≤ 80 }
+    ensures { result.now ≡ columns first (first - 1 + N) line.now }
+{
+    match line.bytes()[first - 1..first - 1 + N].first_chunk() {
+        Some(field) => field,
+        None => unreachable!(),
+    }
+}

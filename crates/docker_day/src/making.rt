@@ -1,0 +1,118 @@
+//! The making of a docker.
+ghost use Rattle.std.specs.Prelude.{◌≡◌, ◌+◌, ◌-◌, ◌<◌, ◌≤◌, ◌↔◌, IsTrue, IfOk, OnOk, Err};
+ghost use Rattle.std.specs.List.Sorted.{IsSorted, IsPermutation};
+ghost use Rattle.docker_model.specs.docker.DockerLine.{docker_line_cmp};
+ghost use Rattle.docker_model.specs.records.Record.{columns};
+ghost use Rattle.docker_model.specs.state.Op.{body_of};
+ghost use Rattle.docker_join.specs.Meaning.{op_meant};
+ghost use Rattle.docker_model.specs.file.Change.{tiploc_key};
+ghost use Rattle.docker_model.specs.state.State.{live_table};
+ghost use Rattle.docker_model.specs.state.Lapse.{IsDayRefused};
+ghost use Rattle.docker_model.specs.docker.DockerText.{description_in};
+ghost use Rattle.docker_day.specs.Dockers.{HasGathered, IsDockerOf};
+
+use crate::docker_line::DockerLine;
+use crate::docker_list::Docker;
+use crate::fault::DockerFault;
+use crate::gathering::add_rows;
+use crate::walks::{associations_at, rows_of, schedules_at};
+use cif_file::{Body, Key};
+use cif_line::{Day, Memory, Tiploc};
+use docker_join::Op;
+use docker_state::State;
+use std::alloc::Global;
+
+/// The docker of a timing point and a day: the events of the trains that run, and the associations, there on that day. `Lapsed` exactly where the state has a
+/// horizon and the day is before it plus three days, for then what has lapsed may be missing; `Memory` where room for the lines is refused.
+pub fn docker<'a>(
+    alloc: Global,
+    state: &'a State,
+    tiploc: &Tiploc,
+    day: Day,
+) -> Result<Docker<'a>, DockerFault>
+    ensures ok { IfOk result (IsDockerOf (live_table state.now) tiploc.now day) }
+    ensures lapsed { (result ≡ Err DockerFault.Lapsed) ↔ IsDayRefused state.now.horizon day }
+{
+    if is_refused(state.horizon(), day) {
+        return Err(DockerFault::Lapsed);
+    }
+    let mut lines = Vec::new(alloc);
+    let _rows = rows_of(state);
+    match add_all(&mut lines, state, tiploc, day) {
+        Ok(()) => {
+            let description = description(state, tiploc);
+            Ok(Docker::of(*tiploc, day, description, in_order(lines)))
+        }
+        Err(_) => Err(DockerFault::Memory),
+    }
+}
+
+/// Adds the lines of the associations at a place and of the schedules that call there.
+fn add_all<'a>(
+    lines: &mut Vec<DockerLine<'a>>,
+    state: &'a State,
+    place: &Tiploc,
+    day: Day,
+) -> Result<(), Memory>
+    ensures { OnOk result
+        (HasGathered (live_table state.now) place.now day lines.old.items lines.new.items) }
+{
+    add_rows(lines, state, associations_at(state, place), place, day)?;
+    add_rows(lines, state, schedules_at(state, place), place, day)
+}
+
+/// The lines in their order.
+fn in_order(mut lines: Vec<DockerLine<'_>>) -> Vec<DockerLine<'_>>
+    ensures same { IsPermutation lines.entry.items result.items }
+    ensures sorted { IsSorted docker_line_cmp result.items }
+{
+    lines.sort_unstable();
+    lines
+}
+
+/// Whether there is a horizon, and the day is before it plus three days.
+fn is_refused(horizon: u16, day: Day) -> bool
+    requires day { horizon ≤ 36524 }
+    ensures { IsTrue result ↔ IsDayRefused horizon day }
+{
+    (horizon > 0) & (day.number() < horizon + 3)
+}
+
+/// The description of a timing point: 26 bytes, spaces where it is not live.
+fn description<'a>(state: &'a State, tiploc: &Tiploc) -> &'a [u8; 26]
+    ensures { result.now ≡ description_in (live_table state.now (tiploc_key tiploc.now)) }
+{
+    match state.get(&Key::Tiploc(*tiploc)) {
+        Some(entry) => described(&entry.op),
+        None => b"                          ",
+    }
+}
+
+/// The description that an op puts, and spaces where it puts none.
+fn described(op: &Op) -> &[u8; 26]
+    ensures { result.now ≡ description_in (body_of (op_meant op.entry.now)) }
+{
+    match op {
+        Op::Put(Body::Tiploc(bytes)) => description_of(bytes),
+        _ => b"                          ",
+    }
+}
+
+/// The description in a TIPLOC's body, which has columns 10 to 72 of its record.
+fn description_of(bytes: &[u8; 63]) -> &[u8; 26]
+    ensures { result.now ≡ columns 10 35 bytes.now }
+{
+    columns_of(bytes, 10)
+}
+
+/// The `N` bytes of a TIPLOC's body from a column on, counted from 1.
+fn columns_of<const N: usize>(bytes: &[u8; 63], first: usize) -> &[u8; N]
+    requires from { 0 < first }
+    requires within { first - 1 + N ≤ 63 }
+    ensures { result.now ≡ columns first (first - 1 + N) bytes.now }
+{
+    match bytes[first - 1..first - 1 + N].first_chunk() {
+        Some(part) => part,
+        None => unreachable!(),
+    }
+}

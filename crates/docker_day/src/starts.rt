@@ -1,0 +1,47 @@
+//! The start days of the trains that can be somewhere on a day.
+ghost use Rattle.std.specs.Prelude.{◌≡◌, ◌+◌, ◌-◌, ◌≤◌, ◌&&◌};
+ghost use Rattle.std.specs.Option.{SomeIff};
+ghost use Rattle.docker_model.specs.docker.Association.{partner_start};
+ghost use Rattle.docker_model.specs.records.Record.{columns};
+ghost use Rattle.docker_day.specs.Walk.{occurrence_meant};
+ghost use Rattle.docker_day.specs.Lines.{is_here, is_today};
+
+use crate::location::tiploc_in;
+use crate::walk::Occurrence;
+use cif_line::{Day, Tiploc};
+
+/// The day so many days before. None where there is no such day.
+pub(crate) fn day_before(day: Day, back: u16) -> Option<Day>
+    ensures { SomeIff result (back ≤ day) (day - back) }
+{
+    let number = day.number().checked_sub(back)?;
+    Day::from_number(number)
+}
+
+/// The start day of the associated train, where the base train starts on a day: the next day for the date indicator `N`, the one before for `P`, and else
+/// the same. None where there is no such day.
+pub(crate) fn partner_start(indicator: u8, start: Day) -> Option<Day>
+    ensures { result ≡ partner_start indicator start }
+{
+    match indicator {
+        b'N' => Day::from_number(start.number() + 1),
+        b'P' => day_before(start, 1),
+        _ => Some(start),
+    }
+}
+
+/// Whether an event is at a place.
+pub(crate) fn is_here(event: &Occurrence<'_>, place: &Tiploc) -> bool
+    ensures { result ≡ is_here place.now (occurrence_meant event.now) }
+{
+    tiploc_in(event.line) == place.bytes()
+}
+
+/// Whether an event is on a day, of a train that starts on a day by then.
+#[tactic(auto, using(crate::proofs::Days::today_is))]
+pub(crate) fn is_today(event: &Occurrence<'_>, day: Day, start: Day) -> bool
+    requires past { start ≤ day }
+    ensures { result ≡ is_today day start (occurrence_meant event.now) }
+{
+    event.falls == (day.number() - start.number()) as u64
+}

@@ -1,0 +1,154 @@
+//! The lines of a train's events.
+ghost use Rattle.std.specs.Prelude.{◌≡◌, ◌≤◌, ◌&&◌, ◌++◌, List, [], OnOk, IfSome, IsNone, find, codes, if◌then◌else◌};
+ghost use Rattle.std.specs.Option.{option_copied};
+ghost use Rattle.std.specs.Ordering.{is_eq};
+ghost use Rattle.docker_model.specs.state.Op.{schedule_key_cmp};
+ghost use Rattle.docker_model.specs.state.State.{live_table};
+ghost use Rattle.docker_model.specs.docker.Event.{has_identity};
+ghost use Rattle.docker_model.specs.docker.DockerLine.{ends, tiploc_of_first};
+ghost use Rattle.docker_model.specs.docker.Gathering.{event_lines, runs_by};
+ghost use Rattle.docker_model.specs.state.Row.{Row, AreRowsOf};
+ghost use Rattle.docker_model.specs.docker.LiveRows.{train_in};
+ghost use Rattle.docker_day.specs.Keys.{schedule_key_meant};
+ghost use Rattle.docker_day.specs.Details.{detail_meant};
+ghost use Rattle.docker_day.specs.Occurrences.{occurrences};
+ghost use Rattle.docker_day.specs.Walk.{occurrence_meant};
+ghost use Rattle.docker_day.specs.Lines.{Adds, is_here, is_today, lines_there, schedule_piece};
+
+use crate::choice::train_on;
+use crate::detail::Detail;
+use crate::docker_line::DockerLine;
+use crate::location::tiploc_in;
+use crate::schedule_view::ScheduleView;
+use crate::starts::{is_here, is_today};
+use crate::walk::Occurrence;
+use cif_file::ScheduleKey;
+use cif_line::{Day, Line, Memory, Tiploc};
+use docker_state::State;
+
+/// Adds the lines of a schedule at a place on a day, where its train runs by it from a start day on. `Memory` where the growth is refused.
+pub(crate) fn add_schedule<'a>(
+    lines: &mut Vec<DockerLine<'a>>,
+    state: &'a State,
+    train: &ScheduleView<'a>,
+    place: &Tiploc,
+    day: Day,
+    start: Day,
+) -> Result<(), Memory>
+    requires past { start ≤ day }
+    ensures { OnOk result (Adds (live_table state.now)
+        (λ trains links. schedule_piece trains place.now day train.now.key train.now.lines start)
+        lines.old.items lines.new.items) }
+{
+    if runs_by(state, train, start) {
+        add_events(lines, train, place, day, start)
+    } else {
+        Ok(())
+    }
+}
+
+/// Whether the train of a schedule runs by it from a start day on.
+fn runs_by(state: &State, train: &ScheduleView<'_>, start: Day) -> bool
+    ensures { (rows : List Row) → AreRowsOf (live_table state.now) rows
+        → result ≡ runs_by (train_in rows train.now.key.uid start) train.now.key }
+{
+    let key = train.key();
+    is_train(train_on(state, &key.uid, start), key)
+}
+
+/// Whether there is a train, and its schedule has this key.
+fn is_train(train: Option<ScheduleView<'_>>, key: &ScheduleKey) -> bool
+    ensures { result ≡ runs_by train.entry (schedule_key_meant key.now) }
+{
+    match train {
+        Some(train) => is_same(train.key(), key),
+        None => false,
+    }
+}
+
+/// Whether two keys are one.
+fn is_same(key: &ScheduleKey, other: &ScheduleKey) -> bool
+    ensures { result ≡ is_eq
+        (schedule_key_cmp (schedule_key_meant key.now) (schedule_key_meant other.now)) }
+{
+    key.cmp(other).is_eq()
+}
+
+/// Adds the lines of those events of a train that are at a place on a day.
+fn add_events<'a>(
+    lines: &mut Vec<DockerLine<'a>>,
+    train: &ScheduleView<'a>,
+    place: &Tiploc,
+    day: Day,
+    start: Day,
+) -> Result<(), Memory>
+    requires past { start ≤ day }
+    ensures { OnOk result (lines.new.items
+        ≡ lines.old.items ++ event_lines place.now day start train.now.key train.now.lines) }
+{
+    match ends_of(train) {
+        Some(detail) => add_there(lines, train, &detail, place, day, start),
+        None => Ok(()),
+    }
+}
+
+/// The same of a train with these ends.
+fn add_there<'a>(
+    lines: &mut Vec<DockerLine<'a>>,
+    train: &ScheduleView<'a>,
+    detail: &Detail,
+    place: &Tiploc,
+    day: Day,
+    start: Day,
+) -> Result<(), Memory>
+    requires past { start ≤ day }
+    ensures { OnOk result (lines.new.items ≡ lines.old.items
+        ++ lines_there place.now day start train.now.key (detail_meant detail.now)
+        (occurrences train.now.lines)) }
+{
+    for event in train.events() {
+        if is_there(&event, place, day, start) {
+            lines.push(DockerLine::of_event(train, start, event, *detail))?;
+        }
+    }
+    Ok(())
+}
+
+/// Whether an event is at a place on a day.
+fn is_there(event: &Occurrence<'_>, place: &Tiploc, day: Day, start: Day) -> bool
+    requires past { start ≤ day }
+    ensures { result ≡ (is_here place.now (occurrence_meant event.now)
+        && is_today day start (occurrence_meant event.now)) }
+{
+    is_here(event, place) & is_today(event, day, start)
+}
+
+/// Where a train begins and where it ends. None of a schedule without a journey.
+fn ends_of(train: &ScheduleView<'_>) -> Option<Detail>
+    ensures ends { IfSome result (λ detail. detail_meant detail
+        ≡ ends (tiploc_of_first (codes "LO") train.now.lines)
+        (tiploc_of_first (codes "LT") train.now.lines)) }
+    ensures none { IsNone result → occurrences train.now.lines ≡ [] }
+{
+    let lines = train.lines();
+    let origin = first_of(lines, b"LO")?;
+    let terminus = first_of(lines, b"LT")?;
+    Some(Detail::Ends {
+        origin: *tiploc_in(origin),
+        destination: *tiploc_in(terminus),
+    })
+}
+
+/// The first of some lines that has this record identity.
+fn first_of<'a>(lines: &'a [Line], identity: &[u8; 2]) -> Option<&'a Line>
+    ensures { option_copied result ≡ find (λ line. has_identity identity.now line) lines.entry.now }
+{
+    lines.iter().find(|line| has_identity(line, identity))
+}
+
+/// Whether a line has this record identity.
+fn has_identity(line: &Line, identity: &[u8; 2]) -> bool
+    ensures { result ≡ has_identity identity.now line.now }
+{
+    line.bytes()[..2] == identity[..]
+}

@@ -1,0 +1,13 @@
+pub mod Positions
+pub mod Union
+pub mod MovedSpots
+pub mod TurnRows
+pub mod RisingMoves
+pub mod JoinedSpots
+pub mod RowPlaces
+pub mod LiveIndexes
+pub mod JoinedRows
+pub mod LapsedSpots
+pub mod SortedSpots
+pub mod SpotPieces
+pub mod CountedSpots

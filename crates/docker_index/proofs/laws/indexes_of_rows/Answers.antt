@@ -1,0 +1,8 @@
+use Rattle.docker_index.proofs.LiveIndexes.{calls_index, links_index}
+use Rattle.docker_index.proofs.laws.indexes_of_rows.Goals as goal
+
+pub returns-clause-calls : goal.returns-clause-calls
+returns-clause-calls c = λ state index up is. calls_index state up index.calls.items is.calls
+
+pub returns-clause-links : goal.returns-clause-links
+returns-clause-links c = λ state index up is. links_index state up index.links.items is.links

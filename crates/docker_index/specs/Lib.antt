@@ -1,0 +1,7 @@
+pub mod SpotOrder
+pub mod Spots
+pub mod Tables
+pub mod Rooms
+pub mod Turns
+pub mod Joined
+pub mod StandingRows

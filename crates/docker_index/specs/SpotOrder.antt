@@ -1,0 +1,15 @@
+-- The order of spots: by place, then by row.
+use Rattle.std.specs.declared.cmp.Ordering.{Ordering}
+use Rattle.std.specs.Ordering.{ordering_then, nat_cmp}
+use Rattle.std.specs.Cmp.{IsTotalOrder, then_total, on_total, nat_cmp_total}
+use Rattle.std.specs.Cmp.Lexicographic.{nat_list_cmp_total}
+use Rattle.docker_model.specs.state.Order.{bytes_cmp}
+use Rattle.docker_index.specs.declared.spot.Spot.{Spot}
+
+-- by place, then by row
+abbrev pub spot_cmp : Spot → Spot → Ordering
+spot_cmp a b = ordering_then (bytes_cmp a.place b.place) (nat_cmp a.at b.at)
+
+-- it is an order of all spots
+pub spot_total : IsTotalOrder spot_cmp
+spot_total = then_total (on_total (λ (s : Spot). s.place) nat_list_cmp_total) (on_total (λ (s : Spot). s.at) nat_cmp_total)

@@ -1,0 +1,54 @@
+-- An index of rows by place: the spots where live schedules call, and those where live associations are.
+use Rattle.std.specs.Prelude.{ℕ, ◌+◌, ◌↔◌, List, [], ◌∷◌, ◌++◌, map, filter, Contains}
+use Rattle.docker_model.specs.records.Record.{kind_of, columns, is_location}
+use Rattle.docker_model.specs.file.Change.{Key, association_key, schedule_key, association_body, schedule_body}
+use Rattle.docker_model.specs.state.Op.{Op, put_with, Entry}
+use Rattle.docker_model.specs.state.Order.{IsStrictlyAscending}
+use Rattle.docker_index.specs.declared.spot.Spot.{Spot}
+use Rattle.docker_index.specs.SpotOrder.{spot_cmp}
+use Rattle.docker_index.specs.declared.index.Index.{Index}
+
+-- the location records among lines
+abbrev pub location_lines : List (List ℕ) → List (List ℕ)
+location_lines lines = filter (λ line. is_location (kind_of line)) lines
+
+-- the TIPLOCs at which a live schedule calls, each as often as a location record names it
+abbrev pub call_places : Key → Op → List (List ℕ)
+call_places (schedule_key key) (put_with (schedule_body lines)) = map (columns 3 9) (location_lines lines)
+call_places _ _ = []
+
+-- the location of a live association
+abbrev pub link_places : Key → Op → List (List ℕ)
+link_places (association_key key) (put_with (association_body line)) = key.location ∷ []
+link_places _ _ = []
+
+-- the places of what a row has
+abbrev pub Places : Type 0
+Places = Key → Op → List (List ℕ)
+
+-- the places of a row
+abbrev pub places_of : Places → Key × Entry → List (List ℕ)
+places_of places row = places row.0 row.1.op
+
+-- a place of the row that has this index
+abbrev pub spot_at : ℕ → List ℕ → Spot
+spot_at at place = record { place = place; at = at }
+
+-- the spots of rows of which the first has this index
+abbrev pub spots_from : Places → ℕ → List (Key × Entry) → List Spot
+spots_from places at [] = []
+spots_from places at (row ∷ rows) = map (spot_at at) (places_of places row) ++ spots_from places (1 + at) rows
+
+-- the spots of rows
+abbrev pub spots_of : Places → List (Key × Entry) → List Spot
+spots_of places rows = spots_from places 0 rows
+
+-- the spots are those of the rows, each once, ascending
+pub record AreSpotsOf (places : Places) (rows : List (Key × Entry)) (spots : List Spot) : Type 0 where
+  pub ascending : IsStrictlyAscending spot_cmp spots
+  pub members : (spot : Spot) → Contains spots spot ↔ Contains (spots_of places rows) spot
+
+-- the index has the spots of the rows: where live schedules call, and where live associations are
+pub record IsIndexOf (rows : List (Key × Entry)) (index : Index) : Type 0 where
+  pub calls : AreSpotsOf call_places rows index.calls.items
+  pub links : AreSpotsOf link_places rows index.links.items

@@ -1,0 +1,33 @@
+-- What stands at spots.
+use Rattle.std.specs.Prelude.{◌≡◌, ℕ, Bool, List, ◌++◌, Contains, Option, Some, slice_get, option_and_then}
+use Rattle.std.specs.List.{filter_map}
+use Rattle.std.specs.Option.{is_some}
+use Rattle.docker_model.specs.file.Change.{Key}
+use Rattle.docker_model.specs.state.Op.{Entry, body_of}
+use Rattle.docker_model.specs.state.Row.{Row}
+use Rattle.docker_index.specs.declared.spot.Spot.{Spot}
+
+-- the key of a row with its body, if it is put
+abbrev pub live_row : Key × Entry → Option Row
+live_row row = option_and_then (λ body. Some (row.0, body)) (body_of row.1.op)
+
+-- the live row that a spot names
+abbrev pub live_at : List (Key × Entry) → Spot → Option Row
+live_at rows spot = option_and_then live_row (slice_get rows spot.at)
+
+-- the live rows that spots name, in the order of the spots
+abbrev pub standing_rows : List (Key × Entry) → List Spot → List Row
+standing_rows rows spots = filter_map (live_at rows) spots
+
+-- the spots of the place: none before and behind them is of it
+pub record IsPieceAt (place : List ℕ) (spots piece : List Spot) : Type 0 where
+  pub before : List Spot
+  pub behind : List Spot
+  pub whole : spots ≡ (before ++ piece) ++ behind
+  pub none_before : (spot : Spot) → Contains before spot → ¬ (spot.place ≡ place)
+  pub here : (spot : Spot) → Contains piece spot → spot.place ≡ place
+  pub none_behind : (spot : Spot) → Contains behind spot → ¬ (spot.place ≡ place)
+
+-- the row of a spot is put
+abbrev pub is_put_at : List (Key × Entry) → Spot → Bool
+is_put_at rows spot = is_some (live_at rows spot)

@@ -1,0 +1,245 @@
+-- The line of an association for one base start day: which docker line it is, and that it is there.
+use Rattle.std.proofs.Common.{◌≡◌, ℕ, List, [], ◌∷◌, refl, ap, sym, ◌∙◌, subst, inl, inr, Some, None, Bool, true, false, cond, Contains, eqb-true, arith}
+use Rattle.std.specs.Prelude.{Option, not, ◌&&◌, ◌==◌}
+use Rattle.std.specs.Ordering.{is_eq}
+use Rattle.std.specs.Cmp.{tied_itself}
+use Rattle.docker_model.specs.records.Record.{columns, column}
+use Rattle.docker_model.specs.file.Journey.{Occasion}
+use Rattle.docker_model.specs.file.Change.{association_key, AssociationKey, association_body}
+use Rattle.docker_model.specs.state.Op.{association_key_cmp}
+use Rattle.docker_model.specs.state.Table.{Table}
+use Rattle.docker_model.specs.state.State.{HasGoodBodies}
+use Rattle.docker_model.specs.docker.Event.{Event, event_day, first_event_at}
+use Rattle.docker_model.specs.docker.Choice.{TrainRuns, Group, group_of, IsChosenAssociation}
+use Rattle.docker_model.specs.docker.DockerLine.{DockerLine, docker_line_cmp, line_of_association}
+use Rattle.docker_model.specs.docker.Association.{category_occasion, is_date_indicator, partner_start, IsPartnerIdentity, IsAssociationLine}
+use Rattle.docker_model.specs.docker.LiveRows.{Train, Link, IsTrainOn, TellsTrains, IsLinkOn, TellsLinks}
+use Rattle.docker_model.specs.docker.Gathering.{start_days, counts_as, identity_of, partner_identity, line_at, line_with, is_in_force}
+use Rattle.docker_laws.proofs.lists.Membership.{nil-Contains, Contains-single, single-Contains}
+use Rattle.docker_laws.proofs.lists.Tests.{both, not_true}
+use Rattle.docker_laws.proofs.orders.Orders.{association_key_total, exact_association_key}
+use Rattle.docker_laws.proofs.lists.Sorted.{AreApart}
+use Rattle.docker_laws.proofs.dockers.StartDays.{event_within, start_days_iff}
+use Rattle.docker_laws.proofs.dockers.FewMidnights.{bodies_few}
+use Rattle.docker_laws.proofs.dockers.OneChoice.{one_association, one_train, one_link}
+use Rattle.docker_laws.proofs.dockers.OneDockerLine.{one_identity}
+use Rattle.docker_laws.proofs.orders.AtMost.{eq_is}
+use Rattle.docker_laws.proofs.dockers.ScheduleLines.{number_itself}
+
+-- the lines on one base start day
+abbrev pub link_piece : (List ℕ → ℕ → Option Train) → (Group → ℕ → Option Link) → ℕ → AssociationKey → List ℕ → ℕ → List DockerLine
+link_piece trains links day key line start =
+    cond (is_in_force links start key line) (line_with trains day start key line (category_occasion (columns 35 36 line)) (trains key.base start)) []
+
+-- a docker line of the association and the base start day
+pub record IsOfAssociation (live : Table) (place : List ℕ) (day : ℕ) (key : AssociationKey) (start : ℕ) (line : DockerLine) : Type 0 where
+  pub made : IsAssociationLine live place day line
+  pub of_key : made.key ≡ key
+  pub of_start : made.start ≡ start
+
+-- what an association in force is
+pub record IsInForce (live : Table) (start : ℕ) (key : AssociationKey) (line : List ℕ) : Type 0 where
+  pub chosen : IsChosenAssociation live (group_of key) start key line
+  pub no_cancellation : ¬ (key.indicator ≡ 67)
+  pub date_indicator : is_date_indicator (column 37 line) ≡ true
+
+module _ (live : Table) (trains : List ℕ → ℕ → Option Train) (links : Group → ℕ → Option Link) (tell : TellsTrains live trains)
+    (tell_links : TellsLinks live links) (place : List ℕ) (day : ℕ) where
+  -- the identity that is told is the partner's
+  partner_is : (uid : List ℕ) (start : Option ℕ) → IsPartnerIdentity live uid start (partner_identity trains uid start)
+  partner_is uid None = refl
+  partner_is uid (Some start) = by (trains uid start) (tell uid start)
+    where
+      by : (found : Option Train) → IsTrainOn live uid start found → IsPartnerIdentity live uid (Some start) (identity_of found)
+      by None none = inr (none, refl)
+      by (Some train) runs = inl (train.key, train.lines, runs, refl)
+
+  -- ---- in force
+
+  counts : (key : AssociationKey) (line : List ℕ) (start : ℕ) → live (association_key key) ≡ Some (association_body line)
+      → counts_as (links (group_of key) start) key ≡ true
+      → IsChosenAssociation live (group_of key) start key line
+  counts key line start is_live is = by (links (group_of key) start) (tell_links (group_of key) start) is
+    where
+      by : (found : Option Link) → IsLinkOn live (group_of key) start found → counts_as found key ≡ true
+          → IsChosenAssociation live (group_of key) start key line
+      by None none h = absurd (false_true h)
+        where
+          false_true : false ≡ true → ⊥
+          false_true bad = cc
+      by (Some link) chosen h =
+          let same = exact_association_key link.key key (eq_is (association_key_cmp link.key key) h) in
+          let lines = one_association live link.key key link.line line same chosen.associated.is_live is_live in
+          subst (λ (v : Link). IsChosenAssociation live (group_of key) start v.key v.line) (λ i. record { key = same i; line = lines i }) chosen
+
+  in_force_back : (key : AssociationKey) (line : List ℕ) (start : ℕ) → live (association_key key) ≡ Some (association_body line)
+      → is_in_force links start key line ≡ true → IsInForce live start key line
+  in_force_back key line start is_live is =
+      let p = both (counts_as (links (group_of key) start) key && not (key.indicator == 67)) (is_date_indicator (column 37 line)) is in
+      let q = both (counts_as (links (group_of key) start) key) (not (key.indicator == 67)) p.0 in
+      record {
+        chosen = counts key line start is_live q.0;
+        no_cancellation = λ cancelled. true_false (ap (λ n. n == 67) (sym cancelled) ∙ not_true (key.indicator == 67) q.1);
+        date_indicator = p.1;
+      }
+    where
+      true_false : true ≡ false → ⊥
+      true_false bad = cc
+
+  no_letter : (key : AssociationKey) → ¬ (key.indicator ≡ 67) → not (key.indicator == 67) ≡ true
+  no_letter key other = by (key.indicator == 67) refl
+    where
+      by : (b : Bool) → (key.indicator == 67) ≡ b → not b ≡ true
+      by true h = absurd (other (eqb-true _ _ h))
+      by false h = refl
+
+  in_force_forth : (key : AssociationKey) (line : List ℕ) (start : ℕ) → IsInForce live start key line → is_in_force links start key line ≡ true
+  in_force_forth key line start is = (λ i. counted i && no_letter key is.no_cancellation i && is.date_indicator i)
+    where
+      by : (found : Option Link) → IsLinkOn live (group_of key) start found → counts_as found key ≡ true
+      by None none = absurd (none key line is.chosen)
+      by (Some link) chosen =
+          let same = (one_link live (group_of key) start link.key key link.line line chosen is.chosen).0 in
+          (λ i. is_eq (association_key_cmp (same i) key)) ∙ (λ i. is_eq (tied_itself association_key_total key i))
+
+      counted : counts_as (links (group_of key) start) key ≡ true
+      counted = by (links (group_of key) start) (tell_links (group_of key) start)
+
+  -- ---- the line
+
+  made_at : (key : AssociationKey) (line : List ℕ) (start : ℕ) → key.location ≡ place → IsInForce live start key line → (occasion : Occasion)
+      → category_occasion (columns 35 36 line) ≡ Some occasion
+      → (base : Train) → TrainRuns live key.base start base.key base.lines → (at : Option Event) → first_event_at base.lines key.location key.suffix ≡ at
+      → (docker_line : DockerLine) → Contains (line_at trains day start key line occasion base at) docker_line
+      → IsOfAssociation live place day key start docker_line
+  made_at key line start here force occasion category base runs None at_is docker_line among = absurd (nil-Contains docker_line among)
+  made_at key line start here force occasion category base runs (Some event) at_is docker_line among = by (event_day start base.lines event == day) refl among
+    where
+      the_line : DockerLine
+      the_line =
+          line_of_association occasion key.indicator base.key start base.lines event key.associated
+          (partner_identity trains key.associated (partner_start (column 37 line) start))
+
+      by : (b : Bool) → (event_day start base.lines event == day) ≡ b → Contains (cond b (the_line ∷ []) []) docker_line
+          → IsOfAssociation live place day key start docker_line
+      by false h inside = absurd (nil-Contains docker_line inside)
+      by true h inside = record {
+        made = record {
+          start = start;
+          key = key;
+          association = line;
+          chosen = force.chosen;
+          no_cancellation = force.no_cancellation;
+          occasion = occasion;
+          category = category;
+          date_indicator = force.date_indicator;
+          base_key = base.key;
+          base = base.lines;
+          base_runs = runs;
+          event = event;
+          first_there = at_is;
+          identity = partner_identity trains key.associated (partner_start (column 37 line) start);
+          partner = partner_is key.associated (partner_start (column 37 line) start);
+          here = here;
+          today = eqb-true _ _ h;
+          is = sym (Contains-single the_line docker_line inside);
+        };
+        of_key = refl;
+        of_start = refl;
+      }
+
+  -- what stands in the piece of an association for one start day is a docker line of it
+  pub link_piece_back : (key : AssociationKey) (line : List ℕ) (start : ℕ) → live (association_key key) ≡ Some (association_body line) → key.location ≡ place
+      → (docker_line : DockerLine) → Contains (link_piece trains links day key line start) docker_line → IsOfAssociation live place day key start docker_line
+  link_piece_back key line start is_live here docker_line among = by (is_in_force links start key line) refl among
+    where
+      with_base : IsInForce live start key line → (occasion : Occasion) → category_occasion (columns 35 36 line) ≡ Some occasion → (found : Option Train)
+          → IsTrainOn live key.base start found
+          → Contains (line_with trains day start key line (Some occasion) found) docker_line → IsOfAssociation live place day key start docker_line
+      with_base force occasion category None none inside = absurd (nil-Contains docker_line inside)
+      with_base force occasion category (Some base) runs inside =
+          made_at key line start here force occasion category base runs (first_event_at base.lines key.location key.suffix) refl docker_line inside
+
+      with_category : IsInForce live start key line → (category : Option Occasion) → category_occasion (columns 35 36 line) ≡ category
+          → Contains (line_with trains day start key line category (trains key.base start)) docker_line → IsOfAssociation live place day key start docker_line
+      with_category force None is inside = absurd (nil-Contains docker_line inside)
+      with_category force (Some occasion) is inside = with_base force occasion is (trains key.base start) (tell key.base start) inside
+
+      by : (b : Bool) → is_in_force links start key line ≡ b
+          → Contains (cond b (line_with trains day start key line (category_occasion (columns 35 36 line)) (trains key.base start)) []) docker_line
+          → IsOfAssociation live place day key start docker_line
+      by false h inside = absurd (nil-Contains docker_line inside)
+      by true h inside = with_category (in_force_back key line start is_live h) (category_occasion (columns 35 36 line)) refl inside
+
+  -- a docker line of an association stands in the piece for its base's start day
+  pub link_piece_forth : (docker_line : DockerLine) (made : IsAssociationLine live place day docker_line)
+      → Contains (link_piece trains links day made.key made.association made.start) docker_line
+  link_piece_forth docker_line made =
+      subst (λ b. Contains (cond b (line_with trains day made.start made.key made.association (category_occasion (columns 35 36 made.association))
+      (trains made.key.base made.start)) []) docker_line)
+      (sym (in_force_forth made.key made.association made.start
+      (record { chosen = made.chosen; no_cancellation = made.no_cancellation; date_indicator = made.date_indicator })))
+      (subst (λ category. Contains (line_with trains day made.start made.key made.association category (trains made.key.base made.start)) docker_line)
+      (sym made.category)
+      (by (trains made.key.base made.start) (tell made.key.base made.start)))
+    where
+      the_identity : List ℕ
+      the_identity = partner_identity trains made.key.associated (partner_start (column 37 made.association) made.start)
+
+      the_line : Train → Event → DockerLine
+      the_line base event = line_of_association made.occasion made.key.indicator base.key made.start base.lines event made.key.associated the_identity
+
+      at_day : (base : Train) → base.key ≡ made.base_key → base.lines ≡ made.base
+          → Contains (line_at trains day made.start made.key made.association made.occasion base (Some made.event)) docker_line
+      at_day base keys lines =
+          let today : (event_day made.start base.lines made.event == day) ≡ true =
+          (λ i. event_day made.start (lines i) made.event == day) ∙ (λ i. made.today i == day) ∙ number_itself day in
+          let identities = one_identity live made.key.associated (partner_start (column 37 made.association) made.start) made.identity the_identity made.partner
+          (partner_is made.key.associated (partner_start (column 37 made.association) made.start)) in
+          let line_is : docker_line ≡ the_line base made.event =
+          made.is ∙ (λ i. line_of_association made.occasion made.key.indicator (sym keys i) made.start (sym lines i) made.event made.key.associated
+          (identities i)) in
+          subst (λ b. Contains (cond b (the_line base made.event ∷ []) []) docker_line) (sym today) (single-Contains (the_line base made.event) docker_line
+          (sym line_is))
+
+      by : (found : Option Train) → IsTrainOn live made.key.base made.start found
+          → Contains (line_with trains day made.start made.key made.association (Some made.occasion) found) docker_line
+      by None none = absurd (none made.base_key made.base made.base_runs)
+      by (Some base) runs =
+          let same = one_train live made.key.base made.start base.key made.base_key base.lines made.base runs made.base_runs in
+          let first : first_event_at base.lines made.key.location made.key.suffix ≡ Some made.event = ap
+          (λ ls. first_event_at ls made.key.location made.key.suffix) same.1 ∙ made.first_there in
+          subst (λ at. Contains (line_at trains day made.start made.key made.association made.occasion base at) docker_line) (sym first)
+          (at_day base same.0 same.1)
+
+  -- there is one line at most
+  pub link_piece_apart : (key : AssociationKey) (line : List ℕ) (start : ℕ) → AreApart docker_line_cmp (link_piece trains links day key line start)
+  link_piece_apart key line start = by (is_in_force links start key line) (category_occasion (columns 35 36 line)) (trains key.base start)
+    where
+      at_day : (occasion : Occasion) (base : Train) (at : Option Event) → AreApart docker_line_cmp (line_at trains day start key line occasion base at)
+      at_day occasion base None = tt
+      at_day occasion base (Some event) = inner (event_day start base.lines event == day)
+        where
+          inner : (b : Bool) → AreApart docker_line_cmp (cond b
+              (line_of_association occasion key.indicator base.key start base.lines event key.associated
+              (partner_identity trains key.associated (partner_start (column 37 line) start)) ∷ []) [])
+          inner true = (tt, tt)
+          inner false = tt
+
+      by : (b : Bool) (category : Option Occasion) (base : Option Train)
+          → AreApart docker_line_cmp (cond b (line_with trains day start key line category base) [])
+      by false category base = tt
+      by true None base = tt
+      by true (Some occasion) None = tt
+      by true (Some occasion) (Some base) = at_day occasion base (first_event_at base.lines key.location key.suffix)
+
+  -- the base train starts on one of the start days
+  pub association_starts : HasGoodBodies live → (docker_line : DockerLine) (made : IsAssociationLine live place day docker_line)
+      → Contains (start_days day) made.start
+  association_starts good docker_line made =
+      let few = bodies_few live good made.base_key made.base made.base_runs.chosen.running.is_live in
+      let within = event_within made.start made.base made.event few in
+      let low = within.0 in
+      let high = within.1 in
+      let today = made.today in
+      (start_days_iff day made.start).1 (omega arith, omega arith)

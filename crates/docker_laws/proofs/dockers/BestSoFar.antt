@@ -1,0 +1,78 @@
+-- The best so far of a walk: after each element, and at the end.
+use Rattle.std.proofs.Common.{◌≡◌, List, [], ◌∷◌, ◌++◌, refl, ap, sym, ◌∙◌, subst, inl, inr, ◌⊎◌, Some, None, Bool, true, false, cond, Contains}
+use Rattle.std.specs.Prelude.{Option}
+use Rattle.std.specs.declared.cmp.Ordering.{Ordering}
+use Rattle.std.specs.declared.cmp.Ordering.TheVariants.{Less, Equal, Greater}
+use Rattle.std.specs.Ordering.{is_lt, ordering_reverse}
+use Rattle.std.specs.Cmp.{IsTotalOrder}
+use Rattle.std.proofs.lemmas.List.Elements.{Contains-append_left, Contains-append_right, Contains-append_cases}
+use Rattle.docker_model.specs.state.Order.{IsAtMost}
+use Rattle.docker_model.specs.docker.Best.{IsBest, better, with_one_more}
+use Rattle.docker_laws.proofs.lists.Membership.{nil-Contains, Contains-single, single-Contains}
+use Rattle.docker_laws.proofs.orders.AtMost.{at_most_trans, at_most_itself, at_most_below}
+
+module _ {A : Type 0} {cmp : A → A → Ordering} (total : IsTotalOrder cmp) (test : A → Bool) where
+  -- of no elements none is the best
+  pub best_of_none : IsBest cmp test [] None
+  best_of_none = λ z among. absurd (nil-Contains z among)
+
+  -- an element that fails the test
+  fails : (xs : List A) (x : A) (found : Option A) → test x ≡ false → IsBest cmp test xs found → IsBest cmp test (xs ++ x ∷ []) found
+  fails xs x None h none = λ z among. by z (Contains-append_cases xs (x ∷ []) z among)
+    where
+      by : (z : A) → Contains xs z ⊎ Contains (x ∷ []) z → test z ≡ false
+      by z (inl here) = none z here
+      by z (inr last) = subst (λ v. test v ≡ false) (Contains-single x z last) h
+  fails xs x (Some b) h best = (
+    Contains-append_left xs (x ∷ []) b best.0,
+    best.1,
+    λ z among passes. by z passes (Contains-append_cases xs (x ∷ []) z among),
+  )
+    where
+      by : (z : A) → test z ≡ true → Contains xs z ⊎ Contains (x ∷ []) z → IsAtMost cmp b z
+      by z passes (inl here) = best.2 z here passes
+      by z passes (inr last) = absurd (let bad : true ≡ false = sym passes ∙ ap test (sym (Contains-single x z last)) ∙ h in cc)
+
+  -- one that passes it, and is the first
+  first_one : (xs : List A) (x : A) → test x ≡ true → IsBest cmp test xs None → IsBest cmp test (xs ++ x ∷ []) (Some x)
+  first_one xs x h none =
+      (Contains-append_right xs (x ∷ []) x (single-Contains x x refl), h, λ z among passes. by z passes (Contains-append_cases xs (x ∷ []) z among))
+    where
+      by : (z : A) → test z ≡ true → Contains xs z ⊎ Contains (x ∷ []) z → IsAtMost cmp x z
+      by z passes (inl here) = absurd (let bad : true ≡ false = sym passes ∙ none z here in cc)
+      by z passes (inr last) = subst (IsAtMost cmp x) (Contains-single x z last) (at_most_itself total x)
+
+  -- one that comes before the best so far
+  comes_before : (xs : List A) (x b : A) → test x ≡ true → cmp x b ≡ Less → IsBest cmp test xs (Some b) → IsBest cmp test (xs ++ x ∷ []) (Some x)
+  comes_before xs x b h below best =
+      (Contains-append_right xs (x ∷ []) x (single-Contains x x refl), h, λ z among passes. by z passes (Contains-append_cases xs (x ∷ []) z among))
+    where
+      by : (z : A) → test z ≡ true → Contains xs z ⊎ Contains (x ∷ []) z → IsAtMost cmp x z
+      by z passes (inl here) = at_most_trans total x b z (at_most_below cmp x b below) (best.2 z here passes)
+      by z passes (inr last) = subst (IsAtMost cmp x) (Contains-single x z last) (at_most_itself total x)
+
+  -- one that does not
+  stays : (xs : List A) (x b : A) → ¬ (cmp x b ≡ Less) → IsBest cmp test xs (Some b) → IsBest cmp test (xs ++ x ∷ []) (Some b)
+  stays xs x b not_below best = (Contains-append_left xs (x ∷ []) b best.0, best.1, λ z among passes. by z passes (Contains-append_cases xs (x ∷ []) z among))
+    where
+      at_most : IsAtMost cmp b x
+      at_most greater = not_below (total.antisymm x b ∙ ap ordering_reverse greater)
+
+      by : (z : A) → test z ≡ true → Contains xs z ⊎ Contains (x ∷ []) z → IsAtMost cmp b z
+      by z passes (inl here) = best.2 z here passes
+      by z passes (inr last) = subst (IsAtMost cmp b) (Contains-single x z last) at_most
+
+  -- one more element
+  pub best_more : (xs : List A) (x : A) (found : Option A) → IsBest cmp test xs found → IsBest cmp test (xs ++ x ∷ []) (with_one_more cmp test found x)
+  best_more xs x found best = by (test x) refl found best
+    where
+      inner : test x ≡ true → (b : A) → IsBest cmp test xs (Some b) → (o : Ordering) → cmp x b ≡ o
+          → IsBest cmp test (xs ++ x ∷ []) (cond (is_lt o) (Some x) (Some b))
+      inner h b best_so_far Less e = comes_before xs x b h e best_so_far
+      inner h b best_so_far Equal e = stays xs x b (λ less. let bad : Equal ≡ Less = sym e ∙ less in cc) best_so_far
+      inner h b best_so_far Greater e = stays xs x b (λ less. let bad : Greater ≡ Less = sym e ∙ less in cc) best_so_far
+
+      by : (t : Bool) → test x ≡ t → (so_far : Option A) → IsBest cmp test xs so_far → IsBest cmp test (xs ++ x ∷ []) (cond t (better cmp so_far x) so_far)
+      by false h so_far is = fails xs x so_far h is
+      by true h None none = first_one xs x h none
+      by true h (Some b) is = inner h b is (cmp x b) refl

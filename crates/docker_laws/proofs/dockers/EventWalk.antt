@@ -1,0 +1,165 @@
+-- The events of a schedule are those that a walk over its lines meets, with the falls, the line and the identity that it carries along.
+use Rattle.std.proofs.Common.{◌≡◌, ℕ, zero, suc, ◌+◌, ◌<◌, ◌≤◌, Bool, true, false, cond, List, [], ◌∷◌, ◌++◌, map, length, get_or, take, refl, ap, sym, ◌∙◌, subst, arith, Contains, Some, None, append_assoc, append-nil, length-append}
+use Rattle.std.specs.Prelude.{Option, ◌↔◌, nat_lt, filter, codes}
+use Rattle.std.specs.List.{enumerate_from, last_or, flat_map}
+use Rattle.std.proofs.lemmas.List.{map-append, length-map, get_or-map}
+use Rattle.std.proofs.lemmas.List.FromFn.{length-enumerate_from, get_or-enumerate_from}
+use Rattle.std.proofs.lemmas.List.Elements.{filter-append, Contains-get_or}
+use Rattle.std.proofs.lemmas.Grind.{flat_map-append}
+use Rattle.std.proofs.Math.Seq.{take-append_seam, take-append-add, get_or-append_seam}
+use Rattle.docker_model.specs.file.Journey.{Occasion, arrival, times_of, times_along, fall_count}
+use Rattle.docker_model.specs.file.File.{first_record}
+use Rattle.docker_model.specs.docker.Event.{Event, placed_times, events_of, falls_to, event_line, event_identity, changed_identity, has_identity}
+use Rattle.docker_model.specs.docker.EventWalk.{events_here, events_from, fall_at, last_time, last_change}
+
+abbrev Placed : Type 0
+Placed = ℕ × (Occasion × ℕ)
+
+abbrev as_event : ℕ × Placed → Event
+as_event counted = record { number = counted.0; place = counted.1.0; occasion = counted.1.1.0; time = counted.1.1.1 }
+
+abbrev times_at : ℕ × List ℕ → List Placed
+times_at placed = map (λ time. (placed.0, time)) (times_of placed.1)
+
+-- ---- the events in order
+
+numbered_append : {A : Type 0} (n : ℕ) (xs ys : List A) → enumerate_from n (xs ++ ys) ≡ enumerate_from n xs ++ enumerate_from (n + length xs) ys
+numbered_append n [] ys = (let e : n ≡ n + 0 = omega arith in ap (λ k. enumerate_from k ys) e)
+numbered_append n (x ∷ xs) ys =
+    let e : n + 1 + length xs ≡ n + suc (length xs) = omega arith in
+    ap (λ rest. (n, x) ∷ rest) (numbered_append (n + 1) xs ys ∙ ap (λ k. enumerate_from (n + 1) xs ++ enumerate_from k ys) e)
+
+here_is : (n place : ℕ) (times : List (Occasion × ℕ)) → map as_event (enumerate_from n (map (λ time. (place, time)) times)) ≡ events_here n place times
+here_is n place [] = refl
+here_is n place (time ∷ times) = ap (λ rest. as_event (n, (place, time)) ∷ rest) (here_is (n + 1) place times)
+
+from_is : (n place : ℕ) (lines : List (List ℕ)) → map as_event (enumerate_from n (flat_map times_at (enumerate_from place lines))) ≡ events_from n place lines
+from_is n place [] = refl
+from_is n place (line ∷ lines) =
+    let long : length (map (λ (time : Occasion × ℕ). (place, time)) (times_of line)) ≡ length (times_of line) = length-map (times_of line)
+    (λ (time : Occasion × ℕ). (place, time)) in
+    ap (map as_event) (numbered_append n (times_at (place, line)) (flat_map times_at (enumerate_from (place + 1) lines)))
+    ∙ map-append as_event (enumerate_from n (times_at (place, line))) (enumerate_from (n + length (times_at (place, line)))
+    (flat_map times_at (enumerate_from (place + 1) lines)))
+    ∙ (λ i. here_is n place (times_of line) i ++ (ap (λ k. map as_event (enumerate_from (n + k) (flat_map times_at (enumerate_from (place + 1) lines)))) long
+    ∙ from_is (n + length (times_of line)) (place + 1) lines) i)
+
+-- the events of a schedule, as a walk meets them
+pub events_walked : (lines : List (List ℕ)) → events_of lines ≡ events_from 1 0 lines
+events_walked lines = from_is 1 0 lines
+
+-- ---- falls
+
+-- one more time
+pub falls_more : (times : List ℕ) (time : ℕ) → fall_count (times ++ time ∷ []) ≡ fall_count times + fall_at (last_time times) time
+falls_more [] time = refl
+falls_more (first ∷ []) time = (let e : cond (nat_lt time first) 1 0 + 0 ≡ 0 + cond (nat_lt time first) 1 0 = omega arith in e)
+falls_more (first ∷ second ∷ times) time = let rest = falls_more (second ∷ times) time in omega arith
+
+-- the falls up to the event whose time follows these
+pub falls_here : (lines : List (List ℕ)) (before later : List ℕ) (time : ℕ) (number : ℕ) → times_along lines ≡ (before ++ time ∷ []) ++ later
+    → number ≡ length before + 1
+    → falls_to lines number ≡ fall_count before + fall_at (last_time before) time
+falls_here lines before later time number whole is =
+    (λ i. fall_count (take (is i) (whole i)))
+    ∙ ap fall_count (front before time later)
+    ∙ falls_more before time
+  where
+    front : (xs : List ℕ) (x : ℕ) (ys : List ℕ) → take (length xs + 1) ((xs ++ x ∷ []) ++ ys) ≡ xs ++ x ∷ []
+    front xs x ys = ap (take (length xs + 1)) (append_assoc xs (x ∷ []) ys) ∙ take-append-add xs (x ∷ ys) 1
+
+-- the times along the lines before a line, its own, and those behind it
+pub times_split : (front : List (List ℕ)) (line : List ℕ) (rest : List (List ℕ))
+    → times_along (front ++ line ∷ rest) ≡ times_along front ++ (map (λ (time : Occasion × ℕ). time.1) (times_of line) ++ times_along rest)
+times_split front line rest =
+    ap (map (λ (time : Occasion × ℕ). time.1)) (flat_map-append times_of front (line ∷ rest))
+    ∙ map-append (λ (time : Occasion × ℕ). time.1) (flat_map times_of front) (times_of line ++ flat_map times_of rest)
+    ∙ ap (λ more. times_along front ++ more) (map-append (λ (time : Occasion × ℕ). time.1) (times_of line) (flat_map times_of rest))
+
+-- ---- the line and the identity at an event
+
+-- an event at the line that a walk has come to stands at that line
+pub line_here : (front : List (List ℕ)) (line : List ℕ) (rest : List (List ℕ)) (event : Event) → event.place ≡ length front
+    → event_line (front ++ line ∷ rest) event ≡ line
+line_here front line rest event is = ap (λ n. get_or (front ++ line ∷ rest) n []) is ∙ get_or-append_seam front line rest []
+
+-- the identity of an event is that of the last change en route before its line
+pub identity_here : (front rest : List (List ℕ)) (event : Event) → event.place ≡ length front → event_identity (front ++ rest) event ≡ changed_identity
+    (last_change front) (first_record (front ++ rest))
+identity_here front rest event is =
+    ap (λ before. changed_identity (last_change before) (first_record (front ++ rest))) (ap (λ n. take n (front ++ rest)) is ∙ take-append_seam front rest)
+
+-- the last of a list with more behind
+last_behind : {A : Type 0} (o : Option A) (xs : List A) (x : A) → last_or o (xs ++ x ∷ []) ≡ Some x
+last_behind o [] x = refl
+last_behind o (y ∷ xs) x = last_behind (Some y) xs x
+
+-- the last change en route with one more line
+pub change_more : (front : List (List ℕ)) (line : List ℕ) → last_change (front ++ line ∷ []) ≡ cond (has_identity (codes "CR") line) (Some line)
+    (last_change front)
+change_more front line =
+    ap (last_or None) (filter-append (λ l. has_identity (codes "CR") l) front (line ∷ []))
+    ∙ by (has_identity (codes "CR") line)
+  where
+    kept : List (List ℕ)
+    kept = filter (λ l. has_identity (codes "CR") l) front
+
+    by : (b : Bool) → last_or None (kept ++ cond b (line ∷ []) []) ≡ cond b (Some line) (last_or None kept)
+    by true = last_behind None kept line
+    by false = ap (last_or None) (append-nil kept)
+
+-- ---- how many events
+
+-- a schedule has as many events as times
+pub as_many : (lines : List (List ℕ)) → length (events_of lines) ≡ length (times_along lines)
+as_many lines =
+    length-map (enumerate_from 1 (placed_times lines)) as_event ∙ length-enumerate_from 1 (placed_times lines)
+    ∙ placed_long 0 lines
+    ∙ sym (length-map (flat_map times_of lines) (λ (time : Occasion × ℕ). time.1))
+  where
+    placed_long : (n : ℕ) (ls : List (List ℕ)) → length (flat_map times_at (enumerate_from n ls)) ≡ length (flat_map times_of ls)
+    placed_long n [] = refl
+    placed_long n (l ∷ ls) =
+        length-append (times_at (n, l)) (flat_map times_at (enumerate_from (n + 1) ls))
+        ∙ (λ i. length-map {B = Placed} (times_of l) (λ (time : Occasion × ℕ). (n, time)) i + placed_long (n + 1) ls i)
+        ∙ sym (length-append (times_of l) (flat_map times_of ls))
+
+-- an event of a number is there exactly where the number is from 1 to as many as there are times
+pub number_there : (lines : List (List ℕ)) (number : ℕ) → ((event : Event) × Contains (events_of lines) event × (event.number ≡ number))
+    ↔ ((1 ≤ number) × (number ≤ length (times_along lines)))
+number_there lines number = (forth, back)
+  where
+    long : length (enumerate_from 1 (placed_times lines)) ≡ length (times_along lines)
+    long = sym (length-map (enumerate_from 1 (placed_times lines)) as_event) ∙ as_many lines
+
+    some : ℕ × Placed
+    some = (0, (0, (arrival, 0)))
+
+    number_at : (k : ℕ) (d : Event) → k < length (events_of lines) → (get_or (events_of lines) k d).number ≡ 1 + k
+    number_at k d low =
+        let counted : k < length (enumerate_from 1 (placed_times lines)) = subst (λ n. k < n)
+        (length-map (enumerate_from 1 (placed_times lines)) as_event) low in
+        ap (λ (e : Event). e.number) (get_or-map as_event (enumerate_from 1 (placed_times lines)) k some d counted)
+        ∙ ap (λ (c : ℕ × Placed). c.0) (get_or-enumerate_from 1 (placed_times lines) k some
+        (subst (λ n. k < n) (length-enumerate_from 1 (placed_times lines)) counted))
+
+    forth : (event : Event) × Contains (events_of lines) event × (event.number ≡ number) → (1 ≤ number) × (number ≤ length (times_along lines))
+    forth (event, among, is) =
+        let at : event.number ≡ 1 + among.0 = ap (λ (e : Event). e.number) (sym among.2) ∙ number_at among.0 event among.1 in
+        let low = among.1 in
+        let whole = as_many lines in
+        (omega arith, omega arith)
+
+    back : (1 ≤ number) × (number ≤ length (times_along lines)) → (event : Event) × Contains (events_of lines) event × (event.number ≡ number)
+    back within = by number within.0 within.1
+      where
+        by : (n : ℕ) → 1 ≤ n → n ≤ length (times_along lines) → (event : Event) × Contains (events_of lines) event × (event.number ≡ n)
+        by zero low high = absurd (omega arith)
+        by (suc k) low high =
+            let whole = as_many lines in
+            let inside : k < length (events_of lines) = omega arith in
+            let is = number_at k (as_event some) inside in (
+              get_or (events_of lines) k (as_event some),
+              Contains-get_or (events_of lines) k (as_event some) inside,
+              (let e : (get_or (events_of lines) k (as_event some)).number ≡ suc k = omega arith in e),
+            )

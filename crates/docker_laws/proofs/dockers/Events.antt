@@ -1,0 +1,191 @@
+-- Events of a schedule: one for each number, each at a location record.
+use Rattle.std.proofs.Common.{◌≡◌, ℕ, zero, suc, ◌+◌, ◌<◌, ◌≤◌, List, [], ◌∷◌, ◌++◌, length, get_or, refl, ap, sym, ◌∙◌, subst, inl, inr, ◌⊎◌, Some, None, Contains, map, arith}
+use Rattle.std.specs.Prelude.{Option, slice_index_or}
+use Rattle.std.specs.List.{enumerate_from}
+use Rattle.std.proofs.lemmas.List.Elements.{Contains-append_cases}
+use Rattle.docker_model.specs.records.Record.{Kind, header, tiploc_insert, tiploc_amend, tiploc_delete, association, basic_schedule, extra_details, origin_location, intermediate_location, terminating_location, change_en_route, trailer, HasKind, kind_of, columns}
+use Rattle.docker_model.specs.records.Clock.{scheduled_time}
+use Rattle.docker_model.specs.file.Journey.{Occasion, arrival, pass, departure, timed, times_by_kind, times_of, CallsAt}
+use Rattle.docker_model.specs.docker.Event.{Event, placed_times, events_of, event_line}
+use Rattle.docker_laws.proofs.lists.Membership.{Contains-cons, nil-Contains, Contains-map, Contains-flat_map, each_member}
+use Rattle.docker_laws.proofs.lists.Later.{AllLater, later_map, one_before}
+
+abbrev Placed : Type 0
+Placed = ℕ × (Occasion × ℕ)
+
+abbrev as_event : ℕ × Placed → Event
+as_event counted = record { number = counted.0; place = counted.1.0; occasion = counted.1.1.0; time = counted.1.1.1 }
+
+-- ---- numbers
+
+from_here : {A : Type 0} (n : ℕ) (xs : List A) (z : ℕ × A) → Contains (enumerate_from n xs) z → n ≤ z.0
+from_here n [] z among = absurd (nil-Contains z among)
+from_here n (x ∷ xs) z among = by (from_here (n + 1) xs z) (Contains-cons (n, x) (enumerate_from (n + 1) xs) z among)
+  where
+    by : (Contains (enumerate_from (n + 1) xs) z → n + 1 ≤ z.0) → ((n, x) ≡ z) ⊎ Contains (enumerate_from (n + 1) xs) z → n ≤ z.0
+    by rest (inl e) = let same : n ≡ z.0 = ap (λ (v : ℕ × _). v.0) e in omega arith
+    by rest (inr inside) = let low = rest inside in omega arith
+
+counts_up : {A : Type 0} (n : ℕ) (xs : List A) → AllLater (λ (a b : ℕ × A). a.0 < b.0) (enumerate_from n xs)
+counts_up n [] = tt
+counts_up n (x ∷ xs) = (
+  each_member (λ z. n < z.0) (enumerate_from (n + 1) xs) (λ z among. let low = from_here (n + 1) xs z among in omega arith),
+  counts_up (n + 1) xs,
+)
+
+-- events are numbered upwards
+pub numbered : (lines : List (List ℕ)) → AllLater (λ (a b : Event). a.number < b.number) (events_of lines)
+numbered lines = later_map (λ (a b : Event). a.number < b.number) as_event (enumerate_from 1 (placed_times lines)) (counts_up 1 (placed_times lines))
+
+-- so a number has one event
+pub one_event : (lines : List (List ℕ)) (a b : Event) → Contains (events_of lines) a → Contains (events_of lines) b → a.number ≡ b.number → a ≡ b
+one_event lines a b in_a in_b same = by (one_before (λ (x y : Event). x.number < y.number) (events_of lines) a b (numbered lines) in_a in_b)
+  where
+    by : (a ≡ b) ⊎ (a.number < b.number) ⊎ (b.number < a.number) → a ≡ b
+    by (inl e) = e
+    by (inr (inl below)) = absurd (omega arith)
+    by (inr (inr above)) = absurd (omega arith)
+
+-- ---- an event's line
+
+-- the members of a numbered list stand at their numbers
+stands_at : {A : Type 0} (n : ℕ) (xs : List A) (z : ℕ × A) (d : A) → Contains (enumerate_from n xs) z → (k : ℕ) × (z.0 ≡ n + k) × (k < length xs)
+    × (get_or xs k d ≡ z.1)
+stands_at n [] z d among = absurd (nil-Contains z among)
+stands_at n (x ∷ xs) z d among = by (stands_at (n + 1) xs z d) (Contains-cons (n, x) (enumerate_from (n + 1) xs) z among)
+  where
+    by : (Contains (enumerate_from (n + 1) xs) z → (k : ℕ) × (z.0 ≡ n + 1 + k) × (k < length xs) × (get_or xs k d ≡ z.1))
+        → ((n, x) ≡ z) ⊎ Contains (enumerate_from (n + 1) xs) z
+        → (k : ℕ) × (z.0 ≡ n + k) × (k < length (x ∷ xs)) × (get_or (x ∷ xs) k d ≡ z.1)
+    by rest (inl e) = (0, (let same : n ≡ z.0 = ap (λ (v : ℕ × _). v.0) e in omega arith), omega arith, ap (λ (v : ℕ × _). v.1) e)
+    by rest (inr inside) = let found = rest inside in (suc found.0, (let at = found.1 in omega arith), (let low = found.2 in omega arith), found.3)
+
+-- what an event happens at: a line among the lines, one of whose times it is
+pub record IsTimeOf (lines : List (List ℕ)) (event : Event) : Type 0 where
+  pub among : Contains lines (event_line lines event)
+  pub is_time : Contains (times_of (event_line lines event)) (event.occasion, event.time)
+
+same_at : (xs : List (List ℕ)) (k : ℕ) (x : List ℕ) → k < length xs → get_or xs k [] ≡ x → get_or xs k x ≡ x
+same_at [] k x low is = absurd (omega arith)
+same_at (y ∷ ys) zero x low is = is
+same_at (y ∷ ys) (suc k) x low is = same_at ys k x (omega arith) is
+
+-- a time of the line that stands at the event's place
+time_of_line : (lines : List (List ℕ)) (event : Event) (k : ℕ) (line : List ℕ) → k < length lines → get_or lines k [] ≡ line → event.place ≡ k
+    → Contains (times_of line) (event.occasion, event.time) → IsTimeOf lines event
+time_of_line lines event k line low is place among =
+    let line_is : event_line lines event ≡ line = ap (λ n. slice_index_or lines n []) place ∙ is in
+    record {
+      among = subst (Contains lines) (sym line_is) (k, low, same_at lines k line low is);
+      is_time = subst (λ l. Contains (times_of l) (event.occasion, event.time)) (sym line_is) among;
+    }
+
+-- a placed time is one of the line at its place
+time_of_placed : (lines : List (List ℕ)) (placed : Placed) → Contains (placed_times lines) placed
+    → (line : List ℕ) × (placed.0 < length lines) × (get_or lines placed.0 [] ≡ line) × Contains (times_of line) placed.1
+time_of_placed lines placed among =
+    by (Contains-flat_map (λ (p : ℕ × List ℕ). map (λ (time : Occasion × ℕ). (p.0, time)) (times_of p.1)) (enumerate_from 0 lines) placed among)
+  where
+    Told : Type 0
+    Told = (line : List ℕ) × (placed.0 < length lines) × (get_or lines placed.0 [] ≡ line) × Contains (times_of line) placed.1
+
+    at : (n : ℕ) (line : List ℕ) (k : ℕ) → n ≡ 0 + k → k < length lines → get_or lines k [] ≡ line → (time : Occasion × ℕ) → Contains (times_of line) time
+        → (n, time) ≡ placed → Told
+    at n line k place low is time inside same =
+        let first : placed.0 ≡ k = sym (ap (λ (v : Placed). v.0) same) ∙ (let e : n ≡ k = omega arith in e) in (
+          line,
+          (let e = first in omega arith),
+          ap (λ i. get_or lines i []) first ∙ is,
+          subst (Contains (times_of line)) (ap (λ (v : Placed). v.1) same) inside,
+        )
+
+    by : (piece : ℕ × List ℕ) × Contains (enumerate_from 0 lines) piece × Contains (map (λ (time : Occasion × ℕ). (piece.0, time)) (times_of piece.1)) placed
+        → Told
+    by (piece, there, inside) =
+        let stands = stands_at 0 lines piece [] there in
+        let time = Contains-map (λ (t : Occasion × ℕ). (piece.0, t)) (times_of piece.1) placed inside in
+        at piece.0 piece.1 stands.0 stands.1 stands.2 stands.3 time.0 time.1 time.2
+
+-- an event of a schedule is one of the times of one of its lines
+pub at_a_line : (lines : List (List ℕ)) (event : Event) → Contains (events_of lines) event → IsTimeOf lines event
+at_a_line lines event among = by (Contains-map as_event (enumerate_from 1 (placed_times lines)) event among)
+  where
+    at : (placed : Placed) → (event.place ≡ placed.0) × ((event.occasion, event.time) ≡ placed.1)
+        → (line : List ℕ) × (placed.0 < length lines) × (get_or lines placed.0 [] ≡ line) × Contains (times_of line) placed.1 → IsTimeOf lines event
+    at placed same (line, low, is, inside) = time_of_line lines event placed.0 line low is same.0 (subst (Contains (times_of line)) (sym same.1) inside)
+
+    by : (counted : ℕ × Placed) × Contains (enumerate_from 1 (placed_times lines)) counted × (as_event counted ≡ event) → IsTimeOf lines event
+    by (counted, there, same) =
+        let stands = stands_at 1 (placed_times lines) counted counted.1 there in
+        let inside : Contains (placed_times lines) counted.1 = (stands.0, stands.2, stands.3) in
+        at counted.1 (sym (ap (λ (e : Event). e.place) same), sym (ap (λ (e : Event). (e.occasion, e.time)) same)) (time_of_placed lines counted.1 inside)
+
+-- ---- what happens there
+
+-- an arrival, a pass or a departure
+abbrev pub IsOfTrain : Occasion → Type 0
+IsOfTrain occasion = (occasion ≡ arrival) ⊎ (occasion ≡ pass) ⊎ (occasion ≡ departure)
+
+-- the line is an origin, an intermediate or a terminating location
+abbrev pub IsLocation : List ℕ → Type 0
+IsLocation line = HasKind origin_location line ⊎ HasKind intermediate_location line ⊎ HasKind terminating_location line
+
+timed_is : (occasion : Occasion) (time : Option ℕ) (pair : Occasion × ℕ) → Contains (timed occasion time) pair → pair.0 ≡ occasion
+timed_is occasion None pair among = absurd (nil-Contains pair among)
+timed_is occasion (Some n) pair among = by (Contains-cons (occasion, n) [] pair among)
+  where
+    by : ((occasion, n) ≡ pair) ⊎ Contains [] pair → pair.0 ≡ occasion
+    by (inl e) = sym (ap (λ (v : Occasion × ℕ). v.0) e)
+    by (inr none) = absurd (nil-Contains pair none)
+
+-- a record that has a time is of a location, and it is of a train's event
+pub timed_there : (line : List ℕ) (pair : Occasion × ℕ) → Contains (times_of line) pair → IsLocation line × IsOfTrain pair.0
+timed_there line pair among = by (kind_of line) refl among
+  where
+    by : (kind : Option Kind) → kind_of line ≡ kind → Contains (times_by_kind kind line) pair → IsLocation line × IsOfTrain pair.0
+    by None h inside = absurd (nil-Contains pair inside)
+    by (Some header) h inside = absurd (nil-Contains pair inside)
+    by (Some tiploc_insert) h inside = absurd (nil-Contains pair inside)
+    by (Some tiploc_amend) h inside = absurd (nil-Contains pair inside)
+    by (Some tiploc_delete) h inside = absurd (nil-Contains pair inside)
+    by (Some association) h inside = absurd (nil-Contains pair inside)
+    by (Some basic_schedule) h inside = absurd (nil-Contains pair inside)
+    by (Some extra_details) h inside = absurd (nil-Contains pair inside)
+    by (Some change_en_route) h inside = absurd (nil-Contains pair inside)
+    by (Some trailer) h inside = absurd (nil-Contains pair inside)
+    by (Some origin_location) h inside = (inl h, inr (inr (timed_is departure (scheduled_time (columns 11 15 line)) pair inside)))
+    by (Some terminating_location) h inside = (inr (inr h), inl (timed_is arrival (scheduled_time (columns 11 15 line)) pair inside))
+    by (Some intermediate_location) h inside = (inr (inl h), outer (Contains-append_cases (first ++ second) third pair inside))
+      where
+        first : List (Occasion × ℕ)
+        first = timed arrival (scheduled_time (columns 11 15 line))
+
+        second : List (Occasion × ℕ)
+        second = timed pass (scheduled_time (columns 21 25 line))
+
+        third : List (Occasion × ℕ)
+        third = timed departure (scheduled_time (columns 16 20 line))
+
+        inner : Contains first pair ⊎ Contains second pair → IsOfTrain pair.0
+        inner (inl here) = inl (timed_is arrival (scheduled_time (columns 11 15 line)) pair here)
+        inner (inr here) = inr (inl (timed_is pass (scheduled_time (columns 21 25 line)) pair here))
+
+        outer : Contains (first ++ second) pair ⊎ Contains third pair → IsOfTrain pair.0
+        outer (inl here) = inner (Contains-append_cases first second pair here)
+        outer (inr here) = inr (inr (timed_is departure (scheduled_time (columns 16 20 line)) pair here))
+
+-- an event is an arrival, a pass or a departure
+pub event_occasion : (lines : List (List ℕ)) (event : Event) → Contains (events_of lines) event → IsOfTrain event.occasion
+event_occasion lines event among = (timed_there (event_line lines event) (event.occasion, event.time) (at_a_line lines event among).is_time).1
+
+-- a schedule that has an event at a place calls there
+pub event_calls : (lines : List (List ℕ)) (event : Event) (place : List ℕ) → Contains (events_of lines) event → columns 3 9 (event_line lines event) ≡ place
+    → CallsAt place lines
+event_calls lines event place among here =
+    let at = at_a_line lines event among in
+    record {
+      line = event_line lines event;
+      among = at.among;
+      kind = (timed_there (event_line lines event) (event.occasion, event.time) at.is_time).0;
+      here = here;
+    }

@@ -1,0 +1,57 @@
+-- The schedules of a table with good bodies pass midnight at most twice, so that an event is at most two days after the start.
+use Rattle.std.proofs.Common.{◌≡◌, ℕ, ◌+◌, ◌≤◌, List, take, drop, subst, inl, inr, ◌⊎◌, ap, sym, ◌∙◌, Some, arith}
+use Rattle.std.specs.Prelude.{IsTrue}
+use Rattle.std.proofs.lemmas.Bool.{eqb-true}
+use Rattle.std.proofs.lemmas.List.{take-append-drop}
+use Rattle.docker_model.specs.records.Record.{column}
+use Rattle.docker_model.specs.records.Field.{is_deletion}
+use Rattle.docker_model.specs.file.Journey.{times_along, fall_count, midnights}
+use Rattle.docker_model.specs.file.File.{IsSchedule, IsSoundJourney, first_record}
+use Rattle.docker_model.specs.file.Change.{schedule_key, ScheduleKey, schedule_body}
+use Rattle.docker_model.specs.state.Table.{Table}
+use Rattle.docker_model.specs.state.State.{HasGoodBodies, IsScheduleOf}
+use Rattle.docker_model.specs.docker.Event.{Event, falls_to, event_day}
+use Rattle.docker_laws.proofs.records.RecordTests.{fewer_falls}
+use Rattle.docker_laws.proofs.schedules.ScheduleStages.{midnights_of_journey}
+
+-- the schedules of a table pass midnight at most twice
+abbrev pub HasFewMidnights : Table → Type 0
+HasFewMidnights live = (key : ScheduleKey) (lines : List (List ℕ)) → live (schedule_key key) ≡ Some (schedule_body lines) → midnights lines ≤ 2
+
+-- ---- a schedule that is kept
+
+-- it passes midnight at most twice
+pub few_midnights : (key : ScheduleKey) (lines : List (List ℕ)) → IsScheduleOf key lines → midnights lines ≤ 2
+few_midnights key lines of = by of.schedule.sound
+  where
+    is : IsSchedule lines
+    is = of.schedule
+
+    by : IsTrue (is_deletion is.basic) ⊎ IsSoundJourney is.journey → midnights lines ≤ 2
+    by (inl deletion) =
+        let first : column 3 is.basic ≡ 78 = subst (λ (ls : List (List ℕ)). column 3 (first_record ls) ≡ 78) is.whole of.new in
+        let letter : column 3 is.basic ≡ 68 = eqb-true (column 3 is.basic) 68 deletion in
+        absurd (omega (arith, first, letter))
+    by (inr good) =
+        let falls : midnights is.journey ≤ 2 = good.falls in
+        let same : midnights lines ≡ midnights is.journey = ap midnights is.whole ∙ midnights_of_journey is.basic is.extra is.journey is.kind is.details in
+        subst (λ n. n ≤ 2) (sym same) falls
+
+-- and so do those of good bodies
+pub bodies_few : (live : Table) → HasGoodBodies live → HasFewMidnights live
+bodies_few live good key lines is = few_midnights key lines (good (schedule_key key) (schedule_body lines) is)
+
+-- ---- events
+
+-- up to an event there are no more falls than in all
+pub falls_below : (lines : List (List ℕ)) (number : ℕ) → falls_to lines number ≤ midnights lines
+falls_below lines number =
+    subst (λ times. falls_to lines number ≤ fall_count times) (take-append-drop number (times_along lines))
+    (fewer_falls (take number (times_along lines)) (drop number (times_along lines)))
+
+-- a train with an event on a day started at most two days before
+pub started : (start : ℕ) (lines : List (List ℕ)) (event : Event) (day : ℕ) → midnights lines ≤ 2 → event_day start lines event ≡ day → day ≤ start + 2
+started start lines event day few today =
+    let falls = falls_below lines event.number in
+    let is : start + falls_to lines event.number ≡ day = today in
+    omega arith

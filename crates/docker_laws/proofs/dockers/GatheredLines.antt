@@ -1,0 +1,214 @@
+-- What a walk over rows gathers are the lines of the docker, and the order tells them apart: sorted, they are the docker list.
+use Rattle.std.proofs.Common.{◌≡◌, ℕ, ◌-◌, ◌<◌, ◌≤◌, lit<, List, [], ◌∷◌, refl, ap, sym, ◌∙◌, subst, inl, inr, ◌⊎◌, Some, Bool, true, false, cond, Contains, arith, ◌++◌, append-nil}
+use Rattle.std.specs.Prelude.{Option, filter, nat_le}
+use Rattle.std.specs.List.{flat_map}
+use Rattle.std.specs.List.Sorted.{IsSorted, IsPermutation}
+use Rattle.std.specs.Str.{bytes_eq}
+use Rattle.std.specs.declared.cmp.Ordering.TheVariants.{Equal}
+use Rattle.std.specs.Ordering.{on}
+use Rattle.std.proofs.lemmas.Bool.{leb-true}
+use Rattle.std.proofs.lemmas.Grind.{flat_map-append}
+use Rattle.std.proofs.lemmas.List.Sorted.{Contains-permutation, IsPermutation-sym}
+use Rattle.std.proofs.lemmas.Slice.Eq.{bytes_eq-Decides}
+use Rattle.docker_model.specs.file.Change.{Key, tiploc_key, association_key, schedule_key, AssociationKey, ScheduleKey, Body, tiploc_body, association_body, schedule_body}
+use Rattle.docker_model.specs.state.Order.{IsBelow}
+use Rattle.docker_model.specs.state.Op.{key_cmp}
+use Rattle.docker_model.specs.state.Table.{Table}
+use Rattle.docker_model.specs.state.State.{HasGoodBodies}
+use Rattle.docker_model.specs.state.Row.{Row, AreInKeyOrder}
+use Rattle.docker_model.specs.docker.Choice.{Group}
+use Rattle.docker_model.specs.docker.DockerLine.{DockerLine, docker_line_cmp}
+use Rattle.docker_model.specs.docker.DockerList.{IsDockerList}
+use Rattle.docker_model.specs.docker.LiveRows.{Train, Link, TellsTrains, TellsLinks}
+use Rattle.docker_model.specs.docker.Gathering.{IsDockerLine, start_days, IsWalk, row_lines, gathered}
+use Rattle.docker_laws.proofs.lists.Membership.{nil-Contains, Contains-flat_map, flat_map-Contains}
+use Rattle.docker_laws.proofs.orders.Ascending.{irreflexive}
+use Rattle.docker_laws.proofs.orders.Orders.{key_total, docker_line_total}
+use Rattle.docker_laws.proofs.lists.Members.{filter_back}
+use Rattle.docker_laws.proofs.lists.Later.{AllLater, later_weaker, later_flat_map, later_map, later_filter}
+use Rattle.docker_laws.proofs.lists.Sorted.{AreApart, sort_ascends}
+use Rattle.docker_laws.proofs.dockers.Events.{event_calls}
+use Rattle.docker_laws.proofs.dockers.OneDockerLine.{tied, same_event_line, same_association_line, event_apart}
+use Rattle.docker_laws.proofs.dockers.ScheduleLines.{schedule_piece, IsOfSchedule, schedule_piece_back, schedule_piece_forth, schedule_piece_apart, event_starts}
+use Rattle.docker_laws.proofs.dockers.AssociationLines.{link_piece, IsOfAssociation, link_piece_back, link_piece_forth, link_piece_apart, association_starts}
+
+-- a line of a row's train or association, and of a start day
+abbrev IsLineFrom : Table → List ℕ → ℕ → Key → ℕ → DockerLine → Type 0
+IsLineFrom live place day key start line =
+    ((schedule : ScheduleKey) × (schedule_key schedule ≡ key) × IsOfSchedule live place day schedule start line)
+    ⊎ ((association : AssociationKey) × (association_key association ≡ key) × IsOfAssociation live place day association start line)
+
+-- it is a line of the docker
+from_is : (live : Table) (place : List ℕ) (day : ℕ) (key : Key) (start : ℕ) (line : DockerLine) → IsLineFrom live place day key start line
+    → IsDockerLine live place day line
+from_is live place day key start line (inl (schedule, same, of)) = inl of.made
+from_is live place day key start line (inr (association, same, of)) = inr of.made
+
+-- lines that tie are from one row and one start day
+same_source : (live : Table) (place : List ℕ) (day : ℕ) (first second : Key) (start other : ℕ) (a b : DockerLine) → IsLineFrom live place day first start a
+    → IsLineFrom live place day second other b
+    → docker_line_cmp a b ≡ Equal → (first ≡ second) × (start ≡ other)
+same_source live place day first second start other a b (inl (x, x_is, one)) (inl (y, y_is, two)) e =
+    let same = same_event_line live place day a b one.made two.made e in (
+      sym x_is ∙ ap schedule_key (sym one.of_key ∙ same.keys ∙ two.of_key) ∙ y_is,
+      sym one.of_start ∙ same.starts ∙ two.of_start,
+    )
+same_source live place day first second start other a b (inr (x, x_is, one)) (inr (y, y_is, two)) e =
+    let same = same_association_line live place day a b one.made two.made e in (
+      sym x_is ∙ ap association_key (sym one.of_key ∙ same.keys ∙ two.of_key) ∙ y_is,
+      sym one.of_start ∙ same.starts ∙ two.of_start,
+    )
+same_source live place day first second start other a b (inl (x, x_is, one)) (inr (y, y_is, two)) e =
+    absurd (event_apart live place day a b one.made two.made (tied a b e).occasions)
+same_source live place day first second start other a b (inr (x, x_is, one)) (inl (y, y_is, two)) e =
+    absurd (event_apart live place day b a two.made one.made (sym (tied a b e).occasions))
+
+-- the start days differ
+counted_up : AllLater (λ (a b : ℕ). a < b) (0 ∷ 1 ∷ 2 ∷ [])
+counted_up = ((lit< tt, (lit< tt, tt)), ((lit< tt, tt), (tt, tt)))
+
+days_differ : (day : ℕ) → AllLater (λ a b. ¬ (a ≡ b)) (start_days day)
+days_differ day =
+    later_map (λ a b. ¬ (a ≡ b)) (λ back. day - back) (filter (λ back. nat_le back day) (0 ∷ 1 ∷ 2 ∷ []))
+    (later_weaker (λ (a b : ℕ). a < b) (λ a b. ¬ (day - a ≡ day - b)) (filter (λ back. nat_le back day) (0 ∷ 1 ∷ 2 ∷ []))
+    (λ a b in_a in_b below same.
+    let high : b ≤ day = leb-true b day (filter_back (λ back. nat_le back day) (0 ∷ 1 ∷ 2 ∷ []) b in_b).1 in
+    omega arith)
+    (later_filter (λ (a b : ℕ). a < b) (λ back. nat_le back day) (0 ∷ 1 ∷ 2 ∷ []) counted_up))
+
+module _ (live : Table) (trains : List ℕ → ℕ → Option Train) (links : Group → ℕ → Option Link) (tell : TellsTrains live trains)
+    (tell_links : TellsLinks live links) (place : List ℕ) (day : ℕ) where
+  -- ---- one row
+
+  SomeStart : Key → DockerLine → Type 0
+  SomeStart key line = (start : ℕ) × IsLineFrom live place day key start line
+
+  of_row : (key : Key) (body : Body) → live key ≡ Some body → (line : DockerLine) → Contains (row_lines trains links place day key body) line
+      → SomeStart key line
+  unfolding SomeStart
+  of_row (schedule_key key) (schedule_body lines) is line among =
+      let found = Contains-flat_map (schedule_piece trains place day key lines) (start_days day) line among in
+      (found.0, inl (key, refl, schedule_piece_back live trains tell place day key lines found.0 is line found.2))
+  of_row (schedule_key key) (tiploc_body bytes) is line among = absurd (nil-Contains line among)
+  of_row (schedule_key key) (association_body other) is line among = absurd (nil-Contains line among)
+  of_row (tiploc_key code) body is line among = absurd (nil-Contains line among)
+  of_row (association_key key) (association_body link) is line among = by (bytes_eq key.location place) refl among
+    where
+      by : (b : Bool) → bytes_eq key.location place ≡ b → Contains (cond b (flat_map (link_piece trains links day key link) (start_days day)) []) line
+          → (start : ℕ) × IsLineFrom live place day (association_key key) start line
+      by false h inside = absurd (nil-Contains line inside)
+      by true h inside =
+          let found = Contains-flat_map (link_piece trains links day key link) (start_days day) line inside in (
+            found.0,
+            inr (
+              key,
+              refl,
+              link_piece_back live trains links tell tell_links place day key link found.0 is
+                  ((bytes_eq-Decides key.location place).0 h) line found.2,
+            ),
+          )
+  of_row (association_key key) (tiploc_body bytes) is line among = absurd (nil-Contains line among)
+  of_row (association_key key) (schedule_body lines) is line among = absurd (nil-Contains line among)
+
+  -- pieces of one row, for start days that differ
+  module _ (key : Key) (piece : ℕ → List DockerLine) (back : (start : ℕ) (line : DockerLine) → Contains (piece start) line
+      → IsLineFrom live place day key start line)
+      (apart : (start : ℕ) → AreApart docker_line_cmp (piece start)) where
+    pieces_apart : AreApart docker_line_cmp (flat_map piece (start_days day))
+    pieces_apart =
+        later_flat_map (λ (a b : DockerLine). ¬ (docker_line_cmp a b ≡ Equal)) (λ (a b : ℕ). ¬ (a ≡ b)) piece (start_days day) (days_differ day)
+        (λ start among. apart start)
+        (λ start other in_start in_other differ a b in_a in_b e. differ (same_source live place day key key start other a b (back start a in_a)
+        (back other b in_b) e).1)
+
+  row_apart : (key : Key) (body : Body) → live key ≡ Some body → AreApart docker_line_cmp (row_lines trains links place day key body)
+  row_apart (schedule_key key) (schedule_body lines) is =
+      pieces_apart (schedule_key key) (schedule_piece trains place day key lines)
+      (λ start line among. inl (key, refl, schedule_piece_back live trains tell place day key lines start is line among))
+      (schedule_piece_apart live trains tell place day key lines)
+  row_apart (schedule_key key) (tiploc_body bytes) is = tt
+  row_apart (schedule_key key) (association_body other) is = tt
+  row_apart (tiploc_key code) body is = tt
+  row_apart (association_key key) (association_body link) is = by (bytes_eq key.location place) refl
+    where
+      by : (b : Bool) → bytes_eq key.location place ≡ b
+          → AreApart docker_line_cmp (cond b (flat_map (link_piece trains links day key link) (start_days day)) [])
+      by false h = tt
+      by true h =
+          pieces_apart (association_key key) (link_piece trains links day key link)
+          (λ start line among. inr (
+            key,
+            refl,
+            link_piece_back live trains links tell tell_links place day key link start is
+                ((bytes_eq-Decides key.location place).0 h) line among,
+          ))
+          (link_piece_apart live trains links tell tell_links place day key link)
+  row_apart (association_key key) (tiploc_body bytes) is = tt
+  row_apart (association_key key) (schedule_body lines) is = tt
+
+  -- ---- a walk
+
+  module _ (rows : List Row) (walk : IsWalk live place rows) where
+    -- the order tells the gathered lines apart
+    pub gathered_apart : AreApart docker_line_cmp (gathered trains links place day rows)
+    unfolding SomeStart
+    gathered_apart =
+        later_flat_map (λ (a b : DockerLine). ¬ (docker_line_cmp a b ≡ Equal)) (IsBelow (on (λ (row : Row). row.0) key_cmp))
+        (λ (row : Row). row_lines trains links place day row.0 row.1) rows
+        (later_from_ascending rows walk.ascending)
+        (λ row among. row_apart row.0 row.1 (walk.each row.0 row.1 among))
+        (λ first second in_first in_second below a b in_a in_b e.
+        let one = of_row first.0 first.1 (walk.each first.0 first.1 in_first) a in_a in
+        let two = of_row second.0 second.1 (walk.each second.0 second.1 in_second) b in_b in
+        let keys = (same_source live place day first.0 second.0 one.0 two.0 a b one.1 two.1 e).0 in
+        irreflexive key_total first.0 (subst (IsBelow key_cmp first.0) (sym keys) below))
+      where
+        later_from_ascending : (xs : List Row) → AreInKeyOrder xs → AllLater (IsBelow (on (λ (row : Row). row.0) key_cmp)) xs
+        later_from_ascending [] up = tt
+        later_from_ascending (x ∷ xs) up = (up.0, later_from_ascending xs up.1)
+
+    -- each gathered line is one of the docker
+    pub gathered_back : (line : DockerLine) → Contains (gathered trains links place day rows) line → IsDockerLine live place day line
+    unfolding SomeStart
+    gathered_back line among =
+        let found = Contains-flat_map (λ (row : Row). row_lines trains links place day row.0 row.1) rows line among in
+        let told = of_row found.0.0 found.0.1 (walk.each found.0.0 found.0.1 found.1) line found.2 in
+        from_is live place day found.0.0 told.0 line told.1
+
+    -- each line of the docker is gathered
+    pub gathered_forth : HasGoodBodies live → (line : DockerLine) → IsDockerLine live place day line → Contains (gathered trains links place day rows) line
+    gathered_forth good line (inl made) =
+        let calls = event_calls made.schedule made.event place made.among made.here in
+        let there = walk.schedules made.key made.schedule made.train_runs.chosen.running.is_live calls in
+        flat_map-Contains (λ (row : Row). row_lines trains links place day row.0 row.1) rows (schedule_key made.key, schedule_body made.schedule) line there
+        (flat_map-Contains (schedule_piece trains place day made.key made.schedule) (start_days day) made.start line
+        (event_starts live trains tell place day good line made) (schedule_piece_forth live trains tell place day line made))
+    gathered_forth good line (inr made) =
+        let there = walk.associations made.key made.association made.chosen.associated.is_live made.here in
+        let pieces = flat_map-Contains (link_piece trains links day made.key made.association) (start_days day) made.start line
+        (association_starts live trains links tell tell_links place day good line made)
+        (link_piece_forth live trains links tell tell_links place day line made) in
+        let here : bytes_eq made.key.location place ≡ true = (bytes_eq-Decides made.key.location place).1 made.here in
+        flat_map-Contains (λ (row : Row). row_lines trains links place day row.0 row.1) rows
+        (association_key made.key, association_body made.association) line there
+        (subst (λ b. Contains (cond b (flat_map (link_piece trains links day made.key made.association) (start_days day)) []) line) (sym here) pieces)
+
+    -- sorted, they are the docker list
+    pub sorted_gathering : HasGoodBodies live → (lines : List DockerLine) → IsPermutation (gathered trains links place day rows) lines
+        → IsSorted docker_line_cmp lines → IsDockerList live place day lines
+    sorted_gathering good lines same sorted = record {
+      ascending = sort_ascends docker_line_total (gathered trains links place day rows) lines gathered_apart same sorted;
+      members = λ line. (
+        λ among. gathered_back line (Contains-permutation lines (gathered trains links place day rows) line
+            (IsPermutation-sym (gathered trains links place day rows) lines same) among),
+        λ is. Contains-permutation (gathered trains links place day rows) lines line same (gathered_forth good line is),
+      );
+    }
+
+-- one more row
+pub gathered_more : (trains : List ℕ → ℕ → Option Train) (links : Group → ℕ → Option Link) (place : List ℕ) (day : ℕ) (rows : List Row) (key : Key)
+    (body : Body)
+    → gathered trains links place day (rows ++ (key, body) ∷ []) ≡ gathered trains links place day rows ++ row_lines trains links place day key body
+gathered_more trains links place day rows key body =
+    flat_map-append (λ (row : Row). row_lines trains links place day row.0 row.1) rows ((key, body) ∷ [])
+    ∙ ap (λ more. gathered trains links place day rows ++ more) (append-nil (row_lines trains links place day key body))

@@ -1,0 +1,37 @@
+-- The live table of a valid state has good bodies, and its rows are the put entries.
+use Rattle.std.proofs.Common.{◌≡◌, refl, ap, sym, ◌∙◌, subst, Some, None, Contains}
+use Rattle.std.specs.Prelude.{Option, find}
+use Rattle.std.specs.Ordering.{is_eq}
+use Rattle.std.proofs.lemmas.List.Elements.{All-contains}
+use Rattle.docker_model.specs.file.Change.{Key, Body}
+use Rattle.docker_model.specs.state.Op.{Op, deleted, lapsed, put_with, Entry, body_of, key_cmp}
+use Rattle.docker_model.specs.state.State.{State, IsValid, IsGoodEntry, IsOpOf, live_table, HasGoodBodies}
+use Rattle.docker_laws.proofs.states.PlainTable.{Keyed, live_at, live_none}
+use Rattle.docker_laws.proofs.orders.Orders.{same_key}
+use Rattle.docker_laws.proofs.lists.Members.{find_some}
+
+-- what is live at a key stands in an entry of it that is put
+pub live_entry : (state : State) (key : Key) (body : Body) → live_table state key ≡ Some body → (entry : Entry) × Contains state.entries (key, entry)
+    × (entry.op ≡ put_with body)
+live_entry state key body is = by (find (λ entry. is_eq (key_cmp entry.0 key)) state.entries) refl
+  where
+    op_is : (op : Op) → body_of op ≡ Some body → op ≡ put_with body
+    op_is deleted h = cc
+    op_is lapsed h = cc
+    op_is (put_with other) h = let e : other ≡ body = cc in ap put_with e
+
+    by : (found : Option Keyed) → find (λ entry. is_eq (key_cmp entry.0 key)) state.entries ≡ found → (entry : Entry) × Contains state.entries (key, entry)
+        × (entry.op ≡ put_with body)
+    by None h = absurd (let bad : None ≡ Some body = sym (live_none state key h) ∙ is in cc)
+    by (Some pair) h =
+        let told = find_some (λ (entry : Keyed). is_eq (key_cmp entry.0 key)) state.entries pair h in
+        let same : pair.0 ≡ key = same_key pair.0 key told.1 in
+        let here : pair ≡ (key, pair.1) = (λ i. (same i, pair.1)) in
+        (pair.1, subst (Contains state.entries) here told.0, op_is pair.1.op (sym (live_at state key pair h) ∙ is))
+
+-- so the bodies that are live in a valid state are good
+pub good_bodies : (state : State) → IsValid state → HasGoodBodies (live_table state)
+good_bodies state valid key body is =
+    let found = live_entry state key body is in
+    let good : IsGoodEntry state.ledger (key, found.0) = All-contains (IsGoodEntry state.ledger) state.entries (key, found.0) valid.entries.0 found.1 in
+    subst (IsOpOf key) found.2 good.op

@@ -1,0 +1,85 @@
+-- A docker's rows are those that the indexes find: a walk over them leaves out no row of the place.
+use Rattle.std.proofs.Common.{◌≡◌, ℕ, List, ◌++◌, refl, ap, sym, ◌∙◌, inl, inr, ◌⊎◌, Some, Contains}
+use Rattle.std.specs.Ordering.{on}
+use Rattle.std.proofs.lemmas.List.Elements.{Contains-append_left, Contains-append_right, Contains-append_cases}
+use Rattle.std.specs.List.Sorted.{IsSorted, IsPermutation}
+use Rattle.docker_model.specs.file.Change.{Key, association_key, schedule_key, Body, association_body, schedule_body}
+use Rattle.docker_model.specs.state.Order.{IsBelow}
+use Rattle.docker_model.specs.state.Op.{key_cmp}
+use Rattle.docker_model.specs.state.Table.{Table}
+use Rattle.docker_model.specs.state.State.{HasGoodBodies}
+use Rattle.docker_model.specs.state.Row.{Row, AreRowsOf}
+use Rattle.docker_model.specs.state.Index.{AreCalling, AreLinked, AreOfUid}
+use Rattle.docker_model.specs.docker.Choice.{Group}
+use Rattle.docker_model.specs.docker.DockerLine.{DockerLine, docker_line_cmp}
+use Rattle.docker_model.specs.docker.DockerList.{IsDockerList}
+use Rattle.docker_model.specs.docker.LiveRows.{HasSchedulesOf, HasAssociationsOf, train_in, link_in}
+use Rattle.docker_model.specs.docker.Gathering.{IsWalk, gathered}
+use Rattle.docker_laws.proofs.dockers.GatheredLines.{sorted_gathering}
+use Rattle.docker_laws.proofs.dockers.TrainOfRows.{trains_tell}
+use Rattle.docker_laws.proofs.dockers.LinkOfRows.{links_tell}
+use Rattle.docker_laws.proofs.lists.Later.{later_append}
+use Rattle.docker_laws.proofs.orders.Ascending.{later_of, ascending_of}
+
+module _ (live : Table) (place : List ℕ) (linked calling : List Row) (are_linked : AreLinked live place linked)
+    (are_calling : AreCalling live place calling) where
+  linked_before : (a b : Row) → Contains linked a → Contains calling b → IsBelow (on (λ (row : Row). row.0) key_cmp) a b
+  linked_before a b in_a in_b =
+      let one = (are_linked.members a.0 a.1).0 in_a in
+      let two = (are_calling.members b.0 b.1).0 in_b in
+      (λ i. key_cmp (one.2 i) (two.2 i))
+
+  live_row : (key : Key) (body : Body) → Contains linked (key, body) ⊎ Contains calling (key, body) → live key ≡ Some body
+  live_row key body (inl here) = let one = (are_linked.members key body).0 here in ap live one.2 ∙ one.4.is_live ∙ ap Some (sym one.3)
+  live_row key body (inr here) = let one = (are_calling.members key body).0 here in ap live one.2 ∙ one.4.is_live ∙ ap Some (sym one.3)
+
+  -- the rows that both indexes find are a walk that leaves out no row of the place
+  pub indexed_walk : IsWalk live place (linked ++ calling)
+  indexed_walk = record {
+    ascending = ascending_of (on (λ (row : Row). row.0) key_cmp) (linked ++ calling)
+        (later_append (IsBelow (on (λ (row : Row). row.0) key_cmp)) linked calling (later_of (on (λ (row : Row). row.0) key_cmp) linked are_linked.ascending)
+        (later_of (on (λ (row : Row). row.0) key_cmp) calling are_calling.ascending) linked_before);
+    each = λ key body among. live_row key body (Contains-append_cases linked calling (key, body) among);
+    schedules = λ key lines is calls.
+        Contains-append_right linked calling (schedule_key key, schedule_body lines)
+        ((are_calling.members (schedule_key key) (schedule_body lines)).1 (key, lines, refl, refl, record { is_live = is; calls = calls }));
+    associations = λ key line is here.
+        Contains-append_left linked calling (association_key key, association_body line)
+        ((are_linked.members (association_key key) (association_body line)).1 (key, line, refl, refl, record { is_live = is; here = here }));
+  }
+
+-- so what they gather is, sorted, the docker list
+pub indexed_docker : (live : Table) (place : List ℕ) (day : ℕ) (rows linked calling : List Row) (lines : List DockerLine) → HasGoodBodies live
+    → AreRowsOf live rows
+    → AreLinked live place linked → AreCalling live place calling
+    → IsPermutation (gathered (train_in rows) (link_in rows) place day (linked ++ calling)) lines → IsSorted docker_line_cmp lines
+    → IsDockerList live place day lines
+indexed_docker live place day rows linked calling lines good are are_linked are_calling same sorted =
+    sorted_gathering live (train_in rows) (link_in rows) (trains_tell live rows are) (links_tell live rows are) place day (linked ++ calling)
+    (indexed_walk live place linked calling are_linked are_calling) good lines same sorted
+
+-- the schedules of a UID tell its train
+pub of_uid_has : (live : Table) (uid : List ℕ) (rows : List Row) → AreOfUid live uid rows → HasSchedulesOf live uid rows
+of_uid_has live uid rows are = record {
+  each = λ key body among. ((are.members key body).0 among).4;
+  all = λ key lines same is. (are.members (schedule_key key) (schedule_body lines)).1 (key, lines, refl, refl, is, same);
+}
+
+-- and the associations at a place tell those of each group there
+pub linked_has : (live : Table) (place : List ℕ) (rows : List Row) (group : Group) → AreLinked live place rows → group.location ≡ place
+    → HasAssociationsOf live group rows
+linked_has live place rows group are here = record {
+  each = λ key body among. let one = (are.members key body).0 among in ap live one.2 ∙ one.4.is_live ∙ ap Some (sym one.3);
+  all = λ key line same is.
+      (are.members (association_key key) (association_body line)).1 (
+        key,
+        line,
+        refl,
+        refl,
+        record {
+          is_live = is;
+          here = ap (λ (g : Group). g.location) same
+              ∙ here;
+        },
+      );
+}

@@ -1,0 +1,102 @@
+-- A table has one choice on each day from a horizon on, as it stands and lapsed under it: what runs on such a day has not lapsed.
+use Rattle.std.proofs.Common.{ℕ, ◌≤◌, List, Bool, true, false, cond, arith}
+use Rattle.std.specs.Prelude.{◌↔◌, ◌&&◌, IsTrue, nat_le}
+use Rattle.std.proofs.lemmas.Bool.{leb-true}
+use Rattle.docker_model.specs.records.Record.{columns}
+use Rattle.docker_model.specs.records.Date.{date_number, end_number, is_end_date, no_end_number, runs_on_weekday, weekday_of}
+use Rattle.docker_model.specs.file.File.{first_record}
+use Rattle.docker_model.specs.file.Change.{association_key, schedule_key, AssociationKey, ScheduleKey, association_body, schedule_body}
+use Rattle.docker_model.specs.state.Op.{readable_end}
+use Rattle.docker_model.specs.state.Table.{Table}
+use Rattle.docker_model.specs.state.Lapse.{lapse_table}
+use Rattle.docker_model.specs.docker.Choice.{runs_within, IsRunning, IsChosen, TrainRuns, Group, IsAssociated, IsChosenAssociation}
+use Rattle.docker_laws.proofs.lists.Tests.{both}
+use Rattle.docker_laws.proofs.states.TableLapsed.{live_stays, was_live}
+
+-- what runs on a day doesn't end before it
+within_end : (first last days : List ℕ) (day : ℕ) → IsTrue (runs_within first last days day) → day ≤ end_number last
+within_end first last days day runs =
+    let dates = (both (nat_le (date_number first) day && nat_le day (end_number last)) (runs_on_weekday days (weekday_of day)) runs).0 in
+    leb-true day (end_number last) (both (nat_le (date_number first) day) (nat_le day (end_number last)) dates).1
+
+-- the end number of an end that is not before a day from the horizon on
+end_reached : (horizon day : ℕ) (last : List ℕ) → horizon ≤ no_end_number → horizon ≤ day → day ≤ end_number last → horizon ≤ readable_end last
+end_reached horizon day last bound from to = by (is_end_date last)
+  where
+    by : (b : Bool) → horizon ≤ cond b (end_number last) no_end_number
+    by true = omega arith
+    by false = bound
+
+module _ (horizon : ℕ) (bound : horizon ≤ no_end_number) (live : Table) where
+  module _ (day : ℕ) (from : horizon ≤ day) where
+    -- ---- schedules
+    running_forth : (uid : List ℕ) (key : ScheduleKey) (lines : List (List ℕ)) → IsRunning live uid day key lines
+        → IsRunning (lapse_table horizon live) uid day key lines
+    running_forth uid key lines is = record {
+      uid_is = is.uid_is;
+      is_live = live_stays horizon live (schedule_key key) (schedule_body lines) is.is_live
+          (end_reached horizon day (columns 16 21 (first_record lines)) bound from
+          (within_end (columns 10 15 (first_record lines)) (columns 16 21 (first_record lines)) (columns 22 28 (first_record lines)) day is.runs_then));
+      runs_then = is.runs_then;
+    }
+
+    running_back : (uid : List ℕ) (key : ScheduleKey) (lines : List (List ℕ)) → IsRunning (lapse_table horizon live) uid day key lines
+        → IsRunning live uid day key lines
+    running_back uid key lines is =
+        record { uid_is = is.uid_is; is_live = was_live horizon live (schedule_key key) (schedule_body lines) is.is_live; runs_then = is.runs_then }
+
+    -- on a day from the horizon on, a schedule is chosen in a table exactly where it is in the lapsed table
+    pub chosen_iff : (uid : List ℕ) (key : ScheduleKey) (lines : List (List ℕ)) → IsChosen live uid day key lines ↔ IsChosen
+        (lapse_table horizon live) uid day key lines
+    chosen_iff uid key lines = (
+      λ is. record {
+        running = running_forth uid key lines is.running;
+        first = λ other others runs. is.first other others
+            (running_back uid other others runs);
+      },
+      λ is. record {
+        running = running_back uid key lines is.running;
+        first = λ other others runs. is.first other others
+            (running_forth uid other others runs);
+      },
+    )
+
+    -- on such a day a train runs by a schedule exactly where it does in the lapsed table
+    pub train_iff : (uid : List ℕ) (key : ScheduleKey) (lines : List (List ℕ)) → TrainRuns live uid day key lines ↔ TrainRuns
+        (lapse_table horizon live) uid day key lines
+    train_iff uid key lines = (
+      λ is. record { chosen = (chosen_iff uid key lines).0 is.chosen; no_cancellation = is.no_cancellation },
+      λ is. record { chosen = (chosen_iff uid key lines).1 is.chosen; no_cancellation = is.no_cancellation },
+    )
+
+    -- ---- associations
+    associated_forth : (group : Group) (key : AssociationKey) (line : List ℕ) → IsAssociated live group day key line
+        → IsAssociated (lapse_table horizon live) group day key line
+    associated_forth group key line is = record {
+      group_is = is.group_is;
+      is_live = live_stays horizon live (association_key key) (association_body line) is.is_live
+          (end_reached horizon day (columns 22 27 line) bound from (within_end (columns 16 21 line) (columns 22 27 line)
+          (columns 28 34 line) day is.runs_then));
+      runs_then = is.runs_then;
+    }
+
+    associated_back : (group : Group) (key : AssociationKey) (line : List ℕ) → IsAssociated (lapse_table horizon live) group day key line
+        → IsAssociated live group day key line
+    associated_back group key line is =
+        record { group_is = is.group_is; is_live = was_live horizon live (association_key key) (association_body line) is.is_live; runs_then = is.runs_then }
+
+    -- on such a day an association is chosen exactly where it is in the lapsed table
+    pub association_iff : (group : Group) (key : AssociationKey) (line : List ℕ) → IsChosenAssociation live group day key line ↔ IsChosenAssociation
+        (lapse_table horizon live) group day key line
+    association_iff group key line = (
+      λ is. record {
+        associated = associated_forth group key line is.associated;
+        first = λ other others runs. is.first other others
+            (associated_back group other others runs);
+      },
+      λ is. record {
+        associated = associated_back group key line is.associated;
+        first = λ other others runs. is.first other others
+            (associated_forth group other others runs);
+      },
+    )

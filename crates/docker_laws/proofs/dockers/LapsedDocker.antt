@@ -1,0 +1,226 @@
+-- A table has one docker on each day from a horizon plus three days on, as it stands and lapsed under it.
+use Rattle.std.proofs.Common.{◌≡◌, ℕ, ◌+◌, ◌-◌, ◌≤◌, List, ◌++◌, inl, inr, ◌⊎◌, refl, ap, sym, ◌∙◌, Bool, true, false, cond, Some, None, arith}
+use Rattle.std.specs.Prelude.{Option, ◌↔◌, ◌==◌, nat_lt, option_and_then, codes}
+use Rattle.std.specs.List.{flat_map}
+use Rattle.docker_model.specs.records.Record.{column}
+use Rattle.docker_model.specs.records.Date.{last_day, no_end_number}
+use Rattle.docker_model.specs.records.PrintedTime.{spaces, day_text}
+use Rattle.docker_model.specs.file.Change.{tiploc_key, schedule_key, Body, tiploc_body, association_body, schedule_body, ScheduleKey}
+use Rattle.docker_model.specs.state.Op.{body_end}
+use Rattle.docker_model.specs.state.Table.{Table}
+use Rattle.docker_model.specs.state.Lapse.{unlapsed, lapse_table}
+use Rattle.docker_model.specs.docker.Event.{Event, event_day}
+use Rattle.docker_model.specs.docker.Choice.{TrainRuns, group_of}
+use Rattle.docker_model.specs.docker.DockerLine.{DockerLine}
+use Rattle.docker_model.specs.docker.Association.{partner_start, IsIdentityOn, IsPartnerIdentity, IsAssociationLine}
+use Rattle.docker_model.specs.docker.DockerList.{IsEventLine, Lists, IsDockerList}
+use Rattle.docker_model.specs.docker.DockerText.{description_in, docker_text, IsDockerText, ended, line_text, last_line}
+use Rattle.docker_laws.proofs.states.TableLapsed.{was_live, body_stays}
+use Rattle.docker_laws.proofs.dockers.LapsedChoice.{train_iff, association_iff}
+use Rattle.docker_laws.proofs.dockers.FewMidnights.{HasFewMidnights, started}
+
+-- a docker text whose heading has this description
+abbrev text_with : List ℕ → ℕ → List DockerLine → List ℕ → List ℕ
+text_with place day lines description =
+    ended (codes "DOCKER " ++ place ++ spaces 1 ++ day_text day ++ spaces 1 ++ description ++ spaces 4) ++ flat_map
+    (λ line. ended (line_text line)) lines ++ ended last_line
+
+-- the partner starts at most one day before
+pub partner_after : (indicator start day : ℕ) → partner_start indicator start ≡ Some day → start ≤ day + 1
+partner_after indicator start day is = by (indicator == 78) (indicator == 80) is
+  where
+    later : (b : Bool) → nat_lt start last_day ≡ b → cond b (Some (start + 1)) None ≡ Some day → start ≤ day + 1
+    later true below some = let same : start + 1 ≡ day = cc in omega arith
+    later false below none = cc
+
+    earlier : (b : Bool) → nat_lt 0 start ≡ b → cond b (Some (start - 1)) None ≡ Some day → start ≤ day + 1
+    earlier true above some = let same : start - 1 ≡ day = cc in omega arith
+    earlier false above none = cc
+
+    by : (b c : Bool) → cond b (cond (nat_lt start last_day) (Some (start + 1)) None) (cond c (cond (nat_lt 0 start) (Some (start - 1)) None) (Some start))
+        ≡ Some day → start ≤ day + 1
+    by true c told = later (nat_lt start last_day) refl told
+    by false true told = earlier (nat_lt 0 start) refl told
+    by false false some = let same : start ≡ day = cc in omega arith
+
+module _ (horizon : ℕ) (bound : horizon ≤ no_end_number) (live : Table) where
+  -- ---- the partner
+
+  identity_iff : (uid identity : List ℕ) (day : ℕ) → horizon ≤ day → IsIdentityOn live uid identity day ↔ IsIdentityOn
+      (lapse_table horizon live) uid identity day
+  identity_iff uid identity day from = (forth, back)
+    where
+      forth : IsIdentityOn live uid identity day → IsIdentityOn (lapse_table horizon live) uid identity day
+      forth (inl runs) = inl (runs.0, runs.1, (train_iff horizon bound live day from uid runs.0 runs.1).0 runs.2, runs.3)
+      forth (inr none) = inr (λ key lines runs. none.0 key lines ((train_iff horizon bound live day from uid key lines).1 runs), none.1)
+
+      back : IsIdentityOn (lapse_table horizon live) uid identity day → IsIdentityOn live uid identity day
+      back (inl runs) = inl (runs.0, runs.1, (train_iff horizon bound live day from uid runs.0 runs.1).1 runs.2, runs.3)
+      back (inr none) = inr (λ key lines runs. none.0 key lines ((train_iff horizon bound live day from uid key lines).0 runs), none.1)
+
+  partner_iff : (uid identity : List ℕ) (day : Option ℕ) → ((n : ℕ) → day ≡ Some n → horizon ≤ n)
+      → IsPartnerIdentity live uid day identity ↔ IsPartnerIdentity (lapse_table horizon live) uid day identity
+  partner_iff uid identity None from = (λ is. is, λ is. is)
+  partner_iff uid identity (Some day) from = identity_iff uid identity day (from day refl)
+
+  module _ (few : HasFewMidnights live) (place : List ℕ) (day : ℕ) (from : horizon + 3 ≤ day) where
+    -- ---- lines
+
+    -- a train with an event on the day started on a day from the horizon plus one on
+    started_after : (uid : List ℕ) (start : ℕ) (key : ScheduleKey) (lines : List (List ℕ)) → TrainRuns live uid start key lines → (event : Event)
+        → event_day start lines event ≡ day → horizon + 1 ≤ start
+    started_after uid start key lines runs event today =
+        let late = started start lines event day (few key lines runs.chosen.running.is_live) today in
+        omega arith
+
+    was_running : (uid : List ℕ) (start : ℕ) (key : ScheduleKey) (lines : List (List ℕ)) → TrainRuns (lapse_table horizon live) uid start key lines
+        → (event : Event)
+        → event_day start lines event ≡ day → horizon + 1 ≤ start
+    was_running uid start key lines runs event today =
+        let is = was_live horizon live (schedule_key key) (schedule_body lines) runs.chosen.running.is_live in
+        let late = started start lines event day (few key lines is) today in
+        omega arith
+
+    event_line_iff : (line : DockerLine) → IsEventLine live place day line ↔ IsEventLine (lapse_table horizon live) place day line
+    event_line_iff line = (
+      λ is.
+          let after = started_after is.key.uid is.start is.key is.schedule is.train_runs is.event is.today in
+          record {
+            start = is.start;
+            key = is.key;
+            schedule = is.schedule;
+            train_runs = (train_iff horizon bound live is.start (omega arith) is.key.uid is.key is.schedule).0 is.train_runs;
+            event = is.event;
+            among = is.among;
+            here = is.here;
+            today = is.today;
+            is = is.is;
+          },
+      λ is.
+          let after = was_running is.key.uid is.start is.key is.schedule is.train_runs is.event is.today in
+          record {
+            start = is.start;
+            key = is.key;
+            schedule = is.schedule;
+            train_runs = (train_iff horizon bound live is.start (omega arith) is.key.uid is.key is.schedule).1 is.train_runs;
+            event = is.event;
+            among = is.among;
+            here = is.here;
+            today = is.today;
+            is = is.is;
+          },
+    )
+
+    association_line_iff : (line : DockerLine) → IsAssociationLine live place day line ↔ IsAssociationLine (lapse_table horizon live) place day line
+    association_line_iff line = (forth, back)
+      where
+        partner_from : (indicator start : ℕ) → horizon + 1 ≤ start → (n : ℕ) → partner_start indicator start ≡ Some n → horizon ≤ n
+        partner_from indicator start after n is = let most = partner_after indicator start n is in omega arith
+
+        forth : IsAssociationLine live place day line → IsAssociationLine (lapse_table horizon live) place day line
+        forth is =
+            let after = started_after is.key.base is.start is.base_key is.base is.base_runs is.event is.today in
+            record {
+              start = is.start;
+              key = is.key;
+              association = is.association;
+              chosen = (association_iff horizon bound live is.start (omega arith) (group_of is.key) is.key is.association).0 is.chosen;
+              no_cancellation = is.no_cancellation;
+              occasion = is.occasion;
+              category = is.category;
+              date_indicator = is.date_indicator;
+              base_key = is.base_key;
+              base = is.base;
+              base_runs = (train_iff horizon bound live is.start (omega arith) is.key.base is.base_key is.base).0 is.base_runs;
+              event = is.event;
+              first_there = is.first_there;
+              identity = is.identity;
+              partner =
+                  (partner_iff is.key.associated is.identity (partner_start (column 37 is.association) is.start)
+                  (partner_from (column 37 is.association) is.start after)).0 is.partner;
+              here = is.here;
+              today = is.today;
+              is = is.is;
+            }
+
+        back : IsAssociationLine (lapse_table horizon live) place day line → IsAssociationLine live place day line
+        back is =
+            let after = was_running is.key.base is.start is.base_key is.base is.base_runs is.event is.today in
+            record {
+              start = is.start;
+              key = is.key;
+              association = is.association;
+              chosen = (association_iff horizon bound live is.start (omega arith) (group_of is.key) is.key is.association).1 is.chosen;
+              no_cancellation = is.no_cancellation;
+              occasion = is.occasion;
+              category = is.category;
+              date_indicator = is.date_indicator;
+              base_key = is.base_key;
+              base = is.base;
+              base_runs = (train_iff horizon bound live is.start (omega arith) is.key.base is.base_key is.base).1 is.base_runs;
+              event = is.event;
+              first_there = is.first_there;
+              identity = is.identity;
+              partner =
+                  (partner_iff is.key.associated is.identity (partner_start (column 37 is.association) is.start)
+                  (partner_from (column 37 is.association) is.start after)).1 is.partner;
+              here = is.here;
+              today = is.today;
+              is = is.is;
+            }
+
+    -- ---- the list and the text
+
+    lists_along : (P Q : DockerLine → Type 0) → ((line : DockerLine) → P line ↔ Q line) → (lines : List DockerLine) → Lists P lines → Lists Q lines
+    lists_along P Q same lines is = record {
+      ascending = is.ascending;
+      members = λ line. (λ among. (same line).0 ((is.members line).0 among), λ told. (is.members line).1 ((same line).1 told));
+    }
+
+    line_iff : (line : DockerLine) → (IsEventLine live place day line ⊎ IsAssociationLine live place day line)
+        ↔ (IsEventLine (lapse_table horizon live) place day line ⊎ IsAssociationLine (lapse_table horizon live) place day line)
+    line_iff line = (forth, back)
+      where
+        forth : IsEventLine live place day line ⊎ IsAssociationLine live place day line → IsEventLine (lapse_table horizon live) place day line
+            ⊎ IsAssociationLine (lapse_table horizon live) place day line
+        forth (inl event) = inl ((event_line_iff line).0 event)
+        forth (inr association) = inr ((association_line_iff line).0 association)
+
+        back : IsEventLine (lapse_table horizon live) place day line ⊎ IsAssociationLine (lapse_table horizon live) place day line
+            → IsEventLine live place day line ⊎ IsAssociationLine live place day line
+        back (inl event) = inl ((event_line_iff line).1 event)
+        back (inr association) = inr ((association_line_iff line).1 association)
+
+    -- on a day from the horizon plus three days on, a table and its lapse have one docker list
+    pub docker_list_iff : (lines : List DockerLine) → IsDockerList live place day lines ↔ IsDockerList (lapse_table horizon live) place day lines
+    docker_list_iff lines = (
+      lists_along (λ line. IsEventLine live place day line ⊎ IsAssociationLine live place day line)
+          (λ line. IsEventLine (lapse_table horizon live) place day line ⊎ IsAssociationLine (lapse_table horizon live) place day line) line_iff lines,
+      lists_along (λ line. IsEventLine (lapse_table horizon live) place day line ⊎ IsAssociationLine (lapse_table horizon live) place day line)
+          (λ line. IsEventLine live place day line ⊎ IsAssociationLine live place day line) (λ line. ((line_iff line).1, (line_iff line).0)) lines,
+    )
+
+    -- the description of a place stays: a TIPLOC has no end
+    description_stays : description_in (lapse_table horizon live (tiploc_key place)) ≡ description_in (live (tiploc_key place))
+    description_stays = by (live (tiploc_key place))
+      where
+        none_or : (b : Bool) (body : Body) → description_in (Some body) ≡ description_in None → description_in (cond b None (Some body)) ≡ description_in
+            (Some body)
+        none_or true body blank = sym blank
+        none_or false body blank = refl
+
+        by : (found : Option Body) → description_in (option_and_then (unlapsed horizon) found) ≡ description_in found
+        by None = refl
+        by (Some (tiploc_body bytes)) = ap description_in (body_stays horizon (tiploc_body bytes) bound)
+        by (Some (association_body line)) = none_or (nat_lt (body_end (association_body line)) horizon) (association_body line) refl
+        by (Some (schedule_body lines)) = none_or (nat_lt (body_end (schedule_body lines)) horizon) (schedule_body lines) refl
+
+    text_stays : (lines : List DockerLine) → docker_text (lapse_table horizon live) place day lines ≡ docker_text live place day lines
+    text_stays lines = ap (text_with place day lines) description_stays
+
+    -- on such a day they have one docker text
+    pub docker_text_iff : (text : List ℕ) → IsDockerText live place day text ↔ IsDockerText (lapse_table horizon live) place day text
+    docker_text_iff text = (
+      λ is. (is.0, (docker_list_iff is.0).0 is.1, is.2 ∙ sym (text_stays is.0)),
+      λ is. (is.0, (docker_list_iff is.0).1 is.1, is.2 ∙ text_stays is.0),
+    )

@@ -1,0 +1,150 @@
+-- The rows of a live table tell its chosen associations.
+use Rattle.std.proofs.Common.{◌≡◌, ℕ, List, refl, ap, sym, ◌∙◌, Some, None, true, false, Contains, eqb-true, rules}
+use Rattle.std.specs.Prelude.{Option, ◌&&◌, ◌==◌}
+use Rattle.std.specs.Str.{bytes_eq}
+use Rattle.std.specs.Ordering.{on}
+use Rattle.std.specs.Cmp.{IsTotalOrder, on_total}
+use Rattle.std.proofs.lemmas.Slice.Eq.{bytes_eq-Decides}
+use Rattle.docker_model.specs.file.Change.{Key, tiploc_key, association_key, schedule_key, AssociationKey, Body, tiploc_body, association_body, schedule_body}
+use Rattle.docker_model.specs.state.Table.{Table}
+use Rattle.docker_model.specs.state.Row.{Row, AreRowsOf}
+use Rattle.docker_model.specs.docker.Choice.{association_runs, association_choice_cmp, Group, group_of, IsAssociated}
+use Rattle.docker_model.specs.docker.LiveRows.{HasAssociationsOf, Link, association_of, associations_in, is_of_group, is_linked, link_in, IsLinkOn, TellsLinks}
+use Rattle.docker_model.specs.docker.ChoiceWalk.{IsLinkSoFar}
+use Rattle.docker_laws.proofs.lists.Tests.{both}
+use Rattle.docker_laws.proofs.lists.Members.{part_back, part_forth}
+use Rattle.docker_laws.proofs.dockers.OneChoice.{association_choice_total, one_link}
+use Rattle.docker_laws.proofs.orders.Least.{found_least, none_passes}
+
+by_key : IsTotalOrder (on (λ (link : Link). link.key) association_choice_cmp)
+by_key = on_total (λ (link : Link). link.key) association_choice_total
+
+row_is : (key : Key) (body : Body) (link : Link) → association_of key body ≡ Some link → (key ≡ association_key link.key) × (body ≡ association_body link.line)
+row_is (association_key key) (association_body line) link is =
+    let e : record { key = key; line = line } ≡ link = some_is (record { key = key; line = line }) link is in
+    (ap (λ (l : Link). association_key l.key) e, ap (λ (l : Link). association_body l.line) e)
+  where
+    some_is : (a b : Link) → Some a ≡ Some b → a ≡ b
+    some_is a b h = cc
+row_is (association_key key) (tiploc_body bytes) link is = absurd (none_some is)
+  where
+    none_some : None ≡ Some link → ⊥
+    none_some h = cc
+row_is (association_key key) (schedule_body lines) link is = absurd (none_some is)
+  where
+    none_some : None ≡ Some link → ⊥
+    none_some h = cc
+row_is (tiploc_key code) body link is = absurd (none_some is)
+  where
+    none_some : None ≡ Some link → ⊥
+    none_some h = cc
+row_is (schedule_key key) body link is = absurd (none_some is)
+  where
+    none_some : None ≡ Some link → ⊥
+    none_some h = cc
+
+-- the test of a group
+group_forth : (group : Group) (key : AssociationKey) → is_of_group group key ≡ true → group_of key ≡ group
+group_forth group key passes =
+    let p = both (bytes_eq key.base group.base && bytes_eq key.associated group.associated && bytes_eq key.location group.location)
+    (key.suffix == group.suffix) passes in
+    let q = both (bytes_eq key.base group.base && bytes_eq key.associated group.associated) (bytes_eq key.location group.location) p.0 in
+    let r = both (bytes_eq key.base group.base) (bytes_eq key.associated group.associated) q.0 in
+    λ i. record {
+      base = (bytes_eq-Decides key.base group.base).0 r.0 i;
+      associated = (bytes_eq-Decides key.associated group.associated).0 r.1 i;
+      location = (bytes_eq-Decides key.location group.location).0 q.1 i;
+      suffix = eqb-true key.suffix group.suffix p.1 i;
+    }
+
+same_number : (n : ℕ) → (n == n) ≡ true
+same_number n = search rules
+
+group_back : (group : Group) (key : AssociationKey) → group_of key ≡ group → is_of_group group key ≡ true
+group_back group key same =
+    (λ i. (bytes_eq-Decides key.base group.base).1 (ap (λ (g : Group). g.base) same) i
+    && (bytes_eq-Decides key.associated group.associated).1 (ap (λ (g : Group). g.associated) same) i
+    && (bytes_eq-Decides key.location group.location).1 (ap (λ (g : Group). g.location) same) i
+    && (ap (λ (g : Group). key.suffix == g.suffix) (sym same) ∙ same_number key.suffix) i)
+
+module _ (live : Table) (rows : List Row) (group : Group) (has : HasAssociationsOf live group rows) where
+  association_live : (link : Link) → Contains (associations_in rows) link → live (association_key link.key) ≡ Some (association_body link.line)
+  association_live link among =
+      let found = part_back (λ (row : Row). association_of row.0 row.1) rows link among in
+      let told = row_is found.0.0 found.0.1 link found.2 in
+      let there = has.each found.0.0 found.0.1 found.1 in
+      ap live (sym told.0) ∙ there ∙ ap Some told.1
+
+  live_association : (link : Link) → group_of link.key ≡ group → live (association_key link.key) ≡ Some (association_body link.line)
+      → Contains (associations_in rows) link
+  live_association link same is =
+      part_forth (λ (row : Row). association_of row.0 row.1) rows (association_key link.key, association_body link.line) link
+      (has.all link.key link.line same is) refl
+
+  module _ (day : ℕ) where
+    associated : (link : Link) → Contains (associations_in rows) link → is_linked group day link ≡ true → IsAssociated live group day link.key link.line
+    associated link among passes =
+        let parts = both (is_of_group group link.key) (association_runs link.line day) passes in
+        record { group_is = group_forth group link.key parts.0; is_live = association_live link among; runs_then = parts.1 }
+
+    passes_linked : (link : Link) → IsAssociated live group day link.key link.line → is_linked group day link ≡ true
+    passes_linked link is = λ i. group_back group link.key is.group_is i && is.runs_then i
+
+    among_linked : (key : AssociationKey) (line : List ℕ) → IsAssociated live group day key line → Contains (associations_in rows)
+        (record { key = key; line = line })
+    among_linked key line is = live_association (record { key = key; line = line }) is.group_is is.is_live
+
+    -- the best of the rows is the chosen association
+    pub best_is_link : (found : Option Link) → IsLinkSoFar group day rows found → IsLinkOn live group day found
+    best_is_link None none = λ key line is.
+        let passes = passes_linked (record { key = key; line = line }) is.associated in
+        let fails = none (record { key = key; line = line }) (among_linked key line is.associated) in
+        let bad : true ≡ false = sym passes ∙ fails in cc
+    best_is_link (Some link) best = record {
+      associated = associated link best.0 best.1;
+      first =
+          λ other others is. best.2 (record { key = other; line = others }) (among_linked other others is)
+          (passes_linked (record { key = other; line = others }) is);
+    }
+
+    -- what rows with each association of a group answer is the association that is chosen
+    pub link_tells : IsLinkOn live group day (link_in rows group day)
+    link_tells = by (link_in rows group day) refl
+      where
+        by : (found : Option Link) → link_in rows group day ≡ found → IsLinkOn live group day found
+        by None h = λ key line is.
+            let fails = none_passes by_key (is_linked group day) (associations_in rows) h (record { key = key; line = line })
+            (among_linked key line is.associated) in
+            let passes = passes_linked (record { key = key; line = line }) is.associated in
+            true_is_not (sym passes ∙ fails)
+          where
+            true_is_not : true ≡ false → ⊥
+            true_is_not bad = cc
+        by (Some link) h =
+            let best = found_least by_key (is_linked group day) (associations_in rows) link h in
+            record {
+              associated = associated link best.among best.passes;
+              first =
+                  λ other others is. best.first (record { key = other; line = others }) (among_linked other others is)
+                  (passes_linked (record { key = other; line = others }) is);
+            }
+
+-- the rows of a table have each association of each group
+pub rows_have : (live : Table) (rows : List Row) → AreRowsOf live rows → (group : Group) → HasAssociationsOf live group rows
+rows_have live rows are group = record {
+  each = λ key body among. (are.members key body).0 among;
+  all = λ key line same is. (are.members (association_key key) (association_body line)).1 is;
+}
+
+-- so they tell its associations
+pub links_tell : (live : Table) (rows : List Row) → AreRowsOf live rows → TellsLinks live (link_in rows)
+links_tell live rows are group day = link_tells live rows group (rows_have live rows are group) day
+
+-- a group and a day have one chosen association, or none
+pub one_link_answer : (live : Table) (group : Group) (day : ℕ) (a b : Option Link) → IsLinkOn live group day a → IsLinkOn live group day b → a ≡ b
+one_link_answer live group day None None one two = refl
+one_link_answer live group day None (Some b) one two = absurd (one b.key b.line two)
+one_link_answer live group day (Some a) None one two = absurd (two a.key a.line one)
+one_link_answer live group day (Some a) (Some b) one two =
+    let same = one_link live group day a.key b.key a.line b.line one two in
+    λ i. Some (record { key = same.0 i; line = same.1 i })

@@ -1,0 +1,46 @@
+-- A docker line's train starts on the day or one of the two days before it. A walk over the whole table leaves out no row of a place.
+use Rattle.std.proofs.Common.{ℕ, ◌+◌, ◌≤◌, List, Contains, arith}
+use Rattle.std.specs.Prelude.{◌↔◌}
+use Rattle.docker_model.specs.file.Change.{schedule_key, association_key, schedule_body, association_body}
+use Rattle.docker_model.specs.state.Table.{Table}
+use Rattle.docker_model.specs.state.State.{HasGoodBodies}
+use Rattle.docker_model.specs.state.Row.{Row, AreRowsOf}
+use Rattle.docker_model.specs.docker.DockerLine.{DockerLine}
+use Rattle.docker_model.specs.docker.Association.{IsAssociationLine}
+use Rattle.docker_model.specs.docker.DockerList.{IsEventLine}
+use Rattle.docker_model.specs.docker.Gathering.{start_days, IsWalk}
+use Rattle.docker_laws.proofs.dockers.StartDays.{event_within, start_days_iff}
+use Rattle.docker_laws.proofs.dockers.FewMidnights.{bodies_few}
+
+-- the train of an event's line starts on the day or one of the two days before
+pub event_near : (live : Table) (place : List ℕ) (day : ℕ) (line : DockerLine) → HasGoodBodies live → (made : IsEventLine live place day line)
+    → (made.start ≤ day) × (day ≤ made.start + 2)
+event_near live place day line good made =
+    let within = event_within made.start made.schedule made.event (bodies_few live good made.key made.schedule made.train_runs.chosen.running.is_live) in
+    let low = within.0 in
+    let high = within.1 in
+    let today = made.today in
+    (omega arith, omega arith)
+
+-- the base train of an association's line starts on the day or one of the two days before
+pub association_near : (live : Table) (place : List ℕ) (day : ℕ) (line : DockerLine) → HasGoodBodies live → (made : IsAssociationLine live place day line)
+    → (made.start ≤ day) × (day ≤ made.start + 2)
+association_near live place day line good made =
+    let within = event_within made.start made.base made.event (bodies_few live good made.base_key made.base made.base_runs.chosen.running.is_live) in
+    let low = within.0 in
+    let high = within.1 in
+    let today = made.today in
+    (omega arith, omega arith)
+
+-- the start days are the day and the two days before it
+pub start_days_are : (day start : ℕ) → Contains (start_days day) start ↔ ((start ≤ day) × (day ≤ start + 2))
+start_days_are day start = ((start_days_iff day start).0, (start_days_iff day start).1)
+
+-- the rows of the whole table are a walk that leaves out no row of a place
+pub whole_walk : (live : Table) (place : List ℕ) (rows : List Row) → AreRowsOf live rows → IsWalk live place rows
+whole_walk live place rows are = record {
+  ascending = are.ascending;
+  each = λ key body among. (are.members key body).0 among;
+  schedules = λ key lines is calls. (are.members (schedule_key key) (schedule_body lines)).1 is;
+  associations = λ key line is here. (are.members (association_key key) (association_body line)).1 is;
+}

@@ -1,0 +1,78 @@
+-- Of a UID and a day there is one chosen schedule at most, and of a group and a day one association.
+use Rattle.std.proofs.Common.{◌≡◌, ℕ, List, ap, sym, ◌∙◌, Some}
+use Rattle.std.specs.declared.cmp.Ordering.TheVariants.{Equal}
+use Rattle.std.specs.Ordering.{nat_cmp}
+use Rattle.std.specs.Cmp.{IsTotalOrder, then_total, on_total}
+use Rattle.std.proofs.lemmas.Cmp.{back_total, nat_cmp_total}
+use Rattle.std.proofs.lemmas.Map.Lookups.{exact_unsigned}
+use Rattle.docker_model.specs.file.Change.{schedule_key, association_key, ScheduleKey, AssociationKey, schedule_body, association_body}
+use Rattle.docker_model.specs.state.Table.{Table}
+use Rattle.docker_model.specs.docker.Choice.{schedule_choice_cmp, association_choice_cmp, IsChosen, IsChosenAssociation, TrainRuns, Group, group_of}
+use Rattle.docker_laws.proofs.orders.Orders.{then_equal}
+use Rattle.docker_laws.proofs.orders.AtMost.{level}
+
+-- the order in which schedules are chosen is total
+pub schedule_choice_total : IsTotalOrder schedule_choice_cmp
+schedule_choice_total =
+    then_total (on_total (λ (k : ScheduleKey). k.indicator) nat_cmp_total) (on_total (λ (k : ScheduleKey). k.runs_from) (back_total nat_cmp_total))
+
+-- the order in which associations are chosen is total
+pub association_choice_total : IsTotalOrder association_choice_cmp
+association_choice_total =
+    then_total (on_total (λ (k : AssociationKey). k.indicator) nat_cmp_total) (on_total (λ (k : AssociationKey). k.start) (back_total nat_cmp_total))
+
+-- one lines of a live schedule key, and one line of a live association key
+pub one_schedule : (live : Table) (a b : ScheduleKey) (xs ys : List (List ℕ)) → a ≡ b → live (schedule_key a) ≡ Some (schedule_body xs)
+    → live (schedule_key b) ≡ Some (schedule_body ys) → xs ≡ ys
+one_schedule live a b xs ys same one two =
+    let e : Some (schedule_body xs) ≡ Some (schedule_body ys) = sym one ∙ ap (λ k. live (schedule_key k)) same ∙ two in cc
+
+-- a key has one live association
+pub one_association : (live : Table) (a b : AssociationKey) (x y : List ℕ) → a ≡ b → live (association_key a) ≡ Some (association_body x)
+    → live (association_key b) ≡ Some (association_body y) → x ≡ y
+one_association live a b x y same one two =
+    let e : Some (association_body x) ≡ Some (association_body y) = sym one ∙ ap (λ k. live (association_key k)) same ∙ two in cc
+
+-- schedules of a UID that neither comes before the other in the order of choice have one key
+pub tied_schedules : (a b : ScheduleKey) → a.uid ≡ b.uid → schedule_choice_cmp a b ≡ Equal → a ≡ b
+tied_schedules a b uids tied =
+    let parts = then_equal (nat_cmp a.indicator b.indicator) (nat_cmp b.runs_from a.runs_from) tied in
+    λ i. record {
+      uid = uids i;
+      runs_from = sym (exact_unsigned b.runs_from a.runs_from parts.1) i;
+      indicator = exact_unsigned a.indicator b.indicator parts.0 i;
+    }
+
+-- associations of one group that the order of choice does not tell apart have one key
+pub tied_associations : (a b : AssociationKey) → group_of a ≡ group_of b → association_choice_cmp a b ≡ Equal → a ≡ b
+tied_associations a b groups tied =
+    let parts = then_equal (nat_cmp a.indicator b.indicator) (nat_cmp b.start a.start) tied in
+    λ i. record {
+      base = (groups i).base;
+      associated = (groups i).associated;
+      start = sym (exact_unsigned b.start a.start parts.1) i;
+      location = (groups i).location;
+      suffix = (groups i).suffix;
+      indicator = exact_unsigned a.indicator b.indicator parts.0 i;
+    }
+
+-- of a UID and a day one schedule is chosen at most
+pub one_chosen : (live : Table) (uid : List ℕ) (day : ℕ) (a b : ScheduleKey) (xs ys : List (List ℕ)) → IsChosen live uid day a xs → IsChosen live uid day b ys
+    → (a ≡ b) × (xs ≡ ys)
+one_chosen live uid day a b xs ys one two =
+    let tied = level schedule_choice_total a b (one.first b ys two.running) (two.first a xs one.running) in
+    let keys = tied_schedules a b (one.running.uid_is ∙ sym two.running.uid_is) tied in
+    (keys, one_schedule live a b xs ys keys one.running.is_live two.running.is_live)
+
+-- of a UID one train starts on a day at most
+pub one_train : (live : Table) (uid : List ℕ) (day : ℕ) (a b : ScheduleKey) (xs ys : List (List ℕ)) → TrainRuns live uid day a xs → TrainRuns live uid day b ys
+    → (a ≡ b) × (xs ≡ ys)
+one_train live uid day a b xs ys one two = one_chosen live uid day a b xs ys one.chosen two.chosen
+
+-- of a group and a day one association is chosen at most
+pub one_link : (live : Table) (group : Group) (day : ℕ) (a b : AssociationKey) (x y : List ℕ) → IsChosenAssociation live group day a x
+    → IsChosenAssociation live group day b y → (a ≡ b) × (x ≡ y)
+one_link live group day a b x y one two =
+    let tied = level association_choice_total a b (one.first b y two.associated) (two.first a x one.associated) in
+    let keys = tied_associations a b (one.associated.group_is ∙ sym two.associated.group_is) tied in
+    (keys, one_association live a b x y keys one.associated.is_live two.associated.is_live)

@@ -1,0 +1,219 @@
+-- Docker lines that the order does not tell apart are one: of one schedule or one association, and of one start day.
+use Rattle.std.proofs.Common.{◌≡◌, ℕ, List, ap, sym, ◌∙◌, subst, inl, inr, ◌⊎◌, Some, None, Bool, true, false, cond, Contains, arith}
+use Rattle.std.specs.Prelude.{Option, codes, ◌==◌}
+use Rattle.std.specs.Str.{bytes_eq}
+use Rattle.std.specs.declared.cmp.Ordering.TheVariants.{Equal}
+use Rattle.std.specs.Ordering.{nat_cmp}
+use Rattle.std.proofs.lemmas.Map.Lookups.{exact_unsigned, exact_bytes}
+use Rattle.std.proofs.lemmas.Bool.{eqb-true}
+use Rattle.std.proofs.lemmas.Slice.Eq.{bytes_eq-Decides}
+use Rattle.docker_model.specs.records.Record.{columns, column}
+use Rattle.docker_model.specs.file.Journey.{Occasion, joining, dividing, next_working}
+use Rattle.docker_model.specs.file.File.{first_record}
+use Rattle.docker_model.specs.file.Change.{ScheduleKey}
+use Rattle.docker_model.specs.state.Order.{bytes_cmp}
+use Rattle.docker_model.specs.state.Table.{Table}
+use Rattle.docker_model.specs.docker.Event.{Event, events_of, event_line, is_at, first_event_at}
+use Rattle.docker_model.specs.docker.Choice.{TrainRuns, IsChosenAssociation, group_of}
+use Rattle.docker_model.specs.docker.DockerLine.{DockerLine, docker_line_cmp, occasion_rank, associated_uid, line_of_event, line_of_association}
+use Rattle.docker_model.specs.docker.Association.{category_occasion, partner_start, IsIdentityOn, IsPartnerIdentity, IsAssociationLine}
+use Rattle.docker_model.specs.docker.DockerList.{IsEventLine}
+use Rattle.docker_model.specs.docker.Gathering.{IsDockerLine}
+use Rattle.docker_laws.proofs.orders.Orders.{then_equal}
+use Rattle.docker_laws.proofs.lists.Tests.{both}
+use Rattle.docker_laws.proofs.lists.Members.{find_some}
+use Rattle.docker_laws.proofs.dockers.OneChoice.{one_train, one_link}
+use Rattle.docker_laws.proofs.dockers.Events.{one_event, IsOfTrain, event_occasion}
+
+-- what two lines have in common that the order does not tell apart
+pub record AreTied (a b : DockerLine) : Type 0 where
+  pub occasions : occasion_rank a.occasion ≡ occasion_rank b.occasion
+  pub uids : a.uid ≡ b.uid
+  pub starts : a.start ≡ b.start
+  pub numbers : a.number ≡ b.number
+  pub associated : associated_uid a.detail ≡ associated_uid b.detail
+
+-- lines that the order does not tell apart agree in all that the order looks at
+pub tied : (a b : DockerLine) → docker_line_cmp a b ≡ Equal → AreTied a b
+tied a b e =
+    let p = then_equal (nat_cmp a.time b.time) _ e in
+    let q = then_equal (nat_cmp (occasion_rank a.occasion) (occasion_rank b.occasion)) _ p.1 in
+    let r = then_equal (bytes_cmp a.uid b.uid) _ q.1 in
+    let s = then_equal (nat_cmp a.start b.start) _ r.1 in
+    let t = then_equal (nat_cmp a.number b.number) (bytes_cmp (associated_uid a.detail) (associated_uid b.detail)) s.1 in
+    record {
+      occasions = exact_unsigned (occasion_rank a.occasion) (occasion_rank b.occasion) q.0;
+      uids = exact_bytes a.uid b.uid r.0;
+      starts = exact_unsigned a.start b.start s.0;
+      numbers = exact_unsigned a.number b.number t.0;
+      associated = exact_bytes (associated_uid a.detail) (associated_uid b.detail) t.1;
+    }
+
+-- ---- two events
+
+-- two lines are of one schedule and one start day, and equal
+pub record AreOneEvent (live : Table) (place : List ℕ) (day : ℕ) (a b : DockerLine) (one : IsEventLine live place day a)
+    (two : IsEventLine live place day b) : Type 0 where
+  pub keys : one.key ≡ two.key
+  pub starts : one.start ≡ two.start
+  pub lines : a ≡ b
+
+-- two event lines that the order does not tell apart are so
+pub same_event_line : (live : Table) (place : List ℕ) (day : ℕ) (a b : DockerLine) (one : IsEventLine live place day a) (two : IsEventLine live place day b)
+    → docker_line_cmp a b ≡ Equal → AreOneEvent live place day a b one two
+same_event_line live place day a b one two e =
+    let common = tied a b e in
+    let uids : one.key.uid ≡ two.key.uid = sym (ap (λ (l : DockerLine). l.uid) one.is) ∙ common.uids ∙ ap (λ (l : DockerLine). l.uid) two.is in
+    let starts : one.start ≡ two.start = sym (ap (λ (l : DockerLine). l.start) one.is) ∙ common.starts ∙ ap (λ (l : DockerLine). l.start) two.is in
+    let numbers : one.event.number ≡ two.event.number = sym (ap (λ (l : DockerLine). l.number) one.is) ∙ common.numbers
+    ∙ ap (λ (l : DockerLine). l.number) two.is in
+    by uids starts numbers (moved uids starts two.key two.schedule two.train_runs)
+  where
+    moved : one.key.uid ≡ two.key.uid → one.start ≡ two.start → (key : ScheduleKey) (lines : List (List ℕ)) → TrainRuns live two.key.uid two.start key lines
+        → TrainRuns live one.key.uid one.start key lines
+    moved uids starts key lines runs =
+        subst (λ d. TrainRuns live one.key.uid d key lines) (sym starts) (subst (λ u. TrainRuns live u two.start key lines) (sym uids) runs)
+
+    by : one.key.uid ≡ two.key.uid → one.start ≡ two.start → one.event.number ≡ two.event.number → TrainRuns live one.key.uid one.start two.key two.schedule
+        → AreOneEvent live place day a b one two
+    by uids starts numbers runs =
+        let same = one_train live one.key.uid one.start one.key two.key one.schedule two.schedule one.train_runs runs in
+        let in_one : Contains (events_of one.schedule) two.event = subst (λ ls. Contains (events_of ls) two.event) (sym same.1) two.among in
+        let events = one_event one.schedule one.event two.event one.among in_one numbers in
+        record { keys = same.0; starts = starts; lines = one.is ∙ (λ i. line_of_event (same.0 i) (starts i) (same.1 i) (events i)) ∙ sym two.is }
+
+-- ---- an event and an association
+
+-- a join, a division or a next working
+abbrev pub IsOfLink : Occasion → Type 0
+IsOfLink occasion = (occasion ≡ joining) ⊎ (occasion ≡ dividing) ⊎ (occasion ≡ next_working)
+
+-- the category of an association never stands for an event
+pub category_is_of_link : (category : List ℕ) (occasion : Occasion) → category_occasion category ≡ Some occasion → IsOfLink occasion
+category_is_of_link category occasion is = first (bytes_eq category (codes "JJ")) is
+  where
+    third : (b : Bool) → cond b (Some next_working) None ≡ Some occasion → IsOfLink occasion
+    third true h = inr (inr (let e : next_working ≡ occasion = cc in sym e))
+    third false h = absurd (none_some h)
+      where
+        none_some : None ≡ Some occasion → ⊥
+        none_some bad = cc
+
+    second : (b : Bool) → cond b (Some dividing) (cond (bytes_eq category (codes "NP")) (Some next_working) None) ≡ Some occasion → IsOfLink occasion
+    second true h = inr (inl (let e : dividing ≡ occasion = cc in sym e))
+    second false h = third (bytes_eq category (codes "NP")) h
+
+    first : (b : Bool) → cond b (Some joining) (cond (bytes_eq category (codes "VV")) (Some dividing)
+        (cond (bytes_eq category (codes "NP")) (Some next_working) None)) ≡ Some occasion → IsOfLink occasion
+    first true h = inl (let e : joining ≡ occasion = cc in sym e)
+    first false h = second (bytes_eq category (codes "VV")) h
+
+not_both : (a b : Occasion) → IsOfTrain a → IsOfLink b → ¬ (occasion_rank a ≡ occasion_rank b)
+not_both a b (inl e) (inl f) same = let bad : ◌≡◌ {A = ℕ} 0 2 = sym (ap occasion_rank e) ∙ same ∙ ap occasion_rank f in omega arith
+not_both a b (inl e) (inr (inl f)) same = let bad : ◌≡◌ {A = ℕ} 0 3 = sym (ap occasion_rank e) ∙ same ∙ ap occasion_rank f in omega arith
+not_both a b (inl e) (inr (inr f)) same = let bad : ◌≡◌ {A = ℕ} 0 4 = sym (ap occasion_rank e) ∙ same ∙ ap occasion_rank f in omega arith
+not_both a b (inr (inl e)) (inl f) same = let bad : ◌≡◌ {A = ℕ} 1 2 = sym (ap occasion_rank e) ∙ same ∙ ap occasion_rank f in omega arith
+not_both a b (inr (inl e)) (inr (inl f)) same = let bad : ◌≡◌ {A = ℕ} 1 3 = sym (ap occasion_rank e) ∙ same ∙ ap occasion_rank f in omega arith
+not_both a b (inr (inl e)) (inr (inr f)) same = let bad : ◌≡◌ {A = ℕ} 1 4 = sym (ap occasion_rank e) ∙ same ∙ ap occasion_rank f in omega arith
+not_both a b (inr (inr e)) (inl f) same = let bad : ◌≡◌ {A = ℕ} 5 2 = sym (ap occasion_rank e) ∙ same ∙ ap occasion_rank f in omega arith
+not_both a b (inr (inr e)) (inr (inl f)) same = let bad : ◌≡◌ {A = ℕ} 5 3 = sym (ap occasion_rank e) ∙ same ∙ ap occasion_rank f in omega arith
+not_both a b (inr (inr e)) (inr (inr f)) same = let bad : ◌≡◌ {A = ℕ} 5 4 = sym (ap occasion_rank e) ∙ same ∙ ap occasion_rank f in omega arith
+
+-- an event's line and an association's line stand for different occasions
+pub event_apart : (live : Table) (place : List ℕ) (day : ℕ) (a b : DockerLine) → IsEventLine live place day a → IsAssociationLine live place day b
+    → ¬ (occasion_rank a.occasion ≡ occasion_rank b.occasion)
+event_apart live place day a b one two same =
+    not_both one.event.occasion two.occasion (event_occasion one.schedule one.event one.among)
+    (category_is_of_link (columns 35 36 two.association) two.occasion two.category)
+    (sym (ap (λ (l : DockerLine). occasion_rank l.occasion) one.is) ∙ same ∙ ap (λ (l : DockerLine). occasion_rank l.occasion) two.is)
+
+-- ---- two associations
+
+-- a partner has one identity
+one_identity_on : (live : Table) (uid : List ℕ) (day : ℕ) (x y : List ℕ) → IsIdentityOn live uid x day → IsIdentityOn live uid y day → x ≡ y
+one_identity_on live uid day x y (inl one) (inl two) =
+    let same = one_train live uid day one.0 two.0 one.1 two.1 one.2 two.2 in
+    one.3 ∙ ap (λ ls. columns 33 36 (first_record ls)) same.1 ∙ sym two.3
+one_identity_on live uid day x y (inl one) (inr two) = absurd (two.0 one.0 one.1 one.2)
+one_identity_on live uid day x y (inr one) (inl two) = absurd (one.0 two.0 two.1 two.2)
+one_identity_on live uid day x y (inr one) (inr two) = one.1 ∙ sym two.1
+
+-- an associated train has one identity
+pub one_identity : (live : Table) (uid : List ℕ) (day : Option ℕ) (x y : List ℕ) → IsPartnerIdentity live uid day x → IsPartnerIdentity live uid day y → x ≡ y
+one_identity live uid None x y one two = one ∙ sym two
+one_identity live uid (Some day) x y one two = one_identity_on live uid day x y one two
+
+-- two lines are of one association and one start day, and equal
+pub record AreOneAssociation (live : Table) (place : List ℕ) (day : ℕ) (a b : DockerLine) (one : IsAssociationLine live place day a)
+    (two : IsAssociationLine live place day b) : Type 0 where
+  pub keys : one.key ≡ two.key
+  pub starts : one.start ≡ two.start
+  pub lines : a ≡ b
+
+-- the first event at a location and suffix is an event, at this suffix
+pub first_event_is : (base : List (List ℕ)) (location : List ℕ) (suffix : ℕ) (event : Event) → first_event_at base location suffix ≡ Some event
+    → Contains (events_of base) event × (column 10 (event_line base event) ≡ suffix) × (columns 3 9 (event_line base event) ≡ location)
+first_event_is base location suffix event is =
+    let told = find_some (λ e. is_at location suffix (event_line base e)) (events_of base) event is in
+    let parts = both (bytes_eq (columns 3 9 (event_line base event)) location) (column 10 (event_line base event) == suffix) told.1 in
+    (told.0, eqb-true _ _ parts.1, (bytes_eq-Decides (columns 3 9 (event_line base event)) location).0 parts.0)
+
+-- two association lines that the order does not tell apart are so
+pub same_association_line : (live : Table) (place : List ℕ) (day : ℕ) (a b : DockerLine) (one : IsAssociationLine live place day a)
+    (two : IsAssociationLine live place day b)
+    → docker_line_cmp a b ≡ Equal → AreOneAssociation live place day a b one two
+same_association_line live place day a b one two e =
+    let common = tied a b e in
+    let uids : one.base_key.uid ≡ two.base_key.uid = sym (ap (λ (l : DockerLine). l.uid) one.is) ∙ common.uids ∙ ap (λ (l : DockerLine). l.uid) two.is in
+    let bases : one.key.base ≡ two.key.base = sym one.base_runs.chosen.running.uid_is ∙ uids ∙ two.base_runs.chosen.running.uid_is in
+    let starts : one.start ≡ two.start = sym (ap (λ (l : DockerLine). l.start) one.is) ∙ common.starts ∙ ap (λ (l : DockerLine). l.start) two.is in
+    let numbers : one.event.number ≡ two.event.number = sym (ap (λ (l : DockerLine). l.number) one.is) ∙ common.numbers
+    ∙ ap (λ (l : DockerLine). l.number) two.is in
+    let associated : one.key.associated ≡ two.key.associated =
+    sym (ap (λ (l : DockerLine). associated_uid l.detail) one.is) ∙ common.associated ∙ ap (λ (l : DockerLine). associated_uid l.detail) two.is in
+    by bases starts numbers associated
+  where
+    by : one.key.base ≡ two.key.base → one.start ≡ two.start → one.event.number ≡ two.event.number → one.key.associated ≡ two.key.associated
+        → AreOneAssociation live place day a b one two
+    by bases starts numbers associated =
+        let runs : TrainRuns live one.key.base one.start two.base_key two.base =
+        subst (λ d. TrainRuns live one.key.base d two.base_key two.base) (sym starts) (subst (λ u. TrainRuns live u two.start two.base_key two.base)
+        (sym bases) two.base_runs) in
+        let trains = one_train live one.key.base one.start one.base_key two.base_key one.base two.base one.base_runs runs in
+        let first = first_event_is one.base one.key.location one.key.suffix one.event one.first_there in
+        let second = first_event_is two.base two.key.location two.key.suffix two.event two.first_there in
+        let in_one : Contains (events_of one.base) two.event = subst (λ ls. Contains (events_of ls) two.event) (sym trains.1) second.0 in
+        let events = one_event one.base one.event two.event first.0 in_one numbers in
+        let suffixes : one.key.suffix ≡ two.key.suffix = sym first.1 ∙ (λ i. column 10 (event_line (trains.1 i) (events i))) ∙ second.1 in
+        let locations : one.key.location ≡ two.key.location = one.here ∙ sym two.here in
+        let groups : group_of one.key ≡ group_of two.key =
+        (λ i. record { base = bases i; associated = associated i; location = locations i; suffix = suffixes i }) in
+        let chosen : IsChosenAssociation live (group_of one.key) one.start two.key two.association =
+        subst (λ d. IsChosenAssociation live (group_of one.key) d two.key two.association) (sym starts)
+        (subst (λ g. IsChosenAssociation live g two.start two.key two.association) (sym groups) two.chosen) in
+        let links = one_link live (group_of one.key) one.start one.key two.key one.association two.association one.chosen chosen in
+        let occasion : Some one.occasion ≡ Some two.occasion = sym one.category ∙ ap (λ l. category_occasion (columns 35 36 l)) links.1 ∙ two.category in
+        let occasions : one.occasion ≡ two.occasion = cc in
+        let partner : IsPartnerIdentity live one.key.associated (partner_start (column 37 one.association) one.start) two.identity =
+        subst (λ (v : List ℕ × Option ℕ). IsPartnerIdentity live v.0 v.1 two.identity)
+        (λ i. (sym associated i, partner_start (column 37 (sym links.1 i)) (sym starts i))) two.partner in
+        let identities = one_identity live one.key.associated
+        (partner_start (column 37 one.association) one.start) one.identity two.identity one.partner partner in
+        record {
+          keys = links.0;
+          starts = starts;
+          lines = one.is
+              ∙ (λ i. line_of_association (occasions i) (links.0 i).indicator (trains.0 i) (starts i) (trains.1 i) (events i) (links.0 i).associated
+              (identities i))
+              ∙ sym two.is;
+        }
+
+-- ---- any two
+
+-- two docker lines that the order does not tell apart are equal
+pub one_line : (live : Table) (place : List ℕ) (day : ℕ) (a b : DockerLine) → IsDockerLine live place day a → IsDockerLine live place day b
+    → docker_line_cmp a b ≡ Equal → a ≡ b
+one_line live place day a b (inl one) (inl two) e = (same_event_line live place day a b one two e).lines
+one_line live place day a b (inl one) (inr two) e = absurd (event_apart live place day a b one two (tied a b e).occasions)
+one_line live place day a b (inr one) (inl two) e = absurd (event_apart live place day b a two one (sym (tied a b e).occasions))
+one_line live place day a b (inr one) (inr two) e = (same_association_line live place day a b one two e).lines

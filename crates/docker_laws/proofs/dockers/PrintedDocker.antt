@@ -1,0 +1,130 @@
+-- Whatever the horizon, each docker that is printed of a summary is that of the plain table, where the files' moments are distinct.
+use Rattle.std.proofs.Common.{◌≡◌, ℕ, ◌+◌, ◌≤◌, List, length, map, All, subst, inl, inr, ◌⊎◌, refl, ap, sym, ◌∙◌, Bool, true, false, Some, None, arith}
+use Rattle.std.specs.Prelude.{Option, ◌↔◌, nat_lt, fold, option_and_then}
+use Rattle.std.proofs.lemmas.Bool.{ltb-true, ltb-false}
+use Rattle.std.proofs.lemmas.List.Elements.{All-contains}
+use Rattle.docker_model.specs.records.Date.{no_end_number, IsDay}
+use Rattle.docker_model.specs.file.File.{IsFile}
+use Rattle.docker_model.specs.file.Change.{Key, Act, delete, put, Body}
+use Rattle.docker_model.specs.state.Stamp.{FileStamp, ledger_item_of, IsFloor}
+use Rattle.docker_model.specs.state.Op.{Entry, op_of, body_of}
+use Rattle.docker_model.specs.state.Table.{Table, empty_table, after_files, from_last_full, IsPlainTable}
+use Rattle.docker_model.specs.state.Lapse.{unlapsed, lapse_table, IsDayRefused}
+use Rattle.docker_model.specs.state.State.{IsBodyOf, State, IsValid, live_table, lapse_state, HasGoodBodies}
+use Rattle.docker_model.specs.state.Summary.{HaveDistinctMoments, IsSummary, IsEntryOf}
+use Rattle.docker_model.specs.docker.DockerLine.{DockerLine}
+use Rattle.docker_model.specs.docker.DockerList.{IsDockerList}
+use Rattle.docker_model.specs.docker.DockerText.{IsDockerText}
+use Rattle.docker_laws.proofs.states.MomentOrder.{moment_order}
+use Rattle.docker_laws.proofs.states.SummaryValid.{body_of_file}
+use Rattle.docker_laws.proofs.states.PlainTable.{entries_along, step, NoneThere, LastThere, last_there, after_files_is, entries_ascend, suffix_ascends, out_entries}
+use Rattle.docker_laws.proofs.states.TableLapsed.{body_stays, live_lapsed}
+use Rattle.docker_laws.proofs.states.LapsedPlainTable.{live_is_plain}
+use Rattle.docker_laws.proofs.dockers.FewMidnights.{bodies_few}
+use Rattle.docker_laws.proofs.dockers.GoodBodies.{good_bodies}
+use Rattle.docker_laws.proofs.dockers.LapsedDocker.{docker_list_iff, docker_text_iff}
+
+-- a horizon that is a day is no greater than the number for no end
+pub day_bound : (horizon : ℕ) → IsDay horizon → horizon ≤ no_end_number
+day_bound horizon day = omega arith
+
+-- ---- of valid states
+
+-- on a day from the horizon plus three days on, a state and its lapse have one docker list
+pub state_list_iff : (horizon : ℕ) (state : State) (place : List ℕ) (day : ℕ) (lines : List DockerLine) → IsDay horizon → IsValid state → horizon + 3 ≤ day
+    → IsDockerList (live_table state) place day lines ↔ IsDockerList (live_table (lapse_state horizon state)) place day lines
+state_list_iff horizon state place day lines is_day valid from =
+    subst (λ table. IsDockerList (live_table state) place day lines ↔ IsDockerList table place day lines) (sym (live_lapsed horizon state))
+    (docker_list_iff horizon (day_bound horizon is_day) (live_table state) (bodies_few (live_table state) (good_bodies state valid)) place day from lines)
+
+-- on such a day they have one docker text
+pub state_text_iff : (horizon : ℕ) (state : State) (place : List ℕ) (day : ℕ) (text : List ℕ) → IsDay horizon → IsValid state → horizon + 3 ≤ day
+    → IsDockerText (live_table state) place day text ↔ IsDockerText (live_table (lapse_state horizon state)) place day text
+state_text_iff horizon state place day text is_day valid from =
+    subst (λ table. IsDockerText (live_table state) place day text ↔ IsDockerText table place day text) (sym (live_lapsed horizon state))
+    (docker_text_iff horizon (day_bound horizon is_day) (live_table state) (bodies_few (live_table state) (good_bodies state valid)) place day from text)
+
+-- ---- the plain table of files has good bodies
+
+put_of : (act : Act) (body : Body) → body_of (op_of act) ≡ Some body → act ≡ put body
+put_of delete body none = cc
+put_of (put here) body some = let same : here ≡ body = cc in ap put same
+
+module _ (files : List (List (List ℕ))) (each : All IsFile files) (few : All (λ file. length file ≤ 4_294_967_294) files) (table : Table)
+    (plain : IsPlainTable files table)
+    (floor : Option FileStamp) (is_floor : IsFloor (map ledger_item_of files) floor) where
+  body_made_good : (key : Key) (entry : Entry) (body : Body) → IsEntryOf files floor key entry → body_of entry.op ≡ Some body → IsBodyOf key body
+  body_made_good key entry body made is =
+      let puts = put_of made.change.act body (ap (λ (e : Entry). body_of e.op) made.entry_is ∙ is) in
+      subst (λ k. IsBodyOf k body) made.key_is
+      (body_of_file made.file (All-contains IsFile files made.file each made.kept.among)
+      (All-contains (λ file. length file ≤ 4_294_967_294) files made.file few made.kept.among)
+      made.change made.among body puts)
+
+  -- the plain table of files within the limit has good bodies
+  pub plain_bodies : HasGoodBodies table
+  plain_bodies key body is =
+      by (last_there (entries_along (from_last_full plain.ordered)) empty_table key
+      (entries_ascend (from_last_full plain.ordered) (suffix_ascends plain.ordered plain.order.ascending)))
+    where
+      table_is : table key ≡ fold step empty_table (entries_along (from_last_full plain.ordered)) key
+      table_is = plain.is key ∙ (λ i. after_files_is empty_table (from_last_full plain.ordered) i key)
+
+      by : NoneThere (entries_along (from_last_full plain.ordered)) empty_table key ⊎ LastThere (entries_along (from_last_full plain.ordered)) empty_table key
+          → IsBodyOf key body
+      by (inl none) = let bad : None ≡ Some body = sym none.1 ∙ sym table_is ∙ is in cc
+      by (inr last) =
+          body_made_good key last.0 body (out_entries files plain.ordered plain.order floor is_floor key last.0 last.1) (sym last.2 ∙ sym table_is ∙ is)
+
+-- ---- the law
+
+lapse_table_none : (table : Table) (key : Key) → lapse_table 0 table key ≡ table key
+lapse_table_none table key = by (table key)
+  where
+    by : (found : Option Body) → option_and_then (unlapsed 0) found ≡ found
+    by None = refl
+    by (Some body) = body_stays 0 body (omega arith)
+
+-- the live table of a summary is the lapsed plain table
+pub live_is_lapsed_plain : (files : List (List (List ℕ))) (horizon : ℕ) (state : State) (table : Table) → IsSummary files horizon state
+    → IsPlainTable files table → live_table state ≡ lapse_table horizon table
+live_is_lapsed_plain files horizon state table summary plain = λ i key. live_is_plain files horizon state table summary plain key i
+
+-- a docker that is printed of a summary is that of the plain table
+pub printed_is_plain : (files : List (List (List ℕ))) (horizon : ℕ) (state : State) (table : Table) (place : List ℕ) (day : ℕ) (text : List ℕ)
+    → All IsFile files → All (λ file. length file ≤ 4_294_967_294) files → IsDay horizon → IsSummary files horizon state → IsPlainTable files table
+    → ¬ IsDayRefused horizon day
+    → IsDockerText (live_table state) place day text ↔ IsDockerText table place day text
+printed_is_plain files horizon state table place day text each few is_day summary plain printed = by (nat_lt 0 horizon) (nat_lt day (horizon + 3)) refl refl
+  where
+    same : live_table state ≡ lapse_table horizon table
+    same = live_is_lapsed_plain files horizon state table summary plain
+
+    turned : IsDockerText table place day text ↔ IsDockerText (lapse_table horizon table) place day text → IsDockerText (live_table state) place day text
+        ↔ IsDockerText table place day text
+    turned told = subst (λ (t : Table). IsDockerText t place day text ↔ IsDockerText table place day text) (sym same) (told.1, told.0)
+
+    by : (b c : Bool) → nat_lt 0 horizon ≡ b → nat_lt day (horizon + 3) ≡ c → IsDockerText (live_table state) place day text ↔ IsDockerText table place day text
+    by true true above before = absurd (printed (ltb-true 0 horizon above, ltb-true day (horizon + 3) before))
+    by true false above after =
+        turned (docker_text_iff horizon (day_bound horizon is_day) table
+        (bodies_few table (plain_bodies files each few table plain summary.floor summary.is_floor)) place day (ltb-false day (horizon + 3) after) text)
+    by false c none either =
+        let low = ltb-false 0 horizon none in
+        let zero_is : horizon ≡ 0 = omega arith in
+        let all : lapse_table horizon table ≡ table = ap (λ h. lapse_table h table) zero_is ∙ (λ i key. lapse_table_none table key i) in
+        turned (subst (λ (t : Table). IsDockerText table place day text ↔ IsDockerText t place day text) (sym all) (λ x. x, λ x. x))
+
+-- where the moments are distinct, there is a plain table; without a horizon it is the live table
+pub live_table_is_plain : (files : List (List (List ℕ))) (state : State) → IsSummary files 0 state → HaveDistinctMoments files
+    → IsPlainTable files (live_table state)
+live_table_is_plain files state summary distinct =
+    let order = moment_order files distinct in
+    let plain : IsPlainTable files (after_files empty_table (from_last_full order.0)) = record { ordered = order.0; order = order.1; is = λ other. refl } in
+    record {
+      ordered = order.0;
+      order = order.1;
+      is = λ key.
+          live_is_plain files 0 state (after_files empty_table (from_last_full order.0)) summary plain key
+          ∙ lapse_table_none (after_files empty_table (from_last_full order.0)) key;
+    }

@@ -1,0 +1,45 @@
+-- A piece of a table's rows outside which no schedule of a UID stands has each of its schedules, and likewise of a group's associations.
+use Rattle.std.proofs.Common.{ℕ, List, ◌++◌, inl, inr, ◌⊎◌, Contains}
+use Rattle.std.proofs.lemmas.List.Elements.{Contains-append_left, Contains-append_right, Contains-append_cases}
+use Rattle.docker_model.specs.file.Change.{schedule_key, association_key, schedule_body, association_body}
+use Rattle.docker_model.specs.state.Table.{Table}
+use Rattle.docker_model.specs.state.Row.{Row, AreRowsOf}
+use Rattle.docker_model.specs.docker.Choice.{Group}
+use Rattle.docker_model.specs.docker.LiveRows.{HasSchedulesOf, HasAssociationsOf, HasNoScheduleOf, HasNoAssociationOf}
+
+-- what is in none of the outer pieces is in the one between them
+between : (front rows back : List Row) (row : Row) → ¬ Contains front row → ¬ Contains back row → Contains ((front ++ rows) ++ back) row → Contains rows row
+between front rows back row not_front not_back among = outer (Contains-append_cases (front ++ rows) back row among)
+  where
+    inner : Contains front row ⊎ Contains rows row → Contains rows row
+    inner (inl here) = absurd (not_front here)
+    inner (inr here) = here
+
+    outer : Contains (front ++ rows) row ⊎ Contains back row → Contains rows row
+    outer (inl here) = inner (Contains-append_cases front rows row here)
+    outer (inr here) = absurd (not_back here)
+
+-- a piece of the rows outside which no schedule of the UID stands has each of its schedules
+pub uid_segment : (live : Table) (uid : List ℕ) (front rows back : List Row) → AreRowsOf live ((front ++ rows) ++ back) → HasNoScheduleOf uid front
+    → HasNoScheduleOf uid back → HasSchedulesOf live uid rows
+uid_segment live uid front rows back are no_front no_back = record {
+  each =
+      λ key body among. (are.members key body).0 (Contains-append_left (front ++ rows) back (key, body) (Contains-append_right front rows (key, body) among));
+  all = λ key lines same is.
+      between front rows back (schedule_key key, schedule_body lines) (λ here. no_front key (schedule_body lines) here same)
+      (λ here. no_back key (schedule_body lines) here same)
+      ((are.members (schedule_key key) (schedule_body lines)).1 is);
+}
+
+-- a piece of the rows outside which no association of the group stands has each of its associations
+pub group_segment : (live : Table) (group : Group) (front rows back : List Row) → AreRowsOf live ((front ++ rows) ++ back) → HasNoAssociationOf group front
+    → HasNoAssociationOf group back
+    → HasAssociationsOf live group rows
+group_segment live group front rows back are no_front no_back = record {
+  each =
+      λ key body among. (are.members key body).0 (Contains-append_left (front ++ rows) back (key, body) (Contains-append_right front rows (key, body) among));
+  all = λ key line same is.
+      between front rows back (association_key key, association_body line) (λ here. no_front key (association_body line) here same)
+      (λ here. no_back key (association_body line) here same)
+      ((are.members (association_key key) (association_body line)).1 is);
+}

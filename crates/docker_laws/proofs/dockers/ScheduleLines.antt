@@ -1,0 +1,172 @@
+-- The lines of a schedule's events on one start day: which docker lines they are, and that they are there.
+use Rattle.std.proofs.Common.{◌≡◌, ℕ, true, rules, List, Contains, ◌<◌, ap, sym, ◌∙◌, subst, Bool, eqb-true, arith, [], cond, refl, Some, None, false}
+use Rattle.std.specs.Prelude.{◌==◌, filter, ◌&&◌, Option}
+use Rattle.std.specs.Str.{bytes_eq}
+use Rattle.std.specs.declared.cmp.Ordering.TheVariants.{Equal}
+use Rattle.std.specs.Ordering.{is_eq}
+use Rattle.std.specs.Cmp.{tied_itself}
+use Rattle.std.proofs.lemmas.Slice.Eq.{bytes_eq-Decides}
+use Rattle.docker_model.specs.records.Record.{columns}
+use Rattle.docker_model.specs.file.Change.{ScheduleKey, schedule_key, schedule_body}
+use Rattle.docker_model.specs.state.Op.{schedule_key_cmp}
+use Rattle.docker_model.specs.state.Table.{Table}
+use Rattle.docker_model.specs.state.State.{HasGoodBodies}
+use Rattle.docker_model.specs.docker.Event.{Event, events_of, event_day, event_line}
+use Rattle.docker_model.specs.docker.Choice.{TrainRuns}
+use Rattle.docker_model.specs.docker.DockerLine.{DockerLine, line_of_event, docker_line_cmp}
+use Rattle.docker_model.specs.docker.DockerList.{IsEventLine}
+use Rattle.docker_model.specs.docker.LiveRows.{Train, IsTrainOn, TellsTrains}
+use Rattle.docker_model.specs.docker.Gathering.{event_lines, runs_by, start_days}
+use Rattle.docker_laws.proofs.lists.Membership.{Contains-map, map-Contains, nil-Contains}
+use Rattle.docker_laws.proofs.lists.Tests.{both}
+use Rattle.docker_laws.proofs.orders.Orders.{schedule_key_total, exact_schedule_key}
+use Rattle.docker_laws.proofs.lists.Members.{filter_back, filter_forth}
+use Rattle.docker_laws.proofs.lists.Later.{later_weaker, later_filter, later_map}
+use Rattle.docker_laws.proofs.lists.Sorted.{AreApart}
+use Rattle.docker_laws.proofs.dockers.StartDays.{event_within, start_days_iff}
+use Rattle.docker_laws.proofs.dockers.FewMidnights.{bodies_few}
+use Rattle.docker_laws.proofs.dockers.OneChoice.{one_schedule, one_train}
+use Rattle.docker_laws.proofs.dockers.Events.{numbered}
+use Rattle.docker_laws.proofs.dockers.OneDockerLine.{tied}
+use Rattle.docker_laws.proofs.orders.AtMost.{eq_is}
+
+-- a number equals itself, as a test
+pub number_itself : (n : ℕ) → (n == n) ≡ true
+number_itself n = search rules
+
+-- a line of the list, with its event
+pub record IsLineOfEvent (place : List ℕ) (day start : ℕ) (key : ScheduleKey) (lines : List (List ℕ)) (line : DockerLine) : Type 0 where
+  pub event : Event
+  pub among : Contains (events_of lines) event
+  pub here : columns 3 9 (event_line lines event) ≡ place
+  pub today : event_day start lines event ≡ day
+  pub is : line ≡ line_of_event key start lines event
+
+module _ (place : List ℕ) (day start : ℕ) (key : ScheduleKey) (lines : List (List ℕ)) where
+  test : Event → Bool
+  test event = bytes_eq (columns 3 9 (event_line lines event)) place && (event_day start lines event == day)
+
+  -- each of the event lines is the line of an event at the place on the day
+  pub event_lines_back : (line : DockerLine) → Contains (event_lines place day start key lines) line → IsLineOfEvent place day start key lines line
+  unfolding test
+  event_lines_back line among =
+      let found = Contains-map (line_of_event key start lines) (filter test (events_of lines)) line among in
+      let passed = filter_back test (events_of lines) found.0 found.1 in
+      let parts = both (bytes_eq (columns 3 9 (event_line lines found.0)) place) (event_day start lines found.0 == day) passed.1 in
+      record {
+        event = found.0;
+        among = passed.0;
+        here = (bytes_eq-Decides (columns 3 9 (event_line lines found.0)) place).0 parts.0;
+        today = eqb-true _ _ parts.1;
+        is = sym found.2;
+      }
+
+  -- the line of an event at the place on the day is one of the event lines
+  pub event_lines_forth : (line : DockerLine) → IsLineOfEvent place day start key lines line → Contains (event_lines place day start key lines) line
+  unfolding test
+  event_lines_forth line is =
+      let day_is : (event_day start lines is.event == day) ≡ true = ap (λ n. event_day start lines is.event == n) (sym is.today)
+      ∙ number_itself (event_day start lines is.event) in
+      let passes : test is.event ≡ true = (λ i. (bytes_eq-Decides (columns 3 9 (event_line lines is.event)) place).1 is.here i && day_is i) in
+      subst (Contains (event_lines place day start key lines)) (sym is.is)
+      (map-Contains (line_of_event key start lines) (filter test (events_of lines)) is.event (filter_forth test (events_of lines) is.event is.among passes))
+
+  -- the order tells them apart by their numbers
+  pub event_lines_apart : AreApart docker_line_cmp (event_lines place day start key lines)
+  unfolding test
+  event_lines_apart =
+      later_map (λ (a b : DockerLine). ¬ (docker_line_cmp a b ≡ Equal)) (line_of_event key start lines) (filter test (events_of lines))
+      (later_weaker (λ (a b : Event). a.number < b.number)
+      (λ a b. ¬ (docker_line_cmp (line_of_event key start lines a) (line_of_event key start lines b) ≡ Equal)) (filter test (events_of lines))
+      (λ a b in_a in_b below same. let e : a.number ≡ b.number = (tied (line_of_event key start lines a) (line_of_event key start lines b) same).numbers in
+      omega arith)
+      (later_filter (λ (a b : Event). a.number < b.number) test (events_of lines) (numbered lines)))
+
+-- the lines on one start day
+abbrev pub schedule_piece : (List ℕ → ℕ → Option Train) → List ℕ → ℕ → ScheduleKey → List (List ℕ) → ℕ → List DockerLine
+schedule_piece trains place day key lines start = cond (runs_by (trains key.uid start) key) (event_lines place day start key lines) []
+
+-- a docker line of the schedule and the start day
+pub record IsOfSchedule (live : Table) (place : List ℕ) (day : ℕ) (key : ScheduleKey) (start : ℕ) (line : DockerLine) : Type 0 where
+  pub made : IsEventLine live place day line
+  pub of_key : made.key ≡ key
+  pub of_start : made.start ≡ start
+
+module _ (live : Table) (trains : List ℕ → ℕ → Option Train) (tell : TellsTrains live trains) (place : List ℕ) (day : ℕ) where
+  -- what stands in the piece of a schedule for one start day is a docker line of it
+  pub schedule_piece_back : (key : ScheduleKey) (lines : List (List ℕ)) (start : ℕ) → live (schedule_key key) ≡ Some (schedule_body lines)
+      → (line : DockerLine) → Contains (schedule_piece trains place day key lines start) line → IsOfSchedule live place day key start line
+  schedule_piece_back key lines start is_live line among = by (trains key.uid start) (tell key.uid start) among
+    where
+      made : TrainRuns live key.uid start key lines → Contains (event_lines place day start key lines) line → IsOfSchedule live place day key start line
+      made runs inside =
+          let told = event_lines_back place day start key lines line inside in
+          record {
+            made =
+                record {
+                  start = start;
+                  key = key;
+                  schedule = lines;
+                  train_runs = runs;
+                  event = told.event;
+                  among = told.among;
+                  here = told.here;
+                  today = told.today;
+                  is = told.is;
+                };
+            of_key = refl;
+            of_start = refl;
+          }
+
+      runs_as : (train : Train) → train.key ≡ key → TrainRuns live key.uid start train.key train.lines → TrainRuns live key.uid start key lines
+      runs_as train same runs =
+          let lines_are = one_schedule live train.key key train.lines lines same runs.chosen.running.is_live is_live in
+          subst (λ (v : Train). TrainRuns live key.uid start v.key v.lines) (λ i. record { key = same i; lines = lines_are i }) runs
+
+      by : (found : Option Train) → IsTrainOn live key.uid start found → Contains (cond (runs_by found key) (event_lines place day start key lines) []) line
+          → IsOfSchedule live place day key start line
+      by None none inside = absurd (nil-Contains line inside)
+      by (Some train) runs inside = inner (is_eq (schedule_key_cmp train.key key)) refl inside
+        where
+          inner : (b : Bool) → is_eq (schedule_key_cmp train.key key) ≡ b → Contains (cond b (event_lines place day start key lines) []) line
+              → IsOfSchedule live place day key start line
+          inner true h here = made (runs_as train (exact_schedule_key train.key key (eq_is (schedule_key_cmp train.key key) h)) runs) here
+          inner false h here = absurd (nil-Contains line here)
+
+  -- a docker line of an event stands in the piece for its train's start day
+  pub schedule_piece_forth : (line : DockerLine) (made : IsEventLine live place day line)
+      → Contains (schedule_piece trains place day made.key made.schedule made.start) line
+  schedule_piece_forth line made = by (trains made.key.uid made.start) (tell made.key.uid made.start)
+    where
+      inside : Contains (event_lines place day made.start made.key made.schedule) line
+      inside =
+          event_lines_forth place day made.start made.key made.schedule line
+          (record { event = made.event; among = made.among; here = made.here; today = made.today; is = made.is })
+
+      by : (found : Option Train) → IsTrainOn live made.key.uid made.start found
+          → Contains (cond (runs_by found made.key) (event_lines place day made.start made.key made.schedule) []) line
+      by None none = absurd (none made.key made.schedule made.train_runs)
+      by (Some train) runs =
+          let same = one_train live made.key.uid made.start train.key made.key train.lines made.schedule runs made.train_runs in
+          let runs_is : is_eq (schedule_key_cmp train.key made.key) ≡ true = (λ i. is_eq (schedule_key_cmp (same.0 i) made.key))
+          ∙ (λ i. is_eq (tied_itself schedule_key_total made.key i)) in
+          subst (λ b. Contains (cond b (event_lines place day made.start made.key made.schedule) []) line) (sym runs_is) inside
+
+  -- the order tells the lines of one piece apart
+  pub schedule_piece_apart : (key : ScheduleKey) (lines : List (List ℕ)) (start : ℕ)
+      → AreApart docker_line_cmp (schedule_piece trains place day key lines start)
+  schedule_piece_apart key lines start = by (runs_by (trains key.uid start) key)
+    where
+      by : (b : Bool) → AreApart docker_line_cmp (cond b (event_lines place day start key lines) [])
+      by true = event_lines_apart place day start key lines
+      by false = tt
+
+  -- an event's train starts on one of the start days
+  pub event_starts : HasGoodBodies live → (line : DockerLine) (made : IsEventLine live place day line) → Contains (start_days day) made.start
+  event_starts good line made =
+      let few = bodies_few live good made.key made.schedule made.train_runs.chosen.running.is_live in
+      let within = event_within made.start made.schedule made.event few in
+      let low = within.0 in
+      let high = within.1 in
+      let today = made.today in
+      (start_days_iff day made.start).1 (omega arith, omega arith)

@@ -1,0 +1,69 @@
+-- The events of a live schedule stand on its start day or one of the two days behind it, so that a day has three start days at most.
+use Rattle.std.proofs.Common.{◌≡◌, ℕ, zero, suc, ◌+◌, ◌-◌, ◌≤◌, List, [], ◌∷◌, subst, inl, inr, ◌⊎◌, Some, Contains, arith}
+use Rattle.std.specs.Prelude.{filter, nat_le}
+use Rattle.std.proofs.lemmas.Bool.{leb-true, le-leb}
+use Rattle.docker_model.specs.file.Journey.{midnights}
+use Rattle.docker_model.specs.file.Change.{schedule_key, ScheduleKey, schedule_body}
+use Rattle.docker_model.specs.state.Table.{Table}
+use Rattle.docker_model.specs.state.State.{HasGoodBodies}
+use Rattle.docker_model.specs.docker.Event.{Event, event_day, falls_to}
+use Rattle.docker_model.specs.docker.Gathering.{start_days}
+use Rattle.docker_laws.proofs.lists.Membership.{Contains-cons, cons-Contains, cons-Contains-first, nil-Contains, Contains-map, map-Contains}
+use Rattle.docker_laws.proofs.dockers.FewMidnights.{bodies_few, falls_below}
+use Rattle.docker_laws.proofs.lists.Members.{filter_back, filter_forth}
+
+-- up to any event of a live schedule there are at most two falls
+pub few_falls_to : (live : Table) (key : ScheduleKey) (lines : List (List ℕ)) → HasGoodBodies live → live (schedule_key key) ≡ Some (schedule_body lines)
+    → (number : ℕ) → falls_to lines number ≤ 2
+few_falls_to live key lines good is number = let front = falls_below lines number in let few = bodies_few live good key lines is in omega arith
+
+-- so an event stands at most two days behind the start day
+pub event_within : (start : ℕ) (lines : List (List ℕ)) (event : Event) → midnights lines ≤ 2 → (start ≤ event_day start lines event)
+    × (event_day start lines event ≤ start + 2)
+event_within start lines event few = let front = falls_below lines event.number in (omega arith, omega arith)
+
+-- ---- the start days
+
+-- the start days of a day are those that are at most two days before it
+pub start_days_iff : (day start : ℕ) → (Contains (start_days day) start → (start ≤ day) × (day ≤ start + 2)) × ((start ≤ day) × (day ≤ start + 2)
+    → Contains (start_days day) start)
+start_days_iff day start = (forth, back)
+  where
+    among_three : (n : ℕ) → Contains (0 ∷ 1 ∷ 2 ∷ []) n → n ≤ 2
+    among_three n among = by (Contains-cons 0 (1 ∷ 2 ∷ []) n among)
+      where
+        last : (2 ≡ n) ⊎ Contains [] n → n ≤ 2
+        last (inl e) = omega arith
+        last (inr none) = absurd (nil-Contains n none)
+
+        next : (1 ≡ n) ⊎ Contains (2 ∷ []) n → n ≤ 2
+        next (inl e) = omega arith
+        next (inr rest) = last (Contains-cons 2 [] n rest)
+
+        by : (◌≡◌ {A = ℕ} 0 n) ⊎ Contains (1 ∷ 2 ∷ []) n → n ≤ 2
+        by (inl e) = omega arith
+        by (inr rest) = next (Contains-cons 1 (2 ∷ []) n rest)
+
+    forth : Contains (start_days day) start → (start ≤ day) × (day ≤ start + 2)
+    forth among =
+        let found = Contains-map (λ n. day - n) (filter (λ n. nat_le n day) (0 ∷ 1 ∷ 2 ∷ [])) start among in
+        let passed = filter_back (λ n. nat_le n day) (0 ∷ 1 ∷ 2 ∷ []) found.0 found.1 in
+        let few = among_three found.0 passed.0 in
+        let is = found.2 in
+        let low : found.0 ≤ day = leb-true found.0 day passed.1 in
+        (omega arith, omega arith)
+
+    three : (n : ℕ) → n ≤ 2 → Contains (0 ∷ 1 ∷ 2 ∷ []) n
+    three zero low = cons-Contains-first 0 (1 ∷ 2 ∷ [])
+    three (suc zero) low = cons-Contains 0 (1 ∷ 2 ∷ []) 1 (cons-Contains-first 1 (2 ∷ []))
+    three (suc (suc zero)) low = cons-Contains 0 (1 ∷ 2 ∷ []) 2 (cons-Contains 1 (2 ∷ []) 2 (cons-Contains-first 2 []))
+    three (suc (suc (suc n))) low = absurd (omega arith)
+
+    back : (start ≤ day) × (day ≤ start + 2) → Contains (start_days day) start
+    back within =
+        let low = within.0 in
+        let high = within.1 in
+        let is : day - (day - start) ≡ start = omega arith in
+        subst (Contains (start_days day)) is
+        (map-Contains (λ n. day - n) (filter (λ n. nat_le n day) (0 ∷ 1 ∷ 2 ∷ [])) (day - start)
+        (filter_forth (λ n. nat_le n day) (0 ∷ 1 ∷ 2 ∷ []) (day - start) (three (day - start) (omega arith)) (le-leb (day - start) day (omega arith))))

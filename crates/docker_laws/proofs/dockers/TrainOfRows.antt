@@ -1,0 +1,156 @@
+-- The rows of a live table tell its chosen schedules and its trains.
+use Rattle.std.proofs.Common.{◌≡◌, ℕ, List, refl, ap, sym, ◌∙◌, Some, None, Bool, true, false, cond, Contains, eqb-true}
+use Rattle.std.specs.Prelude.{Option, ◌&&◌, ◌==◌}
+use Rattle.std.specs.Str.{bytes_eq}
+use Rattle.std.specs.Ordering.{on}
+use Rattle.std.specs.Cmp.{IsTotalOrder, on_total}
+use Rattle.std.proofs.lemmas.Slice.Eq.{bytes_eq-Decides}
+use Rattle.docker_model.specs.file.File.{first_record}
+use Rattle.docker_model.specs.file.Change.{Key, tiploc_key, association_key, schedule_key, ScheduleKey, Body, tiploc_body, association_body, schedule_body}
+use Rattle.docker_model.specs.state.Table.{Table}
+use Rattle.docker_model.specs.state.Row.{Row, AreRowsOf}
+use Rattle.docker_model.specs.docker.Choice.{schedule_runs, schedule_choice_cmp, IsRunning, IsChosen}
+use Rattle.docker_model.specs.docker.LiveRows.{HasSchedulesOf, Train, schedule_of, schedules_in, is_running, chosen_in, unless_cancelled, train_in, IsChosenOn, IsTrainOn, TellsTrains}
+use Rattle.docker_model.specs.docker.ChoiceWalk.{IsChosenSoFar}
+use Rattle.docker_laws.proofs.lists.Tests.{both}
+use Rattle.docker_laws.proofs.lists.Members.{part_back, part_forth}
+use Rattle.docker_laws.proofs.dockers.OneChoice.{schedule_choice_total, one_chosen, one_train}
+use Rattle.docker_laws.proofs.orders.Least.{found_least, none_passes}
+
+by_key : IsTotalOrder (on (λ (train : Train). train.key) schedule_choice_cmp)
+by_key = on_total (λ (train : Train). train.key) schedule_choice_total
+
+-- a row of a schedule is that schedule's
+row_is : (key : Key) (body : Body) (train : Train) → schedule_of key body ≡ Some train → (key ≡ schedule_key train.key) × (body ≡ schedule_body train.lines)
+row_is (schedule_key key) (schedule_body lines) train is =
+    let e : record { key = key; lines = lines } ≡ train = some_is (record { key = key; lines = lines }) train is in
+    (ap (λ (t : Train). schedule_key t.key) e, ap (λ (t : Train). schedule_body t.lines) e)
+  where
+    some_is : (a b : Train) → Some a ≡ Some b → a ≡ b
+    some_is a b h = cc
+row_is (schedule_key key) (tiploc_body bytes) train is = absurd (none_some is)
+  where
+    none_some : None ≡ Some train → ⊥
+    none_some h = cc
+row_is (schedule_key key) (association_body line) train is = absurd (none_some is)
+  where
+    none_some : None ≡ Some train → ⊥
+    none_some h = cc
+row_is (tiploc_key code) body train is = absurd (none_some is)
+  where
+    none_some : None ≡ Some train → ⊥
+    none_some h = cc
+row_is (association_key key) body train is = absurd (none_some is)
+  where
+    none_some : None ≡ Some train → ⊥
+    none_some h = cc
+
+module _ (live : Table) (rows : List Row) (uid : List ℕ) (has : HasSchedulesOf live uid rows) where
+  schedule_live : (train : Train) → Contains (schedules_in rows) train → live (schedule_key train.key) ≡ Some (schedule_body train.lines)
+  schedule_live train among =
+      let found = part_back (λ (row : Row). schedule_of row.0 row.1) rows train among in
+      let told = row_is found.0.0 found.0.1 train found.2 in
+      let there = has.each found.0.0 found.0.1 found.1 in
+      ap live (sym told.0) ∙ there ∙ ap Some told.1
+
+  live_schedule : (train : Train) → train.key.uid ≡ uid → live (schedule_key train.key) ≡ Some (schedule_body train.lines) → Contains (schedules_in rows) train
+  live_schedule train same is =
+      part_forth (λ (row : Row). schedule_of row.0 row.1) rows (schedule_key train.key, schedule_body train.lines) train
+      (has.all train.key train.lines same is) refl
+
+  module _ (day : ℕ) where
+    running : (train : Train) → Contains (schedules_in rows) train → is_running uid day train ≡ true → IsRunning live uid day train.key train.lines
+    running train among passes =
+        let parts = both (bytes_eq train.key.uid uid) (schedule_runs (first_record train.lines) day) passes in
+        record { uid_is = (bytes_eq-Decides train.key.uid uid).0 parts.0; is_live = schedule_live train among; runs_then = parts.1 }
+
+    passes_running : (train : Train) → IsRunning live uid day train.key train.lines → is_running uid day train ≡ true
+    passes_running train is = λ i. (bytes_eq-Decides train.key.uid uid).1 is.uid_is i && is.runs_then i
+
+    among_running : (key : ScheduleKey) (lines : List (List ℕ)) → IsRunning live uid day key lines
+        → Contains (schedules_in rows) (record { key = key; lines = lines })
+    among_running key lines is = live_schedule (record { key = key; lines = lines }) is.uid_is is.is_live
+
+    -- the best of the rows is the chosen schedule
+    pub best_is_chosen : (found : Option Train) → IsChosenSoFar uid day rows found → IsChosenOn live uid day found
+    best_is_chosen None none = λ key lines is.
+        let passes = passes_running (record { key = key; lines = lines }) is in
+        let fails = none (record { key = key; lines = lines }) (among_running key lines is) in
+        let bad : true ≡ false = sym passes ∙ fails in cc
+    best_is_chosen (Some train) best = record {
+      running = running train best.0 best.1;
+      first =
+          λ other others is. best.2 (record { key = other; lines = others }) (among_running other others is)
+          (passes_running (record { key = other; lines = others }) is);
+    }
+
+    -- what rows with each schedule of a UID answer is the schedule that is chosen
+    pub chosen_tells : IsChosenOn live uid day (chosen_in rows uid day)
+    chosen_tells = by (chosen_in rows uid day) refl
+      where
+        by : (found : Option Train) → chosen_in rows uid day ≡ found → IsChosenOn live uid day found
+        by None h = λ key lines is.
+            let fails = none_passes by_key (is_running uid day) (schedules_in rows) h (record { key = key; lines = lines }) (among_running key lines is) in
+            let passes = passes_running (record { key = key; lines = lines }) is in
+            true_is_not (sym passes ∙ fails)
+          where
+            true_is_not : true ≡ false → ⊥
+            true_is_not bad = cc
+        by (Some train) h =
+            let best = found_least by_key (is_running uid day) (schedules_in rows) train h in
+            record {
+              running = running train best.among best.passes;
+              first =
+                  λ other others is. best.first (record { key = other; lines = others }) (among_running other others is)
+                  (passes_running (record { key = other; lines = others }) is);
+            }
+
+    -- and it is the train, where one runs
+    pub train_tells : IsTrainOn live uid day (train_in rows uid day)
+    train_tells = by (chosen_in rows uid day) chosen_tells
+      where
+        at_letter : (train : Train) → IsChosen live uid day train.key train.lines → (b : Bool) → (train.key.indicator == 67) ≡ b
+            → IsTrainOn live uid day (cond b None (Some train))
+        at_letter train chosen true h = λ key lines runs.
+            let same = one_chosen live uid day key train.key lines train.lines runs.chosen chosen in
+            runs.no_cancellation (ap (λ (k : ScheduleKey). k.indicator) same.0 ∙ eqb-true _ _ h)
+        at_letter train chosen false h = record {
+          chosen = chosen;
+          no_cancellation = λ cancelled. false_is_not (sym h ∙ (λ i. cancelled i == 67));
+        }
+          where
+            false_is_not : false ≡ true → ⊥
+            false_is_not bad = cc
+
+        by : (found : Option Train) → IsChosenOn live uid day found → IsTrainOn live uid day (unless_cancelled found)
+        by None none = λ key lines runs. none key lines runs.chosen.running
+        by (Some train) chosen = at_letter train chosen (train.key.indicator == 67) refl
+
+-- the rows of a table have each schedule of each UID
+pub rows_have : (live : Table) (rows : List Row) → AreRowsOf live rows → (uid : List ℕ) → HasSchedulesOf live uid rows
+rows_have live rows are uid = record {
+  each = λ key body among. (are.members key body).0 among;
+  all = λ key lines same is. (are.members (schedule_key key) (schedule_body lines)).1 is;
+}
+
+-- so they tell its trains
+pub trains_tell : (live : Table) (rows : List Row) → AreRowsOf live rows → TellsTrains live (train_in rows)
+trains_tell live rows are uid day = train_tells live rows uid (rows_have live rows are uid) day
+
+-- a UID and a day have one chosen schedule, or none
+pub one_answer : (live : Table) (uid : List ℕ) (day : ℕ) (a b : Option Train) → IsChosenOn live uid day a → IsChosenOn live uid day b → a ≡ b
+one_answer live uid day None None one two = refl
+one_answer live uid day None (Some b) one two = absurd (one b.key b.lines two.running)
+one_answer live uid day (Some a) None one two = absurd (two a.key a.lines one.running)
+one_answer live uid day (Some a) (Some b) one two =
+    let same = one_chosen live uid day a.key b.key a.lines b.lines one two in
+    λ i. Some (record { key = same.0 i; lines = same.1 i })
+
+-- and one train, or none
+pub one_train_answer : (live : Table) (uid : List ℕ) (day : ℕ) (a b : Option Train) → IsTrainOn live uid day a → IsTrainOn live uid day b → a ≡ b
+one_train_answer live uid day None None one two = refl
+one_train_answer live uid day None (Some b) one two = absurd (one b.key b.lines two)
+one_train_answer live uid day (Some a) None one two = absurd (two a.key a.lines one)
+one_train_answer live uid day (Some a) (Some b) one two =
+    let same = one_train live uid day a.key b.key a.lines b.lines one two in
+    λ i. Some (record { key = same.0 i; lines = same.1 i })

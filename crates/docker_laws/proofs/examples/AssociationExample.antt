@@ -1,0 +1,182 @@
+-- A worked association line: the train that ends at COLWELL at 23:50 works on as the one that leaves there after midnight.
+use Rattle.std.proofs.Common.{◌≡◌, ℕ, List, [], ◌∷◌, refl, inl, inr, Some, None, arith, ap, sym, ◌∙◌, subst, Contains, ◌⊎◌}
+use Rattle.std.specs.Prelude.{codes, Option, slice_index}
+use Rattle.jiff_core.specs.Calendar.{days_from_civil, day_count, days_of_years, days_of_months}
+use Rattle.docker_model.specs.file.Journey.{next_working, arrival}
+use Rattle.docker_model.specs.file.Change.{Key, schedule_key, association_key, ScheduleKey, AssociationKey, Body, schedule_body, association_body}
+use Rattle.docker_model.specs.state.Order.{IsAtMost}
+use Rattle.docker_model.specs.state.Op.{Entry, put_with, body_of}
+use Rattle.docker_model.specs.state.State.{State, live_table}
+use Rattle.docker_model.specs.docker.Event.{Event}
+use Rattle.docker_model.specs.docker.Choice.{schedule_choice_cmp, association_choice_cmp, IsChosen, IsChosenAssociation, group_of}
+use Rattle.docker_model.specs.docker.DockerLine.{DockerLine, line_of_association}
+use Rattle.docker_model.specs.docker.Association.{IsAssociationLine}
+use Rattle.docker_model.specs.docker.DockerText.{line_text}
+use Rattle.docker_laws.proofs.records.Builders.{no_text, bs, lo, lt, aa}
+use Rattle.docker_laws.proofs.lists.Membership.{Contains-cons, nil-Contains}
+use Rattle.docker_laws.proofs.states.PlainTable.{Keyed}
+use Rattle.docker_laws.proofs.examples.ChoiceExamples.{in_state, some_stamp}
+
+abbrev base_lines : List (List ℕ)
+base_lines =
+    bs (codes "N") (codes "C40001") (codes "240610") (codes "240610") (codes "1000000") (codes "4D40") (codes "P")
+    ∷ lo (codes "ASHFELD") no_text (codes "2300") no_text (codes "1") no_text
+    ∷ lt (codes "COLWELL") no_text (codes "2350") no_text (codes "1") no_text ∷ []
+
+abbrev next_lines : List (List ℕ)
+next_lines =
+    bs (codes "N") (codes "C40002") (codes "240611") (codes "240611") (codes "0100000") (codes "4D42") (codes "P")
+    ∷ lo (codes "COLWELL") no_text (codes "0010") no_text (codes "1") no_text
+    ∷ lt (codes "ASHFELD") no_text (codes "0100") no_text (codes "1") no_text ∷ []
+
+abbrev link : List ℕ
+link =
+    aa (codes "N") (codes "C40001") (codes "C40002") (codes "240610") (codes "240610") (codes "1000000") (codes "NP") (codes "N")
+    (codes "COLWELL") no_text no_text (codes "P")
+
+abbrev base_key : ScheduleKey
+base_key = record { uid = codes "C40001"; runs_from = 23537; indicator = 80 }
+
+abbrev next_key : ScheduleKey
+next_key = record { uid = codes "C40002"; runs_from = 23538; indicator = 80 }
+
+abbrev link_key : AssociationKey
+link_key = record { base = codes "C40001"; associated = codes "C40002"; start = 23537; location = codes "COLWELL"; suffix = 32; indicator = 80 }
+
+abbrev put_in : Key → Body → Keyed
+put_in key body = (key, record { stamp = some_stamp; op = put_with body })
+
+abbrev linked : State
+linked = record {
+  horizon = 0;
+  ledger = [];
+  entries =
+      put_in (association_key link_key) (association_body link) ∷ put_in (schedule_key base_key) (schedule_body base_lines) ∷ put_in (schedule_key next_key)
+      (schedule_body next_lines) ∷ [];
+}
+
+abbrev Same : Key → Body → Key → Body → Type 0
+Same key body other others = (key ≡ other) × (body ≡ others)
+
+body_or : Option Body → Body
+body_or (Some body) = body
+body_or None = association_body []
+
+same_entry : (key other : Key) (body others : Body) (entry : Entry) → put_in key body ≡ (other, entry) → body_of entry.op ≡ Some others
+    → Same key body other others
+unfolding body_or
+same_entry key other body others entry same put =
+    (ap (λ (pair : Keyed). pair.0) same, ap (λ (pair : Keyed). body_or (body_of pair.1.op)) same ∙ ap body_or put)
+
+-- the three that are live
+abbrev OneOf : Key → Body → Type 0
+OneOf other others =
+    Same (association_key link_key) (association_body link) other others
+    ⊎ (Same (schedule_key base_key) (schedule_body base_lines) other others ⊎ Same (schedule_key next_key) (schedule_body next_lines) other others)
+
+one_of : (other : Key) (others : Body) → live_table linked other ≡ Some others → OneOf other others
+one_of other others h = by (in_state linked other others h)
+  where
+    by : (entry : Entry) × Contains linked.entries (other, entry) × (body_of entry.op ≡ Some others) → OneOf other others
+    by found =
+        first (Contains-cons (put_in (association_key link_key) (association_body link)) (put_in (schedule_key base_key) (schedule_body base_lines) ∷ put_in
+        (schedule_key next_key) (schedule_body next_lines) ∷ []) (other, found.0) found.1)
+      where
+        third : (put_in (schedule_key next_key) (schedule_body next_lines) ≡ (other, found.0)) ⊎ Contains {X = Keyed} [] (other, found.0)
+            → Same (schedule_key next_key) (schedule_body next_lines) other others
+        third (inl e) = same_entry (schedule_key next_key) other (schedule_body next_lines) others found.0 e found.2
+        third (inr none) = absurd (nil-Contains (other, found.0) none)
+
+        second : (put_in (schedule_key base_key) (schedule_body base_lines) ≡ (other, found.0)) ⊎ Contains
+            (put_in (schedule_key next_key) (schedule_body next_lines) ∷ []) (other, found.0)
+            → Same (schedule_key base_key) (schedule_body base_lines) other others ⊎ Same (schedule_key next_key) (schedule_body next_lines) other others
+        second (inl e) = inl (same_entry (schedule_key base_key) other (schedule_body base_lines) others found.0 e found.2)
+        second (inr rest) = inr (third (Contains-cons (put_in (schedule_key next_key) (schedule_body next_lines)) [] (other, found.0) rest))
+
+        first : (put_in (association_key link_key) (association_body link) ≡ (other, found.0))
+            ⊎ Contains (put_in (schedule_key base_key) (schedule_body base_lines) ∷ put_in (schedule_key next_key) (schedule_body next_lines) ∷ [])
+            (other, found.0) → OneOf other others
+        first (inl e) = inl (same_entry (association_key link_key) other (association_body link) others found.0 e found.2)
+        first (inr rest) =
+            inr (second (Contains-cons (put_in (schedule_key base_key) (schedule_body base_lines))
+            (put_in (schedule_key next_key) (schedule_body next_lines) ∷ []) (other, found.0) rest))
+
+schedule_in : Key → ScheduleKey
+schedule_in (schedule_key key) = key
+schedule_in _ = base_key
+
+association_in : Key → AssociationKey
+association_in (association_key key) = key
+association_in _ = link_key
+
+-- the UIDs differ in their last digit
+uids_differ : codes "C40001" ≡ codes "C40002" → ⊥
+uids_differ same = let last : ◌≡◌ {A = ℕ} 49 50 = ap (λ bytes. slice_index bytes 5) same in omega arith
+
+base_chosen : IsChosen (live_table linked) (codes "C40001") 23537 base_key base_lines
+unfolding days_from_civil day_count days_of_years days_of_months schedule_in
+base_chosen = record {
+  running = record { uid_is = refl; is_live = refl; runs_then = refl };
+  first = λ other others running. by other running.uid_is (one_of (schedule_key other) (schedule_body others) running.is_live);
+}
+  where
+    by : (other : ScheduleKey) {others : Body} → other.uid ≡ codes "C40001" → OneOf (schedule_key other) others → IsAtMost schedule_choice_cmp base_key other
+    by other uid (inl e) = absurd (let bad : association_key link_key ≡ schedule_key other = e.0 in cc)
+    by other uid (inr (inl e)) = subst (λ k. IsAtMost schedule_choice_cmp base_key k) (ap schedule_in e.0) (λ greater. cc)
+    by other uid (inr (inr e)) = absurd (uids_differ (sym uid ∙ sym (ap (λ key. (schedule_in key).uid) e.0)))
+
+next_chosen : IsChosen (live_table linked) (codes "C40002") 23538 next_key next_lines
+unfolding days_from_civil day_count days_of_years days_of_months schedule_in
+next_chosen = record {
+  running = record { uid_is = refl; is_live = refl; runs_then = refl };
+  first = λ other others running. by other running.uid_is (one_of (schedule_key other) (schedule_body others) running.is_live);
+}
+  where
+    by : (other : ScheduleKey) {others : Body} → other.uid ≡ codes "C40002" → OneOf (schedule_key other) others → IsAtMost schedule_choice_cmp next_key other
+    by other uid (inl e) = absurd (let bad : association_key link_key ≡ schedule_key other = e.0 in cc)
+    by other uid (inr (inl e)) = absurd (uids_differ (ap (λ key. (schedule_in key).uid) e.0 ∙ uid))
+    by other uid (inr (inr e)) = subst (λ k. IsAtMost schedule_choice_cmp next_key k) (ap schedule_in e.0) (λ greater. cc)
+
+link_chosen : IsChosenAssociation (live_table linked) (group_of link_key) 23537 link_key link
+unfolding days_from_civil day_count days_of_years days_of_months association_in
+link_chosen = record {
+  associated = record { group_is = refl; is_live = refl; runs_then = refl };
+  first = λ other others running. by other (one_of (association_key other) (association_body others) running.is_live);
+}
+  where
+    by : (other : AssociationKey) {others : Body} → OneOf (association_key other) others → IsAtMost association_choice_cmp link_key other
+    by other (inl e) = subst (λ k. IsAtMost association_choice_cmp link_key k) (ap association_in e.0) (λ greater. cc)
+    by other (inr (inl e)) = absurd (let bad : schedule_key base_key ≡ association_key other = e.0 in cc)
+    by other (inr (inr e)) = absurd (let bad : schedule_key next_key ≡ association_key other = e.0 in cc)
+
+abbrev at_colwell : Event
+at_colwell = record { number = 2; place = 2; occasion = arrival; time = 2860 }
+
+abbrev the_line : DockerLine
+the_line = line_of_association next_working 80 base_key 23537 base_lines at_colwell (codes "C40002") (codes "4D42")
+
+-- the worked association line
+pub works_on : IsAssociationLine (live_table linked) (codes "COLWELL") 23537 the_line
+works_on = record {
+  start = 23537;
+  key = link_key;
+  association = link;
+  chosen = link_chosen;
+  no_cancellation = λ cancelled. omega arith;
+  occasion = next_working;
+  category = refl;
+  date_indicator = refl;
+  base_key = base_key;
+  base = base_lines;
+  base_runs = record { chosen = base_chosen; no_cancellation = λ cancelled. omega arith };
+  event = at_colwell;
+  first_there = refl;
+  identity = codes "4D42";
+  partner = inl (next_key, next_lines, record { chosen = next_chosen; no_cancellation = λ cancelled. omega arith }, refl);
+  here = refl;
+  today = refl;
+  is = refl;
+}
+
+text_of_line : line_text the_line ≡ codes "2350  N 4D40 C40001 P   1                C40002  4D42   "
+text_of_line = refl

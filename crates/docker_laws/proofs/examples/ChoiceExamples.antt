@@ -1,0 +1,151 @@
+-- Worked examples of the choice among schedules, and of an association line.
+use Rattle.std.proofs.Common.{◌≡◌, ℕ, List, [], ◌∷◌, refl, inl, inr, Some, None, ap, sym, ◌∙◌, subst, Contains, ◌⊎◌, true, false}
+use Rattle.std.specs.Prelude.{codes, Option}
+use Rattle.jiff_core.specs.Calendar.{days_from_civil, day_count, days_of_years, days_of_months}
+use Rattle.docker_model.specs.file.File.{first_record}
+use Rattle.docker_model.specs.file.Change.{Key, schedule_key, ScheduleKey, Body, schedule_body}
+use Rattle.docker_model.specs.state.Order.{IsAtMost}
+use Rattle.docker_model.specs.state.Stamp.{Stamp}
+use Rattle.docker_model.specs.state.Op.{Entry, put_with, body_of}
+use Rattle.docker_model.specs.state.State.{State, live_table}
+use Rattle.docker_model.specs.docker.Choice.{schedule_runs, schedule_choice_cmp, IsRunning, IsChosen}
+use Rattle.docker_laws.proofs.records.Builders.{no_text, bs, lo, f2_origin, f2_terminus}
+use Rattle.docker_laws.proofs.lists.Membership.{Contains-cons, nil-Contains}
+use Rattle.docker_laws.proofs.states.PlainTable.{Keyed, Found, NotFound, find_in, live_at, live_none}
+
+-- what is live is an entry's put
+pub in_state : (state : State) (key : Key) (body : Body) → live_table state key ≡ Some body → (entry : Entry) × Contains state.entries (key, entry)
+    × (body_of entry.op ≡ Some body)
+in_state state key body h = by (find_in state.entries key)
+  where
+    by : Found state.entries key ⊎ NotFound state.entries key → (entry : Entry) × Contains state.entries (key, entry) × (body_of entry.op ≡ Some body)
+    by (inl found) = (found.0.1, found.2, sym (live_at state key found.0 found.1) ∙ h)
+    by (inr none) = absurd (none_is (sym (live_none state key none.0) ∙ h))
+      where
+        none_is : None ≡ Some body → ⊥
+        none_is e = cc
+
+-- the stamp of the worked entries
+abbrev pub some_stamp : Stamp
+some_stamp = record { file = record { moment = record { day = 23536; minute = 1260 }; reference = codes "DFROC1A" }; number = 2 }
+
+abbrev put_lines : List (List ℕ) → Entry
+put_lines lines = record { stamp = some_stamp; op = put_with (schedule_body lines) }
+
+abbrev placed : ScheduleKey → List (List ℕ) → Keyed
+placed key lines = (schedule_key key, put_lines lines)
+
+abbrev key_of : ℕ → ℕ → ScheduleKey
+key_of day letter = record { uid = codes "C10001"; runs_from = day; indicator = letter }
+
+-- a permanent schedule, an overlay on two of its days, a cancellation of a third
+abbrev permanent : List (List ℕ)
+permanent = bs (codes "N") (codes "C10001") (codes "240610") (codes "240616") (codes "1111111") (codes "1A10") (codes "P") ∷ f2_origin ∷ f2_terminus ∷ []
+
+abbrev overlay : List (List ℕ)
+overlay =
+    bs (codes "N") (codes "C10001") (codes "240611") (codes "240613") (codes "0101000") (codes "1A10") (codes "O")
+    ∷ lo (codes "ASHFELD") no_text (codes "0915") (codes "0915") (codes "1") (codes "SL") ∷ f2_terminus ∷ []
+
+abbrev cancellation : List (List ℕ)
+cancellation = bs (codes "N") (codes "C10001") (codes "240614") (codes "240614") (codes "0000100") (codes "1A10") (codes "C") ∷ []
+
+abbrev three : State
+three = record {
+  horizon = 0;
+  ledger = [];
+  entries =
+      (schedule_key (key_of 23537 80), put_lines permanent) ∷ (schedule_key (key_of 23538 79), put_lines overlay) ∷
+      (schedule_key (key_of 23541 67), put_lines cancellation) ∷ [];
+}
+
+schedule_in : Key → ScheduleKey
+schedule_in (schedule_key key) = key
+schedule_in _ = key_of 0 0
+
+lines_in : Option Body → List (List ℕ)
+lines_in (Some (schedule_body lines)) = lines
+lines_in _ = []
+
+abbrev IsOneOf : ScheduleKey → List (List ℕ) → ScheduleKey → List (List ℕ) → Type 0
+IsOneOf key lines other others = (key ≡ other) × (lines ≡ others)
+
+one_of : (key other : ScheduleKey) (lines others : List (List ℕ)) (entry : Entry) → placed key lines ≡ (schedule_key other, entry)
+    → body_of entry.op ≡ Some (schedule_body others) → IsOneOf key lines other others
+unfolding schedule_in lines_in
+one_of key other lines others entry same put =
+    (ap (λ (pair : Keyed). schedule_in pair.0) same, ap (λ (pair : Keyed). lines_in (body_of pair.1.op)) same ∙ ap lines_in put)
+
+one_of_three : (other : ScheduleKey) (others : List (List ℕ)) → live_table three (schedule_key other) ≡ Some (schedule_body others)
+    → IsOneOf (key_of 23537 80) permanent other others ⊎ (IsOneOf (key_of 23538 79) overlay other others ⊎ IsOneOf (key_of 23541 67) cancellation other others)
+one_of_three other others h = by (in_state three (schedule_key other) (schedule_body others) h)
+  where
+    by : (entry : Entry) × Contains three.entries (schedule_key other, entry) × (body_of entry.op ≡ Some (schedule_body others))
+        → IsOneOf (key_of 23537 80) permanent other others ⊎ (IsOneOf (key_of 23538 79) overlay other others ⊎ IsOneOf
+        (key_of 23541 67) cancellation other others)
+    by found =
+        first (Contains-cons (placed (key_of 23537 80) permanent) (placed (key_of 23538 79) overlay ∷ placed (key_of 23541 67) cancellation ∷ [])
+        (schedule_key other, found.0) found.1)
+      where
+        third : (placed (key_of 23541 67) cancellation ≡ (schedule_key other, found.0)) ⊎ Contains {X = Keyed} [] (schedule_key other, found.0)
+            → IsOneOf (key_of 23541 67) cancellation other others
+        third (inl e) = one_of (key_of 23541 67) other cancellation others found.0 e found.2
+        third (inr none) = absurd (nil-Contains (schedule_key other, found.0) none)
+
+        second : (placed (key_of 23538 79) overlay ≡ (schedule_key other, found.0)) ⊎ Contains (placed (key_of 23541 67) cancellation ∷ [])
+            (schedule_key other, found.0)
+            → IsOneOf (key_of 23538 79) overlay other others ⊎ IsOneOf (key_of 23541 67) cancellation other others
+        second (inl e) = inl (one_of (key_of 23538 79) other overlay others found.0 e found.2)
+        second (inr rest) = inr (third (Contains-cons (placed (key_of 23541 67) cancellation) [] (schedule_key other, found.0) rest))
+
+        first : (placed (key_of 23537 80) permanent ≡ (schedule_key other, found.0))
+            ⊎ Contains (placed (key_of 23538 79) overlay ∷ placed (key_of 23541 67) cancellation ∷ []) (schedule_key other, found.0)
+            → IsOneOf (key_of 23537 80) permanent other others ⊎ (IsOneOf (key_of 23538 79) overlay other others ⊎ IsOneOf
+            (key_of 23541 67) cancellation other others)
+        first (inl e) = inl (one_of (key_of 23537 80) other permanent others found.0 e found.2)
+        first (inr rest) =
+            inr (second (Contains-cons (placed (key_of 23538 79) overlay) (placed (key_of 23541 67) cancellation ∷ []) (schedule_key other, found.0) rest))
+
+-- on 11 June the overlay is chosen
+cancelled_not : schedule_runs (first_record cancellation) 23538 ≡ false
+unfolding days_from_civil day_count days_of_years days_of_months
+cancelled_not = refl
+
+overlay_runs : IsRunning (live_table three) (codes "C10001") 23538 (key_of 23538 79) overlay
+unfolding days_from_civil day_count days_of_years days_of_months
+overlay_runs = record { uid_is = refl; is_live = refl; runs_then = refl }
+
+-- on a day with an overlay the overlay is chosen
+pub overlay_chosen : IsChosen (live_table three) (codes "C10001") 23538 (key_of 23538 79) overlay
+overlay_chosen = record { running = overlay_runs; first = λ other others running. by other others running (one_of_three other others running.is_live) }
+  where
+    by : (other : ScheduleKey) (others : List (List ℕ)) → IsRunning (live_table three) (codes "C10001") 23538 other others
+        → IsOneOf (key_of 23537 80) permanent other others ⊎ (IsOneOf (key_of 23538 79) overlay other others ⊎ IsOneOf
+        (key_of 23541 67) cancellation other others)
+        → IsAtMost schedule_choice_cmp (key_of 23538 79) other
+    by other others running (inl e) = subst (λ k. IsAtMost schedule_choice_cmp (key_of 23538 79) k) e.0 (λ greater. cc)
+    by other others running (inr (inl e)) = subst (λ k. IsAtMost schedule_choice_cmp (key_of 23538 79) k) e.0 (λ greater. cc)
+    by other others running (inr (inr e)) =
+        let runs : schedule_runs (first_record cancellation) 23538 ≡ true = subst (λ lines. schedule_runs (first_record lines) 23538 ≡ true)
+        (sym e.1) running.runs_then in
+        absurd (not_both (sym cancelled_not ∙ runs))
+      where
+        not_both : false ≡ true → ⊥
+        not_both h = cc
+
+-- on 14 June the cancellation is, and so no train runs
+cancellation_runs : IsRunning (live_table three) (codes "C10001") 23541 (key_of 23541 67) cancellation
+unfolding days_from_civil day_count days_of_years days_of_months
+cancellation_runs = record { uid_is = refl; is_live = refl; runs_then = refl }
+
+-- on a day with a cancellation the cancellation is chosen
+pub cancellation_chosen : IsChosen (live_table three) (codes "C10001") 23541 (key_of 23541 67) cancellation
+cancellation_chosen = record { running = cancellation_runs; first = λ other others running. by other others (one_of_three other others running.is_live) }
+  where
+    by : (other : ScheduleKey) (others : List (List ℕ))
+        → IsOneOf (key_of 23537 80) permanent other others ⊎ (IsOneOf (key_of 23538 79) overlay other others ⊎ IsOneOf
+        (key_of 23541 67) cancellation other others)
+        → IsAtMost schedule_choice_cmp (key_of 23541 67) other
+    by other others (inl e) = subst (λ k. IsAtMost schedule_choice_cmp (key_of 23541 67) k) e.0 (λ greater. cc)
+    by other others (inr (inl e)) = subst (λ k. IsAtMost schedule_choice_cmp (key_of 23541 67) k) e.0 (λ greater. cc)
+    by other others (inr (inr e)) = subst (λ k. IsAtMost schedule_choice_cmp (key_of 23541 67) k) e.0 (λ greater. cc)

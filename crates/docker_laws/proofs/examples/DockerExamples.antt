@@ -1,0 +1,85 @@
+-- Worked examples of events and docker lines.
+use Rattle.std.proofs.Common.{◌≡◌, [], ◌∷◌, ◌++◌, length, refl, map, Some}
+use Rattle.std.specs.Prelude.{codes}
+use Rattle.jiff_core.specs.Calendar.{days_from_civil, day_count, days_of_years, days_of_months}
+use Rattle.docker_model.specs.records.Record.{columns}
+use Rattle.docker_model.specs.records.PrintedTime.{day_text, date_text}
+use Rattle.docker_model.specs.file.Journey.{arrival, pass, departure, dividing}
+use Rattle.docker_model.specs.file.Change.{ScheduleKey, tiploc_body}
+use Rattle.docker_model.specs.docker.Event.{Event, events_of, event_day, event_identity, first_event_at}
+use Rattle.docker_model.specs.docker.DockerLine.{line_of_event, line_of_association}
+use Rattle.docker_model.specs.docker.DockerText.{line_text, last_line, description_in, files_text}
+use Rattle.docker_laws.proofs.examples.StateExamples.{f2_item}
+use Rattle.docker_laws.proofs.records.Builders.{f2_schedule, night_schedule, changing_schedule, rename_amend}
+
+-- the departure of the worked schedule
+abbrev pub leaves_f2 : Event
+leaves_f2 = record { number = 1; place = 1; occasion = departure; time = 1080 }
+
+-- its arrival
+abbrev pub ends_f2 : Event
+ends_f2 = record { number = 2; place = 2; occasion = arrival; time = 1140 }
+
+events_of_f2 : events_of f2_schedule ≡ leaves_f2 ∷ ends_f2 ∷ []
+events_of_f2 = refl
+
+-- the key of the worked schedule
+abbrev pub f2_key : ScheduleKey
+f2_key = record { uid = codes "C10001"; runs_from = 23537; indicator = 80 }
+
+departure_line : line_text (line_of_event f2_key 23537 f2_schedule leaves_f2) ≡ codes "0900  D 1A10 C10001 P   1   SL      0900 ASHFELD BRAYTON"
+departure_line = refl
+
+arrival_line : line_text (line_of_event f2_key 23537 f2_schedule ends_f2) ≡ codes "0930  A 1A10 C10001 P   2       FL  0932 ASHFELD BRAYTON"
+arrival_line = refl
+
+events_of_night : events_of night_schedule
+    ≡ record { number = 1; place = 1; occasion = departure; time = 2870 }
+    ∷ record { number = 2; place = 2; occasion = arrival; time = 1 }
+    ∷ record { number = 3; place = 2; occasion = departure; time = 1 }
+    ∷ record { number = 4; place = 3; occasion = pass; time = 20 }
+    ∷ record { number = 5; place = 4; occasion = arrival; time = 40 } ∷ []
+events_of_night = refl
+
+-- the first is on 10 June, and the others on 11 June
+days_of_night : map (event_day 23537 night_schedule) (events_of night_schedule) ≡ 23537 ∷ 23538 ∷ 23538 ∷ 23538 ∷ 23538 ∷ []
+days_of_night = refl
+
+-- the key of the train past midnight
+abbrev pub night_key : ScheduleKey
+night_key = record { uid = codes "C20001"; runs_from = 23537; indicator = 80 }
+
+night_lines : map (λ event. line_text (line_of_event night_key 23537 night_schedule event)) (events_of night_schedule)
+    ≡ codes "2355  D 2B20 C20001 P   1   SL      2355 ASHFELD BRAYTON"
+    ∷ codes "0000H A 2B20 C20001 P   2   SL  FL       ASHFELD BRAYTON"
+    ∷ codes "0000H D 2B20 C20001 P   2   SL  FL  0001 ASHFELD BRAYTON"
+    ∷ codes "0010  P 2B20 C20001 P                    ASHFELD BRAYTON"
+    ∷ codes "0020  A 2B20 C20001 P   2       FL  0021 ASHFELD BRAYTON" ∷ []
+night_lines = refl
+
+identities_along : map (event_identity changing_schedule) (events_of changing_schedule) ≡ codes "5E50" ∷ codes "5E51" ∷ codes "5E51" ∷ []
+identities_along = refl
+
+first_at_colwell : first_event_at night_schedule (codes "COLWELL") 32 ≡ Some (record { number = 2; place = 2; occasion = arrival; time = 1 })
+first_at_colwell = refl
+
+association_line : line_text (line_of_association dividing 80 f2_key 23537 f2_schedule ends_f2 (codes "C30002") (codes "3C32"))
+    ≡ codes "0930  V 1A10 C10001 P   2                C30002  3C32   "
+association_line = refl
+
+last_is_wide : length last_line ≡ 56
+last_is_wide = refl
+
+date_of_10_june : date_text 2024 6 10 ≡ codes "2024-06-10"
+date_of_10_june = refl
+
+description : description_in (Some (tiploc_body (columns 10 72 rename_amend))) ≡ codes "ASHFIELD NEW              "
+description = refl
+
+day_of_10_june : day_text 23537 ≡ codes "2024-06-10"
+unfolding days_from_civil day_count days_of_years days_of_months
+day_of_10_june = refl
+
+files_of_f2 : files_text (f2_item ∷ []) ≡ codes "2024-06-09 2100 DFROC1A U DFROC1Z" ++ 10 ∷ []
+unfolding days_from_civil day_count days_of_years days_of_months
+files_of_f2 = refl

@@ -1,0 +1,162 @@
+-- The docker list of the worked file at ASHFELD on 10 June 2024 is its one line.
+use Rattle.std.proofs.Common.{◌≡◌, ℕ, zero, suc, ◌+◌, List, [], ◌∷◌, length, refl, inl, inr, Some, None, lit<, ◌<◌, arith, ap, sym, ◌∙◌, subst, Contains, get_or, Bool, true, false, ◌⊎◌, ◌++◌}
+use Rattle.std.specs.Prelude.{codes, Option, slice_index}
+use Rattle.std.specs.Ordering.{is_eq}
+use Rattle.std.specs.declared.cmp.Ordering.{Ordering}
+use Rattle.std.specs.declared.cmp.Ordering.TheVariants.{Less, Equal, Greater}
+use Rattle.jiff_core.specs.Calendar.{days_from_civil, day_count, days_of_years, days_of_months}
+use Rattle.docker_model.specs.records.Record.{columns}
+use Rattle.docker_model.specs.file.Change.{Key, schedule_key, association_key, ScheduleKey, Body, schedule_body, association_body}
+use Rattle.docker_model.specs.state.Op.{key_cmp}
+use Rattle.docker_model.specs.state.Table.{Table}
+use Rattle.docker_model.specs.state.State.{live_table}
+use Rattle.docker_model.specs.docker.Event.{Event, events_of, event_line, event_day}
+use Rattle.docker_model.specs.docker.Choice.{IsRunning, IsChosen, TrainRuns, schedule_choice_cmp}
+use Rattle.docker_model.specs.docker.DockerLine.{DockerLine, line_of_event}
+use Rattle.docker_model.specs.docker.Association.{IsAssociationLine}
+use Rattle.docker_model.specs.docker.DockerList.{IsEventLine, IsDockerList}
+use Rattle.docker_model.specs.docker.DockerText.{IsDockerText, docker_text}
+use Rattle.docker_laws.proofs.records.Builders.{f2_schedule, f2_terminus}
+use Rattle.docker_laws.proofs.examples.StateExamples.{f2_state}
+use Rattle.docker_laws.proofs.examples.DockerExamples.{leaves_f2, ends_f2, f2_key}
+use Rattle.docker_laws.proofs.lists.Membership.{Contains-single, single-Contains}
+use Rattle.docker_laws.proofs.orders.Orders.{exact_key}
+
+abbrev live : Table
+live = live_table f2_state
+
+-- the live table of a state of one key has that key alone
+equal_by_test : (o : Ordering) → is_eq o ≡ true → o ≡ Equal
+equal_by_test Less h = cc
+equal_by_test Equal h = refl
+equal_by_test Greater h = cc
+
+abbrev found : Bool → Option Body
+found true = Some (schedule_body f2_schedule)
+found false = None
+
+live_by_test : (key : Key) → live key ≡ found (is_eq (key_cmp (schedule_key f2_key) key))
+live_by_test key = by (is_eq (key_cmp (schedule_key f2_key) key)) refl
+  where
+    by : (b : Bool) → is_eq (key_cmp (schedule_key f2_key) key) ≡ b → live key ≡ found b
+    by true h = rw h refl
+    by false h = rw h refl
+
+found_is : (b : Bool) (body : Body) → found b ≡ Some body → (b ≡ true) × (schedule_body f2_schedule ≡ body)
+found_is true body h = (refl, some_injective (schedule_body f2_schedule) body h)
+  where
+    some_injective : (x y : Body) → Some x ≡ Some y → x ≡ y
+    some_injective x y e = cc
+found_is false body h = cc
+
+only_live : (key : Key) (body : Body) → live key ≡ Some body → (schedule_key f2_key ≡ key) × (schedule_body f2_schedule ≡ body)
+only_live key body h =
+    let told = found_is (is_eq (key_cmp (schedule_key f2_key) key)) body (sym (live_by_test key) ∙ h) in
+    (exact_key (schedule_key f2_key) key (equal_by_test _ told.0), told.1)
+
+schedule_key_of : Key → ScheduleKey
+schedule_key_of (schedule_key key) = key
+schedule_key_of _ = f2_key
+
+lines_in : Body → List (List ℕ)
+lines_in (schedule_body lines) = lines
+lines_in _ = []
+
+only_running : (uid : List ℕ) (day : ℕ) (key : ScheduleKey) (lines : List (List ℕ)) → IsRunning live uid day key lines → (f2_key ≡ key) × (f2_schedule ≡ lines)
+unfolding schedule_key_of lines_in
+only_running uid day key lines running =
+    let told = only_live (schedule_key key) (schedule_body lines) running.is_live in
+    (ap schedule_key_of told.0, ap lines_in told.1)
+
+runs_on_10_june : IsRunning live (codes "C10001") 23537 f2_key f2_schedule
+unfolding days_from_civil day_count days_of_years days_of_months
+runs_on_10_june = record { uid_is = refl; is_live = refl; runs_then = refl }
+
+chosen_on_10_june : IsChosen live (codes "C10001") 23537 f2_key f2_schedule
+chosen_on_10_june = record {
+  running = runs_on_10_june;
+  first = λ other others running greater.
+      let same = (only_running (codes "C10001") 23537 other others running).0 in
+      let self : schedule_choice_cmp f2_key f2_key ≡ Greater = subst (λ k. schedule_choice_cmp f2_key k ≡ Greater) (sym same) greater in
+      cc;
+}
+
+train_runs_on_10_june : TrainRuns live (codes "C10001") 23537 f2_key f2_schedule
+train_runs_on_10_june = record { chosen = chosen_on_10_june; no_cancellation = λ cancelled. omega arith }
+
+abbrev the_line : DockerLine
+the_line = line_of_event f2_key 23537 f2_schedule leaves_f2
+
+is_event_line : IsEventLine live (codes "ASHFELD") 23537 the_line
+is_event_line = record {
+  start = 23537;
+  key = f2_key;
+  schedule = f2_schedule;
+  train_runs = train_runs_on_10_june;
+  event = leaves_f2;
+  among = (0, lit< tt, refl);
+  here = refl;
+  today = refl;
+  is = refl;
+}
+
+two_events : (event : Event) → Contains (events_of f2_schedule) event → (leaves_f2 ≡ event) ⊎ (ends_f2 ≡ event)
+two_events event among = by among.0 among.1 among.2
+  where
+    by : (k : ℕ) → k < length (events_of f2_schedule) → get_or (events_of f2_schedule) k event ≡ event → (leaves_f2 ≡ event) ⊎ (ends_f2 ≡ event)
+    by zero below is = inl is
+    by (suc zero) below is = inr is
+    by (suc (suc k)) below is = absurd (omega arith)
+
+-- an event there on that day is the departure of the train that starts then
+starts_then : (start : ℕ) (event : Event) → Contains (events_of f2_schedule) event → columns 3 9 (event_line f2_schedule event) ≡ codes "ASHFELD"
+    → event_day start f2_schedule event ≡ 23537 → (leaves_f2 ≡ event) × (start ≡ 23537)
+starts_then start event among here today = by (two_events event among)
+  where
+    by : (leaves_f2 ≡ event) ⊎ (ends_f2 ≡ event) → (leaves_f2 ≡ event) × (start ≡ 23537)
+    by (inl same) =
+        let then : start + 0 ≡ 23537 = subst (λ e. event_day start f2_schedule e ≡ 23537) (sym same) today in
+        (same, omega arith)
+    by (inr same) =
+        let there : columns 3 9 f2_terminus ≡ codes "ASHFELD" = subst (λ e. columns 3 9 (event_line f2_schedule e) ≡ codes "ASHFELD") (sym same) here in
+        let first : ◌≡◌ {A = ℕ} 66 65 = ap (λ bytes. slice_index bytes 0) there in
+        absurd (omega arith)
+
+only_event_line : (line : DockerLine) → IsEventLine live (codes "ASHFELD") 23537 line → the_line ≡ line
+only_event_line line made =
+    let same = only_running made.key.uid made.start made.key made.schedule made.train_runs.chosen.running in
+    let among : Contains (events_of f2_schedule) made.event = subst (λ s. Contains (events_of s) made.event) (sym same.1) made.among in
+    let here : columns 3 9 (event_line f2_schedule made.event) ≡ codes "ASHFELD" = subst (λ s. columns 3 9 (event_line s made.event) ≡ codes "ASHFELD")
+    (sym same.1) made.here in
+    let today : event_day made.start f2_schedule made.event ≡ 23537 = subst (λ s. event_day made.start s made.event ≡ 23537) (sym same.1) made.today in
+    let told = starts_then made.start made.event among here today in
+    (λ i. line_of_event (same.0 i) (sym told.1 i) (same.1 i) (told.0 i)) ∙ sym made.is
+
+no_association_line : (line : DockerLine) → ¬ IsAssociationLine live (codes "ASHFELD") 23537 line
+no_association_line line made =
+    let told = (only_live (association_key made.key) (association_body made.association) made.chosen.associated.is_live).0 in
+    cc
+
+only_line : (line : DockerLine) → IsEventLine live (codes "ASHFELD") 23537 line ⊎ IsAssociationLine live (codes "ASHFELD") 23537 line → the_line ≡ line
+only_line line (inl made) = only_event_line line made
+only_line line (inr made) = absurd (no_association_line line made)
+
+-- the docker list of the worked file is its one line
+pub f2_docker : IsDockerList live (codes "ASHFELD") 23537 (the_line ∷ [])
+f2_docker = record {
+  ascending = (tt, tt);
+  members = λ line. (
+    λ among. inl (subst (IsEventLine live (codes "ASHFELD") 23537) (Contains-single the_line line among) is_event_line),
+    λ made. single-Contains the_line line (only_line line made),
+  );
+}
+
+-- and its docker text
+pub f2_docker_text : IsDockerText live (codes "ASHFELD") 23537 (docker_text live (codes "ASHFELD") 23537 (the_line ∷ []))
+f2_docker_text = (the_line ∷ [], f2_docker, refl)
+
+f2_docker_bytes : docker_text live (codes "ASHFELD") 23537 (the_line ∷ [])
+    ≡ codes "DOCKER ASHFELD 2024-06-10                               " ++ 10 ∷ codes "0900  D 1A10 C10001 P   1   SL      0900 ASHFELD BRAYTON"
+    ++ 10 ∷ codes "END                                                     " ++ 10 ∷ []
+unfolding days_from_civil day_count days_of_years days_of_months
+f2_docker_bytes = refl

@@ -1,0 +1,26 @@
+-- A worked run: what two offices and two messages know.
+use Rattle.std.proofs.Common.{◌≡◌, ℕ, List, [], ◌∷◌, map, refl}
+use Rattle.docker_model.specs.run.Run.{Reply, done, refused, no_office, RunEvent, take_file, send_state, deliver, reload, horizon_event, Known, KnownSets, known_sets}
+
+-- a file of one empty line stands for the file
+abbrev events : List RunEvent
+events =
+    take_file 0 (10 ∷ []) 5 ∷ send_state 0 ∷ horizon_event 0 23542 ∷ send_state 0 ∷ deliver 1 0 ∷ deliver 1 1 ∷ reload 0 0 ∷ horizon_event 2 23542 ∷ []
+
+abbrev replies : List Reply
+replies = done ∷ done ∷ done ∷ done ∷ done ∷ done ∷ done ∷ refused no_office ∷ []
+
+known : KnownSets
+known = known_sets 2 events replies
+
+horizons : List Known → List ℕ
+horizons xs = map (λ (one : Known). one.horizon) xs
+
+-- the office that set the horizon went back, by its reload
+offices_at_end : horizons known.offices ≡ 0 ∷ 23542 ∷ []
+unfolding known horizons
+offices_at_end = refl
+
+messages_at_end : horizons known.messages ≡ 0 ∷ 23542 ∷ []
+unfolding known horizons
+messages_at_end = refl

@@ -1,0 +1,151 @@
+-- A text has one fault at most, and none where it is a file's.
+use Rattle.std.proofs.Common.{ℕ, List, [], ◌∷◌, ◌≡◌, ◌+◌, ◌++◌, ◌⊎◌, inl, inr, refl, ap, sym, subst, append_assoc, ◌≤◌, length, arith, length-append, ◌∙◌, ◌<◌, append-nil}
+use Rattle.std.specs.Prelude.{◌==◌, if◌then◌else◌, unwrap_or}
+use Rattle.std.proofs.lemmas.Bool.{cases_order}
+use Rattle.docker_model.specs.records.Record.{Lines, leftmost_bad_byte}
+use Rattle.docker_model.specs.records.Field.{leftmost_bad_field}
+use Rattle.docker_model.specs.file.File.{IsFile, BeginsFile}
+use Rattle.docker_model.specs.file.Text.{lines_of}
+use Rattle.docker_model.specs.file.FileFault.{FileFault, IsRecordFault, FileCause, bad_byte, bad_field, too_many, after_trailer, bad_length, bad_kind, bad_place, third_midnight, no_end, cause_rank, HoldsOf, IsCause, IsUnended, IsFileFault, IsFileText}
+
+-- two ways to name a record of a list: it is the same one, or one stands before the other
+head_or : List ℕ → Lines → List ℕ
+head_or line [] = line
+head_or line (first ∷ rest) = first
+
+tail_of : Lines → Lines
+tail_of [] = []
+tail_of (first ∷ rest) = rest
+
+abbrev Earlier : Lines → List ℕ → Lines → Type 0
+Earlier first line second = (between : Lines) × (second ≡ first ++ line ∷ between)
+
+abbrev Placed : Lines → List ℕ → Lines → List ℕ → Type 0
+Placed first line second other = ((first ≡ second) × (line ≡ other)) ⊎ (Earlier first line second ⊎ Earlier second other first)
+
+same_place : (first second : Lines) (line other : List ℕ) (rest more : Lines) → first ++ line ∷ rest ≡ second ++ other ∷ more → Placed first line second other
+unfolding head_or tail_of
+same_place [] [] line other rest more e = inl (refl, ap (head_or line) e)
+same_place [] (second ∷ seconds) line other rest more e = inr (inl (seconds, λ i. sym (ap (head_or line) e) i ∷ seconds))
+same_place (first ∷ firsts) [] line other rest more e = inr (inr (firsts, λ i. ap (head_or line) e i ∷ firsts))
+same_place (first ∷ firsts) (second ∷ seconds) line other rest more e =
+    by (ap (head_or line) e) (same_place firsts seconds line other rest more (ap tail_of e))
+  where
+    by : first ≡ second → Placed firsts line seconds other → Placed (first ∷ firsts) line (second ∷ seconds) other
+    by heads (inl told) = inl ((λ i. heads i ∷ told.0 i), told.1)
+    by heads (inr (inl told)) = inr (inl (told.0, λ i. sym heads i ∷ told.1 i))
+    by heads (inr (inr told)) = inr (inr (told.0, λ i. heads i ∷ told.1 i))
+
+-- what begins a file has only fronts that do
+pub begins_front : (front rest : Lines) → BeginsFile (front ++ rest) → BeginsFile front
+begins_front front rest begins = (rest ++ begins.0, subst IsFile (append_assoc front rest begins.0) begins.1)
+
+-- a record at fault is not among records that begin a file within the limit
+not_within : (limit : ℕ) (records : Lines) (fault : FileFault) (is : IsRecordFault limit records fault) (more : Lines)
+    → BeginsFile (is.earlier ++ is.line ∷ more) → length (is.earlier ++ is.line ∷ more) ≤ limit → ⊥
+not_within limit records fault is more begins within = by is.here
+  where
+    by : (limit ≤ length is.earlier) ⊎ (¬ BeginsFile (is.earlier ++ is.line ∷ [])) → ⊥
+    by (inl over) = let size = length-append is.earlier (is.line ∷ more) in omega arith
+    by (inr none) = none (begins_front (is.earlier ++ is.line ∷ []) more (subst BeginsFile (sym (append_assoc is.earlier (is.line ∷ []) more)) begins))
+
+-- a cause is known by its rank and its column
+unfoldable pub column_of : FileCause → ℕ
+column_of (bad_byte at) = at
+column_of (bad_field at) = at
+column_of _ = 0
+
+cause_at : ℕ → ℕ → FileCause
+cause_at rank at =
+    if rank == 0 then too_many else (if rank == 1 then after_trailer else (if rank == 2 then bad_length else (if rank == 3 then bad_byte at
+    else (if rank == 4 then bad_kind else (if rank == 5 then bad_place else
+    (if rank == 6 then bad_field at else (if rank == 7 then third_midnight else no_end)))))))
+
+cause_again : (cause : FileCause) → cause_at (cause_rank cause) (column_of cause) ≡ cause
+unfolding column_of cause_at
+cause_again too_many = refl
+cause_again after_trailer = refl
+cause_again bad_length = refl
+cause_again (bad_byte at) = refl
+cause_again bad_kind = refl
+cause_again bad_place = refl
+cause_again (bad_field at) = refl
+cause_again third_midnight = refl
+cause_again no_end = refl
+
+-- causes of one rank and one column are one
+pub same_cause : (first second : FileCause) → cause_rank first ≡ cause_rank second → column_of first ≡ column_of second → first ≡ second
+same_cause first second same columns = sym (cause_again first) ∙ (λ i. cause_at (same i) (columns i)) ∙ cause_again second
+
+-- the column that a line tells at a rank
+unfoldable pub column_told : ℕ → List ℕ → ℕ
+column_told rank line = if rank == 3 then unwrap_or (leftmost_bad_byte line) 0 else (if rank == 6 then unwrap_or (leftmost_bad_field line) 0 else 0)
+
+column_is : (limit : ℕ) (earlier : Lines) (line : List ℕ) (cause : FileCause) → HoldsOf limit earlier line cause
+    → column_told (cause_rank cause) line ≡ column_of cause
+unfolding column_of column_told
+column_is limit earlier line too_many holds = refl
+column_is limit earlier line after_trailer holds = refl
+column_is limit earlier line bad_length holds = refl
+column_is limit earlier line (bad_byte at) holds = ap (λ o. unwrap_or o 0) holds
+column_is limit earlier line bad_kind holds = refl
+column_is limit earlier line bad_place holds = refl
+column_is limit earlier line (bad_field at) holds = ap (λ o. unwrap_or o 0) holds
+column_is limit earlier line third_midnight holds = refl
+column_is limit earlier line no_end holds = refl
+
+-- a record has one cause at most
+pub one_cause : (limit : ℕ) (earlier : Lines) (line : List ℕ) (first second : FileCause) → IsCause limit earlier line first → IsCause limit earlier line second
+    → first ≡ second
+one_cause limit earlier line first second is_first is_second = by (cases_order (cause_rank first) (cause_rank second))
+  where
+    by : (cause_rank first ≡ cause_rank second) ⊎ ((cause_rank first < cause_rank second) ⊎ (cause_rank second < cause_rank first)) → first ≡ second
+    by (inl same) =
+        same_cause first second same
+        (sym (column_is limit earlier line first is_first.holds) ∙ ap (λ rank. column_told rank line) same
+        ∙ column_is limit earlier line second is_second.holds)
+    by (inr (inl below)) = absurd (is_second.first first below is_first.holds)
+    by (inr (inr above)) = absurd (is_first.first second above is_second.holds)
+
+-- two record faults of one list are one
+record_fault_unique : (limit : ℕ) (records : Lines) (first second : FileFault) → IsRecordFault limit records first → IsRecordFault limit records second
+    → first ≡ second
+record_fault_unique limit records first second one two =
+    by (same_place one.earlier two.earlier one.line two.line one.later two.later (sym one.whole ∙ two.whole))
+  where
+    by : Placed one.earlier one.line two.earlier two.line → first ≡ second
+    by (inl same) =
+        let causes : first.cause ≡ second.cause = one_cause limit two.earlier two.line first.cause second.cause
+        (subst (λ line. IsCause limit two.earlier line first.cause) same.1
+        (subst (λ earlier. IsCause limit earlier one.line first.cause) same.0 one.cause)) two.cause in
+        let numbers : first.number ≡ second.number = one.number ∙ ap (λ earlier. length earlier + 1) same.0 ∙ sym two.number in
+        λ i. record { number = numbers i; cause = causes i }
+    by (inr (inl told)) =
+        absurd (not_within limit records first one told.0 (subst BeginsFile told.1 two.earlier_begin)
+        (subst (λ earlier. length earlier ≤ limit) told.1 two.earlier_within))
+    by (inr (inr told)) =
+        absurd (not_within limit records second two told.0 (subst BeginsFile told.1 one.earlier_begin)
+        (subst (λ earlier. length earlier ≤ limit) told.1 one.earlier_within))
+
+not_both_faults : (limit : ℕ) (records : Lines) (first second : FileFault) → IsRecordFault limit records first → IsUnended limit records second → ⊥
+not_both_faults limit records first second one two =
+    not_within limit records first one one.later (subst BeginsFile one.whole two.begin) (subst (λ lines. length lines ≤ limit) one.whole two.within)
+
+-- a text has one fault at most
+pub one_fault : (limit : ℕ) (text : List ℕ) (first second : FileFault) → IsFileFault limit text first → IsFileFault limit text second → first ≡ second
+one_fault limit text first second (inl one) (inl two) = record_fault_unique limit (lines_of text) first second one two
+one_fault limit text first second (inl one) (inr two) = absurd (not_both_faults limit (lines_of text) first second one two)
+one_fault limit text first second (inr one) (inl two) = absurd (not_both_faults limit (lines_of text) second first two one)
+one_fault limit text first second (inr one) (inr two) =
+    let numbers : first.number ≡ second.number = one.number ∙ sym two.number in
+    let causes : first.cause ≡ second.cause = one.cause ∙ sym two.cause in
+    λ i. record { number = numbers i; cause = causes i }
+
+-- the text of a file within the limit has no fault
+pub no_fault_of_file : (limit : ℕ) (text : List ℕ) (file : Lines) (fault : FileFault) → IsFileText limit text file → ¬ IsFileFault limit text fault
+no_fault_of_file limit text file fault is (inl one) =
+    let whole : IsFile (lines_of text) = subst IsFile (sym is.lines) is.is in
+    let begins : BeginsFile (lines_of text) = ([], subst IsFile (sym (append-nil (lines_of text))) whole) in
+    let within : length (lines_of text) ≤ limit = subst (λ lines. length lines ≤ limit) (sym is.lines) is.within in
+    not_within limit (lines_of text) fault one one.later (subst BeginsFile one.whole begins) (subst (λ lines. length lines ≤ limit) one.whole within)
+no_fault_of_file limit text file fault is (inr one) = one.unended (subst IsFile (sym is.lines) is.is)

@@ -1,0 +1,189 @@
+-- A text is one of these records exactly where splitting it gives them.
+use Rattle.std.proofs.Common.{◌≡◌, ℕ, suc, ◌-◌, ◌<◌, ◌≤◌, ◌⊎◌, List, [], ◌∷◌, ◌++◌, length, map, take, refl, ap, sym, ◌∙◌, subst, inl, inr, Bool, true, false, cond, arith, All, eqb-true, append_assoc, append-nil, length-append}
+use Rattle.std.specs.Prelude.{◌↔◌, ◌==◌, slice_index, ◌≢◌, nat_le, ◌&&◌}
+use Rattle.std.specs.List.{slice_split, join_with_byte, AllByRecursion, AllPass}
+use Rattle.std.specs.Str.Lines.{strip_carriage_return}
+use Rattle.std.proofs.lemmas.List.Splits.{join_with_byte-slice_split, slice_split_at, slice_split_none, length-slice_split}
+use Rattle.std.proofs.lemmas.Bool.{leb-true}
+use Rattle.std.proofs.lemmas.Bool.Decides.{eqb_tells}
+use Rattle.std.proofs.lemmas.List.Elements.{All-from_recursion, recursion_from_All}
+use Rattle.std.proofs.Math.Seq.{take-append_seam, get_or-append_seam}
+use Rattle.docker_model.specs.records.Record.{is_printable, IsRecord}
+use Rattle.docker_model.specs.file.Text.{IsLineEnd, IsLastLineEnd, IsTextOf, without_empty_last, lines_of}
+
+-- a list whose last byte is 13 is what stands before it, and 13
+last_is : (bytes : List ℕ) → slice_index bytes (length bytes - 1) ≡ 13 → bytes ≡ take (length bytes - 1) bytes ++ 13 ∷ []
+last_is [] h = absurd (omega arith)
+last_is (x ∷ []) h = λ i. h i ∷ []
+last_is (x ∷ y ∷ bytes) h =
+    let less : suc (suc (length bytes)) - 1 ≡ suc (length bytes) = omega arith in
+    let one : suc (length bytes) - 1 ≡ length bytes = omega arith in
+    let inner : slice_index (y ∷ bytes) (suc (length bytes) - 1) ≡ 13 =
+    subst (λ k. slice_index (y ∷ bytes) k ≡ 13) (sym one) (subst (λ k. slice_index (x ∷ y ∷ bytes) k ≡ 13) less h) in
+    let rest : (y ∷ bytes) ≡ take (length bytes) (y ∷ bytes) ++ 13 ∷ [] = subst (λ k. (y ∷ bytes) ≡ take k (y ∷ bytes) ++ 13 ∷ []) one
+    (last_is (y ∷ bytes) inner) in
+    subst (λ k. (x ∷ y ∷ bytes) ≡ take k (x ∷ y ∷ bytes) ++ 13 ∷ []) (sym less) (ap (λ zs. x ∷ zs) rest)
+
+-- a piece is its line, and perhaps a carriage return
+piece_is : (piece : List ℕ) → (piece ≡ strip_carriage_return piece) ⊎ (piece ≡ strip_carriage_return piece ++ 13 ∷ [])
+piece_is piece = by (slice_index piece (length piece - 1) == 13) refl
+  where
+    by : (b : Bool) → (slice_index piece (length piece - 1) == 13) ≡ b → (piece ≡ strip_carriage_return piece)
+        ⊎ (piece ≡ strip_carriage_return piece ++ 13 ∷ [])
+    by true h = inr (last_is piece (eqb-true _ _ h) ∙ (λ i. cond (sym h i) (take (length piece - 1) piece) piece ++ 13 ∷ []))
+    by false h = inl (λ i. cond (sym h i) (take (length piece - 1) piece) piece)
+
+-- a piece, a line feed and a text of the rest are a text with one line more
+one_more : (piece : List ℕ) (lines : List (List ℕ)) (rest : List ℕ) → IsTextOf lines rest → IsTextOf (strip_carriage_return piece ∷ lines) (piece ++ 10 ∷ rest)
+one_more piece [] rest told = by (piece_is piece)
+  where
+    by : (piece ≡ strip_carriage_return piece) ⊎ (piece ≡ strip_carriage_return piece ++ 13 ∷ []) → IsTextOf (strip_carriage_return piece ∷ [])
+        (piece ++ 10 ∷ rest)
+    by (inl e) = (10 ∷ [], inl (inl refl), λ i. e i ++ 10 ∷ told i)
+    by (inr e) = (13 ∷ 10 ∷ [], inl (inr refl), (λ i. e i ++ 10 ∷ told i) ∙ append_assoc (strip_carriage_return piece) (13 ∷ []) (10 ∷ []))
+one_more piece (line ∷ lines) rest told = by (piece_is piece)
+  where
+    by : (piece ≡ strip_carriage_return piece) ⊎ (piece ≡ strip_carriage_return piece ++ 13 ∷ []) → IsTextOf (strip_carriage_return piece ∷ line ∷ lines)
+        (piece ++ 10 ∷ rest)
+    by (inl e) = (10 ∷ [], rest, inl refl, (λ i. e i ++ 10 ∷ rest) ∙ sym (append_assoc (strip_carriage_return piece) (10 ∷ []) rest), told)
+    by (inr e) = (
+      13 ∷ 10 ∷ [],
+      rest,
+      inr refl,
+      (λ i. e i ++ 10 ∷ rest) ∙ append_assoc (strip_carriage_return piece) (13 ∷ []) (10 ∷ rest)
+          ∙ sym (append_assoc (strip_carriage_return piece) (13 ∷ 10 ∷ []) rest),
+      told,
+    )
+
+-- pieces with line feeds between them are a text of their lines
+pieces_text : (pieces : List (List ℕ)) → IsTextOf (map strip_carriage_return (without_empty_last pieces)) (join_with_byte 10 pieces)
+pieces_text [] = refl
+pieces_text ([] ∷ []) = refl
+pieces_text ((b ∷ bytes) ∷ []) = by (piece_is (b ∷ bytes))
+  where
+    by : ((b ∷ bytes) ≡ strip_carriage_return (b ∷ bytes)) ⊎ ((b ∷ bytes) ≡ strip_carriage_return (b ∷ bytes) ++ 13 ∷ [])
+        → IsTextOf (strip_carriage_return (b ∷ bytes) ∷ []) (b ∷ bytes)
+    by (inl e) = ([], inr (inr refl), e ∙ sym (append-nil (strip_carriage_return (b ∷ bytes))))
+    by (inr e) = (13 ∷ [], inr (inl refl), e)
+pieces_text (piece ∷ next ∷ pieces) =
+    one_more piece (map strip_carriage_return (without_empty_last (next ∷ pieces))) (join_with_byte 10 (next ∷ pieces)) (pieces_text (next ∷ pieces))
+
+-- any text is a text of its lines
+pub text_of_lines : (text : List ℕ) → IsTextOf (lines_of text) text
+text_of_lines text = subst (IsTextOf (lines_of text)) (join_with_byte-slice_split 10 text) (pieces_text (slice_split (λ b. b == 10) text))
+
+-- what a record is, as far as line ends go
+pub record IsPlain (line : List ℕ) : Type 0 where
+  pub some : 0 < length line
+  pub no_feed : All (λ b. (b == 10) ≡ false) line
+  pub no_feed_behind : All (λ b. (b == 10) ≡ false) (line ++ 13 ∷ [])
+  pub stays : strip_carriage_return line ≡ line
+  pub strips : strip_carriage_return (line ++ 13 ∷ []) ≡ line
+
+keeps_last : (piece : List ℕ) → 0 < length piece → without_empty_last (piece ∷ []) ≡ piece ∷ []
+keeps_last [] some = absurd (omega arith)
+keeps_last (b ∷ bytes) some = refl
+
+keeps_first : (piece : List ℕ) (pieces : List (List ℕ)) → 0 < length pieces → without_empty_last (piece ∷ pieces) ≡ piece ∷ without_empty_last pieces
+keeps_first piece [] some = absurd (omega arith)
+keeps_first piece (next ∷ pieces) some = refl
+
+-- the lines of a piece, a line feed and a rest
+lines_after : (piece rest : List ℕ) → All (λ b. (b == 10) ≡ false) piece → lines_of (piece ++ 10 ∷ rest) ≡ strip_carriage_return piece ∷ lines_of rest
+lines_after piece rest plain =
+    let split = slice_split_at (λ b. b == 10) piece 10 rest plain refl in
+    let size = length-slice_split (λ b. b == 10) rest in
+    (λ i. map strip_carriage_return (without_empty_last (split i)))
+    ∙ ap (map strip_carriage_return) (keeps_first piece (slice_split (λ b. b == 10) rest) (omega arith))
+
+lines_last : (piece : List ℕ) → All (λ b. (b == 10) ≡ false) piece → 0 < length piece → lines_of piece ≡ strip_carriage_return piece ∷ []
+lines_last piece plain some =
+    (λ i. map strip_carriage_return (without_empty_last (slice_split_none (λ b. b == 10) piece plain i)))
+    ∙ ap (map strip_carriage_return) (keeps_last piece some)
+
+-- a line with what may follow it
+lines_one : (line rest end : List ℕ) → IsPlain line → IsLineEnd end → lines_of ((line ++ end) ++ rest) ≡ line ∷ lines_of rest
+lines_one line rest end plain (inl e) =
+    (λ i. lines_of ((line ++ e i) ++ rest)) ∙ ap lines_of (append_assoc line (10 ∷ []) rest)
+    ∙ lines_after line rest plain.no_feed ∙ (λ i. plain.stays i ∷ lines_of rest)
+lines_one line rest end plain (inr e) =
+    (λ i. lines_of ((line ++ e i) ++ rest)) ∙ ap lines_of (append_assoc line (13 ∷ 10 ∷ []) rest ∙ sym (append_assoc line (13 ∷ []) (10 ∷ rest)))
+    ∙ lines_after (line ++ 13 ∷ []) rest plain.no_feed_behind ∙ (λ i. plain.strips i ∷ lines_of rest)
+
+lines_end : (line end : List ℕ) → IsPlain line → IsLastLineEnd end → lines_of (line ++ end) ≡ line ∷ []
+lines_end line end plain (inl e) = ap lines_of (sym (append-nil (line ++ end))) ∙ lines_one line [] end plain e
+lines_end line end plain (inr (inl e)) =
+    let size = length-append line (13 ∷ []) in
+    (λ i. lines_of (line ++ e i)) ∙ lines_last (line ++ 13 ∷ []) plain.no_feed_behind (omega arith) ∙ (λ i. plain.strips i ∷ [])
+lines_end line end plain (inr (inr e)) =
+    (λ i. lines_of (line ++ e i)) ∙ ap lines_of (append-nil line) ∙ lines_last line plain.no_feed plain.some ∙ (λ i. plain.stays i ∷ [])
+
+-- splitting a text of plain lines gives these lines
+pub lines_of_text : (lines : List (List ℕ)) (text : List ℕ) → AllByRecursion IsPlain lines → IsTextOf lines text → lines_of text ≡ lines
+lines_of_text [] text plain told = ap lines_of told
+lines_of_text (line ∷ []) text plain told = ap lines_of told.2 ∙ lines_end line told.0 plain.0 told.1
+lines_of_text (line ∷ next ∷ lines) text plain told =
+    ap lines_of told.3 ∙ lines_one line told.1 told.0 plain.0 told.2 ∙ ap (λ rest. line ∷ rest) (lines_of_text (next ∷ lines) told.1 plain.1 told.4)
+
+-- a record is plain
+not_equal : (a b : ℕ) → a ≢ b → (a == b) ≡ false
+not_equal a b apart = by (eqb_tells a b)
+  where
+    by : ((a == b) ≡ true) × (a ≡ b) ⊎ ((a == b) ≡ false) × (a ≢ b) → (a == b) ≡ false
+    by (inl same) = absurd (apart same.1)
+    by (inr other) = other.0
+
+printable_is : (b : ℕ) → is_printable b ≡ true → 32 ≤ b
+printable_is b h = leb-true 32 b (first (nat_le 32 b) (nat_le b 126) h)
+  where
+    first : (s t : Bool) → (s && t) ≡ true → s ≡ true
+    first true t h = refl
+    first false t h = h
+
+no_feed_in : (line : List ℕ) → AllPass is_printable line → AllByRecursion (λ b. (b == 10) ≡ false) line
+no_feed_in line printable = by line (recursion_from_All (λ b. is_printable b ≡ true) line printable)
+  where
+    by : (bytes : List ℕ) → AllByRecursion (λ b. is_printable b ≡ true) bytes → AllByRecursion (λ b. (b == 10) ≡ false) bytes
+    by [] all = tt
+    by (b ∷ bytes) all = (let low = printable_is b all.0 in not_equal b 10 (omega arith), by bytes all.1)
+
+with_return : (bytes : List ℕ) → AllByRecursion (λ b. (b == 10) ≡ false) bytes → AllByRecursion (λ b. (b == 10) ≡ false) (bytes ++ 13 ∷ [])
+with_return [] all = (refl, tt)
+with_return (b ∷ bytes) all = (all.0, with_return bytes all.1)
+
+strip_return : (line : List ℕ) → strip_carriage_return (line ++ 13 ∷ []) ≡ line
+strip_return line =
+    let size : length (line ++ 13 ∷ []) - 1 ≡ length line = (let joined = length-append line (13 ∷ []) in omega arith) in
+    (λ i. cond (slice_index (line ++ 13 ∷ []) (size i) == 13) (take (size i) (line ++ 13 ∷ [])) (line ++ 13 ∷ []))
+    ∙ (λ i. cond (get_or-append_seam line 13 [] 0 i == 13) (take (length line) (line ++ 13 ∷ [])) (line ++ 13 ∷ []))
+    ∙ take-append_seam line (13 ∷ [])
+
+strip_stays : (line : List ℕ) → 0 < length line → AllPass is_printable line → strip_carriage_return line ≡ line
+strip_stays line some printable =
+    let low = printable_is (slice_index line (length line - 1)) (printable (length line - 1) 0 (omega arith)) in
+    let last = not_equal (slice_index line (length line - 1)) 13 (omega arith) in
+    λ i. cond (last i) (take (length line - 1) line) line
+
+-- a record is a plain line
+pub IsRecord-IsPlain : (line : List ℕ) → IsRecord line → IsPlain line
+IsRecord-IsPlain line is =
+    let size = is.0 in
+    let plain = no_feed_in line is.1 in
+    record {
+      some = omega arith;
+      no_feed = All-from_recursion (λ b. (b == 10) ≡ false) line plain;
+      no_feed_behind = All-from_recursion (λ b. (b == 10) ≡ false) (line ++ 13 ∷ []) (with_return line plain);
+      stays = strip_stays line (omega arith) is.1;
+      strips = strip_return line;
+    }
+
+records_plain : (lines : List (List ℕ)) → AllByRecursion IsRecord lines → AllByRecursion IsPlain lines
+records_plain [] all = tt
+records_plain (line ∷ lines) all = (IsRecord-IsPlain line all.0, records_plain lines all.1)
+
+-- for records, being a text of them and being split into them is one thing
+pub text_iff_lines : (records : List (List ℕ)) (text : List ℕ) → All IsRecord records → IsTextOf records text ↔ (lines_of text ≡ records)
+text_iff_lines records text all = (
+  lines_of_text records text (records_plain records (recursion_from_All IsRecord records all)),
+  λ same. subst (λ lines. IsTextOf lines text) same (text_of_lines text),
+)

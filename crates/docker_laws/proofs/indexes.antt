@@ -1,0 +1,4 @@
+pub mod OneIndex
+pub mod CallsTest
+pub mod IndexJoin
+pub mod IndexSegment

@@ -1,0 +1,6 @@
+pub mod JoinLaws
+pub mod JoinValid
+pub mod RaisedHorizon
+pub mod StagedEntry
+pub mod StagedJoin
+pub mod StagedState

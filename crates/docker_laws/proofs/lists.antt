@@ -1,0 +1,9 @@
+pub mod Membership
+pub mod AllOf
+pub mod Tests
+pub mod Members
+pub mod Later
+pub mod Pairs
+pub mod Sorted
+pub mod ZipSteps
+pub mod Decisions

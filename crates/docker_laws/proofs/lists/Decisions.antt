@@ -1,0 +1,146 @@
+-- Facts that are decided: they hold, or they don't.
+use Rattle.std.proofs.Common.{◌≡◌, ℕ, suc, ◌<◌, ◌≤◌, List, [], ◌∷◌, length, refl, ap, sym, ◌∙◌, subst, inl, inr, ◌⊎◌, arith, Bool, true, false, nat_le, ◌==◌, ◌≢◌, if◌then◌else◌, All, Some, None}
+use Rattle.std.specs.Prelude.{Option}
+use Rattle.std.specs.List.{AllByRecursion}
+use Rattle.std.specs.declared.cmp.Ordering.{Ordering}
+use Rattle.std.specs.declared.cmp.Ordering.TheVariants.{Less, Equal, Greater}
+use Rattle.std.specs.Cmp.{IsTotalOrder, tied_itself}
+use Rattle.std.proofs.lemmas.Bool.Decides.{leb_tells, eqb_tells}
+use Rattle.std.proofs.lemmas.List.Elements.{All-from_recursion, recursion_from_All}
+use Rattle.std.proofs.lemmas.Map.Lookups.{CmpEqualImpliesEq}
+use Rattle.docker_model.specs.records.Record.{Kind, header, tiploc_insert, tiploc_amend, tiploc_delete, association, basic_schedule, extra_details, origin_location, intermediate_location, terminating_location, change_en_route, trailer}
+
+-- it holds, or it doesn't
+abbrev pub Decided : Type 0 → Type 0
+Decided P = P ⊎ ¬ P
+
+-- two decided facts together
+pub both_decided : {P Q : Type 0} → Decided P → Decided Q → Decided (P × Q)
+both_decided (inl p) (inl q) = inl (p, q)
+both_decided (inl p) (inr none) = inr (λ h. none h.1)
+both_decided (inr none) q = inr (λ h. none h.0)
+
+-- one of two decided facts
+pub either_decided : {P Q : Type 0} → Decided P → Decided Q → Decided (P ⊎ Q)
+either_decided (inl p) q = inl (inl p)
+either_decided (inr never) (inl q) = inl (inr q)
+either_decided {P} {Q} (inr never) (inr none) = inr by
+  where
+    by : P ⊎ Q → ⊥
+    by (inl p) = never p
+    by (inr q) = none q
+
+-- the contrary of a decided fact
+pub not_decided : {P : Type 0} → Decided P → Decided (¬ P)
+not_decided (inl p) = inr (λ none. none p)
+not_decided (inr none) = inl none
+
+-- a fact that holds exactly where a decided one does
+pub decided_along : {P Q : Type 0} → (P → Q) → (Q → P) → Decided P → Decided Q
+decided_along to back (inl p) = inl (to p)
+decided_along to back (inr none) = inr (λ q. none (back q))
+
+-- a test is passed or not
+pub bool_decided : (b : Bool) → Decided (b ≡ true)
+bool_decided true = inl refl
+bool_decided false = inr (λ e. cc)
+
+-- two numbers are equal or not
+pub nat_decided : (a b : ℕ) → Decided (a ≡ b)
+nat_decided a b = by (eqb_tells a b)
+  where
+    by : ((a == b) ≡ true) × (a ≡ b) ⊎ ((a == b) ≡ false) × (a ≢ b) → Decided (a ≡ b)
+    by (inl told) = inl told.1
+    by (inr told) = inr told.1
+
+-- a number is at most another or not
+pub le_decided : (a b : ℕ) → Decided (a ≤ b)
+le_decided a b = by (leb_tells a b)
+  where
+    by : ((nat_le a b ≡ true) × (a ≤ b)) ⊎ ((nat_le a b ≡ false) × (b < a)) → Decided (a ≤ b)
+    by (inl told) = inl told.1
+    by (inr told) = let above = told.1 in inr (λ low. omega arith)
+
+-- a number is below another or not
+pub lt_decided : (a b : ℕ) → Decided (a < b)
+lt_decided a b = le_decided (suc a) b
+
+-- a decided fact of each element, by recursion
+pub all_decided : {A : Type 0} (P : A → Type 0) → ((x : A) → Decided (P x)) → (xs : List A) → Decided (AllByRecursion P xs)
+all_decided P test [] = inl tt
+all_decided P test (x ∷ xs) = both_decided (test x) (all_decided P test xs)
+
+-- a decided fact of each element
+pub All_decided : {A : Type 0} (P : A → Type 0) → ((x : A) → Decided (P x)) → (xs : List A) → Decided (All P xs)
+All_decided P test xs = decided_along (All-from_recursion P xs) (recursion_from_All P xs) (all_decided P test xs)
+
+-- the answer of an order is Less or not
+pub less_decided : (o : Ordering) → Decided (o ≡ Less)
+less_decided Less = inl refl
+less_decided Equal = inr (λ e. cc)
+less_decided Greater = inr (λ e. cc)
+
+-- the answer of an order is Equal or not
+pub equal_decided : (o : Ordering) → Decided (o ≡ Equal)
+equal_decided Less = inr (λ e. cc)
+equal_decided Equal = inl refl
+equal_decided Greater = inr (λ e. cc)
+
+-- where an order tells values apart, two are equal or not
+pub same_decided : {A : Type 0} {cmp : A → A → Ordering} → IsTotalOrder cmp → CmpEqualImpliesEq cmp → (a b : A) → Decided (a ≡ b)
+same_decided {A} {cmp} total exact a b =
+    decided_along (exact a b) (λ same. subst (λ x. cmp a x ≡ Equal) same (tied_itself total a)) (equal_decided (cmp a b))
+
+-- a value is there or not
+pub none_decided : {A : Type 0} (o : Option A) → Decided (o ≡ None)
+none_decided None = inl refl
+none_decided (Some x) = inr (λ e. cc)
+
+-- a list is empty or not
+pub empty_decided : {A : Type 0} (xs : List A) → Decided (xs ≡ [])
+empty_decided [] = inl refl
+empty_decided (x ∷ xs) = inr (λ e. (let size = ap length e in omega arith))
+
+-- kinds
+kind_rank : Option Kind → ℕ
+kind_rank None = 0
+kind_rank (Some header) = 1
+kind_rank (Some tiploc_insert) = 2
+kind_rank (Some tiploc_amend) = 3
+kind_rank (Some tiploc_delete) = 4
+kind_rank (Some association) = 5
+kind_rank (Some basic_schedule) = 6
+kind_rank (Some extra_details) = 7
+kind_rank (Some origin_location) = 8
+kind_rank (Some intermediate_location) = 9
+kind_rank (Some terminating_location) = 10
+kind_rank (Some change_en_route) = 11
+kind_rank (Some trailer) = 12
+
+kind_at : ℕ → Option Kind
+kind_at n =
+    if n == 0 then None else (if n == 1 then Some header else (if n == 2 then Some tiploc_insert else (if n == 3 then Some tiploc_amend
+    else (if n == 4 then Some tiploc_delete else (if n == 5 then Some association else (if n == 6 then Some basic_schedule
+    else (if n == 7 then Some extra_details else (if n == 8 then Some origin_location else (if n == 9 then Some intermediate_location
+    else (if n == 10 then Some terminating_location else (if n == 11 then Some change_en_route else Some trailer)))))))))))
+
+kind_again : (kind : Option Kind) → kind_at (kind_rank kind) ≡ kind
+unfolding kind_rank kind_at
+kind_again None = refl
+kind_again (Some header) = refl
+kind_again (Some tiploc_insert) = refl
+kind_again (Some tiploc_amend) = refl
+kind_again (Some tiploc_delete) = refl
+kind_again (Some association) = refl
+kind_again (Some basic_schedule) = refl
+kind_again (Some extra_details) = refl
+kind_again (Some origin_location) = refl
+kind_again (Some intermediate_location) = refl
+kind_again (Some terminating_location) = refl
+kind_again (Some change_en_route) = refl
+kind_again (Some trailer) = refl
+
+-- two kinds are equal or not
+pub kind_decided : (first second : Option Kind) → Decided (first ≡ second)
+kind_decided first second =
+    decided_along (λ same. sym (kind_again first) ∙ ap kind_at same ∙ kind_again second) (ap kind_rank) (nat_decided (kind_rank first) (kind_rank second))

@@ -1,0 +1,5 @@
+pub mod AtMost
+pub mod Orders
+pub mod Ascending
+pub mod ByteOrder
+pub mod Least

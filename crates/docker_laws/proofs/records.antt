@@ -1,0 +1,6 @@
+pub mod Dates
+pub mod Columns
+pub mod RecordTests
+pub mod GoodFields
+pub mod RecordIdentity
+pub mod Builders

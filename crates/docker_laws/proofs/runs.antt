@@ -1,0 +1,5 @@
+pub mod KnownSets
+pub mod GoodKnowledge
+pub mod MessageTexts
+pub mod RunSteps
+pub mod RunEnd

@@ -1,0 +1,132 @@
+-- What is known in a run of good events is good: files, and a horizon that the format tells.
+use Rattle.std.proofs.Common.{◌≡◌, ℕ, zero, suc, ◌≤◌, Bool, true, false, List, [], ◌∷◌, length, get_or, ap, ◌∙◌, refl, arith, All}
+use Rattle.std.specs.Prelude.{max, nat_lt, fold, slice_set}
+use Rattle.std.specs.List.{zip}
+use Rattle.std.proofs.Math.Nat.{zero-max}
+use Rattle.std.proofs.lemmas.Bool.{ltb-true, ltb-false}
+use Rattle.std.proofs.lemmas.List.Elements.{All-cons, All-append, All-set, All-push, All-nil, All-replicate, All-head, All-tail}
+use Rattle.docker_model.specs.records.Date.{last_day}
+use Rattle.docker_model.specs.file.File.{IsFile}
+use Rattle.docker_model.specs.file.Text.{lines_of}
+use Rattle.docker_model.specs.file.FileFault.{IsFileText}
+use Rattle.docker_model.specs.state.StateText.{Format, dks_1, dks_2, IsHorizonOf}
+use Rattle.docker_model.specs.run.Run.{RunEvent, take_file, send_state, deliver, reload, horizon_event, Reply, done, refused, no_office, Known, KnownSets, nothing, united, office_known, message_known, after_done, after_reply, none_known, known_sets, IsReply, AreReplies}
+use Rattle.docker_model.specs.run.Knowledge.{AreFiles, IsGoodKnown, IsGoodEvent}
+use Rattle.docker_laws.proofs.states.Lapse.{max_most}
+
+-- ---- what two know
+
+-- of two horizons of a format the greater is one
+max_good : (format : Format) (a b : ℕ) → IsHorizonOf format a → IsHorizonOf format b → IsHorizonOf format (max a b)
+max_good dks_1 a b first second = ap (λ n. max n b) first ∙ zero-max b ∙ second
+max_good dks_2 a b first second = max_most a b last_day first second
+
+none_good : (format : Format) → IsHorizonOf format 0
+none_good dks_1 = λ i. 0
+none_good dks_2 = omega arith
+
+no_files_good : AreFiles []
+no_files_good = (All-nil IsFile, All-nil (λ file. length file ≤ 4_294_967_294))
+
+-- nothing is good
+pub nothing_good : (format : Format) → IsGoodKnown format nothing
+nothing_good format = (no_files_good, none_good format)
+
+-- what two know together
+pub united_good : (format : Format) (first second : Known) → IsGoodKnown format first → IsGoodKnown format second → IsGoodKnown format (united first second)
+united_good format first second one two = (
+  (All-append IsFile first.files second.files one.0.0 two.0.0, All-append (λ file. length file ≤ 4_294_967_294) first.files second.files one.0.1 two.0.1),
+  max_good format first.horizon second.horizon one.1 two.1,
+)
+
+-- a file that was read under a limit
+pub file_good : (format : Format) (text : List ℕ) (limit : ℕ) → limit ≤ 4_294_967_294 → IsFileText limit text (lines_of text)
+    → IsGoodKnown format (record { files = lines_of text ∷ []; horizon = 0 })
+file_good format text limit low file =
+    let within : length (lines_of text) ≤ limit = file.within in
+    let few : length (lines_of text) ≤ 4_294_967_294 = omega arith in (
+      (
+        All-cons IsFile (lines_of text) [] file.is (All-nil IsFile),
+        All-cons (λ f. length f ≤ 4_294_967_294) (lines_of text) [] few
+            (All-nil (λ f. length f ≤ 4_294_967_294)),
+      ),
+      none_good format,
+    )
+
+-- a horizon that is set
+pub horizon_good : (format : Format) (day : ℕ) → IsHorizonOf format day → IsGoodKnown format (record { files = []; horizon = day })
+horizon_good format day is = (no_files_good, is)
+
+-- ---- along a run
+
+good_at : {A : Type 0} (P : A → Type 0) (xs : List A) (i : ℕ) (d : A) → All P xs → P d → P (get_or xs i d)
+good_at P [] i d all one = one
+good_at P (x ∷ xs) zero d all one = All-head P x xs all
+good_at P (x ∷ xs) (suc i) d all one = good_at P xs i d (All-tail P x xs all) one
+
+-- offices and messages know good things
+abbrev pub AllGood : Format → KnownSets → Type 0
+AllGood format known = All (IsGoodKnown format) known.offices × All (IsGoodKnown format) known.messages
+
+module _ (format : Format) where
+  office_good : (known : KnownSets) (office : ℕ) → AllGood format known → IsGoodKnown format (office_known known office)
+  office_good known office good = good_at (IsGoodKnown format) known.offices office nothing good.0 (nothing_good format)
+
+  message_good : (known : KnownSets) (message : ℕ) → AllGood format known → IsGoodKnown format (message_known known message)
+  message_good known message good = good_at (IsGoodKnown format) known.messages message nothing good.1 (nothing_good format)
+
+  with_good : (known : KnownSets) (office : ℕ) (now : Known) → AllGood format known → IsGoodKnown format now
+      → All (IsGoodKnown format) (slice_set known.offices office now)
+  with_good known office now good one = All-set (IsGoodKnown format) known.offices office now one good.0
+
+  good_done : (known : KnownSets) (event : RunEvent) → AllGood format known → IsGoodEvent format event → IsReply known event done
+      → AllGood format (after_done known event)
+  good_done known (take_file office text limit) good low reply = by (nat_lt office (length known.offices)) refl
+    where
+      by : (b : Bool) → nat_lt office (length known.offices) ≡ b → AllGood format (after_done known (take_file office text limit))
+      by true h = (
+        with_good known office (united (record { files = lines_of text ∷ []; horizon = 0 }) (office_known known office)) good
+            (united_good format (record { files = lines_of text ∷ []; horizon = 0 }) (office_known known office)
+            (file_good format text limit low (reply.there (ltb-true _ _ h))) (office_good known office good)),
+        good.1,
+      )
+      by false h =
+          let high = ltb-false office (length known.offices) h in let bad : done ≡ refused no_office = reply.absent (λ there. omega arith) in absurd (cc)
+  good_done known (send_state office) good event reply =
+      (good.0, All-push (IsGoodKnown format) known.messages (office_known known office) good.1 (office_good known office good))
+  good_done known (deliver office message) good event reply = (
+    with_good known office (united (message_known known message) (office_known known office)) good
+        (united_good format (message_known known message) (office_known known office) (message_good known message good) (office_good known office good)),
+    good.1,
+  )
+  good_done known (reload office message) good event reply =
+      (with_good known office (message_known known message) good (message_good known message good), good.1)
+  good_done known (horizon_event office day) good event reply = (
+    with_good known office (united (record { files = []; horizon = day }) (office_known known office)) good
+        (united_good format (record { files = []; horizon = day }) (office_known known office) (horizon_good format day event) (office_good known office good)),
+    good.1,
+  )
+
+  good_after : (known : KnownSets) (event : RunEvent) (reply : Reply) → AllGood format known → IsGoodEvent format event → IsReply known event reply
+      → AllGood format (after_reply known (event, reply))
+  good_after known event done good is told = good_done known event good is told
+  good_after known event (refused why) good is told = good
+
+  good_along : (known : KnownSets) (events : List RunEvent) (replies : List Reply) → AllGood format known → All (IsGoodEvent format) events
+      → AreReplies known events replies
+      → AllGood format (fold after_reply known (zip events replies))
+  good_along known [] replies good each are = good
+  good_along known (event ∷ events) [] good each are = absurd are
+  good_along known (event ∷ events) (reply ∷ replies) good each are =
+      good_along (after_reply known (event, reply)) events replies (good_after known event reply good (All-head (IsGoodEvent format) event events each) are.0)
+      (All-tail (IsGoodEvent format) event events each) are.1
+
+  -- what is known in a run of good events
+  pub good_in_run : (offices : ℕ) (events : List RunEvent) (replies : List Reply) → All (IsGoodEvent format) events
+      → AreReplies (none_known offices) events replies
+      → AllGood format (known_sets offices events replies)
+  good_in_run offices events replies each are =
+      good_along (none_known offices) events replies (
+        All-replicate (IsGoodKnown format) offices nothing (nothing_good format),
+        All-nil (IsGoodKnown format),
+      ) each are

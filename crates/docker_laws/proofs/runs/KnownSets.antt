@@ -1,0 +1,99 @@
+-- What is known in a run, after one more event, and of how many offices and messages.
+use Rattle.std.proofs.Common.{◌≡◌, ℕ, suc, ◌+◌, Bool, true, false, cond, List, [], ◌∷◌, ◌++◌, length, refl, ap, ◌∙◌, arith, length-append, length-set}
+use Rattle.std.specs.Prelude.{fold, filter}
+use Rattle.std.specs.List.{zip}
+use Rattle.std.proofs.lemmas.List.Sums.{fold-append}
+use Rattle.std.proofs.lemmas.List.{length-replicate}
+use Rattle.docker_model.specs.run.Run.{RunEvent, take_file, send_state, deliver, reload, horizon_event, Reply, done, refused, KnownSets, nothing, office_known, after_reply, none_known, known_sets, IsReply, AreReplies}
+use Rattle.docker_model.specs.run.Knowledge.{is_sent, sent_count}
+
+zip_more : {A B : Type 0} (xs : List A) (ys : List B) (x : A) (y : B) → length xs ≡ length ys → zip (xs ++ x ∷ []) (ys ++ y ∷ []) ≡ zip xs ys ++ (x, y) ∷ []
+zip_more [] [] x y same = refl
+zip_more [] (b ∷ ys) x y same = absurd (omega arith)
+zip_more (a ∷ xs) [] x y same = absurd (omega arith)
+zip_more (a ∷ xs) (b ∷ ys) x y same = ap (λ rest. (a, b) ∷ rest) (zip_more xs ys x y (omega arith))
+
+-- one more event and its reply
+pub sets_more : (offices : ℕ) (events : List RunEvent) (replies : List Reply) (event : RunEvent) (reply : Reply) → length events ≡ length replies
+    → known_sets offices (events ++ event ∷ []) (replies ++ reply ∷ []) ≡ after_reply (known_sets offices events replies) (event, reply)
+sets_more offices events replies event reply same =
+    ap (fold after_reply (none_known offices)) (zip_more events replies event reply same)
+    ∙ fold-append after_reply (none_known offices) (zip events replies) ((event, reply) ∷ [])
+
+-- ---- replies
+
+-- as many replies as events
+pub replies_long : (known : KnownSets) (events : List RunEvent) (replies : List Reply) → AreReplies known events replies → length events ≡ length replies
+replies_long known [] [] are = refl
+replies_long known [] (reply ∷ replies) are = absurd are
+replies_long known (event ∷ events) [] are = absurd are
+replies_long known (event ∷ events) (reply ∷ replies) are = ap suc (replies_long (after_reply known (event, reply)) events replies are.1)
+
+-- one more reply behind those of a run that begins anywhere
+pub replies_after : (known : KnownSets) (events : List RunEvent) (replies : List Reply) (event : RunEvent) (reply : Reply)
+    → AreReplies known events replies → IsReply (fold after_reply known (zip events replies)) event reply → AreReplies known (events ++ event ∷ [])
+    (replies ++ reply ∷ [])
+replies_after known [] [] event reply are is = (is, tt)
+replies_after known [] (other ∷ replies) event reply are is = absurd are
+replies_after known (other ∷ events) [] event reply are is = absurd are
+replies_after known (other ∷ events) (answer ∷ replies) event reply are is =
+    (are.0, replies_after (after_reply known (other, answer)) events replies event reply are.1 is)
+
+-- and behind those of a run from the start
+pub replies_more : (offices : ℕ) (events : List RunEvent) (replies : List Reply) (event : RunEvent) (reply : Reply)
+    → AreReplies (none_known offices) events replies → IsReply (known_sets offices events replies) event reply → AreReplies (none_known offices)
+    (events ++ event ∷ []) (replies ++ reply ∷ [])
+replies_more offices events replies event reply are is = replies_after (none_known offices) events replies event reply are is
+
+-- ---- how many
+
+offices_stay : (known : KnownSets) (event : RunEvent) (reply : Reply) → length (after_reply known (event, reply)).offices ≡ length known.offices
+offices_stay known event (refused why) = refl
+offices_stay known (take_file office text limit) done = length-set known.offices office _
+offices_stay known (send_state office) done = refl
+offices_stay known (deliver office message) done = length-set known.offices office _
+offices_stay known (reload office message) done = length-set known.offices office _
+offices_stay known (horizon_event office day) done = length-set known.offices office _
+
+messages_grow : (known : KnownSets) (event : RunEvent) (reply : Reply) → length (after_reply known (event, reply)).messages ≡ length known.messages + length
+    (filter is_sent ((event, reply) ∷ []))
+messages_grow known event (refused why) = omega arith
+messages_grow known (take_file office text limit) done = omega arith
+messages_grow known (send_state office) done = length-append known.messages (office_known known office ∷ [])
+messages_grow known (deliver office message) done = omega arith
+messages_grow known (reload office message) done = omega arith
+messages_grow known (horizon_event office day) done = omega arith
+
+offices_along : (known : KnownSets) (events : List RunEvent) (replies : List Reply) → length (fold after_reply known (zip events replies)).offices
+    ≡ length known.offices
+offices_along known [] replies = refl
+offices_along known (event ∷ events) [] = refl
+offices_along known (event ∷ events) (reply ∷ replies) = offices_along (after_reply known (event, reply)) events replies ∙ offices_stay known event reply
+
+messages_along : (known : KnownSets) (events : List RunEvent) (replies : List Reply) → length (fold after_reply known (zip events replies)).messages
+    ≡ length known.messages + sent_count events replies
+messages_along known [] replies = omega arith
+messages_along known (event ∷ events) [] = omega arith
+messages_along known (event ∷ events) (reply ∷ replies) =
+    let rest = messages_along (after_reply known (event, reply)) events replies in
+    let here = messages_grow known event reply in
+    let split = first_counts (event, reply) (zip events replies) in
+    omega arith
+  where
+    first_counts : (x : RunEvent × Reply) (xs : List (RunEvent × Reply)) → length (filter is_sent (x ∷ xs)) ≡ length (filter is_sent (x ∷ [])) + length
+        (filter is_sent xs)
+    first_counts x xs = by (is_sent x)
+      where
+        by : (b : Bool) → length (cond b (x ∷ filter is_sent xs) (filter is_sent xs)) ≡ length (cond b (x ∷ []) []) + length (filter is_sent xs)
+        by true = omega arith
+        by false = omega arith
+
+-- as many offices as at the start
+pub offices_are : (offices : ℕ) (events : List RunEvent) (replies : List Reply) → length (known_sets offices events replies).offices ≡ offices
+offices_are offices events replies = offices_along (none_known offices) events replies ∙ length-replicate offices nothing
+
+-- and as many messages as sendings that were done
+pub messages_are : (offices : ℕ) (events : List RunEvent) (replies : List Reply)
+    → length (known_sets offices events replies).messages ≡ sent_count events replies
+messages_are offices events replies =
+    messages_along (none_known offices) events replies ∙ (let e : 0 + sent_count events replies ≡ sent_count events replies = omega arith in e)

@@ -1,0 +1,153 @@
+-- Offices that know the same have equal states, and those that know the same files print the same dockers, whatever runs they are of.
+use Rattle.std.proofs.Common.{◌≡◌, ℕ, ◌+◌, Bool, true, false, List, [], ap, sym, ◌∙◌, subst, refl, arith, All}
+use Rattle.std.specs.Prelude.{◌↔◌, max, nat_lt}
+use Rattle.std.proofs.Math.Nat.{le-max_left, le-max_right, max-eq_left, max-eq_right}
+use Rattle.std.proofs.lemmas.Bool.{ltb-true, ltb-false}
+use Rattle.std.proofs.lemmas.List.Elements.{All-get_or}
+use Rattle.docker_model.specs.records.Date.{IsDay}
+use Rattle.docker_model.specs.state.Table.{Table, IsPlainTable}
+use Rattle.docker_model.specs.state.Lapse.{IsDayRefused}
+use Rattle.docker_model.specs.state.State.{State, IsValid, live_table, lapse_state}
+use Rattle.docker_model.specs.state.Summary.{IsSummary}
+use Rattle.docker_model.specs.state.StateText.{Format, state_text}
+use Rattle.docker_model.specs.docker.DockerText.{IsDockerText, docker_text}
+use Rattle.docker_model.specs.run.Run.{RunEvent, Exchange, IsRun, AreReplies, none_known, IsStateOf, IsMessageOf, Known, nothing, office_known, message_known, IsOffice, IsMessage}
+use Rattle.docker_model.specs.run.Knowledge.{HaveSameFiles, AreOneKnowledge, IsGoodKnown, IsGoodEvent, Holds, office_state, message_text, sets_of}
+use Rattle.docker_laws.proofs.states.Lapse.{max_most}
+use Rattle.docker_laws.proofs.dockers.PrintedDocker.{state_text_iff, printed_is_plain}
+use Rattle.docker_laws.proofs.joins.RaisedHorizon.{lapsed_already, none_to_lapse}
+use Rattle.docker_laws.proofs.runs.GoodKnowledge.{good_in_run}
+use Rattle.docker_laws.proofs.runs.MessageTexts.{summary_told}
+use Rattle.docker_laws.proofs.texts.StateGrown.{horizon_day}
+use Rattle.docker_laws.proofs.states.SummaryLaws.{summary_unique, lapsed_summary}
+use Rattle.docker_laws.proofs.states.OneJoin.{docker_unique}
+use Rattle.docker_laws.proofs.lists.ZipSteps.{zip_at}
+
+-- what holds at the end is what a run leaves
+pub holds_at_end : (format : Format) (offices : ℕ) (events : List RunEvent) (exchange : Exchange) → AreReplies (none_known offices) events exchange.replies
+    → Holds format (sets_of offices events exchange) exchange.states exchange.messages → IsRun format offices events exchange
+holds_at_end format offices events exchange replies holds = record { replies = replies; states = holds.states_are; messages = holds.messages_are }
+
+-- and what a run of good events leaves holds
+pub run_holds : (format : Format) (offices : ℕ) (events : List RunEvent) (exchange : Exchange) → All (IsGoodEvent format) events
+    → IsRun format offices events exchange
+    → Holds format (sets_of offices events exchange) exchange.states exchange.messages
+run_holds format offices events exchange each run =
+    let good = good_in_run format offices events exchange.replies each run.replies in
+    record { offices = good.0; sent = good.1; states_are = run.states; messages_are = run.messages }
+
+-- ---- dockers of one set of files
+
+-- the greater of two horizons refuses no day that neither refuses
+greater_prints : (a b day : ℕ) → ¬ IsDayRefused a day → ¬ IsDayRefused b day → ¬ IsDayRefused (max a b) day
+greater_prints a b day first second = by (nat_lt a b) refl
+  where
+    by : (t : Bool) → nat_lt a b ≡ t → ¬ IsDayRefused (max a b) day
+    by true h = let below = ltb-true a b h in subst (λ n. ¬ IsDayRefused n day) (sym (max-eq_right (omega arith))) second
+    by false h = subst (λ n. ¬ IsDayRefused n day) (sym (max-eq_left (ltb-false a b h))) first
+
+-- under a horizon that doesn't refuse the day the docker is the same
+docker_stays : (horizon : ℕ) (state : State) (place : List ℕ) (day : ℕ) (text : List ℕ) → IsDay horizon → IsValid state → ¬ IsDayRefused horizon day
+    → IsDockerText (live_table state) place day text → IsDockerText (live_table (lapse_state horizon state)) place day text
+docker_stays horizon state place day text is_day valid printed is = by (nat_lt 0 horizon) (nat_lt day (horizon + 3)) refl refl
+  where
+    by : (b c : Bool) → nat_lt 0 horizon ≡ b → nat_lt day (horizon + 3) ≡ c → IsDockerText (live_table (lapse_state horizon state)) place day text
+    by true true above before = absurd (printed (ltb-true 0 horizon above, ltb-true day (horizon + 3) before))
+    by true false above after = (state_text_iff horizon state place day text is_day valid (ltb-false day (horizon + 3) after)).0 is
+    by false c none either =
+        let low = ltb-false 0 horizon none in
+        let zero_is : horizon ≡ 0 = omega arith in
+        subst (λ h. IsDockerText (live_table (lapse_state h state)) place day text) (sym zero_is)
+        (subst (λ (s : State). IsDockerText (live_table s) place day text) (sym (lapsed_already 0 state (none_to_lapse state.entries))) is)
+
+-- a table has one docker text of a place and day
+one_text : (live : Table) (place : List ℕ) (day : ℕ) (text other : List ℕ) → IsDockerText live place day text → IsDockerText live place day other → text ≡ other
+one_text live place day text other is that = is.2 ∙ ap (docker_text live place day) (docker_unique _ is.0 that.0 is.1 that.1) ∙ sym that.2
+
+-- two states of the same files print one docker of a place and day that neither's horizon refuses
+pub docker_of_files : (format : Format) (one two : Known) (first second : State) → IsGoodKnown format one → IsGoodKnown format two → IsStateOf one first
+    → IsStateOf two second
+    → HaveSameFiles one.files two.files → (place : List ℕ) (day : ℕ) → ¬ IsDayRefused one.horizon day → ¬ IsDayRefused two.horizon day → (text other : List ℕ)
+    → IsDockerText (live_table first) place day text → IsDockerText (live_table second) place day other → text ≡ other
+docker_of_files format one two first second good also is that same place day prints_one prints_two text other told told_too =
+    let low = horizon_day format one.horizon good.1 in
+    let high = horizon_day format two.horizon also.1 in
+    let day_is : IsDay (max one.horizon two.horizon) = max_most one.horizon two.horizon _ low high in
+    let prints = greater_prints one.horizon two.horizon day prints_one prints_two in
+    let states = summary_unique one.files two.files same (max one.horizon two.horizon) (lapse_state (max one.horizon two.horizon) first)
+    (lapse_state (max one.horizon two.horizon) second)
+    (lapsed_summary one.files one.horizon (max one.horizon two.horizon) first (le-max_left one.horizon two.horizon) is)
+    (lapsed_summary two.files two.horizon (max one.horizon two.horizon) second (le-max_right one.horizon two.horizon) that) in
+    one_text (live_table (lapse_state (max one.horizon two.horizon) second)) place day text other
+    (subst (λ s. IsDockerText (live_table s) place day text) states
+    (docker_stays (max one.horizon two.horizon) first place day text day_is (summary_told format one first good is).valid prints told))
+    (docker_stays (max one.horizon two.horizon) second place day other day_is (summary_told format two second also that).valid prints told_too)
+
+-- ---- offices and messages of runs
+
+module _ (format : Format) (offices others : ℕ) (events more : List RunEvent) (one two : Exchange) (first : IsRun format offices events one)
+    (second : IsRun format others more two) (i j : ℕ) where
+  module _ (in_one : IsOffice (sets_of offices events one) i) (in_two : IsOffice (sets_of others more two) j) where
+    this_state : IsStateOf (office_known (sets_of offices events one) i) (office_state one.states i)
+    this_state =
+        zip_at IsStateOf (sets_of offices events one).offices one.states i nothing (record { horizon = 0; ledger = []; entries = [] }) first.states in_one
+
+    that_state : IsStateOf (office_known (sets_of others more two) j) (office_state two.states j)
+    that_state =
+        zip_at IsStateOf (sets_of others more two).offices two.states j nothing (record { horizon = 0; ledger = []; entries = [] }) second.states in_two
+
+    -- two offices that know the same have one state
+    pub same_state : AreOneKnowledge (office_known (sets_of offices events one) i) (office_known (sets_of others more two) j)
+        → office_state one.states i ≡ office_state two.states j
+    same_state same =
+        summary_unique (office_known (sets_of offices events one) i).files (office_known (sets_of others more two) j).files same.0
+        (office_known (sets_of others more two) j).horizon
+        (office_state one.states i) (office_state two.states j)
+        (subst (λ h. IsSummary (office_known (sets_of offices events one) i).files h (office_state one.states i)) same.1 this_state) that_state
+
+    -- and those that know the same files print one docker of each place and day that neither refuses
+    pub same_docker : All (IsGoodEvent format) events → All (IsGoodEvent format) more → HaveSameFiles (office_known (sets_of offices events one) i).files
+        (office_known (sets_of others more two) j).files
+        → (place : List ℕ) (day : ℕ) → ¬ IsDayRefused (office_state one.states i).horizon day → ¬ IsDayRefused (office_state two.states j).horizon day
+        → (text other : List ℕ)
+        → IsDockerText (live_table (office_state one.states i)) place day text → IsDockerText (live_table (office_state two.states j)) place day other
+        → text ≡ other
+    same_docker each each_too same place day prints prints_too text other is that =
+        docker_of_files format (office_known (sets_of offices events one) i) (office_known (sets_of others more two) j) (office_state one.states i)
+        (office_state two.states j)
+        (All-get_or (IsGoodKnown format) (sets_of offices events one).offices i nothing in_one
+        (good_in_run format offices events one.replies each first.replies).0)
+        (All-get_or (IsGoodKnown format) (sets_of others more two).offices j nothing in_two
+        (good_in_run format others more two.replies each_too second.replies).0)
+        this_state that_state same place day (subst (λ h. ¬ IsDayRefused h day) this_state.horizon_is prints)
+        (subst (λ h. ¬ IsDayRefused h day) that_state.horizon_is prints_too)
+        text other is that
+
+  -- two messages that know the same have one text
+  pub same_message : IsMessage (sets_of offices events one) i → IsMessage (sets_of others more two) j
+      → AreOneKnowledge (message_known (sets_of offices events one) i) (message_known (sets_of others more two) j)
+      → message_text one.messages i ≡ message_text two.messages j
+  same_message in_one in_two same =
+      let this = zip_at (IsMessageOf format) (sets_of offices events one).messages one.messages i nothing [] first.messages in_one in
+      let that = zip_at (IsMessageOf format) (sets_of others more two).messages two.messages j nothing [] second.messages in_two in
+      this.2 ∙ ap (state_text format) (summary_unique (message_known (sets_of offices events one) i).files
+      (message_known (sets_of others more two) j).files same.0
+      (message_known (sets_of others more two) j).horizon this.0 that.0
+      (subst (λ h. IsSummary (message_known (sets_of offices events one) i).files h this.0) same.1 this.1) that.1) ∙ sym that.2
+
+-- a docker that is printed is that of the plain table of the files
+pub plain_docker : (format : Format) (offices : ℕ) (events : List RunEvent) (exchange : Exchange) → IsRun format offices events exchange
+    → All (IsGoodEvent format) events
+    → (office : ℕ) → IsOffice (sets_of offices events exchange) office → (plain : Table)
+    → IsPlainTable (office_known (sets_of offices events exchange) office).files plain
+    → (place : List ℕ) (day : ℕ) → ¬ IsDayRefused (office_state exchange.states office).horizon day → (text : List ℕ)
+    → IsDockerText (live_table (office_state exchange.states office)) place day text ↔ IsDockerText plain place day text
+plain_docker format offices events exchange run each office there plain is_plain place day prints text =
+    let good = All-get_or (IsGoodKnown format) (sets_of offices events exchange).offices office nothing there
+    (good_in_run format offices events exchange.replies each run.replies).0 in
+    let state = zip_at IsStateOf (sets_of offices events exchange).offices exchange.states office nothing
+    (record { horizon = 0; ledger = []; entries = [] }) run.states there in
+    printed_is_plain (office_known (sets_of offices events exchange) office).files (office_known (sets_of offices events exchange) office).horizon
+    (office_state exchange.states office) plain
+    place day text good.0.0 good.0.1 (horizon_day format (office_known (sets_of offices events exchange) office).horizon good.1) state is_plain
+    (subst (λ h. ¬ IsDayRefused h day) state.horizon_is prints)

@@ -1,0 +1,151 @@
+-- What holds of an exchange in the middle of a run holds after each event that is done.
+use Rattle.std.proofs.Common.{◌≡◌, ℕ, ◌^◌, ◌<◌, ◌≤◌, List, [], ◌∷◌, ◌++◌, length, refl, sym, ◌∙◌, subst, arith, All, set}
+use Rattle.std.proofs.Math.Nat.{max_comm}
+use Rattle.std.proofs.lemmas.List.Elements.{All-set, All-push, All-nil, All-replicate, All-get_or}
+use Rattle.docker_model.specs.file.Text.{lines_of}
+use Rattle.docker_model.specs.file.FileFault.{IsFileText}
+use Rattle.docker_model.specs.state.State.{State, IsJoin, raise_horizon}
+use Rattle.docker_model.specs.state.Summary.{IsSummary}
+use Rattle.docker_model.specs.state.StateText.{Format, state_text, IsHorizonOf, IsToldState}
+use Rattle.docker_model.specs.state.StateFault.{IsStateText}
+use Rattle.docker_model.specs.run.Run.{RunEvent, take_file, send_state, deliver, reload, horizon_event, done, refused, Refusal, Known, KnownSets, IsOffice, IsMessage, IsStateOf, IsMessageOf, nothing, united, office_known, message_known, after_reply, none_known}
+use Rattle.docker_model.specs.run.Knowledge.{IsGoodKnown, Holds, office_state, message_text}
+use Rattle.docker_laws.proofs.joins.JoinLaws.{join_commutes}
+use Rattle.docker_laws.proofs.runs.GoodKnowledge.{nothing_good, united_good, file_good, horizon_good}
+use Rattle.docker_laws.proofs.runs.MessageTexts.{counts_fit, summary_told}
+use Rattle.docker_laws.proofs.texts.TextsApart.{one_text}
+use Rattle.docker_laws.proofs.states.SummaryLaws.{join_is_summary, raised_summary}
+use Rattle.docker_laws.proofs.lists.ZipSteps.{zip_set, zip_end, zip_at, zip_long, zip_replicate}
+
+module _ (format : Format) (known : KnownSets) (states : List State) (messages : List (List ℕ)) (holds : Holds format known states messages) where
+  -- ---- an office and a message
+
+  -- an office's state is the summary of what it knows
+  pub office_is : (office : ℕ) → IsOffice known office → IsStateOf (office_known known office) (office_state states office)
+  office_is office there = zip_at IsStateOf known.offices states office nothing (record { horizon = 0; ledger = []; entries = [] }) holds.states_are there
+
+  -- a message's bytes are the text of the summary of what it knows
+  pub message_is : (message : ℕ) → IsMessage known message → IsMessageOf format (message_known known message) (message_text messages message)
+  message_is message there = zip_at (IsMessageOf format) known.messages messages message nothing [] holds.messages_are there
+
+  -- what an office knows is good
+  pub office_good : (office : ℕ) → IsOffice known office → IsGoodKnown format (office_known known office)
+  office_good office there = All-get_or (IsGoodKnown format) known.offices office nothing there holds.offices
+
+  -- and so is what a message knows
+  pub message_good : (message : ℕ) → IsMessage known message → IsGoodKnown format (message_known known message)
+  message_good message there = All-get_or (IsGoodKnown format) known.messages message nothing there holds.sent
+
+  -- there are as many states as offices, and as many texts as messages
+  pub sizes : (length states ≡ length known.offices) × (length messages ≡ length known.messages)
+  sizes = (sym (zip_long IsStateOf known.offices states holds.states_are), sym (zip_long (IsMessageOf format) known.messages messages holds.messages_are))
+
+  -- an office's state is valid, and told by the format
+  pub office_told : (office : ℕ) → IsOffice known office → IsToldState format (office_state states office)
+  office_told office there = summary_told format (office_known known office) (office_state states office) (office_good office there) (office_is office there)
+
+  -- a message's bytes are the text of the summary of what it knows, within its length as limit
+  pub message_reads : (message : ℕ) → IsMessage known message → length (message_text messages message) < 2 ^ 64
+      → (state : State) × IsStateOf (message_known known message) state × IsStateText format (length (message_text messages message))
+      (message_text messages message) state
+  message_reads message there short =
+      let made = message_is message there in
+      let counts = counts_fit format made.0 (subst (λ text. length text < 2 ^ 64) made.2 short) in (
+        made.0,
+        made.1,
+        record {
+          valid = (summary_told format (message_known known message) made.0 (message_good message there) made.1, counts.0, counts.1);
+          is = made.2;
+          within = omega arith;
+        },
+      )
+
+  -- so what is read there is that summary
+  pub what_is_read : (message : ℕ) → IsMessage known message → length (message_text messages message) < 2 ^ 64 → (limit : ℕ) (state : State)
+      → IsStateText format limit (message_text messages message) state → IsStateOf (message_known known message) state
+  what_is_read message there short limit state is =
+      let made = message_reads message there short in
+      subst (IsStateOf (message_known known message)) (one_text format made.0 state made.2.valid is.valid (sym made.2.is ∙ is.is)) made.1
+
+  -- ---- the steps
+
+  -- a refusal changes nothing
+  pub after_refusal : (event : RunEvent) (why : Refusal) → Holds format (after_reply known (event, refused why)) states messages
+  after_refusal event why = holds
+
+  -- what an office knows and its state are replaced
+  replaced : (office : ℕ) (now : Known) (state : State) → IsGoodKnown format now → IsStateOf now state
+      → Holds format (record { offices = set known.offices office now; messages = known.messages }) (set states office state) messages
+  replaced office now state good is = record {
+    offices = All-set (IsGoodKnown format) known.offices office now good holds.offices;
+    sent = holds.sent;
+    states_are = zip_set IsStateOf known.offices states office now state holds.states_are is;
+    messages_are = holds.messages_are;
+  }
+
+  -- a state is joined to an office's
+  joined_in : (office : ℕ) (more : Known) (one joined : State) → IsOffice known office → IsGoodKnown format more → IsStateOf more one
+      → IsJoin (office_state states office) one joined
+      → Holds format (record { offices = set known.offices office (united more (office_known known office)); messages = known.messages })
+      (set states office joined) messages
+  joined_in office more one joined there good summary join =
+      replaced office (united more (office_known known office)) joined (united_good format more (office_known known office) good (office_good office there))
+      (join_is_summary more.files (office_known known office).files more.horizon (office_known known office).horizon one
+      (office_state states office) joined summary (office_is office there)
+      (join_commutes (office_state states office) one joined join))
+
+  -- a file is taken
+  pub after_take : (office : ℕ) (text : List ℕ) (limit : ℕ) (one joined : State) → IsOffice known office → limit ≤ 4_294_967_294
+      → IsFileText limit text (lines_of text)
+      → IsSummary (lines_of text ∷ []) 0 one → IsJoin (office_state states office) one joined
+      → Holds format (after_reply known (take_file office text limit, done)) (set states office joined) messages
+  after_take office text limit one joined there low file summary join =
+      joined_in office (record { files = lines_of text ∷ []; horizon = 0 }) one joined there (file_good format text limit low file) summary join
+
+  -- a state is sent
+  pub after_send : (office : ℕ) → IsOffice known office → Holds format (after_reply known (send_state office, done)) states
+      (messages ++ state_text format (office_state states office) ∷ [])
+  after_send office there = record {
+    offices = holds.offices;
+    sent = All-push (IsGoodKnown format) known.messages (office_known known office) holds.sent (office_good office there);
+    states_are = holds.states_are;
+    messages_are =
+        zip_end (IsMessageOf format) known.messages messages (office_known known office) (state_text format (office_state states office)) holds.messages_are
+        (office_state states office, office_is office there, refl);
+  }
+
+  -- a message is delivered
+  pub after_delivery : (office message : ℕ) (limit : ℕ) (received joined : State) → IsOffice known office → IsMessage known message
+      → length (message_text messages message) < 2 ^ 64
+      → IsStateText format limit (message_text messages message) received → IsJoin (office_state states office) received joined
+      → Holds format (after_reply known (deliver office message, done)) (set states office joined) messages
+  after_delivery office message limit received joined there sent short is join =
+      joined_in office (message_known known message) received joined there (message_good message sent) (what_is_read message sent short limit received is) join
+
+  -- a message is reloaded
+  pub after_reload : (office message : ℕ) (limit : ℕ) (received : State) → IsOffice known office → IsMessage known message
+      → length (message_text messages message) < 2 ^ 64
+      → IsStateText format limit (message_text messages message) received
+      → Holds format (after_reply known (reload office message, done)) (set states office received) messages
+  after_reload office message limit received there sent short is =
+      replaced office (message_known known message) received (message_good message sent) (what_is_read message sent short limit received is)
+
+  -- a horizon is set
+  pub after_horizon : (office day : ℕ) → IsOffice known office → IsHorizonOf format day
+      → Holds format (after_reply known (horizon_event office day, done)) (set states office (raise_horizon day (office_state states office))) messages
+  after_horizon office day there good =
+      replaced office (united (record { files = []; horizon = day }) (office_known known office)) (raise_horizon day (office_state states office))
+      (united_good format (record { files = []; horizon = day }) (office_known known office) (horizon_good format day good) (office_good office there))
+      (subst (λ h. IsSummary (office_known known office).files h (raise_horizon day (office_state states office)))
+      (max_comm (office_known known office).horizon day)
+      (raised_summary (office_known known office).files (office_known known office).horizon day (office_state states office) (office_is office there)))
+
+-- at the start each office has the summary of no file, without a horizon
+pub holds_at_first : (format : Format) (offices : ℕ) (states : List State) → length states ≡ offices → All (IsSummary [] 0) states
+    → Holds format (none_known offices) states []
+holds_at_first format offices states long all = record {
+  offices = All-replicate (IsGoodKnown format) offices nothing (nothing_good format);
+  sent = All-nil (IsGoodKnown format);
+  states_are = zip_replicate IsStateOf offices nothing states long all;
+  messages_are = tt;
+}

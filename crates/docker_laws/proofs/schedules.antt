@@ -1,0 +1,3 @@
+pub mod ScheduleStages
+pub mod ScheduleFronts
+pub mod ScheduleCauses

@@ -1,0 +1,158 @@
+-- The summary of files within the limit is a valid state.
+use Rattle.std.proofs.Common.{◌≡◌, ℕ, ◌+◌, ◌-◌, ◌^◌, ◌<◌, ◌≤◌, List, [], ◌∷◌, ◌++◌, map, length, All, Contains, subst, ap, sym, ◌∙◌, refl, arith, length-append}
+use Rattle.std.specs.Prelude.{◌==◌, ◌||◌}
+use Rattle.std.specs.List.{AllByRecursion, flat_map}
+use Rattle.std.proofs.lemmas.List.Elements.{All-contains, recursion_from_All}
+use Rattle.docker_model.specs.records.Record.{header, kind_of, columns, column}
+use Rattle.docker_model.specs.records.Date.{IsDay}
+use Rattle.docker_model.specs.file.File.{IsFile, IsUnit, IsSchedule}
+use Rattle.docker_model.specs.file.Change.{Key, tiploc_key, association_key, schedule_key, Act, put, Body, schedule_body, Change, acts_by_kind, changes_of_record, changes_from, changes}
+use Rattle.docker_model.specs.state.Stamp.{LedgerItem, ledger_item_of, IsKept}
+use Rattle.docker_model.specs.state.Op.{Entry, op_of}
+use Rattle.docker_model.specs.state.Lapse.{HasNotToLapse}
+use Rattle.docker_model.specs.state.State.{State, IsValid, IsGoodItem, IsGoodEntry, IsBodyOf, IsOpOf}
+use Rattle.docker_model.specs.state.Summary.{IsSummary, IsEntryOf}
+use Rattle.docker_laws.proofs.lists.Membership.{below_by_recursion, map-Contains, Contains-map, all_members}
+use Rattle.docker_laws.proofs.lists.AllOf.{all_append, all_weaker}
+use Rattle.docker_laws.proofs.records.Columns.{good_fields, one_column, text_in}
+use Rattle.docker_laws.proofs.records.GoodFields.{date_day_first_is_day, clock_minute, update_letter}
+use Rattle.docker_laws.proofs.files.GoodChanges.{IsGoodChange, units_changes}
+use Rattle.docker_laws.proofs.joins.JoinValid.{kept_floor, good_lapses}
+use Rattle.docker_laws.proofs.states.Lapse.{has_lapsed}
+
+-- ---- the changes of a file
+
+-- changes are numbered within their records
+abbrev IsNumbered : ℕ → ℕ → Change → Type 0
+IsNumbered first count change = (first ≤ change.number) × (change.number < first + count)
+
+numbered_alike : (n : ℕ) (acts : List (Key × Act)) → AllByRecursion (λ (c : Change). c.number ≡ n)
+    (map (λ (act : Key × Act). record { number = n; key = act.0; act = act.1 }) acts)
+numbered_alike n [] = tt
+numbered_alike n (act ∷ acts) = (refl, numbered_alike n acts)
+
+numbers_within : (n : ℕ) (lines : List (List ℕ)) → AllByRecursion (IsNumbered n (length lines)) (changes_from n lines)
+numbers_within n [] = tt
+numbers_within n (line ∷ lines) =
+    all_append (IsNumbered n (length (line ∷ lines))) (changes_of_record n line lines) (changes_from (n + 1) lines)
+    (all_weaker (λ (c : Change). c.number ≡ n) (IsNumbered n (length (line ∷ lines))) (λ c same. (omega arith, omega arith)) (changes_of_record n line lines)
+    (numbered_alike n (acts_by_kind (kind_of line) line lines)))
+    (all_weaker (IsNumbered (n + 1) (length lines)) (IsNumbered n (length (line ∷ lines))) (λ c inside. (omega arith, omega arith)) (changes_from (n + 1) lines)
+    (numbers_within (n + 1) lines))
+
+-- a change of a file within the limit: well formed, and its number that of a record behind the header
+pub record IsFileChange (change : Change) : Type 0 where
+  pub good : IsGoodChange change
+  pub low : 2 ≤ change.number
+  pub high : change.number < 2 ^ 32 - 1
+
+-- each change of a file within the limit is well formed
+pub file_change : (file : List (List ℕ)) → IsFile file → length file ≤ 4_294_967_294 → (change : Change) → Contains (changes file) change → IsFileChange change
+file_change file is few change among =
+    let size = ap length is.whole in
+    let sum = length-append (flat_map (λ unit. unit) is.units) (is.last ∷ []) in
+    let rest = flat_map (λ unit. unit) is.units ++ is.last ∷ [] in
+    let numbered = below_by_recursion (IsNumbered 2 (length rest)) (changes_from 2 rest) change (numbers_within 2 rest)
+    (behind rest (subst (λ f. Contains (changes f) change) is.whole among)) in
+    record {
+      good =
+          below_by_recursion IsGoodChange (changes_from 2 rest) change (all_good (omega arith) 2)
+          (behind rest (subst (λ f. Contains (changes f) change) is.whole among));
+      low = numbered.0;
+      high = (let under = numbered.1 in omega arith);
+    }
+  where
+    all_good : length (flat_map (λ unit. unit) is.units) < 2 ^ 32 - 1 → (n : ℕ)
+        → AllByRecursion IsGoodChange (changes_from n (flat_map (λ unit. unit) is.units ++ is.last ∷ []))
+    all_good under = units_changes is.units is.last (recursion_from_All IsUnit is.units is.each) is.trailer_kind under
+
+    behind : (rest : List (List ℕ)) → Contains (changes (is.first ∷ rest)) change → Contains (changes_from 2 rest) change
+    behind rest inside =
+        subst (λ k. Contains (map (λ (act : Key × Act). record { number = 1; key = act.0; act = act.1 })
+        (acts_by_kind k is.first rest) ++ changes_from 2 rest) change) is.header_kind inside
+
+-- what a change puts agrees with its key
+pub body_of_file : (file : List (List ℕ)) → IsFile file → length file ≤ 4_294_967_294 → (change : Change) → Contains (changes file) change → (body : Body)
+    → change.act ≡ put body → IsBodyOf change.key body
+body_of_file file is few change among body puts = subst (λ act. IsOpOf change.key (op_of act)) puts (file_change file is few change among).good.1
+
+-- the lines of a schedule's body are a schedule
+pub kept_schedule : (key : Key) (lines : List (List ℕ)) → IsBodyOf key (schedule_body lines) → IsSchedule lines
+kept_schedule (tiploc_key code) lines none = absurd none
+kept_schedule (association_key key) lines none = absurd none
+kept_schedule (schedule_key key) lines is = is.schedule
+
+-- ---- the ledger item of a file
+
+item_good : (file : List (List ℕ)) → IsFile file → IsGoodItem (ledger_item_of file)
+item_good file is =
+    subst (λ f. IsGoodItem (ledger_item_of f)) (sym is.whole)
+    (let fields = good_fields header is.first is.header_kind is.header_fields in
+    record {
+      day = date_day_first_is_day (columns 23 28 is.first) fields.0;
+      minute = clock_minute (columns 29 32 is.first) fields.1.0;
+      reference = text_in is.first 33 39 is.header_record (omega arith) (omega arith);
+      indicator = update_letter (column 47 is.first) (ap (λ b. (b == 70) || (b == 85)) (sym (one_column is.first 47 (omega arith))) ∙ fields.1.1.0);
+      last_reference = text_in is.first 40 46 is.header_record (omega arith) (omega arith);
+    })
+
+-- ---- the summary
+
+-- the summary of files within the limit is valid
+pub summary_is_valid : (files : List (List (List ℕ))) (horizon : ℕ) (state : State) → IsDay horizon → All IsFile files
+    → All (λ file. length file ≤ 4_294_967_294) files
+    → IsSummary files horizon state → IsValid state
+summary_is_valid files horizon state day each few summary = record {
+  horizon = subst IsDay (sym summary.horizon_is) day;
+  ledger = record {
+    each = all_members IsGoodItem state.ledger (λ item among.
+        let found = (summary.ledger item).0 among in
+        subst IsGoodItem found.2 (item_good found.0 (All-contains IsFile files found.0 each found.1.among)));
+    ascending = summary.ledger_ascends;
+    floor = summary.floor;
+    is_floor = kept_floor (map ledger_item_of files) state.ledger summary.floor summary.is_floor from to;
+    kept = all_members (λ item. IsKept summary.floor item.stamp) state.ledger (λ item among.
+        let found = (summary.ledger item).0 among in
+        subst (λ (i : LedgerItem). IsKept summary.floor i.stamp) found.2 found.1.kept);
+  };
+  entries = (
+    all_members (IsGoodEntry state.ledger) state.entries (λ entry among.
+        let told = (summary.entries entry.0 entry.1).0 among in
+        subst (λ e. IsGoodEntry state.ledger (entry.0, e)) told.2 (good_lapses horizon state.ledger entry.0 told.0 (entry_good entry.0 told.0 told.1.is))),
+    summary.entries_ascend,
+  );
+  have_lapsed = all_members (λ (entry : Key × Entry). HasNotToLapse state.horizon entry.1.op) state.entries (λ entry among.
+      let told = (summary.entries entry.0 entry.1).0 among in
+      subst (λ h. HasNotToLapse h entry.1.op) (sym summary.horizon_is) (subst (HasNotToLapse horizon) (ap (λ (e : Entry). e.op) told.2)
+      (has_lapsed horizon told.0.op)));
+}
+  where
+    from : (item : LedgerItem) → Contains state.ledger item → Contains (map ledger_item_of files) item
+    from item among =
+        let found = (summary.ledger item).0 among in
+        subst (Contains (map ledger_item_of files)) found.2 (map-Contains ledger_item_of files found.0 found.1.among)
+
+    to : (item : LedgerItem) → Contains (map ledger_item_of files) item → IsKept summary.floor item.stamp → Contains state.ledger item
+    to item among kept =
+        let found = Contains-map ledger_item_of files item among in
+        (summary.ledger item).1 (
+          found.0,
+          record { among = found.1; kept = subst (λ (i : LedgerItem). IsKept summary.floor i.stamp) (sym found.2) kept },
+          found.2,
+        )
+
+    entry_good : (key : Key) (entry : Entry) → IsEntryOf files summary.floor key entry → IsGoodEntry state.ledger (key, entry)
+    entry_good key entry made =
+        let told = file_change made.file (All-contains IsFile files made.file each made.kept.among)
+        (All-contains (λ file. length file ≤ 4_294_967_294) files made.file few made.kept.among) made.change made.among in
+        let there = (summary.ledger (ledger_item_of made.file)).1 (made.file, made.kept, refl) in
+        subst (λ k. IsGoodEntry state.ledger (k, entry)) made.key_is
+        (subst (λ e. IsGoodEntry state.ledger (made.change.key, e)) made.entry_is (record {
+          key = told.good.0;
+          stamp = record {
+            in_ledger = map-Contains (λ (item : LedgerItem). item.stamp) state.ledger (ledger_item_of made.file) there;
+            low = told.low;
+            high = told.high;
+          };
+          op = told.good.1;
+        }))

@@ -1,0 +1,15 @@
+pub mod StateBytes
+pub mod StateReadBack
+pub mod TextStages
+pub mod TextsBefore
+pub mod GoodPartLeads
+pub mod PartsReached
+pub mod TextsApart
+pub mod LedgerGrown
+pub mod StateGrown
+pub mod PartJudged
+pub mod PartDecisions
+pub mod TextOrFault
+pub mod OneStateFault
+pub mod StateFaultStays
+pub mod ToldWithHorizon

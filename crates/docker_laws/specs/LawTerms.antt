@@ -1,0 +1,33 @@
+-- Relations that several clauses of the laws state.
+use Rattle.std.specs.Prelude.{◌≡◌, ℕ, ◌+◌, ◌≤◌, List, ◌++◌, slice_set, Option, Contains}
+use Rattle.docker_model.specs.file.Change.{Key}
+use Rattle.docker_model.specs.state.Stamp.{FileStamp, IsFloor}
+use Rattle.docker_model.specs.state.Op.{Entry}
+use Rattle.docker_model.specs.state.State.{State, IsValid}
+use Rattle.docker_model.specs.state.Staging.{IsStaged, IsCommit}
+use Rattle.docker_model.specs.state.StateText.{Format}
+use Rattle.docker_model.specs.run.Run.{KnownSets, RunEvent, done, after_reply}
+use Rattle.docker_model.specs.run.Knowledge.{Holds}
+
+-- the day is the start day or one of the two days behind it
+abbrev pub IsNear : ℕ → ℕ → Type 0
+IsNear start day = (start ≤ day) × (day ≤ start + 2)
+
+-- each of some index rows is of the place
+abbrev pub AreAt : {K : Type 0} → List ℕ → List (List ℕ × K) → Type 0
+AreAt {K} place rows = (row : List ℕ × K) → Contains rows row → row.0 ≡ place
+
+-- none of some index rows is of the place
+abbrev pub AreElsewhere : {K : Type 0} → List ℕ → List (List ℕ × K) → Type 0
+AreElsewhere {K} place rows = (row : List ℕ × K) → Contains rows row → ¬ (row.0 ≡ place)
+
+-- it holds of valid states where each entry of the one received was staged under the floor of the union, and then committed
+abbrev pub HoldsOnceCommitted : State → State → Option FileStamp → List (Key × Entry) → State → Type 0 → Type 0
+HoldsOnceCommitted own received floor staged after Fact =
+    IsValid own → IsValid received → IsFloor (own.ledger ++ received.ledger) floor → IsStaged own floor received.entries staged
+    → IsCommit own received.ledger staged after → Fact
+
+-- an exchange holds what is known after an event that was done, with a new state of its office
+abbrev pub HoldsAfter : Format → KnownSets → RunEvent → List State → ℕ → State → List (List ℕ) → Type 0
+HoldsAfter format known event states office now messages =
+    Holds format (after_reply known (event, done)) (slice_set states office now) messages

@@ -1,0 +1,37 @@
+-- A text as it comes in: the lines whose line feed came, and the open line behind the last one.
+use Rattle.std.specs.Prelude.{◌≡◌, ℕ, List, false, All, [], ◌∷◌, map, ◌==◌, count_by}
+use Rattle.std.specs.List.{slice_split}
+use Rattle.std.specs.Str.Lines.{strip_carriage_return}
+use Rattle.docker_model.specs.records.Record.{Lines}
+use Rattle.docker_model.specs.file.Text.{last_piece}
+use Rattle.docker_model.specs.file.FaultSoFar.{last_of}
+
+-- the bytes have no line feed
+abbrev pub HasNoFeed : List ℕ → Type 0
+HasNoFeed bytes = All (λ b. (b == 10) ≡ false) bytes
+
+-- how many line feeds came
+abbrev pub feeds : List ℕ → ℕ
+feeds text = count_by (λ b. b == 10) text
+
+-- the pieces of a text, between its line feeds
+abbrev pub pieces_of : List ℕ → Lines
+pieces_of text = slice_split (λ b. b == 10) text
+
+-- the pieces but the last
+abbrev pub but_last : Lines → Lines
+but_last [] = []
+but_last (piece ∷ []) = []
+but_last (piece ∷ next ∷ pieces) = piece ∷ but_last (next ∷ pieces)
+
+-- what follows the last line feed
+abbrev pub open_line : List ℕ → List ℕ
+open_line text = last_of (pieces_of text)
+
+-- the lines whose line feed came
+abbrev pub told_lines : List ℕ → Lines
+told_lines text = map strip_carriage_return (but_last (pieces_of text))
+
+-- the line that a last piece is, if it isn't empty
+abbrev pub line_left : List ℕ → Lines
+line_left piece = map strip_carriage_return (last_piece piece)

@@ -1,0 +1,19 @@
+-- The falls of times as they come in, behind the last time so far.
+use Rattle.std.specs.Prelude.{ℕ, List, [], ◌∷◌, Some, None, Option}
+use Rattle.docker_model.specs.file.Journey.{fall_count}
+
+-- the last of some times
+abbrev pub last_of : List ℕ → Option ℕ
+last_of [] = None
+last_of (time ∷ []) = Some time
+last_of (time ∷ later ∷ times) = last_of (later ∷ times)
+
+-- the falls of times behind a last one
+abbrev pub falls_after : Option ℕ → List ℕ → ℕ
+falls_after None times = fall_count times
+falls_after (Some last) times = fall_count (last ∷ times)
+
+-- the last of times in two parts
+abbrev pub later_or : Option ℕ → Option ℕ → Option ℕ
+later_or (Some later) earlier = Some later
+later_or None earlier = earlier

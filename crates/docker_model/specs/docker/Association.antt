@@ -1,0 +1,65 @@
+-- Association lines: where two trains join, divide, or one works on as the other. A day is any number here, and no bound stands on it: dockers are of days 0 to
+-- 36524.
+use Rattle.std.specs.Prelude.{◌≡◌, ℕ, ◌+◌, ◌-◌, Bool, ◌||◌, ◌⊎◌, ◌==◌, nat_lt, if◌then◌else◌, IsTrue, List, Option, Some, None, codes}
+use Rattle.std.specs.Str.{bytes_eq}
+use Rattle.docker_model.specs.records.Record.{columns, column}
+use Rattle.docker_model.specs.records.Date.{last_day}
+use Rattle.docker_model.specs.file.Journey.{Occasion, joining, dividing, next_working}
+use Rattle.docker_model.specs.file.File.{first_record}
+use Rattle.docker_model.specs.file.Change.{AssociationKey, ScheduleKey}
+use Rattle.docker_model.specs.state.Table.{Table}
+use Rattle.docker_model.specs.docker.Event.{Event, event_day, first_event_at}
+use Rattle.docker_model.specs.docker.Choice.{TrainRuns, IsChosenAssociation, IsCancellation, group_of}
+use Rattle.docker_model.specs.docker.DockerLine.{DockerLine, line_of_association}
+
+-- what an association category of two bytes stands for: JJ, VV and NP; any other gives no line
+abbrev pub category_occasion : List ℕ → Option Occasion
+category_occasion category =
+    if bytes_eq category (codes "JJ") then Some joining
+    else (if bytes_eq category (codes "VV") then Some dividing else (if bytes_eq category (codes "NP") then Some next_working else None))
+
+-- the date indicators S, space, N and P; any other gives no line
+abbrev pub is_date_indicator : ℕ → Bool
+is_date_indicator b = (b == 83) || (b == 32) || (b == 78) || (b == 80)
+
+-- the associated train's start day, if there is such a day: the next for N, the one before for P, else the base's. Of base start days 0 to 36524
+abbrev pub partner_start : ℕ → ℕ → Option ℕ
+partner_start indicator day =
+    if indicator == 78 then (if nat_lt day last_day then Some (day + 1) else None)
+    else (if indicator == 80 then (if nat_lt 0 day then Some (day - 1) else None) else Some day)
+
+-- no train of the UID starts on the day
+abbrev pub RunsNot : Table → List ℕ → ℕ → Type 0
+RunsNot live uid day = (key : ScheduleKey) (lines : List (List ℕ)) → ¬ TrainRuns live uid day key lines
+
+-- the identity of the UID's train that starts on the day, as its basic schedule has it, and question marks where it does not run
+abbrev pub IsIdentityOn : Table → List ℕ → List ℕ → ℕ → Type 0
+IsIdentityOn live uid identity day =
+    ((key : ScheduleKey) × (lines : List (List ℕ)) × TrainRuns live uid day key lines × (identity ≡ columns 33 36 (first_record lines)))
+    ⊎ (RunsNot live uid day × (identity ≡ codes "????"))
+
+-- the same on a day that there may not be
+abbrev pub IsPartnerIdentity : Table → List ℕ → Option ℕ → List ℕ → Type 0
+IsPartnerIdentity live uid None identity = identity ≡ codes "????"
+IsPartnerIdentity live uid (Some day) identity = IsIdentityOn live uid identity day
+
+-- the line is that of an association at the place on the day
+pub record IsAssociationLine (live : Table) (place : List ℕ) (day : ℕ) (line : DockerLine) : Type 0 where
+  pub start : ℕ
+  pub key : AssociationKey
+  pub association : List ℕ
+  pub chosen : IsChosenAssociation live (group_of key) start key association
+  pub no_cancellation : ¬ IsCancellation key.indicator
+  pub occasion : Occasion
+  pub category : category_occasion (columns 35 36 association) ≡ Some occasion
+  pub date_indicator : IsTrue (is_date_indicator (column 37 association))
+  pub base_key : ScheduleKey
+  pub base : List (List ℕ)
+  pub base_runs : TrainRuns live key.base start base_key base
+  pub event : Event
+  pub first_there : first_event_at base key.location key.suffix ≡ Some event
+  pub identity : List ℕ
+  pub partner : IsPartnerIdentity live key.associated (partner_start (column 37 association) start) identity
+  pub here : key.location ≡ place
+  pub today : event_day start base event ≡ day
+  pub is : line ≡ line_of_association occasion key.indicator base_key start base event key.associated identity

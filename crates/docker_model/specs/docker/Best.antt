@@ -1,0 +1,19 @@
+-- The best so far of a walk over elements: of those that pass a test the first in an order.
+use Rattle.std.specs.Prelude.{◌≡◌, Bool, true, false, if◌then◌else◌, List, Option, Some, None, Contains}
+use Rattle.std.specs.declared.cmp.Ordering.{Ordering}
+use Rattle.std.specs.Ordering.{is_lt}
+use Rattle.docker_model.specs.state.Order.{IsAtMost}
+
+-- what is found is an element that passes and comes behind none that does; where nothing is found, none passes
+abbrev pub IsBest : {A : Type 0} → (A → A → Ordering) → (A → Bool) → List A → Option A → Type 0
+IsBest {A} cmp test xs None = (z : A) → Contains xs z → test z ≡ false
+IsBest {A} cmp test xs (Some x) = Contains xs x × (test x ≡ true) × ((z : A) → Contains xs z → test z ≡ true → IsAtMost cmp x z)
+
+-- the better of the best so far and an element that passes
+abbrev pub better : {A : Type 0} → (A → A → Ordering) → Option A → A → Option A
+better cmp None x = Some x
+better cmp (Some b) x = if is_lt (cmp x b) then Some x else Some b
+
+-- the best with one more element
+abbrev pub with_one_more : {A : Type 0} → (A → A → Ordering) → (A → Bool) → Option A → A → Option A
+with_one_more cmp test found x = if test x then better cmp found x else found

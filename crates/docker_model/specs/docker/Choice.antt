@@ -1,0 +1,87 @@
+-- Which schedule of a train, and which association, counts on a day. A day is any number here, and no bound stands on it: dockers are of days 0 to 36524.
+use Rattle.std.specs.Prelude.{◌≡◌, ℕ, Bool, false, ◌&&◌, nat_le, IsTrue, List, Option, Some}
+use Rattle.std.specs.declared.cmp.Ordering.{Ordering}
+use Rattle.std.specs.Ordering.{ordering_then, nat_cmp}
+use Rattle.docker_model.specs.records.Record.{Kind, association, basic_schedule, kind_of, columns}
+use Rattle.docker_model.specs.records.Date.{date_number, end_number, runs_on_weekday, weekday_of}
+use Rattle.docker_model.specs.file.File.{first_record}
+use Rattle.docker_model.specs.file.Change.{association_key, schedule_key, AssociationKey, ScheduleKey, association_body, schedule_body}
+use Rattle.docker_model.specs.state.Order.{IsAtMost}
+use Rattle.docker_model.specs.state.Table.{Table}
+
+-- the day is not before the first date, not after the last, and its weekday is marked: of fields of six, six and seven bytes
+abbrev pub runs_within : List ℕ → List ℕ → List ℕ → ℕ → Bool
+runs_within first last days day =
+    nat_le (date_number first) day && nat_le day (end_number last) && runs_on_weekday days (weekday_of day)
+
+-- a basic schedule, a record, runs on a day by its dates and days
+abbrev pub schedule_runs : List ℕ → ℕ → Bool
+schedule_runs line day = runs_within (columns 10 15 line) (columns 16 21 line) (columns 22 28 line) day
+
+-- an association, a record, runs on a day by its dates and days
+abbrev pub association_runs : List ℕ → ℕ → Bool
+association_runs line day = runs_within (columns 16 21 line) (columns 22 27 line) (columns 28 34 line) day
+
+-- either, by the kind of the record
+abbrev pub runs_by_kind : Option Kind → List ℕ → ℕ → Bool
+runs_by_kind (Some association) line day = association_runs line day
+runs_by_kind (Some basic_schedule) line day = schedule_runs line day
+runs_by_kind _ line day = false
+
+-- the record, a basic schedule or an association, runs on the day
+abbrev pub runs : List ℕ → ℕ → Bool
+runs line day = runs_by_kind (kind_of line) line day
+
+-- C, a cancellation
+abbrev pub IsCancellation : ℕ → Type 0
+IsCancellation indicator = indicator ≡ 67
+
+-- the lower STP indicator is chosen, C before N before O before P, and then the later first date
+abbrev pub choice_cmp : ℕ → ℕ → ℕ → ℕ → Ordering
+choice_cmp indicator first other_indicator other_first = ordering_then (nat_cmp indicator other_indicator) (nat_cmp other_first first)
+
+-- the order in which schedules of a UID are chosen
+abbrev pub schedule_choice_cmp : ScheduleKey → ScheduleKey → Ordering
+schedule_choice_cmp a b = choice_cmp a.indicator a.runs_from b.indicator b.runs_from
+
+-- the order in which associations of a group are chosen
+abbrev pub association_choice_cmp : AssociationKey → AssociationKey → Ordering
+association_choice_cmp a b = choice_cmp a.indicator a.start b.indicator b.start
+
+-- a live schedule of the UID that runs on the day
+pub record IsRunning (live : Table) (uid : List ℕ) (day : ℕ) (key : ScheduleKey) (lines : List (List ℕ)) : Type 0 where
+  pub uid_is : key.uid ≡ uid
+  pub is_live : live (schedule_key key) ≡ Some (schedule_body lines)
+  pub runs_then : IsTrue (schedule_runs (first_record lines) day)
+
+-- the chosen schedule of the UID on the day: of those that run the first in the order of choice
+pub record IsChosen (live : Table) (uid : List ℕ) (day : ℕ) (key : ScheduleKey) (lines : List (List ℕ)) : Type 0 where
+  pub running : IsRunning live uid day key lines
+  pub first : (other : ScheduleKey) (others : List (List ℕ)) → IsRunning live uid day other others → IsAtMost schedule_choice_cmp key other
+
+-- the train of the UID that starts on the day runs, by this schedule: it is chosen, and is no cancellation
+pub record TrainRuns (live : Table) (uid : List ℕ) (day : ℕ) (key : ScheduleKey) (lines : List (List ℕ)) : Type 0 where
+  pub chosen : IsChosen live uid day key lines
+  pub no_cancellation : ¬ IsCancellation key.indicator
+
+-- what associations are chosen among
+pub record Group : Type 0 where
+  pub base : List ℕ
+  pub associated : List ℕ
+  pub location : List ℕ
+  pub suffix : ℕ
+
+-- the group of an association
+abbrev pub group_of : AssociationKey → Group
+group_of key = record { base = key.base; associated = key.associated; location = key.location; suffix = key.suffix }
+
+-- a live association of the group that runs on the base's start day
+pub record IsAssociated (live : Table) (group : Group) (day : ℕ) (key : AssociationKey) (line : List ℕ) : Type 0 where
+  pub group_is : group_of key ≡ group
+  pub is_live : live (association_key key) ≡ Some (association_body line)
+  pub runs_then : IsTrue (association_runs line day)
+
+-- the chosen association of the group on that day
+pub record IsChosenAssociation (live : Table) (group : Group) (day : ℕ) (key : AssociationKey) (line : List ℕ) : Type 0 where
+  pub associated : IsAssociated live group day key line
+  pub first : (other : AssociationKey) (others : List ℕ) → IsAssociated live group day other others → IsAtMost association_choice_cmp key other

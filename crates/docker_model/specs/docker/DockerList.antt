@@ -1,0 +1,36 @@
+-- The list of a docker: the events and association lines of a place on a day. The day is any number here, and no bound stands on it: dockers are of days 0 to
+-- 36524.
+use Rattle.std.specs.Prelude.{◌≡◌, ℕ, ◌↔◌, ◌⊎◌, List, Contains}
+use Rattle.docker_model.specs.records.Record.{columns}
+use Rattle.docker_model.specs.file.Change.{ScheduleKey}
+use Rattle.docker_model.specs.state.Order.{IsStrictlyAscending}
+use Rattle.docker_model.specs.state.Table.{Table}
+use Rattle.docker_model.specs.docker.Event.{Event, events_of, event_day, event_line}
+use Rattle.docker_model.specs.docker.Choice.{TrainRuns}
+use Rattle.docker_model.specs.docker.DockerLine.{DockerLine, line_of_event, docker_line_cmp}
+use Rattle.docker_model.specs.docker.Association.{IsAssociationLine}
+
+-- the line is that of an event at the place on the day, of a train that runs
+pub record IsEventLine (live : Table) (place : List ℕ) (day : ℕ) (line : DockerLine) : Type 0 where
+  pub start : ℕ
+  pub key : ScheduleKey
+  pub schedule : List (List ℕ)
+  pub train_runs : TrainRuns live key.uid start key schedule
+  pub event : Event
+  pub among : Contains (events_of schedule) event
+  pub here : columns 3 9 (event_line schedule event) ≡ place
+  pub today : event_day start schedule event ≡ day
+  pub is : line ≡ line_of_event key start schedule event
+
+-- the list has these lines and no others, in strictly ascending order
+pub record Lists (IsLine : DockerLine → Type 0) (lines : List DockerLine) : Type 0 where
+  pub ascending : IsStrictlyAscending docker_line_cmp lines
+  pub members : (line : DockerLine) → Contains lines line ↔ IsLine line
+
+-- the events alone
+abbrev pub IsEventList : Table → List ℕ → ℕ → List DockerLine → Type 0
+IsEventList live place day lines = Lists (IsEventLine live place day) lines
+
+-- the docker list of a live table, a place and a day
+abbrev pub IsDockerList : Table → List ℕ → ℕ → List DockerLine → Type 0
+IsDockerList live place day lines = Lists (λ line. IsEventLine live place day line ⊎ IsAssociationLine live place day line) lines

@@ -1,0 +1,58 @@
+-- Events of a schedule: its departures, arrivals and passes, numbered from 1. A schedule is the list of its lines.
+use Rattle.std.specs.Prelude.{ℕ, ◌+◌, Bool, ◌&&◌, ◌==◌, List, [], map, take, filter, find, slice_index_or, Option, Some, None, codes}
+use Rattle.std.specs.List.{flat_map, enumerate_from, last_or}
+use Rattle.std.specs.Str.{bytes_eq}
+use Rattle.docker_model.specs.records.Record.{columns, column}
+use Rattle.docker_model.specs.file.Journey.{Occasion, times_of, times_along, fall_count}
+use Rattle.docker_model.specs.file.File.{first_record}
+
+-- an event: its number, the place of its line in the schedule, from 0, what happens, and when, in half minutes
+pub record Event : Type 0 where
+  pub number : ℕ
+  pub place : ℕ
+  pub occasion : Occasion
+  pub time : ℕ
+
+-- the times of the lines, each with the place of its line
+abbrev pub placed_times : List (List ℕ) → List (ℕ × (Occasion × ℕ))
+placed_times lines = flat_map (λ placed. map (λ time. (placed.0, time)) (times_of placed.1)) (enumerate_from 0 lines)
+
+-- the events of a schedule
+abbrev pub events_of : List (List ℕ) → List Event
+events_of lines =
+    map (λ counted. record { number = counted.0; place = counted.1.0; occasion = counted.1.1.0; time = counted.1.1.1 })
+    (enumerate_from 1 (placed_times lines))
+
+-- the falls among the events up to the one of this number. It answers for numbers that no event has too: 0 for the number 0, and all falls above the last
+abbrev pub falls_to : List (List ℕ) → ℕ → ℕ
+falls_to lines number = fall_count (take number (times_along lines))
+
+-- the day of an event of these lines, of a train that starts on a day
+abbrev pub event_day : ℕ → List (List ℕ) → Event → ℕ
+event_day start lines event = start + falls_to lines event.number
+
+-- the line that has an event of these lines
+abbrev pub event_line : List (List ℕ) → Event → List ℕ
+event_line lines event = slice_index_or lines event.place []
+
+-- the identity after the last change en route, if there is one, and else that of the basic schedule
+abbrev pub changed_identity : Option (List ℕ) → List ℕ → List ℕ
+changed_identity None basic = columns 33 36 basic
+changed_identity (Some change) basic = columns 13 16 change
+
+-- the line has this record identity
+abbrev pub has_identity : List ℕ → List ℕ → Bool
+has_identity identity line = bytes_eq (columns 1 2 line) identity
+
+-- the train's identity at an event of these lines
+abbrev pub event_identity : List (List ℕ) → Event → List ℕ
+event_identity lines event =
+    changed_identity (last_or None (filter (λ line. has_identity (codes "CR") line) (take event.place lines))) (first_record lines)
+
+-- the line is of this TIPLOC, and of this suffix
+abbrev pub is_at : List ℕ → ℕ → List ℕ → Bool
+is_at location suffix line = bytes_eq (columns 3 9 line) location && (column 10 line == suffix)
+
+-- the first event at a location and suffix, which is the first of the first call there: a call is a location record that has an event
+abbrev pub first_event_at : List (List ℕ) → List ℕ → ℕ → Option Event
+first_event_at lines location suffix = find (λ event. is_at location suffix (event_line lines event)) (events_of lines)

@@ -1,0 +1,28 @@
+-- The events of a schedule as a walk over its lines meets them, and the falls and the identity that it carries along.
+use Rattle.std.specs.Prelude.{ℕ, ◌+◌, nat_lt, if◌then◌else◌, List, [], ◌∷◌, ◌++◌, map, length, filter, Option, Some, None, codes}
+use Rattle.std.specs.List.{enumerate_from, last_or}
+use Rattle.docker_model.specs.file.Journey.{Occasion, times_of}
+use Rattle.docker_model.specs.docker.Event.{Event, has_identity}
+
+-- the events of the times of one line, numbered from here on, where the line stands at this place
+abbrev pub events_here : ℕ → ℕ → List (Occasion × ℕ) → List Event
+events_here number place times =
+    map (λ counted. record { number = counted.0; place = place; occasion = counted.1.0; time = counted.1.1 }) (enumerate_from number times)
+
+-- the events of lines, numbered from here on, where the first line stands at this place
+abbrev pub events_from : ℕ → ℕ → List (List ℕ) → List Event
+events_from number place [] = []
+events_from number place (line ∷ lines) = events_here number place (times_of line) ++ events_from (number + length (times_of line)) (place + 1) lines
+
+-- 1 where a time is below the last one before it
+abbrev pub fall_at : Option ℕ → ℕ → ℕ
+fall_at None time = 0
+fall_at (Some last) time = if nat_lt time last then 1 else 0
+
+-- the last time so far
+abbrev pub last_time : List ℕ → Option ℕ
+last_time times = last_or None times
+
+-- the last change en route among the lines so far
+abbrev pub last_change : List (List ℕ) → Option (List ℕ)
+last_change lines = last_or None (filter (λ line. has_identity (codes "CR") line) lines)

@@ -1,0 +1,112 @@
+-- The changes of keys that the records of a file make.
+use Rattle.std.specs.Prelude.{ℕ, List, Bool, ◌||◌, take_while, if◌then◌else◌, [], ◌∷◌, Option, Some, map, ◌+◌, ◌++◌}
+use Rattle.std.specs.Str.{bytes_eq}
+use Rattle.docker_model.specs.records.Record.{columns, column, kind_of, Kind, tiploc_insert, tiploc_amend, tiploc_delete, association, basic_schedule}
+use Rattle.docker_model.specs.records.Date.{date_number}
+use Rattle.docker_model.specs.records.Clock.{is_blank}
+use Rattle.docker_model.specs.records.Field.{is_deletion, as_new}
+use Rattle.docker_model.specs.file.File.{follows_basic}
+
+-- what an association is known by
+pub record AssociationKey : Type 0 where
+  pub base : List ℕ
+  pub associated : List ℕ
+  pub start : ℕ
+  pub location : List ℕ
+  pub suffix : ℕ
+  pub indicator : ℕ
+
+-- what a schedule is known by
+pub record ScheduleKey : Type 0 where
+  pub uid : List ℕ
+  pub runs_from : ℕ
+  pub indicator : ℕ
+
+-- a key: a TIPLOC's code, or that of an association or a schedule
+pub data Key : Type 0 where
+  tiploc_key : (code : List ℕ) → Key
+  association_key : (key : AssociationKey) → Key
+  schedule_key : (key : ScheduleKey) → Key
+
+-- what a key is put with: 63 bytes of a TIPLOC, the line of an association, the lines of a schedule
+pub data Body : Type 0 where
+  tiploc_body : (bytes : List ℕ) → Body
+  association_body : (line : List ℕ) → Body
+  schedule_body : (lines : List (List ℕ)) → Body
+
+-- what a change does to its key
+pub data Act : Type 0 where
+  delete : Act
+  put : (body : Body) → Act
+
+-- a change, with the number of its record
+pub record Change : Type 0 where
+  pub number : ℕ
+  pub key : Key
+  pub act : Act
+
+-- the code that a TIPLOC record names
+abbrev pub tiploc_named : List ℕ → Key
+tiploc_named line = tiploc_key (columns 3 9 line)
+
+-- the new code of a TIPLOC amendment
+abbrev pub new_tiploc_named : List ℕ → Key
+new_tiploc_named line = tiploc_key (columns 73 79 line)
+
+-- the key of an association record
+abbrev pub association_named : List ℕ → Key
+association_named line = association_key (record {
+  base = columns 4 9 line;
+  associated = columns 10 15 line;
+  start = date_number (columns 16 21 line);
+  location = columns 38 44 line;
+  suffix = column 45 line;
+  indicator = column 80 line;
+})
+
+-- the key of a basic schedule
+abbrev pub schedule_named : List ℕ → Key
+schedule_named line = schedule_key (record {
+  uid = columns 4 9 line;
+  runs_from = date_number (columns 10 15 line);
+  indicator = column 80 line;
+})
+
+-- the body of a TIPLOC
+abbrev pub tiploc_details : List ℕ → Body
+tiploc_details line = tiploc_body (columns 10 72 line)
+
+-- a TIPLOC amendment keeps its code: the new one is blank or the same
+abbrev pub keeps_code : List ℕ → Bool
+keeps_code line = is_blank (columns 73 79 line) || bytes_eq (columns 73 79 line) (columns 3 9 line)
+
+-- the lines of a schedule behind its basic schedule, among the records that follow it
+abbrev pub schedule_rest : List (List ℕ) → List (List ℕ)
+schedule_rest following = take_while (λ line. follows_basic (kind_of line)) following
+
+-- what a record of a kind does, where these records follow it: each key with its act
+abbrev pub acts_by_kind : Option Kind → List ℕ → List (List ℕ) → List (Key × Act)
+acts_by_kind (Some tiploc_insert) line following = (tiploc_named line, put (tiploc_details line)) ∷ []
+acts_by_kind (Some tiploc_amend) line following =
+    if keeps_code line then (tiploc_named line, put (tiploc_details line)) ∷ []
+    else (tiploc_named line, delete) ∷ (new_tiploc_named line, put (tiploc_details line)) ∷ []
+acts_by_kind (Some tiploc_delete) line following = (tiploc_named line, delete) ∷ []
+acts_by_kind (Some association) line following =
+    (association_named line, if is_deletion line then delete else put (association_body (as_new line))) ∷ []
+acts_by_kind (Some basic_schedule) line following =
+    (schedule_named line, if is_deletion line then delete else put (schedule_body (as_new line ∷ schedule_rest following))) ∷ []
+acts_by_kind _ line following = []
+
+-- the changes of a record, numbered as the record
+abbrev pub changes_of_record : ℕ → List ℕ → List (List ℕ) → List Change
+changes_of_record number line following =
+    map (λ act. record { number = number; key = act.0; act = act.1 }) (acts_by_kind (kind_of line) line following)
+
+-- the changes of records that are numbered from here on
+abbrev pub changes_from : ℕ → List (List ℕ) → List Change
+changes_from number [] = []
+changes_from number (line ∷ following) = changes_of_record number line following ++ changes_from (number + 1) following
+
+-- the changes of a file, in the order of its records
+abbrev pub changes : List (List ℕ) → List Change
+changes file = changes_from 1 file

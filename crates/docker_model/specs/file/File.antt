@@ -1,0 +1,93 @@
+-- What a CIF file is: a list of records.
+use Rattle.std.specs.Prelude.{ℕ, List, [], ◌∷◌, Bool, true, false, Option, Some, ◌⊎◌, ◌≡◌, ◌++◌, All, IsTrue, ◌≤◌}
+use Rattle.std.specs.List.{flat_map}
+use Rattle.docker_model.specs.records.Record.{Kind, extra_details, origin_location, intermediate_location, terminating_location, change_en_route, HasKind, column, basic_schedule, IsRecord, tiploc_insert, tiploc_amend, tiploc_delete, association, header, trailer}
+use Rattle.docker_model.specs.records.Field.{is_deletion, HasGoodFields}
+use Rattle.docker_model.specs.file.Journey.{midnights}
+
+-- the first of some records: the header of a file, and of a schedule's lines its basic schedule. Of none it has no bytes
+abbrev pub first_record : List (List ℕ) → List ℕ
+first_record [] = []
+first_record (line ∷ lines) = line
+
+-- a record that stands in a schedule behind its basic schedule
+abbrev pub follows_basic : Option Kind → Bool
+follows_basic (Some extra_details) = true
+follows_basic (Some origin_location) = true
+follows_basic (Some intermediate_location) = true
+follows_basic (Some terminating_location) = true
+follows_basic (Some change_en_route) = true
+follows_basic _ = false
+
+-- an intermediate location or a change en route
+abbrev pub IsWithinJourney : List ℕ → Type 0
+IsWithinJourney line = HasKind intermediate_location line ⊎ HasKind change_en_route line
+
+-- one origin, any intermediate locations and changes en route, one terminating location
+pub record IsJourney (lines : List (List ℕ)) : Type 0 where
+  pub first : List ℕ
+  pub between : List (List ℕ)
+  pub last : List ℕ
+  pub whole : lines ≡ first ∷ between ++ last ∷ []
+  pub origin : HasKind origin_location first
+  pub calls : All IsWithinJourney between
+  pub terminus : HasKind terminating_location last
+
+-- at most one record, of extra details
+abbrev pub AreExtraDetails : List (List ℕ) → Type 0
+AreExtraDetails lines = (lines ≡ []) ⊎ ((line : List ℕ) × (lines ≡ line ∷ []) × HasKind extra_details line)
+
+-- the schedule is a deletion or a cancellation, and so may lack its journey
+abbrev pub MayLackJourney : List ℕ → Type 0
+MayLackJourney basic = IsTrue (is_deletion basic) ⊎ (column 80 basic ≡ 67)
+
+-- the journey's fields are good, and it passes midnight at most twice
+pub record IsSoundJourney (lines : List (List ℕ)) : Type 0 where
+  pub fields : All HasGoodFields lines
+  pub falls : midnights lines ≤ 2
+
+-- a basic schedule, at most one record of extra details, and a journey. The journey lines of a deletion are read for kind and place alone
+pub record IsSchedule (lines : List (List ℕ)) : Type 0 where
+  pub basic : List ℕ
+  pub extra : List (List ℕ)
+  pub journey : List (List ℕ)
+  pub whole : lines ≡ basic ∷ extra ++ journey
+  pub records : All IsRecord lines
+  pub kind : HasKind basic_schedule basic
+  pub fields : HasGoodFields basic
+  pub details : AreExtraDetails extra
+  pub journey_or_none : IsJourney journey ⊎ ((journey ≡ []) × MayLackJourney basic)
+  pub sound : IsTrue (is_deletion basic) ⊎ IsSoundJourney journey
+
+-- a TIPLOC insert, amend or delete, or an association
+abbrev pub IsSingleKind : List ℕ → Type 0
+IsSingleKind line = HasKind tiploc_insert line ⊎ HasKind tiploc_amend line ⊎ HasKind tiploc_delete line ⊎ HasKind association line
+
+-- one such record, its fields good
+abbrev pub IsSingle : List (List ℕ) → Type 0
+IsSingle unit = (line : List ℕ) × (unit ≡ line ∷ []) × IsRecord line × IsSingleKind line × HasGoodFields line
+
+-- what stands between header and trailer: single records and schedules
+abbrev pub IsUnit : List (List ℕ) → Type 0
+IsUnit unit = IsSingle unit ⊎ IsSchedule unit
+
+-- a header, units in any order, and a trailer
+pub record IsFile (records : List (List ℕ)) : Type 0 where
+  pub first : List ℕ
+  pub units : List (List (List ℕ))
+  pub last : List ℕ
+  pub whole : records ≡ first ∷ flat_map (λ unit. unit) units ++ last ∷ []
+  pub header_record : IsRecord first
+  pub header_kind : HasKind header first
+  pub header_fields : HasGoodFields first
+  pub each : All IsUnit units
+  pub trailer_record : IsRecord last
+  pub trailer_kind : HasKind trailer last
+
+-- some file, of any length, begins with these records
+abbrev pub BeginsFile : List (List ℕ) → Type 0
+BeginsFile records = (rest : List (List ℕ)) × IsFile (records ++ rest)
+
+-- some schedule begins with these lines
+abbrev pub BeginsSchedule : List (List ℕ) → Type 0
+BeginsSchedule lines = (rest : List (List ℕ)) × IsSchedule (lines ++ rest)

@@ -1,0 +1,102 @@
+-- Why a text is no file: the first record at fault, and the cause.
+use Rattle.std.specs.Prelude.{◌≡◌, ℕ, ◌+◌, ◌<◌, ◌≤◌, ◌≢◌, ◌⊎◌, List, [], ◌∷◌, ◌++◌, length, All, Any, Some, None}
+use Rattle.docker_model.specs.records.Record.{basic_schedule, trailer, HasKind, kind_of, leftmost_bad_byte}
+use Rattle.docker_model.specs.records.Field.{leftmost_bad_field}
+use Rattle.docker_model.specs.file.Journey.{midnights}
+use Rattle.docker_model.specs.file.File.{IsFile, BeginsFile}
+use Rattle.docker_model.specs.file.Text.{lines_of}
+
+-- the causes. A line that does not go on with a schedule has one of them too
+pub data FileCause : Type 0 where
+  too_many : FileCause
+  after_trailer : FileCause
+  bad_length : FileCause
+  bad_byte : (at : ℕ) → FileCause
+  bad_kind : FileCause
+  bad_place : FileCause
+  bad_field : (at : ℕ) → FileCause
+  third_midnight : FileCause
+  no_end : FileCause
+
+-- their order: of several that hold the first is told
+abbrev pub cause_rank : FileCause → ℕ
+cause_rank too_many = 0
+cause_rank after_trailer = 1
+cause_rank bad_length = 2
+cause_rank (bad_byte at) = 3
+cause_rank bad_kind = 4
+cause_rank bad_place = 5
+cause_rank (bad_field at) = 6
+cause_rank third_midnight = 7
+cause_rank no_end = 8
+
+-- no file that begins with the earlier records has a record of this one's kind next
+abbrev pub IsOutOfPlace : List (List ℕ) → List ℕ → Type 0
+IsOutOfPlace earlier line = (next : List ℕ) → kind_of next ≡ kind_of line → ¬ BeginsFile (earlier ++ next ∷ [])
+
+-- the last of the basic schedules among the records, and what follows it
+pub record EndsInSchedule (records lines : List (List ℕ)) : Type 0 where
+  pub before : List (List ℕ)
+  pub basic : List ℕ
+  pub others : List (List ℕ)
+  pub whole : records ≡ before ++ lines
+  pub schedule : lines ≡ basic ∷ others
+  pub kind : HasKind basic_schedule basic
+  pub last : All (λ line. ¬ HasKind basic_schedule line) others
+
+-- the record has the event of its schedule's third fall
+abbrev pub HasThirdFall : List (List ℕ) → List ℕ → Type 0
+HasThirdFall earlier line =
+    (lines : List (List ℕ)) × EndsInSchedule earlier lines × (midnights lines ≤ 2) × (2 < midnights (lines ++ line ∷ []))
+
+-- the cause holds of a record, which the earlier ones precede
+abbrev pub HoldsOf : ℕ → List (List ℕ) → List ℕ → FileCause → Type 0
+HoldsOf limit earlier line too_many = limit ≤ length earlier
+HoldsOf limit earlier line after_trailer = Any (HasKind trailer) earlier
+HoldsOf limit earlier line bad_length = length line ≢ 80
+HoldsOf limit earlier line (bad_byte at) = leftmost_bad_byte line ≡ Some at
+HoldsOf limit earlier line bad_kind = kind_of line ≡ None
+HoldsOf limit earlier line bad_place = IsOutOfPlace earlier line
+HoldsOf limit earlier line (bad_field at) = leftmost_bad_field line ≡ Some at
+HoldsOf limit earlier line third_midnight = HasThirdFall earlier line
+HoldsOf limit earlier line no_end = ⊥
+
+-- it is the first of the causes that hold
+pub record IsCause (limit : ℕ) (earlier : List (List ℕ)) (line : List ℕ) (cause : FileCause) : Type 0 where
+  pub holds : HoldsOf limit earlier line cause
+  pub first : (other : FileCause) → cause_rank other < cause_rank cause → ¬ HoldsOf limit earlier line other
+
+-- where a text is at fault: the number of the record, from 1, and the cause
+pub record FileFault : Type 0 where
+  pub number : ℕ
+  pub cause : FileCause
+
+-- the first record that is above the limit, or up to which the records begin no file
+pub record IsRecordFault (limit : ℕ) (records : List (List ℕ)) (fault : FileFault) : Type 0 where
+  pub earlier : List (List ℕ)
+  pub line : List ℕ
+  pub later : List (List ℕ)
+  pub whole : records ≡ earlier ++ line ∷ later
+  pub number : fault.number ≡ length earlier + 1
+  pub earlier_within : length earlier ≤ limit
+  pub earlier_begin : BeginsFile earlier
+  pub here : (limit ≤ length earlier) ⊎ (¬ BeginsFile (earlier ++ line ∷ []))
+  pub cause : IsCause limit earlier line fault.cause
+
+-- no record is at fault, and the records are no file yet
+pub record IsUnended (limit : ℕ) (records : List (List ℕ)) (fault : FileFault) : Type 0 where
+  pub within : length records ≤ limit
+  pub begin : BeginsFile records
+  pub unended : ¬ IsFile records
+  pub number : fault.number ≡ length records + 1
+  pub cause : fault.cause ≡ no_end
+
+-- the fault of a text under a limit on its records
+abbrev pub IsFileFault : ℕ → List ℕ → FileFault → Type 0
+IsFileFault limit text fault = IsRecordFault limit (lines_of text) fault ⊎ IsUnended limit (lines_of text) fault
+
+-- the text is one of this file, of at most so many records
+pub record IsFileText (limit : ℕ) (text : List ℕ) (file : List (List ℕ)) : Type 0 where
+  pub lines : lines_of text ≡ file
+  pub is : IsFile file
+  pub within : length file ≤ limit

@@ -1,0 +1,59 @@
+-- The times of a journey, and its falls past midnight. A journey is the lines of a schedule from its origin to its terminus.
+use Rattle.std.specs.Prelude.{ℕ, List, [], ◌∷◌, Option, Some, None, ◌+◌, ◌++◌, map, nat_lt, if◌then◌else◌, ◌≡◌, Contains, ◌⊎◌, Bool, ◌&&◌}
+use Rattle.std.specs.List.{flat_map, list_any}
+use Rattle.std.specs.Str.{bytes_eq}
+use Rattle.docker_model.specs.records.Record.{Kind, origin_location, intermediate_location, terminating_location, columns, kind_of, HasKind, is_location}
+use Rattle.docker_model.specs.records.Clock.{scheduled_time}
+
+-- what a docker line stands for: an event of a train, or an association of its train with another
+pub data Occasion : Type 0 where
+  arrival : Occasion
+  pass : Occasion
+  joining : Occasion
+  dividing : Occasion
+  next_working : Occasion
+  departure : Occasion
+
+-- an occasion and its time, if there is one
+abbrev pub timed : Occasion → Option ℕ → List (Occasion × ℕ)
+timed occasion None = []
+timed occasion (Some time) = (occasion, time) ∷ []
+
+-- the times of a record of a kind, in their order: a departure; an arrival, a pass and a departure, those that are there; an arrival
+abbrev pub times_by_kind : Option Kind → List ℕ → List (Occasion × ℕ)
+times_by_kind (Some origin_location) line = timed departure (scheduled_time (columns 11 15 line))
+times_by_kind (Some intermediate_location) line =
+    timed arrival (scheduled_time (columns 11 15 line))
+    ++ timed pass (scheduled_time (columns 21 25 line))
+    ++ timed departure (scheduled_time (columns 16 20 line))
+times_by_kind (Some terminating_location) line = timed arrival (scheduled_time (columns 11 15 line))
+times_by_kind _ line = []
+
+-- the times of a record
+abbrev pub times_of : List ℕ → List (Occasion × ℕ)
+times_of line = times_by_kind (kind_of line) line
+
+-- the times of a schedule's lines, in half minutes
+abbrev pub times_along : List (List ℕ) → List ℕ
+times_along lines = map (λ time. time.1) (flat_map times_of lines)
+
+-- how many times are below the one before. Equal times are no fall
+abbrev pub fall_count : List ℕ → ℕ
+fall_count [] = 0
+fall_count (time ∷ []) = 0
+fall_count (time ∷ later ∷ times) = (if nat_lt later time then 1 else 0) + fall_count (later ∷ times)
+
+-- how often the schedule's lines pass midnight
+abbrev pub midnights : List (List ℕ) → ℕ
+midnights lines = fall_count (times_along lines)
+
+-- an LO, LI or LT of this TIPLOC stands among the lines
+pub record CallsAt (place : List ℕ) (lines : List (List ℕ)) : Type 0 where
+  pub line : List ℕ
+  pub among : Contains lines line
+  pub kind : HasKind origin_location line ⊎ HasKind intermediate_location line ⊎ HasKind terminating_location line
+  pub here : columns 3 9 line ≡ place
+
+-- the same as a test
+abbrev pub calls_at : List ℕ → List (List ℕ) → Bool
+calls_at place lines = list_any (λ line. is_location (kind_of line) && bytes_eq (columns 3 9 line) place) lines

@@ -1,0 +1,22 @@
+-- The changes of a file unit by unit. A unit is what stands between header and trailer: a single record, or a schedule's lines.
+use Rattle.std.specs.Prelude.{ℕ, ◌+◌, if◌then◌else◌, List, [], ◌∷◌, ◌++◌, length}
+use Rattle.docker_model.specs.records.Field.{is_deletion, as_new}
+use Rattle.docker_model.specs.file.Change.{schedule_body, delete, put, Change, schedule_named, changes_of_record}
+
+-- the changes of a unit: those of its first record, where the rest of the unit follows it. They are numbered as that record
+abbrev pub changes_of_unit : ℕ → List (List ℕ) → List Change
+changes_of_unit number [] = []
+changes_of_unit number (line ∷ others) = changes_of_record number line others
+
+-- the changes of units in order, the first record of which has this number
+abbrev pub changes_of_units : ℕ → List (List (List ℕ)) → List Change
+changes_of_units number [] = []
+changes_of_units number (unit ∷ units) = changes_of_unit number unit ++ changes_of_units (number + length unit) units
+
+-- the one change of a schedule, of a basic schedule and the lines behind it: its key is deleted, or put with all these lines
+abbrev pub change_of_schedule : ℕ → List ℕ → List (List ℕ) → Change
+change_of_schedule number basic others = record {
+  number = number;
+  key = schedule_named basic;
+  act = if is_deletion basic then delete else put (schedule_body (as_new basic ∷ others));
+}

@@ -1,0 +1,89 @@
+-- Dates: a day is a number, 0 for 1 January 1960. The calendar is that of the crate `jiff`. A field has the width said: past the end of a shorter one bytes
+-- read as 0.
+use Rattle.std.specs.Prelude.{ℕ, ◌+◌, ◌-◌, ◌*◌, List, slice_index, nat_le, if◌then◌else◌, Bool, ◌&&◌, pos, ◌+ℤ◌, unsigned_abs, ◌≤◌, codes, ◌||◌, ◌==◌, ◌%◌, count_by}
+use Rattle.std.specs.List.{list_all, range_with_len}
+use Rattle.std.specs.Int.{is_in_range}
+use Rattle.std.specs.Char.{is_ascii_digit}
+use Rattle.std.specs.Str.{bytes_eq}
+use Rattle.jiff.specs.Words.{days_in_month}
+use Rattle.jiff_core.specs.Calendar.{days_from_civil}
+
+-- the number that two digits of a field spell, from this place on, counted from 0: of a field that has both
+abbrev pub two_digits : List ℕ → ℕ → ℕ
+two_digits field i = 10 * (slice_index field i - 48) + (slice_index field (i + 1) - 48)
+
+-- the year that a year of two digits means: 60 to 99 are 1960 to 1999, and 00 to 59 are 2000 to 2059
+abbrev pub full_year : ℕ → ℕ
+full_year n = if nat_le 60 n then 1900 + n else 2000 + n
+
+-- the calendar has this day
+abbrev pub is_calendar_day : ℕ → ℕ → ℕ → Bool
+is_calendar_day year month day = is_in_range 1 12 month && is_in_range 1 (days_in_month (pos year) month) day
+
+-- the number of a day of the calendar from 1960 on, in days since 1 January 1960, which is 3653 days before 1 January 1970
+abbrev pub day_number : ℕ → ℕ → ℕ → ℕ
+day_number year month day = unsigned_abs (days_from_civil (pos year) month day +ℤ pos 3653)
+
+-- the last day number, of 31 December 2059
+abbrev pub last_day : ℕ
+last_day = 36524
+
+-- a day number from 1960 to 2059
+abbrev pub IsDay : ℕ → Type 0
+IsDay day = day ≤ last_day
+
+-- the end number of what has no end
+abbrev pub no_end_number : ℕ
+no_end_number = 65535
+
+-- a date of six bytes, digits with the year first: it is a day of the calendar
+abbrev pub is_date : List ℕ → Bool
+is_date field = list_all is_ascii_digit field && is_calendar_day (full_year (two_digits field 0)) (two_digits field 2) (two_digits field 4)
+
+-- the day number of a date of six bytes, year first
+abbrev pub date_number : List ℕ → ℕ
+date_number field = day_number (full_year (two_digits field 0)) (two_digits field 2) (two_digits field 4)
+
+-- a date of six bytes, digits with the day first: it is a day of the calendar
+abbrev pub is_date_day_first : List ℕ → Bool
+is_date_day_first field = list_all is_ascii_digit field && is_calendar_day (full_year (two_digits field 4)) (two_digits field 2) (two_digits field 0)
+
+-- the day number of a date of six bytes, day first
+abbrev pub date_number_day_first : List ℕ → ℕ
+date_number_day_first field = day_number (full_year (two_digits field 4)) (two_digits field 2) (two_digits field 0)
+
+-- the six bytes 999999, for no end
+abbrev pub is_no_end : List ℕ → Bool
+is_no_end field = bytes_eq field (codes "999999")
+
+-- an end date of six bytes: a date with the year first, or no end
+abbrev pub is_end_date : List ℕ → Bool
+is_end_date field = is_no_end field || is_date field
+
+-- the end number of an end date of six bytes
+abbrev pub end_number : List ℕ → ℕ
+end_number field = if is_no_end field then no_end_number else date_number field
+
+-- seven marks 0 or 1, Monday first: of a field of seven bytes
+abbrev pub is_days : List ℕ → Bool
+is_days field = list_all (λ b. (b == 48) || (b == 49)) field
+
+-- the mark of a weekday, 0 for Monday to 6, is 1: of marks of seven bytes
+abbrev pub runs_on_weekday : List ℕ → ℕ → Bool
+runs_on_weekday field weekday = slice_index field weekday == 49
+
+-- the weekday of a day number: Monday is 0, and day 0 was a Friday
+abbrev pub weekday_of : ℕ → ℕ
+weekday_of day = (day + 4) % 7
+
+-- the year of a day number from 0 to 36524: the last that begins by then
+abbrev pub year_of : ℕ → ℕ
+year_of day = 1959 + count_by (λ year. nat_le (day_number year 1 1) day) (range_with_len 1960 100)
+
+-- the month of a day number from 0 to 36524: the last of its year that begins by then
+abbrev pub month_of : ℕ → ℕ
+month_of day = count_by (λ month. nat_le (day_number (year_of day) month 1) day) (range_with_len 1 12)
+
+-- the day of the month of a day number from 0 to 36524
+abbrev pub day_of_month : ℕ → ℕ
+day_of_month day = day + 1 - day_number (year_of day) (month_of day) 1

@@ -1,0 +1,36 @@
+-- Days and times as printed. A field has the width said.
+use Rattle.std.specs.Prelude.{ℕ, List, replicate, ◌+◌, ◌/◌, ◌%◌, [], ◌∷◌, ◌++◌, codes, ◌==◌, if◌then◌else◌}
+use Rattle.std.specs.Str.{bytes_eq}
+use Rattle.docker_model.specs.records.Date.{year_of, month_of, day_of_month}
+
+-- so many spaces
+abbrev pub spaces : ℕ → List ℕ
+spaces n = replicate n 32
+
+-- a number below 100 in two digits
+abbrev pub two_digit_text : ℕ → List ℕ
+two_digit_text n = (48 + n / 10) ∷ (48 + n % 10) ∷ []
+
+-- a number below 10,000 in four digits
+abbrev pub four_digit_text : ℕ → List ℕ
+four_digit_text n = two_digit_text (n / 100) ++ two_digit_text (n % 100)
+
+-- a year, a month and a day as YYYY-MM-DD
+abbrev pub date_text : ℕ → ℕ → ℕ → List ℕ
+date_text year month day = four_digit_text year ++ codes "-" ++ two_digit_text month ++ codes "-" ++ two_digit_text day
+
+-- a day number as YYYY-MM-DD, of days 0 to 36524
+abbrev pub day_text : ℕ → List ℕ
+day_text day = date_text (year_of day) (month_of day) (day_of_month day)
+
+-- a minute of the day as HHMM
+abbrev pub minute_text : ℕ → List ℕ
+minute_text minute = two_digit_text (minute / 60) ++ two_digit_text (minute % 60)
+
+-- a time in half minutes, from 0 to 2879, as HHMM, and then H or a space
+abbrev pub time_text : ℕ → List ℕ
+time_text time = minute_text (time / 2) ++ (if time % 2 == 1 then codes "H" else codes " ")
+
+-- a public time of four bytes as printed: 0000 is none
+abbrev pub shown_public : List ℕ → List ℕ
+shown_public field = if bytes_eq field (codes "0000") then spaces 4 else field

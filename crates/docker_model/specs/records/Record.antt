@@ -1,0 +1,70 @@
+-- Records of a CIF file, their kinds and their columns. Bytes are numbers, and columns count from 1.
+use Rattle.std.specs.Prelude.{ℕ, Bool, ◌&&◌, nat_le, ◌≡◌, List, length, ◌+◌, not, Option, option_map, position, ◌-◌, slice_range, slice_index, [], ◌∷◌, codes, find, Some, true, false}
+use Rattle.std.specs.List.{AllPass}
+use Rattle.std.specs.Str.{bytes_eq}
+
+-- a byte that a record may hold, from a space to a tilde
+abbrev pub is_printable : ℕ → Bool
+is_printable b = nat_le 0x20 b && nat_le b 0x7E
+
+-- the bytes are a record: 80 of them, each printable
+abbrev pub IsRecord : List ℕ → Type 0
+IsRecord bytes = (length bytes ≡ 80) × AllPass is_printable bytes
+
+-- a text of so many bytes
+abbrev pub IsTextOfLength : ℕ → List ℕ → Type 0
+IsTextOfLength n bytes = (length bytes ≡ n) × AllPass is_printable bytes
+
+-- the leftmost column whose byte is not printable
+abbrev pub leftmost_bad_byte : List ℕ → Option ℕ
+leftmost_bad_byte bytes = option_map (λ i. i + 1) (position (λ b. not (is_printable b)) bytes)
+
+-- the bytes from one column to another, both included: of a line that has these columns
+abbrev pub columns : ℕ → ℕ → List ℕ → List ℕ
+columns first last line = slice_range line (first - 1) last
+
+-- the byte in one column: of a line that has it, for past the end of a shorter one it reads as 0
+abbrev pub column : ℕ → List ℕ → ℕ
+column n line = slice_index line (n - 1)
+
+-- the kinds of record, by their names in the CIF End User Specification
+pub data Kind : Type 0 where
+  header : Kind
+  tiploc_insert : Kind
+  tiploc_amend : Kind
+  tiploc_delete : Kind
+  association : Kind
+  basic_schedule : Kind
+  extra_details : Kind
+  origin_location : Kind
+  intermediate_location : Kind
+  terminating_location : Kind
+  change_en_route : Kind
+  trailer : Kind
+
+-- each kind beside its record identity
+abbrev pub identities : List (List ℕ × Kind)
+identities =
+    (codes "HD", header) ∷ (codes "TI", tiploc_insert) ∷ (codes "TA", tiploc_amend) ∷ (codes "TD", tiploc_delete)
+    ∷ (codes "AA", association) ∷ (codes "BS", basic_schedule) ∷ (codes "BX", extra_details)
+    ∷ (codes "LO", origin_location) ∷ (codes "LI", intermediate_location) ∷ (codes "LT", terminating_location)
+    ∷ (codes "CR", change_en_route) ∷ (codes "ZZ", trailer) ∷ []
+
+-- the kind of a record, by its identity in columns 1 and 2
+abbrev pub kind_of : List ℕ → Option Kind
+kind_of line = option_map (λ pair. pair.1) (find (λ pair. bytes_eq pair.0 (columns 1 2 line)) identities)
+
+-- the record is of this kind
+abbrev pub HasKind : Kind → List ℕ → Type 0
+HasKind kind line = kind_of line ≡ Some kind
+
+-- a record of a location: an origin, an intermediate or a terminating one
+abbrev pub is_location : Option Kind → Bool
+is_location (Some origin_location) = true
+is_location (Some intermediate_location) = true
+is_location (Some terminating_location) = true
+is_location _ = false
+
+-- lines of bytes, which may be records
+abbrev pub Lines : Type 0
+Lines = List (List ℕ)

@@ -1,0 +1,64 @@
+-- What an exchange holds in the middle of a run: each office's state and each message's text, beside what it knows.
+use Rattle.std.specs.Prelude.{◌≡◌, ℕ, ◌≤◌, ◌↔◌, List, All, Contains, slice_index_or, [], length, filter, Bool, true, false, ⊤}
+use Rattle.std.specs.List.{AllZip, zip}
+use Rattle.docker_model.specs.file.File.{IsFile}
+use Rattle.docker_model.specs.state.State.{State}
+use Rattle.docker_model.specs.state.StateText.{Format, IsHorizonOf}
+use Rattle.docker_model.specs.run.Run.{Files, Known, KnownSets, Exchange, IsStateOf, IsMessageOf, known_sets, RunEvent, take_file, send_state, deliver, reload, horizon_event, Reply, done, refused}
+
+-- two lists of the same files
+abbrev pub HaveSameFiles : Files → Files → Type 0
+HaveSameFiles first second = (file : List (List ℕ)) → Contains first file ↔ Contains second file
+
+-- the same files and the same horizon
+abbrev pub AreOneKnowledge : Known → Known → Type 0
+AreOneKnowledge first second = HaveSameFiles first.files second.files × (first.horizon ≡ second.horizon)
+
+-- each of the set is a file of at most 4,294,967,294 records
+abbrev pub AreFiles : Files → Type 0
+AreFiles files = All IsFile files × All (λ file. length file ≤ 4_294_967_294) files
+
+-- files, and a horizon that a state of the format may have
+abbrev pub IsGoodKnown : Format → Known → Type 0
+IsGoodKnown format known = AreFiles known.files × IsHorizonOf format known.horizon
+
+-- an event that a run of the format is given: a limit of at most 4,294,967,294 records, and a horizon that a state of the format may have
+abbrev pub IsGoodEvent : Format → RunEvent → Type 0
+IsGoodEvent format (take_file office text limit) = limit ≤ 4_294_967_294
+IsGoodEvent format (horizon_event office day) = IsHorizonOf format day
+IsGoodEvent format _ = ⊤
+
+-- each state is the summary of what its office knows, each message's text that of the summary of what it knows itself, and files and horizons are good
+pub record Holds (format : Format) (known : KnownSets) (states : List State) (messages : List (List ℕ)) : Type 0 where
+  pub offices : All (IsGoodKnown format) known.offices
+  pub sent : All (IsGoodKnown format) known.messages
+  pub states_are : AllZip IsStateOf known.offices states
+  pub messages_are : AllZip (IsMessageOf format) known.messages messages
+
+-- the state of an office; of none that does not exist
+abbrev pub office_state : List State → ℕ → State
+office_state states office = slice_index_or states office (record { horizon = 0; ledger = []; entries = [] })
+
+-- the text of a message; of none that does not exist
+abbrev pub message_text : List (List ℕ) → ℕ → List ℕ
+message_text messages message = slice_index_or messages message []
+
+-- what is known where an exchange ends
+abbrev pub sets_of : ℕ → List RunEvent → Exchange → KnownSets
+sets_of offices events exchange = known_sets offices events exchange.replies
+
+-- the event is a sending
+abbrev pub is_sending : RunEvent → Bool
+is_sending (take_file office text limit) = false
+is_sending (send_state office) = true
+is_sending (deliver office message) = false
+is_sending (reload office message) = false
+is_sending (horizon_event office day) = false
+
+-- and it was done
+abbrev pub is_sent : RunEvent × Reply → Bool
+is_sent happened = elim happened.1 [ done ↦ is_sending happened.0 | refused why ↦ false ]
+
+-- how many sendings were done
+abbrev pub sent_count : List RunEvent → List Reply → ℕ
+sent_count events replies = length (filter is_sent (zip events replies))

@@ -1,0 +1,151 @@
+-- Runs of events at several offices, and what each office knows: files and a horizon.
+use Rattle.std.specs.Prelude.{◌≡◌, ℕ, ◌<◌, max, List, [], ◌∷◌, ◌++◌, length, replicate, slice_set, slice_index_or, fold, ⊤}
+use Rattle.std.specs.List.{AllZip, zip}
+use Rattle.docker_model.specs.file.Text.{lines_of}
+use Rattle.docker_model.specs.file.FileFault.{FileFault, IsFileFault, IsFileText}
+use Rattle.docker_model.specs.state.State.{State}
+use Rattle.docker_model.specs.state.Summary.{IsSummary}
+use Rattle.docker_model.specs.state.StateText.{Format, state_text}
+
+-- what may happen. A message that is lost is one that no event delivers
+pub data RunEvent : Type 0 where
+  take_file : (office : ℕ) (text : List ℕ) (limit : ℕ) → RunEvent
+  send_state : (office : ℕ) → RunEvent
+  deliver : (office message : ℕ) → RunEvent
+  reload : (office message : ℕ) → RunEvent
+  horizon_event : (office day : ℕ) → RunEvent
+
+-- why an event is refused
+pub data Refusal : Type 0 where
+  no_office : Refusal
+  no_message : Refusal
+  no_memory : Refusal
+  bad_file : (fault : FileFault) → Refusal
+
+-- the reply to an event
+pub data Reply : Type 0 where
+  done : Reply
+  refused : (why : Refusal) → Reply
+
+-- a set of files, as a list in any order
+abbrev pub Files : Type 0
+Files = List (List (List ℕ))
+
+-- what an office or a message knows: a set of files, as a list in any order, and a horizon, 0 for none
+pub record Known : Type 0 where
+  pub files : Files
+  pub horizon : ℕ
+
+-- no file and no horizon
+abbrev pub nothing : Known
+nothing = record { files = []; horizon = 0 }
+
+-- what both know: the files of both, and the greater horizon
+abbrev pub united : Known → Known → Known
+united first second = record { files = first.files ++ second.files; horizon = max first.horizon second.horizon }
+
+-- what each office knows, and what each message knows
+pub record KnownSets : Type 0 where
+  pub offices : List Known
+  pub messages : List Known
+
+-- what an office knows
+abbrev pub office_known : KnownSets → ℕ → Known
+office_known known office = slice_index_or known.offices office nothing
+
+-- what a message knows
+abbrev pub message_known : KnownSets → ℕ → Known
+message_known known message = slice_index_or known.messages message nothing
+
+-- the office knows this now
+abbrev pub with_office : KnownSets → ℕ → Known → KnownSets
+with_office known office now = record { offices = slice_set known.offices office now; messages = known.messages }
+
+-- what is known after an event that was done: a file is added, a message gets what the office knows, what a message knows is united with what the office knows,
+-- or replaces it, or the greater horizon is taken
+abbrev pub after_done : KnownSets → RunEvent → KnownSets
+after_done known (take_file office text limit) =
+    with_office known office (united (record { files = lines_of text ∷ []; horizon = 0 }) (office_known known office))
+after_done known (send_state office) = record { offices = known.offices; messages = known.messages ++ office_known known office ∷ [] }
+after_done known (deliver office message) = with_office known office (united (message_known known message) (office_known known office))
+after_done known (reload office message) = with_office known office (message_known known message)
+after_done known (horizon_event office day) = with_office known office (united (record { files = []; horizon = day }) (office_known known office))
+
+-- a refused event changes nothing
+abbrev pub after_reply : KnownSets → RunEvent × Reply → KnownSets
+after_reply known happened = elim happened.1 [ done ↦ after_done known happened.0 | refused why ↦ known ]
+
+-- at first no office knows anything, and there is no message
+abbrev pub none_known : ℕ → KnownSets
+none_known offices = record { offices = replicate offices nothing; messages = [] }
+
+-- what is known after a run, from its events and replies
+abbrev pub known_sets : ℕ → List RunEvent → List Reply → KnownSets
+known_sets offices events replies = fold after_reply (none_known offices) (zip events replies)
+
+-- the office exists
+abbrev pub IsOffice : KnownSets → ℕ → Type 0
+IsOffice known office = office < length known.offices
+
+-- the message exists
+abbrev pub IsMessage : KnownSets → ℕ → Type 0
+IsMessage known message = message < length known.messages
+
+-- what a file may be answered at an office
+abbrev pub IsFileReply : ℕ → List ℕ → Reply → Type 0
+IsFileReply limit text done = IsFileText limit text (lines_of text)
+IsFileReply limit text (refused (bad_file fault)) = IsFileFault limit text fault
+IsFileReply limit text (refused no_memory) = ⊤
+IsFileReply limit text (refused _) = ⊥
+
+-- what any other event may be answered there
+abbrev pub IsDoneOrNoMemory : Reply → Type 0
+IsDoneOrNoMemory done = ⊤
+IsDoneOrNoMemory (refused no_memory) = ⊤
+IsDoneOrNoMemory (refused _) = ⊥
+
+-- the reply to an event that names an office
+pub record IsOfficeReply (known : KnownSets) (office : ℕ) (reply : Reply) (There : Type 0) : Type 0 where
+  pub absent : ¬ IsOffice known office → reply ≡ refused no_office
+  pub there : IsOffice known office → There
+
+-- the reply to an event that names a message
+pub record IsMessageReply (known : KnownSets) (message : ℕ) (reply : Reply) : Type 0 where
+  pub absent : ¬ IsMessage known message → reply ≡ refused no_message
+  pub there : IsMessage known message → IsDoneOrNoMemory reply
+
+-- the reply is one that the event may have: a horizon is set wherever the office exists
+abbrev pub IsReply : KnownSets → RunEvent → Reply → Type 0
+IsReply known (take_file office text limit) reply = IsOfficeReply known office reply (IsFileReply limit text reply)
+IsReply known (send_state office) reply = IsOfficeReply known office reply (IsDoneOrNoMemory reply)
+IsReply known (deliver office message) reply = IsOfficeReply known office reply (IsMessageReply known message reply)
+IsReply known (reload office message) reply = IsOfficeReply known office reply (IsMessageReply known message reply)
+IsReply known (horizon_event office day) reply = IsOfficeReply known office reply (reply ≡ done)
+
+-- each event has one reply, and it is one that the event may have there
+abbrev pub AreReplies : KnownSets → List RunEvent → List Reply → Type 0
+AreReplies known [] [] = ⊤
+AreReplies known [] (reply ∷ replies) = ⊥
+AreReplies known (event ∷ events) [] = ⊥
+AreReplies known (event ∷ events) (reply ∷ replies) = IsReply known event reply × AreReplies (after_reply known (event, reply)) events replies
+
+-- the state is the summary of what is known
+abbrev pub IsStateOf : Known → State → Type 0
+IsStateOf known state = IsSummary known.files known.horizon state
+
+-- a message's bytes are the text, in the format of the messages, of the summary of what it knows
+abbrev pub IsMessageOf : Format → Known → List ℕ → Type 0
+IsMessageOf format known text = (state : State) × IsStateOf known state × (text ≡ state_text format state)
+
+-- what a run leaves: the offices' states, the messages, the replies
+pub record Exchange : Type 0 where
+  pub states : List State
+  pub messages : List (List ℕ)
+  pub replies : List Reply
+
+-- it is what a run of these events at so many offices leaves, with messages of a format: each state is the summary of what its office knows, each message the
+-- text of that of what it knows itself
+pub record IsRun (format : Format) (offices : ℕ) (events : List RunEvent) (exchange : Exchange) : Type 0 where
+  pub replies : AreReplies (none_known offices) events exchange.replies
+  pub states : AllZip IsStateOf (known_sets offices events exchange.replies).offices exchange.states
+  pub messages : AllZip (IsMessageOf format) (known_sets offices events exchange.replies).messages exchange.messages

@@ -1,0 +1,15 @@
+-- States: orders, stamps, ops, the lapse, joins, summaries, indexes, and the texts of states.
+
+pub mod Order
+pub mod Stamp
+pub mod Op
+pub mod Table
+pub mod Lapse
+pub mod State
+pub mod Summary
+pub mod Row
+pub mod Index
+pub mod Staging
+pub mod StateText
+pub mod StatePart
+pub mod StateFault

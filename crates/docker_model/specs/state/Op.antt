@@ -1,0 +1,108 @@
+-- Ops: what a key holds, and which of two wins. Keys in their order.
+use Rattle.std.specs.Prelude.{ℕ, if◌then◌else◌, List, Option, Some, None}
+use Rattle.std.specs.List.{concat}
+use Rattle.std.specs.declared.cmp.Ordering.{Ordering}
+use Rattle.std.specs.declared.cmp.Ordering.TheVariants.{Less, Equal, Greater}
+use Rattle.std.specs.Ordering.{ordering_then, nat_cmp}
+use Rattle.docker_model.specs.records.Record.{columns}
+use Rattle.docker_model.specs.records.Date.{is_end_date, end_number, no_end_number}
+use Rattle.docker_model.specs.file.File.{first_record}
+use Rattle.docker_model.specs.file.Change.{Key, tiploc_key, association_key, schedule_key, AssociationKey, ScheduleKey, Body, tiploc_body, association_body, schedule_body, Act, delete, put}
+use Rattle.docker_model.specs.state.Order.{bytes_cmp}
+use Rattle.docker_model.specs.state.Stamp.{Stamp, stamp_cmp}
+
+-- the tag of a key: 1 TIPLOC, 2 association, 3 schedule
+abbrev pub key_tag : Key → ℕ
+key_tag (tiploc_key code) = 1
+key_tag (association_key key) = 2
+key_tag (schedule_key key) = 3
+
+-- the tag of a body
+abbrev pub body_tag : Body → ℕ
+body_tag (tiploc_body bytes) = 1
+body_tag (association_body line) = 2
+body_tag (schedule_body lines) = 3
+
+-- the order of associations: by their parts from left to right, which of well formed keys is the order of their bytes
+abbrev pub association_key_cmp : AssociationKey → AssociationKey → Ordering
+association_key_cmp a b =
+    ordering_then (bytes_cmp a.base b.base) (ordering_then (bytes_cmp a.associated b.associated)
+    (ordering_then (nat_cmp a.start b.start) (ordering_then (bytes_cmp a.location b.location)
+    (ordering_then (nat_cmp a.suffix b.suffix) (nat_cmp a.indicator b.indicator)))))
+
+-- the order of schedules: by their parts from left to right, which of well formed keys is the order of their bytes
+abbrev pub schedule_key_cmp : ScheduleKey → ScheduleKey → Ordering
+schedule_key_cmp a b =
+    ordering_then (bytes_cmp a.uid b.uid) (ordering_then (nat_cmp a.runs_from b.runs_from) (nat_cmp a.indicator b.indicator))
+
+-- keys are ordered by tag, and then within it, which of well formed keys is the order of their bytes
+abbrev pub key_cmp : Key → Key → Ordering
+key_cmp (tiploc_key a) (tiploc_key b) = bytes_cmp a b
+key_cmp (tiploc_key a) (association_key b) = Less
+key_cmp (tiploc_key a) (schedule_key b) = Less
+key_cmp (association_key a) (tiploc_key b) = Greater
+key_cmp (association_key a) (association_key b) = association_key_cmp a b
+key_cmp (association_key a) (schedule_key b) = Less
+key_cmp (schedule_key a) (tiploc_key b) = Greater
+key_cmp (schedule_key a) (association_key b) = Greater
+key_cmp (schedule_key a) (schedule_key b) = schedule_key_cmp a b
+
+-- the bytes of a body, its lines joined
+abbrev pub body_bytes : Body → List ℕ
+body_bytes (tiploc_body bytes) = bytes
+body_bytes (association_body line) = line
+body_bytes (schedule_body lines) = concat lines
+
+-- the end number of an end date of six bytes that can be read, else that of no end
+abbrev pub readable_end : List ℕ → ℕ
+readable_end field = if is_end_date field then end_number field else no_end_number
+
+-- the end number of a body, whose lines are records. A TIPLOC has no end
+abbrev pub body_end : Body → ℕ
+body_end (tiploc_body bytes) = no_end_number
+body_end (association_body line) = readable_end (columns 22 27 line)
+body_end (schedule_body lines) = readable_end (columns 16 21 (first_record lines))
+
+-- the order of bodies: by end number, then by bytes, then by tag. It tells apart bodies whose lines are records, and not all whose lines have other lengths
+abbrev pub body_cmp : Body → Body → Ordering
+body_cmp a b =
+    ordering_then (nat_cmp (body_end a) (body_end b))
+    (ordering_then (bytes_cmp (body_bytes a) (body_bytes b)) (nat_cmp (body_tag a) (body_tag b)))
+
+-- what is known of a key: it is deleted, it was put and has lapsed, or it is put with a body
+pub data Op : Type 0 where
+  deleted : Op
+  lapsed : Op
+  put_with : (body : Body) → Op
+
+-- the op of an act
+abbrev pub op_of : Act → Op
+op_of delete = deleted
+op_of (put body) = put_with body
+
+-- the body of a put
+abbrev pub body_of : Op → Option Body
+body_of deleted = None
+body_of lapsed = None
+body_of (put_with body) = Some body
+
+-- deleted is below lapsed, and that below every put. It tells apart ops of records: those whose bodies' lines have 80 bytes
+abbrev pub op_cmp : Op → Op → Ordering
+op_cmp deleted deleted = Equal
+op_cmp deleted lapsed = Less
+op_cmp deleted (put_with b) = Less
+op_cmp lapsed deleted = Greater
+op_cmp lapsed lapsed = Equal
+op_cmp lapsed (put_with b) = Less
+op_cmp (put_with a) deleted = Greater
+op_cmp (put_with a) lapsed = Greater
+op_cmp (put_with a) (put_with b) = body_cmp a b
+
+-- an op with its stamp. Of two entries of one key the greater wins
+pub record Entry : Type 0 where
+  pub stamp : Stamp
+  pub op : Op
+
+-- entries are ordered by stamp, and then by op. It tells apart entries of records
+abbrev pub entry_cmp : Entry → Entry → Ordering
+entry_cmp a b = ordering_then (stamp_cmp a.stamp b.stamp) (op_cmp a.op b.op)

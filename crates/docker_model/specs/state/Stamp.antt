@@ -1,0 +1,93 @@
+-- Moments, file stamps and stamps, ledger items, the floor, and the orders of these.
+use Rattle.std.specs.Prelude.{ℕ, List, ◌≡◌, Contains, Option, Some, None, ⊤}
+use Rattle.std.specs.declared.cmp.Ordering.{Ordering}
+use Rattle.std.specs.Ordering.{ordering_then, nat_cmp}
+use Rattle.docker_model.specs.records.Record.{columns, column}
+use Rattle.docker_model.specs.records.Date.{date_number_day_first}
+use Rattle.docker_model.specs.records.Clock.{minute_of}
+use Rattle.docker_model.specs.file.File.{first_record}
+use Rattle.docker_model.specs.state.Order.{bytes_cmp, IsAtMost}
+
+-- the day and the minute of an extract
+pub record Moment : Type 0 where
+  pub day : ℕ
+  pub minute : ℕ
+
+-- the moment and the current file reference of a file
+pub record FileStamp : Type 0 where
+  pub moment : Moment
+  pub reference : List ℕ
+
+-- the file stamp and the record number of a change
+pub record Stamp : Type 0 where
+  pub file : FileStamp
+  pub number : ℕ
+
+-- what a ledger keeps of a file: its file stamp, its update indicator and its last file reference
+pub record LedgerItem : Type 0 where
+  pub stamp : FileStamp
+  pub indicator : ℕ
+  pub last_reference : List ℕ
+
+-- moments, by day and then by minute
+abbrev pub moment_cmp : Moment → Moment → Ordering
+moment_cmp a b = ordering_then (nat_cmp a.day b.day) (nat_cmp a.minute b.minute)
+
+-- file stamps, by moment and then by reference
+abbrev pub file_stamp_cmp : FileStamp → FileStamp → Ordering
+file_stamp_cmp a b = ordering_then (moment_cmp a.moment b.moment) (bytes_cmp a.reference b.reference)
+
+-- stamps, by file stamp and then by record number
+abbrev pub stamp_cmp : Stamp → Stamp → Ordering
+stamp_cmp a b = ordering_then (file_stamp_cmp a.file b.file) (nat_cmp a.number b.number)
+
+-- ledger items, by file stamp, indicator and last reference
+abbrev pub ledger_item_cmp : LedgerItem → LedgerItem → Ordering
+ledger_item_cmp a b =
+    ordering_then (file_stamp_cmp a.stamp b.stamp)
+    (ordering_then (nat_cmp a.indicator b.indicator) (bytes_cmp a.last_reference b.last_reference))
+
+-- the moment of a file, by its header
+abbrev pub moment_of : List (List ℕ) → Moment
+moment_of file = record {
+  day = date_number_day_first (columns 23 28 (first_record file));
+  minute = minute_of (columns 29 32 (first_record file));
+}
+
+-- the file stamp of a file
+abbrev pub file_stamp_of : List (List ℕ) → FileStamp
+file_stamp_of file = record { moment = moment_of file; reference = columns 33 39 (first_record file) }
+
+-- what a ledger keeps of a file
+abbrev pub ledger_item_of : List (List ℕ) → LedgerItem
+ledger_item_of file = record {
+  stamp = file_stamp_of file;
+  indicator = column 47 (first_record file);
+  last_reference = columns 40 46 (first_record file);
+}
+
+-- the item is of a full extract
+abbrev pub IsFull : LedgerItem → Type 0
+IsFull item = item.indicator ≡ 70
+
+-- no full extract is among the items
+abbrev pub HasNoFull : List LedgerItem → Type 0
+HasNoFull items = (item : LedgerItem) → Contains items item → ¬ IsFull item
+
+-- this is the greatest file stamp of a full extract among the items
+pub record IsGreatestFull (items : List LedgerItem) (stamp : FileStamp) : Type 0 where
+  pub full : LedgerItem
+  pub among : Contains items full
+  pub is_full : IsFull full
+  pub stamped : full.stamp ≡ stamp
+  pub greatest : (item : LedgerItem) → Contains items item → IsFull item → IsAtMost file_stamp_cmp item.stamp stamp
+
+-- the floor of items: the greatest file stamp of a full extract among them, or none
+abbrev pub IsFloor : List LedgerItem → Option FileStamp → Type 0
+IsFloor items None = HasNoFull items
+IsFloor items (Some stamp) = IsGreatestFull items stamp
+
+-- what has this file stamp is kept under a floor: it is at or above it. Without a floor everything is kept
+abbrev pub IsKept : Option FileStamp → FileStamp → Type 0
+IsKept None stamp = ⊤
+IsKept (Some floor) stamp = IsAtMost file_stamp_cmp floor stamp

@@ -1,0 +1,157 @@
+-- States, which are valid, and their join.
+use Rattle.std.specs.Prelude.{ℕ, List, ◌≡◌, ◌<◌, ◌⊎◌, IsTrue, ◌-◌, ◌^◌, length, ⊤, Option, All, ◌≤◌, map, Contains, Some, option_and_then, find, max, ◌↔◌, ◌++◌}
+use Rattle.std.specs.Ordering.{on, is_eq}
+use Rattle.docker_model.specs.records.Record.{IsTextOfLength, is_printable, association, HasKind, IsRecord}
+use Rattle.docker_model.specs.records.Date.{IsDay}
+use Rattle.docker_model.specs.records.Field.{IsTiploc, IsStpLetter, HasGoodFields, HasNewTransaction}
+use Rattle.docker_model.specs.file.File.{IsSchedule, first_record}
+use Rattle.docker_model.specs.file.Change.{Key, AssociationKey, ScheduleKey, tiploc_key, association_key, schedule_key, association_named, schedule_named, Body, tiploc_body, association_body, schedule_body}
+use Rattle.docker_model.specs.state.Order.{IsStrictlyAscending, IsAtMost}
+use Rattle.docker_model.specs.state.Stamp.{LedgerItem, FileStamp, ledger_item_cmp, IsFloor, IsKept, Stamp}
+use Rattle.docker_model.specs.state.Op.{Entry, Op, deleted, lapsed, put_with, key_cmp, body_of, entry_cmp}
+use Rattle.docker_model.specs.state.Table.{Table}
+use Rattle.docker_model.specs.state.Lapse.{HasNotToLapse, lapse_entries, lapse_entry}
+
+-- the horizon, 0 for none, the files known, and each key with its entry
+pub record State : Type 0 where
+  pub horizon : ℕ
+  pub ledger : List LedgerItem
+  pub entries : List (Key × Entry)
+
+-- a ledger item that a header can give
+pub record IsGoodItem (item : LedgerItem) : Type 0 where
+  pub day : IsDay item.stamp.moment.day
+  pub minute : item.stamp.moment.minute < 1440
+  pub reference : IsTextOfLength 7 item.stamp.reference
+  pub indicator : (item.indicator ≡ 70) ⊎ (item.indicator ≡ 85)
+  pub last_reference : IsTextOfLength 7 item.last_reference
+
+-- an association's key that a record can name
+pub record IsGoodAssociationKey (key : AssociationKey) : Type 0 where
+  pub base : IsTextOfLength 6 key.base
+  pub associated : IsTextOfLength 6 key.associated
+  pub start : IsDay key.start
+  pub location : IsTiploc key.location
+  pub suffix : IsTrue (is_printable key.suffix)
+  pub indicator : IsStpLetter key.indicator
+
+-- a schedule's key that a record can name
+pub record IsGoodScheduleKey (key : ScheduleKey) : Type 0 where
+  pub uid : IsTextOfLength 6 key.uid
+  pub runs_from : IsDay key.runs_from
+  pub indicator : IsStpLetter key.indicator
+
+-- a key that a record can name
+abbrev pub IsGoodKey : Key → Type 0
+IsGoodKey (tiploc_key code) = IsTiploc code
+IsGoodKey (association_key key) = IsGoodAssociationKey key
+IsGoodKey (schedule_key key) = IsGoodScheduleKey key
+
+-- an association's line, kept under this key
+pub record IsAssociationOf (key : AssociationKey) (line : List ℕ) : Type 0 where
+  pub is_record : IsRecord line
+  pub kind : HasKind association line
+  pub fields : HasGoodFields line
+  pub new : HasNewTransaction line
+  pub key_is : association_named line ≡ association_key key
+
+-- a schedule's lines, at most 4,294,967,294, kept under this key
+pub record IsScheduleOf (key : ScheduleKey) (lines : List (List ℕ)) : Type 0 where
+  pub schedule : IsSchedule lines
+  pub few : length lines < 2 ^ 32 - 1
+  pub new : HasNewTransaction (first_record lines)
+  pub key_is : schedule_named (first_record lines) ≡ schedule_key key
+
+-- the body is well formed and agrees with the key
+abbrev pub IsBodyOf : Key → Body → Type 0
+IsBodyOf (tiploc_key code) (tiploc_body bytes) = IsTextOfLength 63 bytes
+IsBodyOf (association_key key) (association_body line) = IsAssociationOf key line
+IsBodyOf (schedule_key key) (schedule_body lines) = IsScheduleOf key lines
+IsBodyOf _ _ = ⊥
+
+-- the op is well formed and agrees with the key
+abbrev pub IsOpOf : Key → Op → Type 0
+IsOpOf key deleted = ⊤
+IsOpOf key lapsed = ⊤
+IsOpOf key (put_with body) = IsBodyOf key body
+
+-- ascending ledger items, each well formed, and none below their floor
+pub record IsLedger (ledger : List LedgerItem) : Type 0 where
+  pub each : All IsGoodItem ledger
+  pub ascending : IsStrictlyAscending ledger_item_cmp ledger
+  pub floor : Option FileStamp
+  pub is_floor : IsFloor ledger floor
+  pub kept : All (λ item. IsKept floor item.stamp) ledger
+
+-- the record number of a stamp is at least 2 and at most 4,294,967,294, and its file stands in the ledger
+pub record IsStampIn (ledger : List LedgerItem) (stamp : Stamp) : Type 0 where
+  pub in_ledger : Contains (map (λ (item : LedgerItem). item.stamp) ledger) stamp.file
+  pub low : 2 ≤ stamp.number
+  pub high : stamp.number < 2 ^ 32 - 1
+
+-- an entry of this key, well formed, over this ledger
+pub record IsGoodEntry (ledger : List LedgerItem) (entry : Key × Entry) : Type 0 where
+  pub key : IsGoodKey entry.0
+  pub stamp : IsStampIn ledger entry.1.stamp
+  pub op : IsOpOf entry.0 entry.1.op
+
+-- entries ascend by key
+abbrev pub AreAscending : List (Key × Entry) → Type 0
+AreAscending entries = IsStrictlyAscending (on (λ (entry : Key × Entry). entry.0) key_cmp) entries
+
+-- the entries of a state over a ledger: each well formed, in key order
+abbrev pub AreEntries : List LedgerItem → List (Key × Entry) → Type 0
+AreEntries ledger entries = All (IsGoodEntry ledger) entries × AreAscending entries
+
+-- no put among the entries has an end number below the horizon
+abbrev pub HaveLapsed : ℕ → List (Key × Entry) → Type 0
+HaveLapsed horizon entries = All (λ (entry : Key × Entry). HasNotToLapse horizon entry.1.op) entries
+
+-- a valid state
+pub record IsValid (state : State) : Type 0 where
+  pub horizon : IsDay state.horizon
+  pub ledger : IsLedger state.ledger
+  pub entries : AreEntries state.ledger state.entries
+  pub have_lapsed : HaveLapsed state.horizon state.entries
+
+-- the entry of a key in a state, if there is one
+abbrev pub entry_at : State → Key → Option Entry
+entry_at state key = option_and_then (λ (entry : Key × Entry). Some entry.1) (find (λ entry. is_eq (key_cmp entry.0 key)) state.entries)
+
+-- the live table of a state: each key that is put, with its body
+abbrev pub live_table : State → Key → Option Body
+live_table state key = option_and_then (λ (entry : Entry). body_of entry.op) (entry_at state key)
+
+-- each live key has a body that is well formed and agrees with it, as in every valid state
+abbrev pub HasGoodBodies : Table → Type 0
+HasGoodBodies live = (key : Key) (body : Body) → live key ≡ Some body → IsBodyOf key body
+
+-- the state under a horizon: with it, and each entry lapsed under it
+abbrev pub lapse_state : ℕ → State → State
+lapse_state horizon state = record { horizon = horizon; ledger = state.ledger; entries = lapse_entries horizon state.entries }
+
+-- the state after a horizon was set: under the greater of its own and this one
+abbrev pub raise_horizon : ℕ → State → State
+raise_horizon horizon state = lapse_state (max state.horizon horizon) state
+
+-- the same ledger and entries without a horizon: what has lapsed stays so
+abbrev pub without_horizon : State → State
+without_horizon state = record { horizon = 0; ledger = state.ledger; entries = state.entries }
+
+-- the entry is among these, and none of its key is greater
+pub record IsGreatestAmong (entries : List (Key × Entry)) (key : Key) (entry : Entry) : Type 0 where
+  pub among : Contains entries (key, entry)
+  pub greatest : (other : Entry) → Contains entries (key, other) → IsAtMost entry_cmp other entry
+
+-- joined is the join of two states: the union of the ledgers, and of each key the greater entry, both kept under the floor of the union, and each entry lapsed
+-- under the greater horizon
+pub record IsJoin (first second joined : State) : Type 0 where
+  pub horizon : joined.horizon ≡ max first.horizon second.horizon
+  pub floor : Option FileStamp
+  pub is_floor : IsFloor (first.ledger ++ second.ledger) floor
+  pub ledger_ascends : IsStrictlyAscending ledger_item_cmp joined.ledger
+  pub ledger : (item : LedgerItem) → Contains joined.ledger item ↔ (Contains (first.ledger ++ second.ledger) item × IsKept floor item.stamp)
+  pub entries_ascend : AreAscending joined.entries
+  pub entries : (key : Key) (entry : Entry) → Contains joined.entries (key, entry)
+      ↔ ((greatest : Entry) × IsGreatestAmong (first.entries ++ second.entries) key greatest × IsKept floor greatest.stamp.file
+      × (lapse_entry joined.horizon greatest ≡ entry))

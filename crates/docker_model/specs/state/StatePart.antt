@@ -1,0 +1,163 @@
+-- The parts of a state's text: what the parts before a part say, how wide the next one is, and when they are good.
+use Rattle.std.specs.Int.{w32, to_be_bytes}
+use Rattle.std.specs.List.{concat}
+use Rattle.std.specs.Prelude.{ℕ, List, [], length, ◌∷◌, ◌++◌, ◌==◌, if◌then◌else◌, ◌≡◌, ◌⊎◌, ◌-◌, ◌^◌, ◌<◌, All, ◌≤◌, ⊤}
+use Rattle.docker_model.specs.records.Field.{HasNewTransaction}
+use Rattle.docker_model.specs.file.File.{first_record, BeginsSchedule, IsSchedule}
+use Rattle.docker_model.specs.file.Change.{Key, ScheduleKey, schedule_key, tiploc_key, association_key, schedule_named, schedule_body}
+use Rattle.docker_model.specs.state.Order.{IsBelow}
+use Rattle.docker_model.specs.state.Stamp.{Stamp, LedgerItem, ledger_item_cmp, file_stamp_cmp, IsFull}
+use Rattle.docker_model.specs.state.Op.{key_tag, key_cmp, body_end}
+use Rattle.docker_model.specs.state.State.{State, IsGoodKey, IsStampIn, IsLedger}
+use Rattle.docker_model.specs.state.StateText.{Format, head_text, mark, ledger_text, entries_text, state_text, key_bytes, stamp_bytes, IsHorizonOf, IsToldState, TellsHorizon}
+
+-- how far an entry is told: what its parts so far say
+pub data EntryPart : Type 0 where
+  before_tag : EntryPart
+  before_key : (tag : ℕ) → EntryPart
+  before_stamp : (key : Key) → EntryPart
+  before_op : (key : Key) (stamp : Stamp) → EntryPart
+  before_body : (key : Key) (stamp : Stamp) → EntryPart
+  before_line : (key : ScheduleKey) (stamp : Stamp) (count : ℕ) (lines : List (List ℕ)) → EntryPart
+
+-- what the parts before a part say: the horizon, the counts, and what has been told of a ledger, of entries and of the next entry
+pub data Before : Type 0 where
+  before_mark : Before
+  before_horizon : Before
+  before_ledger_count : (horizon : ℕ) → Before
+  before_item : (horizon count : ℕ) (ledger : List LedgerItem) → Before
+  before_entry_count : (horizon : ℕ) (ledger : List LedgerItem) → Before
+  in_entry : (count : ℕ) (state : State) (part : EntryPart) → Before
+  at_end : (state : State) → Before
+
+-- the bytes of the whole items before
+abbrev pub items_before : Format → Before → List ℕ
+items_before format before_mark = []
+items_before format before_horizon = mark format
+items_before format (before_ledger_count horizon) = head_text format horizon
+items_before format (before_item horizon count ledger) = ledger_text format horizon count ledger
+items_before format (before_entry_count horizon ledger) = ledger_text format horizon (length ledger) ledger
+items_before format (in_entry count state part) = entries_text format count state
+items_before format (at_end state) = state_text format state
+
+-- a tag and its key
+abbrev pub key_text : Key → List ℕ
+key_text key = key_tag key ∷ key_bytes key
+
+-- the bytes of the parts that an entry has so far
+abbrev pub part_text : EntryPart → List ℕ
+part_text before_tag = []
+part_text (before_key tag) = tag ∷ []
+part_text (before_stamp key) = key_text key
+part_text (before_op key stamp) = key_text key ++ stamp_bytes stamp
+part_text (before_body key stamp) = key_text key ++ stamp_bytes stamp ++ 1 ∷ []
+part_text (before_line key stamp count lines) =
+    key_text (schedule_key key) ++ stamp_bytes stamp ++ 1 ∷ to_be_bytes w32 count ++ concat lines
+
+-- the bytes of the parts before in the same item
+abbrev pub parts_before : Before → List ℕ
+parts_before (in_entry count state part) = part_text part
+parts_before _ = []
+
+-- the bytes of all parts before
+abbrev pub text_before : Format → Before → List ℕ
+text_before format before = items_before format before ++ parts_before before
+
+-- the width of a key of a tag
+abbrev pub key_width : ℕ → ℕ
+key_width tag = if tag == 1 then 7 else (if tag == 2 then 23 else 9)
+
+-- the width of a body, or of a schedule's line count
+abbrev pub body_width : Key → ℕ
+body_width (tiploc_key code) = 63
+body_width (association_key key) = 80
+body_width (schedule_key key) = 4
+
+-- the width of the next part of an entry
+abbrev pub part_width : EntryPart → ℕ
+part_width before_tag = 1
+part_width (before_key tag) = key_width tag
+part_width (before_stamp key) = 15
+part_width (before_op key stamp) = 1
+part_width (before_body key stamp) = body_width key
+part_width (before_line key stamp count lines) = 80
+
+-- the width of the next part. None is next at the end
+abbrev pub width : Before → ℕ
+width before_mark = 4
+width before_horizon = 2
+width (before_ledger_count horizon) = 8
+width (before_item horizon count ledger) = 19
+width (before_entry_count horizon ledger) = 8
+width (in_entry count state part) = part_width part
+width (at_end state) = 0
+
+-- the tags that there are
+abbrev pub IsTag : ℕ → Type 0
+IsTag tag = (tag ≡ 1) ⊎ (tag ≡ 2) ⊎ (tag ≡ 3)
+
+-- the numbers of lines that there are
+abbrev pub IsLineCount : ℕ → Type 0
+IsLineCount count = (0 < count) × (count < 2 ^ 32 - 1)
+
+-- the key is above those of the entries before it
+abbrev pub IsAboveEntries : State → Key → Type 0
+IsAboveEntries state key = All (λ entry. IsBelow key_cmp entry.0 key) state.entries
+
+-- the item is above the items before it
+abbrev pub IsAboveItems : List LedgerItem → LedgerItem → Type 0
+IsAboveItems ledger item = All (λ earlier. IsBelow ledger_item_cmp earlier item) ledger
+
+-- the item is of a full extract with a file stamp above that of the first item
+abbrev pub RaisesFloor : List LedgerItem → LedgerItem → Type 0
+RaisesFloor [] item = ⊥
+RaisesFloor (first ∷ ledger) item = IsFull item × IsBelow file_stamp_cmp first.stamp item.stamp
+
+-- a schedule begins with the lines, and the first of them is new and of this key
+pub record AreLinesOf (key : ScheduleKey) (lines : List (List ℕ)) : Type 0 where
+  pub begin : BeginsSchedule lines
+  pub new : HasNewTransaction (first_record lines)
+  pub key_is : schedule_named (first_record lines) ≡ schedule_key key
+
+-- the same, and the last of so many lines completes the schedule
+pub record AreLinesUpTo (key : ScheduleKey) (count : ℕ) (lines : List (List ℕ)) : Type 0 where
+  pub lines_of : AreLinesOf key lines
+  pub complete : length lines ≡ count → IsSchedule lines
+
+-- the key of an entry is good
+abbrev pub IsKeyHere : State → Key → Type 0
+IsKeyHere state key = IsGoodKey key × IsAboveEntries state key
+
+-- the key and the stamp of an entry are good
+abbrev pub IsStampHere : State → Key → Stamp → Type 0
+IsStampHere state key stamp = IsKeyHere state key × IsStampIn state.ledger stamp
+
+-- the lines have not to lapse, as the first of them tells
+abbrev pub HaveNotToLapse : State → List (List ℕ) → Type 0
+HaveNotToLapse state lines = state.horizon ≤ body_end (schedule_body lines)
+
+-- the parts of an entry so far are good
+abbrev pub IsPartHere : State → EntryPart → Type 0
+IsPartHere state before_tag = ⊤
+IsPartHere state (before_key tag) = IsTag tag
+IsPartHere state (before_stamp key) = IsKeyHere state key
+IsPartHere state (before_op key stamp) = IsStampHere state key stamp
+IsPartHere state (before_body key stamp) = IsStampHere state key stamp
+IsPartHere state (before_line key stamp count lines) =
+    IsStampHere state (schedule_key key) stamp × IsLineCount count × (length lines < count)
+    × ((lines ≡ []) ⊎ (AreLinesOf key lines × HaveNotToLapse state lines))
+
+-- a number that eight bytes can tell
+abbrev pub IsCount : ℕ → Type 0
+IsCount count = count < 2 ^ 64
+
+-- each part before is good
+abbrev pub AreGood : Format → Before → Type 0
+AreGood format before_mark = ⊤
+AreGood format before_horizon = TellsHorizon format
+AreGood format (before_ledger_count horizon) = IsHorizonOf format horizon
+AreGood format (before_item horizon count ledger) = IsHorizonOf format horizon × IsLedger ledger × (length ledger < count) × IsCount count
+AreGood format (before_entry_count horizon ledger) = IsHorizonOf format horizon × IsLedger ledger × IsCount (length ledger)
+AreGood format (in_entry count state part) =
+    IsToldState format state × IsCount (length state.ledger) × (length state.entries < count) × IsCount count × IsPartHere state part
+AreGood format (at_end state) = IsToldState format state × IsCount (length state.ledger) × IsCount (length state.entries)

@@ -1,0 +1,140 @@
+-- The text of a state, in bytes, in either of two formats: that of the mark DKS1 tells no horizon, and that of DKS2 does. All numbers are big endian.
+use Rattle.std.specs.Prelude.{ℕ, List, codes, [], ◌++◌, ◌∷◌, length, slice_range, slice_index, ◌==◌, if◌then◌else◌, ⊤, ◌≡◌, ◌⊎◌, All}
+use Rattle.std.specs.List.{concat, flat_map}
+use Rattle.std.specs.Int.{w16, to_be_bytes, w32, w64, from_be_bytes}
+use Rattle.docker_model.specs.records.Date.{IsDay}
+use Rattle.docker_model.specs.file.Change.{Key, tiploc_key, association_key, schedule_key, Body, tiploc_body, association_body, schedule_body}
+use Rattle.docker_model.specs.state.Stamp.{FileStamp, LedgerItem, Stamp}
+use Rattle.docker_model.specs.state.Op.{Op, deleted, lapsed, put_with, Entry, key_tag}
+use Rattle.docker_model.specs.state.State.{State, IsValid}
+
+-- the formats, by their marks
+pub data Format : Type 0 where
+  dks_1 : Format
+  dks_2 : Format
+
+-- the mark at the beginning
+abbrev pub mark : Format → List ℕ
+mark dks_1 = codes "DKS1"
+mark dks_2 = codes "DKS2"
+
+-- the horizon behind the mark, where the format tells it
+abbrev pub horizon_bytes : Format → ℕ → List ℕ
+horizon_bytes dks_1 horizon = []
+horizon_bytes dks_2 horizon = to_be_bytes w16 horizon
+
+-- mark and horizon
+abbrev pub head_text : Format → ℕ → List ℕ
+head_text format horizon = mark format ++ horizon_bytes format horizon
+
+-- a file stamp, in 11 bytes
+abbrev pub file_stamp_bytes : FileStamp → List ℕ
+file_stamp_bytes stamp = to_be_bytes w16 stamp.moment.day ++ to_be_bytes w16 stamp.moment.minute ++ stamp.reference
+
+-- a ledger item, in 19 bytes
+abbrev pub item_bytes : LedgerItem → List ℕ
+item_bytes item = file_stamp_bytes item.stamp ++ item.indicator ∷ item.last_reference
+
+-- a key without its tag, in 7, 23 or 9 bytes
+abbrev pub key_bytes : Key → List ℕ
+key_bytes (tiploc_key code) = code
+key_bytes (association_key key) =
+    key.base ++ key.associated ++ to_be_bytes w16 key.start ++ key.location ++ key.suffix ∷ key.indicator ∷ []
+key_bytes (schedule_key key) = key.uid ++ to_be_bytes w16 key.runs_from ++ key.indicator ∷ []
+
+-- a stamp, in 15 bytes
+abbrev pub stamp_bytes : Stamp → List ℕ
+stamp_bytes stamp = file_stamp_bytes stamp.file ++ to_be_bytes w32 stamp.number
+
+-- a body: of a schedule the number of its lines, and then they
+abbrev pub put_bytes : Body → List ℕ
+put_bytes (tiploc_body bytes) = bytes
+put_bytes (association_body line) = line
+put_bytes (schedule_body lines) = to_be_bytes w32 (length lines) ++ concat lines
+
+-- an op: 0 deleted, 2 lapsed, or 1 and the body
+abbrev pub op_bytes : Op → List ℕ
+op_bytes deleted = 0 ∷ []
+op_bytes lapsed = 2 ∷ []
+op_bytes (put_with body) = 1 ∷ put_bytes body
+
+-- an entry: tag, key, stamp and op
+abbrev pub entry_bytes : Key × Entry → List ℕ
+entry_bytes entry = key_tag entry.0 ∷ key_bytes entry.0 ++ stamp_bytes entry.1.stamp ++ op_bytes entry.1.op
+
+-- mark, horizon, the number of ledger items, and these items
+abbrev pub ledger_text : Format → ℕ → ℕ → List LedgerItem → List ℕ
+ledger_text format horizon count ledger = head_text format horizon ++ to_be_bytes w64 count ++ flat_map item_bytes ledger
+
+-- and then the number of entries, and these entries
+abbrev pub entries_text : Format → ℕ → State → List ℕ
+entries_text format count state =
+    ledger_text format state.horizon (length state.ledger) state.ledger ++ to_be_bytes w64 count ++ flat_map entry_bytes state.entries
+
+-- the text of a state
+abbrev pub state_text : Format → State → List ℕ
+state_text format state = entries_text format (length state.entries) state
+
+-- what the 11 bytes of a file stamp say
+abbrev pub file_stamp_in : List ℕ → FileStamp
+file_stamp_in bytes = record {
+  moment = record { day = from_be_bytes w16 (slice_range bytes 0 2); minute = from_be_bytes w16 (slice_range bytes 2 4) };
+  reference = slice_range bytes 4 11;
+}
+
+-- what the 19 bytes of a ledger item say
+abbrev pub item_in : List ℕ → LedgerItem
+item_in bytes = record { stamp = file_stamp_in bytes; indicator = slice_index bytes 11; last_reference = slice_range bytes 12 19 }
+
+-- what the 23 bytes of an association's key say
+abbrev pub association_key_in : List ℕ → Key
+association_key_in bytes = association_key (record {
+  base = slice_range bytes 0 6;
+  associated = slice_range bytes 6 12;
+  start = from_be_bytes w16 (slice_range bytes 12 14);
+  location = slice_range bytes 14 21;
+  suffix = slice_index bytes 21;
+  indicator = slice_index bytes 22;
+})
+
+-- what the 9 bytes of a schedule's key say
+abbrev pub schedule_key_in : List ℕ → Key
+schedule_key_in bytes = schedule_key (record {
+  uid = slice_range bytes 0 6;
+  runs_from = from_be_bytes w16 (slice_range bytes 6 8);
+  indicator = slice_index bytes 8;
+})
+
+-- what the 7, 23 or 9 bytes of a key with this tag say, of tags 1 to 3
+abbrev pub key_in : ℕ → List ℕ → Key
+key_in tag bytes = if tag == 1 then tiploc_key bytes else (if tag == 2 then association_key_in bytes else schedule_key_in bytes)
+
+-- what the 15 bytes of a stamp say
+abbrev pub stamp_in : List ℕ → Stamp
+stamp_in bytes = record { file = file_stamp_in bytes; number = from_be_bytes w32 (slice_range bytes 11 15) }
+
+-- the format tells a horizon
+abbrev pub TellsHorizon : Format → Type 0
+TellsHorizon dks_1 = ⊥
+TellsHorizon dks_2 = ⊤
+
+-- the horizons that a state of the format may have: 0 where the format tells none
+abbrev pub IsHorizonOf : Format → ℕ → Type 0
+IsHorizonOf dks_1 horizon = horizon ≡ 0
+IsHorizonOf dks_2 horizon = IsDay horizon
+
+-- the ops that the format tells: lapsed in DKS2 alone
+abbrev pub TellsOp : Format → Op → Type 0
+TellsOp dks_1 lapsed = ⊥
+TellsOp _ _ = ⊤
+
+-- the same as bytes
+abbrev pub IsOpByte : Format → ℕ → Type 0
+IsOpByte dks_1 byte = (byte ≡ 0) ⊎ (byte ≡ 1)
+IsOpByte dks_2 byte = (byte ≡ 0) ⊎ (byte ≡ 1) ⊎ (byte ≡ 2)
+
+-- a valid state that the format can tell
+pub record IsToldState (format : Format) (state : State) : Type 0 where
+  pub valid : IsValid state
+  pub horizon : IsHorizonOf format state.horizon
+  pub ops : All (λ (entry : Key × Entry). TellsOp format entry.1.op) state.entries

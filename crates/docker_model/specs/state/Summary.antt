@@ -1,0 +1,52 @@
+-- The summary of a set of files, which is a list of them in any order, under a horizon.
+use Rattle.std.specs.Prelude.{◌≡◌, ℕ, ◌↔◌, List, map, Option, Contains}
+use Rattle.docker_model.specs.file.Change.{Key, Change, changes}
+use Rattle.docker_model.specs.state.Order.{IsStrictlyAscending, IsAtMost}
+use Rattle.docker_model.specs.state.Stamp.{FileStamp, LedgerItem, ledger_item_cmp, file_stamp_of, ledger_item_of, moment_of, IsFloor, IsKept}
+use Rattle.docker_model.specs.state.Op.{Entry, entry_cmp, op_of}
+use Rattle.docker_model.specs.state.Lapse.{lapse_entry}
+use Rattle.docker_model.specs.state.State.{State, AreAscending}
+
+-- the floor of a set of files
+abbrev pub IsFloorOf : List (List (List ℕ)) → Option FileStamp → Type 0
+IsFloorOf files floor = IsFloor (map ledger_item_of files) floor
+
+-- a file of the set that is kept under the floor
+pub record IsKeptFile (files : List (List (List ℕ))) (floor : Option FileStamp) (file : List (List ℕ)) : Type 0 where
+  pub among : Contains files file
+  pub kept : IsKept floor (file_stamp_of file)
+
+-- the entry that a change of a file makes
+abbrev pub entry_of : List (List ℕ) → Change → Entry
+entry_of file change = record { stamp = record { file = file_stamp_of file; number = change.number }; op = op_of change.act }
+
+-- a change of the key in a kept file makes this entry
+pub record IsEntryOf (files : List (List (List ℕ))) (floor : Option FileStamp) (key : Key) (entry : Entry) : Type 0 where
+  pub file : List (List ℕ)
+  pub kept : IsKeptFile files floor file
+  pub change : Change
+  pub among : Contains (changes file) change
+  pub key_is : change.key ≡ key
+  pub entry_is : entry_of file change ≡ entry
+
+-- and it is the greatest that one makes
+pub record IsGreatestEntryOf (files : List (List (List ℕ))) (floor : Option FileStamp) (key : Key) (entry : Entry) : Type 0 where
+  pub is : IsEntryOf files floor key entry
+  pub greatest : (other : Entry) → IsEntryOf files floor key other → IsAtMost entry_cmp other entry
+
+-- the state is the summary under a horizon, 0 for none: the ledger items of the kept files, and for each key the greatest entry among the changes of kept
+-- files, lapsed under the horizon
+pub record IsSummary (files : List (List (List ℕ))) (horizon : ℕ) (state : State) : Type 0 where
+  pub horizon_is : state.horizon ≡ horizon
+  pub floor : Option FileStamp
+  pub is_floor : IsFloorOf files floor
+  pub ledger_ascends : IsStrictlyAscending ledger_item_cmp state.ledger
+  pub ledger : (item : LedgerItem) → Contains state.ledger item ↔ ((file : List (List ℕ)) × IsKeptFile files floor file × (ledger_item_of file ≡ item))
+  pub entries_ascend : AreAscending state.entries
+  pub entries : (key : Key) (entry : Entry) → Contains state.entries (key, entry)
+      ↔ ((greatest : Entry) × IsGreatestEntryOf files floor key greatest × (lapse_entry horizon greatest ≡ entry))
+
+-- no two different files of the set have the same moment
+abbrev pub HaveDistinctMoments : List (List (List ℕ)) → Type 0
+HaveDistinctMoments files =
+    (first second : List (List ℕ)) → Contains files first → Contains files second → moment_of first ≡ moment_of second → first ≡ second

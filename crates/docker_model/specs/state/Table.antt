@@ -1,0 +1,48 @@
+-- The plain table of a set of files: the newest full extract and then the later files, each record in order.
+use Rattle.std.specs.Prelude.{◌≡◌, ℕ, Bool, ◌==◌, if◌then◌else◌, List, [], ◌∷◌, ◌↔◌, Option, None, fold, Contains}
+use Rattle.std.specs.List.{list_any}
+use Rattle.std.specs.Ordering.{is_eq, on}
+use Rattle.docker_model.specs.file.Change.{Key, Body, Change, changes}
+use Rattle.docker_model.specs.state.Order.{IsStrictlyAscending}
+use Rattle.docker_model.specs.state.Stamp.{ledger_item_of, moment_of, moment_cmp}
+use Rattle.docker_model.specs.state.Op.{op_of, body_of, key_cmp}
+
+-- what a table has at each key
+abbrev pub Table : Type 0
+Table = Key → Option Body
+
+-- the empty table
+abbrev pub empty_table : Table
+empty_table key = None
+
+-- the table after a change: its key is put or removed, and the others stay
+abbrev pub after_change : Table → Change → Table
+after_change table change key = if is_eq (key_cmp change.key key) then body_of (op_of change.act) else table key
+
+-- the table after the changes of a file
+abbrev pub after_file : Table → List (List ℕ) → Table
+after_file table file = fold after_change table (changes file)
+
+-- the table after the changes of files in order
+abbrev pub after_files : Table → List (List (List ℕ)) → Table
+after_files table files = fold after_file table files
+
+-- the file is a full extract
+abbrev pub is_full : List (List ℕ) → Bool
+is_full file = (ledger_item_of file).indicator == 70
+
+-- the last full extract and the files after it, or all of them where there is none
+abbrev pub from_last_full : List (List (List ℕ)) → List (List (List ℕ))
+from_last_full [] = []
+from_last_full (file ∷ files) = if list_any is_full files then from_last_full files else file ∷ files
+
+-- files in moment order: those of the set, and no others
+pub record IsInMomentOrder (files ordered : List (List (List ℕ))) : Type 0 where
+  pub same : (file : List (List ℕ)) → Contains ordered file ↔ Contains files file
+  pub ascending : IsStrictlyAscending (on moment_of moment_cmp) ordered
+
+-- the plain table of a set of files with distinct moments
+pub record IsPlainTable (files : List (List (List ℕ))) (table : Table) : Type 0 where
+  pub ordered : List (List (List ℕ))
+  pub order : IsInMomentOrder files ordered
+  pub is : (key : Key) → table key ≡ after_files empty_table (from_last_full ordered) key

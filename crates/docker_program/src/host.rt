@@ -1,0 +1,49 @@
+//! The program on the real devices.
+use crate::devices::{Input, Output};
+use crate::fault_report::tell;
+use crate::program::perform;
+use docker_cmd::{Fault, JobFault};
+use std::env;
+use std::io::ErrorKind;
+use std::process::ExitCode;
+
+/// Runs the program with its words, standard input, output and error, and answers its exit status.
+pub fn run(rt: &HostRuntime) -> ExitCode {
+    ExitCode::from(run_own_words(rt))
+}
+
+/// Runs the program with these words in place of its own.
+pub fn run_words(rt: &HostRuntime, words: &[&str]) -> u8 {
+    perform(
+        rt.alloc(),
+        words,
+        &mut Input::stdin(rt),
+        &mut Input::closed(rt),
+        &mut Output::stdout(rt),
+        &mut Output::stderr(rt),
+    )
+}
+
+/// Does what the program's own words ask for, where they can be had.
+fn run_own_words(rt: &HostRuntime) -> u8 {
+    match own_words(rt).and_then(|words| run_strings(rt, words.as_slice())) {
+        Ok(status) => status,
+        Err(fault) => tell(&Fault::Job(fault), &mut Output::stderr(rt)),
+    }
+}
+
+/// Runs the program with these words; want of memory where they can't be passed on.
+fn run_strings(rt: &HostRuntime, words: &[String]) -> Result<u8, JobFault> {
+    let words: Vec<&str> = words.iter().map(|word| word.as_str()).collect(rt.alloc())?;
+    Ok(run_words(rt, words.as_slice()))
+}
+
+/// The words behind the program's name. A word that is no text is a usage fault.
+fn own_words(rt: &HostRuntime) -> Result<Vec<String>, JobFault> {
+    let all = match env::args(rt) {
+        Ok(all) => all,
+        Err(error) if error.kind() == ErrorKind::OutOfMemory => return Err(JobFault::Memory),
+        Err(_) => return Err(JobFault::Usage),
+    };
+    Ok(all.skip(1).collect(rt.alloc())?)
+}

@@ -1,0 +1,35 @@
+//! The job that the program is asked for.
+ghost use Rattle.std.specs.Prelude.{◌≡◌, ◌≢◌, ◌+◌, ◌-◌, ◌^◌, ◌<◌, ◌↔◌, [], IfOk, Err};
+ghost use Rattle.docker_cmd.specs.Words.{texts};
+ghost use Rattle.docker_program.specs.Program.{AskForNone, AskForSome, AsksAtMost, AsksFor};
+
+use cif_line::Source;
+use docker_cmd::{Job, JobFault, job, job_line};
+use std::alloc::Global;
+
+/// The job that the words name, or where there are none the first line of standard input.
+pub(crate) fn requested_job<S: Source>(
+    alloc: Global,
+    words: &[&str],
+    stdin: &mut S,
+) -> Result<Job, JobFault>
+    requires { S.failures stdin.old < 2 ^ 64 - 1 }
+    ensures job { IfOk result (λ job.
+        AsksFor (texts words.now) (S.left stdin.old) job (S.left stdin.new)) }
+    ensures at_most { AsksAtMost (texts words.now) (S.left stdin.old) (S.left stdin.new) }
+    ensures usage { (result ≡ Err JobFault.Usage)
+        → AskForNone (texts words.now) (S.left stdin.old) }
+    ensures memory { (result ≡ Err JobFault.Memory)
+        → AskForSome (texts words.now) (S.left stdin.old) }
+    ensures line { (result ≡ Err JobFault.Source) → texts words.now ≡ [] }
+    ensures source { (result ≡ Err JobFault.Source)
+        ↔ (S.failures stdin.new ≡ S.failures stdin.old + 1) }
+    ensures no_failure { result ≢ Err JobFault.Source
+        → S.failures stdin.new ≡ S.failures stdin.old }
+{
+    if words.is_empty() {
+        job_line(alloc, stdin)
+    } else {
+        job(alloc, words)
+    }
+}

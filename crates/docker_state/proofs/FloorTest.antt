@@ -1,0 +1,112 @@
+-- What is kept under a floor.
+use Rattle.std.proofs.Common.{◌≡◌, arith, List, [], ◌∷◌, length, map, refl, ap, sym, ◌∙◌, subst, inl, inr, ◌⊎◌, Contains, Bool, true, false, cond, Some, None}
+use Rattle.std.specs.Prelude.{filter, Option, ◌↔◌, IsTrue}
+use Rattle.std.specs.declared.cmp.Ordering.TheVariants.{Less, Equal, Greater}
+use Rattle.docker_model.specs.state.Stamp.{FileStamp, file_stamp_cmp, IsKept}
+use Rattle.std.specs.List.{AllByRecursion, items_where_true}
+use Rattle.std.specs.List.Retain.{IsFiltered, ReturnsInTurn}
+use Rattle.std.specs.declared.cmp.Ordering.{Ordering}
+use Rattle.docker_model.specs.state.Order.{IsBelow, IsStrictlyAscending}
+use Rattle.docker_laws.proofs.lists.Members.{filter_back, filter_forth}
+
+-- what a test that stays as it is leaves of a list
+module _ {X P : Type 0} (R : P → X → Bool → P → Type 0) (test : X → Bool) (p : P) (says : (x : X) (b : Bool) (q : P) → R p x b q → (b ≡ test x) × (q ≡ p)) where
+  told : (bs : List Bool) (xs : List X) (s q : P) → s ≡ p → length bs ≡ length xs → ReturnsInTurn R s bs xs q → items_where_true bs xs ≡ filter test xs
+  told [] [] s q is size turns = refl
+  told [] (x ∷ xs) s q is size turns = absurd (let none : length {A = Bool} [] ≡ length (x ∷ xs) = size in omega arith)
+  told (b ∷ bs) [] s q is size turns = absurd turns
+  told (b ∷ bs) (x ∷ xs) s q is size turns =
+      let one = says x b turns.0 (subst (λ v. R v x b turns.0) is turns.1) in
+      step b one.0 (told bs xs turns.0 q one.1 (omega arith) turns.2)
+    where
+      step : (c : Bool) → c ≡ test x → items_where_true bs xs ≡ filter test xs → items_where_true (c ∷ bs) (x ∷ xs) ≡ filter test (x ∷ xs)
+      step true h rest = (λ i. x ∷ rest i) ∙ (λ i. cond (h i) (x ∷ filter test xs) (filter test xs))
+      step false h rest = rest ∙ (λ i. cond (h i) (x ∷ filter test xs) (filter test xs))
+
+  -- a filter by a test that stays as it is
+  pub kept_by : (xs ys : List X) → IsFiltered R p xs ys → ys ≡ filter test xs
+  kept_by xs ys is = is.4 ∙ told is.0 xs p is.1 refl is.2 is.3
+
+-- what is left ascends
+module _ {A : Type 0} (cmp : A → A → Ordering) (test : A → Bool) where
+  filter_above : (low : A) (xs : List A) → AllByRecursion (IsBelow cmp low) xs → AllByRecursion (IsBelow cmp low) (filter test xs)
+  filter_above low [] above = tt
+  filter_above low (x ∷ xs) above = by (test x) (filter_above low xs above.1)
+    where
+      by : (b : Bool) → AllByRecursion (IsBelow cmp low) (filter test xs) → AllByRecursion (IsBelow cmp low) (cond b (x ∷ filter test xs) (filter test xs))
+      by true rest = (above.0, rest)
+      by false rest = rest
+
+  -- what a filter leaves ascends
+  pub filter_ascends : (xs : List A) → IsStrictlyAscending cmp xs → IsStrictlyAscending cmp (filter test xs)
+  filter_ascends [] up = tt
+  filter_ascends (x ∷ xs) up = by (test x) (filter_ascends xs up.1)
+    where
+      by : (b : Bool) → IsStrictlyAscending cmp (filter test xs) → IsStrictlyAscending cmp (cond b (x ∷ filter test xs) (filter test xs))
+      by true rest = (filter_above x xs up.0, rest)
+      by false rest = rest
+
+-- a test of what a function makes of the elements
+pub filter-map : {A B : Type 0} (f : A → B) (test : B → Bool) (xs : List A) → map f (filter (λ x. test (f x)) xs) ≡ filter test (map f xs)
+filter-map f test [] = refl
+filter-map f test (x ∷ xs) = by (test (f x)) (filter-map f test xs)
+  where
+    by : (b : Bool) → map f (filter (λ v. test (f v)) xs) ≡ filter test (map f xs)
+        → map f (cond b (x ∷ filter (λ v. test (f v)) xs) (filter (λ v. test (f v)) xs)) ≡ cond b (f x ∷ filter test (map f xs)) (filter test (map f xs))
+    by true same = ap (λ zs. f x ∷ zs) same
+    by false same = same
+
+-- the test of what is kept under a floor
+not_above : Ordering → Bool
+not_above Less = true
+not_above Equal = true
+not_above Greater = false
+
+-- a file stamp is at or above the floor
+pub keeps : Option FileStamp → FileStamp → Bool
+keeps None stamp = true
+keeps (Some floor) stamp = not_above (file_stamp_cmp floor stamp)
+
+-- what passes is kept
+pub keeps_is : (floor : Option FileStamp) (stamp : FileStamp) → keeps floor stamp ≡ true → IsKept floor stamp
+unfolding keeps not_above
+keeps_is None stamp h = tt
+keeps_is (Some floor) stamp h = λ above. let bad : false ≡ true = ap not_above (sym above) ∙ h in cc
+
+-- and what is kept passes
+pub is_keeps : (floor : Option FileStamp) (stamp : FileStamp) → IsKept floor stamp → keeps floor stamp ≡ true
+unfolding keeps not_above
+is_keeps None stamp kept = refl
+is_keeps (Some floor) stamp kept = by (file_stamp_cmp floor stamp) kept
+  where
+    by : (o : Ordering) → ¬ (o ≡ Greater) → not_above o ≡ true
+    by Less below = refl
+    by Equal below = refl
+    by Greater below = absurd (below refl)
+
+-- a test that tells what is kept is this one
+pub says_kept : (floor : Option FileStamp) (stamp : FileStamp) (b : Bool) → IsTrue b ↔ IsKept floor stamp → b ≡ keeps floor stamp
+says_kept floor stamp true told = sym (is_keeps floor stamp (told.0 refl))
+says_kept floor stamp false told = by (keeps floor stamp) refl
+  where
+    by : (b : Bool) → keeps floor stamp ≡ b → false ≡ b
+    by false h = refl
+    by true h = told.1 (keeps_is floor stamp h)
+
+-- what is kept of elements by what they mean: it ascends, and its members are those that are kept
+module _ {A B : Type 0} (f : A → B) (cmp : B → B → Ordering) (floor : Option FileStamp) (stamp : B → FileStamp) (xs ys : List A)
+    (is : ys ≡ filter (λ x. keeps floor (stamp (f x))) xs) where
+  as_meant : map f ys ≡ filter (λ v. keeps floor (stamp v)) (map f xs)
+  as_meant = ap (map f) is ∙ filter-map f (λ v. keeps floor (stamp v)) xs
+
+  -- it ascends
+  pub kept_ascends : IsStrictlyAscending cmp (map f xs) → IsStrictlyAscending cmp (map f ys)
+  kept_ascends up = subst (IsStrictlyAscending cmp) (sym as_meant) (filter_ascends cmp (λ v. keeps floor (stamp v)) (map f xs) up)
+
+  -- and has the members that are kept
+  pub kept_members : (z : B) → Contains (map f ys) z ↔ (Contains (map f xs) z × IsKept floor (stamp z))
+  kept_members z = (
+    λ among. let found = filter_back (λ v. keeps floor (stamp v)) (map f xs) z (subst (λ zs. Contains zs z) as_meant among) in
+        (found.0, keeps_is floor (stamp z) found.1),
+    λ found. subst (λ zs. Contains zs z) (sym as_meant) (filter_forth (λ v. keeps floor (stamp v)) (map f xs) z found.0 (is_keeps floor (stamp z) found.1)),
+  )

@@ -1,0 +1,113 @@
+-- The last rows of each key of sorted rows have the greatest entries.
+use Rattle.std.proofs.Common.{◌≡◌, ℕ, suc, ◌<◌, List, [], ◌∷◌, map, length, get_or, refl, ap, sym, ◌∙◌, subst, inl, inr, ◌⊎◌, Contains, Bool, true, false, cond, arith}
+use Rattle.std.specs.List.{AllByRecursion}
+use Rattle.std.specs.List.Sorted.{IsSorted}
+use Rattle.std.specs.declared.cmp.Ordering.{Ordering}
+use Rattle.std.specs.declared.cmp.Ordering.TheVariants.{Less, Equal, Greater}
+use Rattle.std.specs.Ordering.{is_eq, is_lt, ordering_reverse}
+use Rattle.std.specs.Cmp.{IsTotalOrder, then_total, on_total, tied_itself}
+use Rattle.std.proofs.lemmas.List.Sorted.{ranks_by, sorted_far}
+use Rattle.docker_model.specs.file.Change as model
+use Rattle.docker_model.specs.state.Op as ops
+use Rattle.docker_model.specs.state.Op.{entry_cmp}
+use Rattle.docker_model.specs.state.Order.{IsAtMost}
+use Rattle.docker_model.specs.state.State.{IsGreatestAmong}
+use Rattle.docker_laws.proofs.orders.Orders.{key_total, exact_key, entry_total}
+use Rattle.docker_laws.proofs.lists.Membership.{Contains-cons, cons-Contains, cons-Contains-first, nil-Contains, Contains-map, map-Contains}
+use Rattle.docker_laws.proofs.orders.AtMost.{level}
+use Rattle.cif_file.specs.declared.key.Key.{Key}
+use Rattle.cif_file.specs.Meaning.{key_meant}
+use Rattle.docker_join.specs.declared.entry.Entry.{Entry}
+use Rattle.docker_join.specs.Meaning.{op_meant, entry_meant}
+use Rattle.docker_join.specs.Records.{HasRecords}
+use Rattle.docker_join.specs.Exact.{exact_entry}
+use Rattle.docker_join.specs.Rows.{row_cmp}
+use Rattle.docker_state.specs.Meaning.{row_meant}
+use Rattle.docker_state.specs.Rows.{last_rows}
+use Rattle.docker_state.proofs.LastRows.{by_entry, AreSorted, lasts_among, lasts_top}
+
+by_entry_total : IsTotalOrder by_entry
+by_entry_total = then_total (on_total (λ (r : Key × Entry). key_meant r.0) key_total) (on_total (λ (r : Key × Entry). entry_meant r.1) entry_total)
+
+all_at : {A : Type 0} (P : A → Type 0) (xs : List A) → ((j : ℕ) (d : A) → j < length xs → P (get_or xs j d)) → AllByRecursion P xs
+all_at P [] each = tt
+all_at P (x ∷ xs) each = (each 0 x (omega arith), all_at P xs (λ j d within. each (suc j) d (omega arith)))
+
+not_under : (a b : Key × Entry) → is_lt (by_entry b a) ≡ false → IsAtMost by_entry a b
+not_under a b h above = let turned : by_entry b a ≡ Less = by_entry_total.antisymm b a ∙ ap ordering_reverse above in
+    let bad : true ≡ false = sym (ap is_lt turned) ∙ h in cc
+
+from_far : (xs : List (Key × Entry)) → ((i j : ℕ) (d : Key × Entry) → i < j → j < length xs → is_lt (by_entry (get_or xs j d) (get_or xs i d)) ≡ false)
+    → AreSorted xs
+from_far [] far = tt
+from_far (x ∷ xs) far = (
+  all_at (IsAtMost by_entry x) xs (λ j d within. not_under x (get_or xs j d) (far 0 (suc j) d (omega arith) (omega arith))),
+  from_far xs (λ i j d before within. far (suc i) (suc j) d (omega arith) (omega arith)),
+)
+
+-- what a sort leaves is sorted, row by row
+pub sorted_rows : (xs : List (Key × Entry)) → IsSorted by_entry xs → AreSorted xs
+sorted_rows xs up = from_far xs
+    (λ i j d before within. sorted_far (λ x y. is_lt (by_entry x y)) (ranks_by by_entry_total (λ r. r)) xs up i j d (omega arith) within)
+
+-- each key of the rows has a last row
+abbrev LastOf : List (Key × Entry) → Key × Entry → Type 0
+LastOf rows w = (m : Key × Entry) × Contains (last_rows rows) m × (row_cmp w m ≡ Equal)
+
+last_of : (rows : List (Key × Entry)) (w : Key × Entry) → Contains rows w → LastOf rows w
+last_of [] w among = absurd (nil-Contains w among)
+last_of (row ∷ []) w among = by (Contains-cons row [] w among)
+  where
+    by : (row ≡ w) ⊎ Contains [] w → LastOf (row ∷ []) w
+    by (inl same) = (row, cons-Contains-first row [], ap (λ (v : Key × Entry). row_cmp v row) (sym same) ∙ tied_itself key_total (key_meant row.0))
+    by (inr none) = absurd (nil-Contains w none)
+last_of (row ∷ next ∷ rows) w among = by (is_eq (row_cmp next row)) refl (λ v inside. last_of (next ∷ rows) v inside) (Contains-cons row (next ∷ rows) w among)
+  where
+    eq_is : (o : Ordering) → is_eq o ≡ true → o ≡ Equal
+    eq_is Less h = cc
+    eq_is Equal h = refl
+    eq_is Greater h = cc
+
+    by : (b : Bool) → is_eq (row_cmp next row) ≡ b → ((v : Key × Entry) → Contains (next ∷ rows) v → LastOf (next ∷ rows) v)
+        → (row ≡ w) ⊎ Contains (next ∷ rows) w
+        → (m : Key × Entry) × Contains (cond b (last_rows (next ∷ rows)) (row ∷ last_rows (next ∷ rows))) m × (row_cmp w m ≡ Equal)
+    by true h rest (inr inside) = rest w inside
+    by true h rest (inl same) =
+        let m = rest next (cons-Contains-first next rows) in
+        let keys : key_meant next.0 ≡ key_meant row.0 = exact_key (key_meant next.0) (key_meant row.0) (eq_is (row_cmp next row) h) in
+        (m.0, m.1, ap (λ (v : Key × Entry). row_cmp v m.0) (sym same) ∙ subst (λ k. ops.key_cmp k (key_meant m.0.0) ≡ Equal) keys m.2)
+    by false h rest (inl same) =
+        (row, cons-Contains-first row (last_rows (next ∷ rows)), ap (λ (v : Key × Entry). row_cmp v row) (sym same) ∙ tied_itself key_total (key_meant row.0))
+    by false h rest (inr inside) = let m = rest w inside in (m.0, cons-Contains row (last_rows (next ∷ rows)) m.0 m.1, m.2)
+
+module _ (rows : List (Key × Entry)) (sorted : AreSorted rows) (records : (row : Key × Entry) → Contains rows row → HasRecords (op_meant row.1.op)) where
+  -- a last row has the greatest entry of its key
+  pub last_is_greatest : (key : model.Key) (entry : ops.Entry) → Contains (map row_meant (last_rows rows)) (key, entry)
+      → IsGreatestAmong (map row_meant rows) key entry
+  last_is_greatest key entry last =
+      let z = Contains-map row_meant (last_rows rows) (key, entry) last in
+      record {
+        among = subst (Contains (map row_meant rows)) z.2 (map-Contains row_meant rows z.0 (lasts_among rows z.0 z.1));
+        greatest = λ other among.
+            let w = Contains-map row_meant rows (key, other) among in
+            let keys : key_meant w.0.0 ≡ key_meant z.0.0 = (λ i. (w.2 i).0) ∙ sym (λ i. (z.2 i).0) in
+            let tied : row_cmp w.0 z.0 ≡ Equal = ap (λ k. ops.key_cmp k (key_meant z.0.0)) keys ∙ tied_itself key_total (key_meant z.0.0) in
+            subst (λ e. IsAtMost entry_cmp other e) (λ i. (z.2 i).1)
+            (subst (λ e. IsAtMost entry_cmp e (entry_meant z.0.1)) (λ i. (w.2 i).1) (lasts_top rows sorted z.0 z.1 w.0 w.1 tied));
+      }
+
+  -- and each greatest entry is that of a last row
+  pub greatest_is_last : (key : model.Key) (entry : ops.Entry) → IsGreatestAmong (map row_meant rows) key entry
+      → Contains (map row_meant (last_rows rows)) (key, entry)
+  greatest_is_last key entry best =
+      let w = Contains-map row_meant rows (key, entry) best.among in
+      let m = last_of rows w.0 w.1 in
+      let keys : key_meant w.0.0 ≡ key_meant m.0.0 = exact_key (key_meant w.0.0) (key_meant m.0.0) m.2 in
+      let at : row_meant m.0 ≡ (key, entry_meant m.0.1) = (λ i. ((sym keys ∙ (λ j. (w.2 j).0)) i, entry_meant m.0.1)) in
+      let inside = lasts_among rows m.0 m.1 in
+      let high = best.greatest (entry_meant m.0.1) (subst (Contains (map row_meant rows)) at (map-Contains row_meant rows m.0 inside)) in
+      let low = subst (λ e. IsAtMost entry_cmp e (entry_meant m.0.1)) (λ i. (w.2 i).1) (lasts_top rows sorted m.0 m.1 w.0 w.1 m.2) in
+      let tied = level entry_total (entry_meant m.0.1) entry high low in
+      let same : m.0.1 ≡ w.0.1 = exact_entry m.0.1 w.0.1 (records m.0 inside) (records w.0 w.1) (ap (entry_cmp (entry_meant m.0.1)) (λ i. (w.2 i).1) ∙ tied) in
+      let whole : row_meant m.0 ≡ (key, entry) = at ∙ (λ i. (key, (ap entry_meant same ∙ (λ j. (w.2 j).1)) i)) in
+      subst (Contains (map row_meant (last_rows rows))) whole (map-Contains row_meant (last_rows rows) m.0 m.1)

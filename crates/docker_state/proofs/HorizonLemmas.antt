@@ -1,0 +1,37 @@
+-- A horizon that is set on a state: its rows lapse, or it changes nothing.
+use Rattle.std.proofs.Common.{◌≡◌, ℕ, ◌≤◌, List, map, ap, sym, ◌∙◌, subst}
+use Rattle.std.proofs.Math.Nat.{max-eq_right}
+use Rattle.docker_model.specs.state.Lapse.{lapse_entries}
+use Rattle.docker_model.specs.records.Date.{IsDay}
+use Rattle.docker_model.specs.state.State.{IsValid, raise_horizon, lapse_state}
+use Rattle.docker_laws.proofs.joins.JoinValid.{raised_is_valid}
+use Rattle.docker_model.specs.file.Change as model
+use Rattle.docker_model.specs.state.Op as ops
+use Rattle.docker_index.specs.declared.index.Index.{Index}
+use Rattle.docker_index.specs.Spots.{IsIndexOf}
+use Rattle.cif_file.specs.declared.key.Key.{Key}
+use Rattle.docker_join.specs.declared.entry.Entry.{Entry}
+use Rattle.docker_state.specs.declared.item.LedgerItem.{LedgerItem}
+use Rattle.docker_state.specs.Meaning.{item_meant, row_meant, state_meant}
+
+module _ (own horizon day : ℕ) (is : horizon ≡ day) (low : own ≤ day) (ledger : List LedgerItem) (rows after : List (Key × Entry))
+    (lapsed : map row_meant after ≡ lapse_entries horizon (map row_meant rows)) where
+  -- the rows lapsed under a day that is no lower are the state with it set
+  pub rows_raised : state_meant horizon ledger after ≡ raise_horizon day (state_meant own ledger rows)
+  rows_raised =
+      (λ i. record { horizon = horizon; ledger = map item_meant ledger; entries = lapsed i })
+      ∙ ap (λ h. lapse_state h (state_meant own ledger rows)) (is ∙ sym (max-eq_right low))
+
+  -- and it is valid
+  pub raised_valid : IsDay day → IsValid (state_meant own ledger rows) → IsValid (state_meant horizon ledger after)
+  raised_valid within valid = subst IsValid (sym rows_raised) (raised_is_valid day (state_meant own ledger rows) within valid)
+
+-- the index after the rows have lapsed is that of the rows
+pub lapsed_index : (rows after : List (Key × Entry)) (horizon : ℕ) → map row_meant after ≡ lapse_entries horizon (map row_meant rows)
+    → (slice : List (Key × Entry)) → slice ≡ after → (index later : Index) → IsIndexOf (map row_meant rows) index
+    → ((before : List (model.Key × ops.Entry)) (h : ℕ) → map row_meant slice ≡ lapse_entries h before → IsIndexOf before index
+    → IsIndexOf (map row_meant slice) later)
+    → IsIndexOf (map row_meant after) later
+lapsed_index rows after horizon lapsed slice same index later is lapses =
+    subst (λ (xs : List (Key × Entry)). IsIndexOf (map row_meant xs) later) same
+    (lapses (map row_meant rows) horizon (ap (map row_meant) same ∙ lapsed) is)

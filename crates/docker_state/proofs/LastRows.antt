@@ -1,0 +1,150 @@
+-- Of sorted rows, the last of each run of rows of one key.
+use Rattle.std.proofs.Common.{◌≡◌, List, [], ◌∷◌, inl, inr, ◌⊎◌, refl, ap, sym, ◌∙◌, Bool, true, false, cond, subst, Contains}
+use Rattle.std.specs.List.{AllByRecursion}
+use Rattle.std.specs.declared.cmp.Ordering.{Ordering}
+use Rattle.std.specs.declared.cmp.Ordering.TheVariants.{Less, Equal, Greater}
+use Rattle.std.specs.Ordering.{ordering_then, ordering_reverse, is_eq}
+use Rattle.docker_model.specs.state.Op.{entry_cmp}
+use Rattle.docker_model.specs.state.Order.{IsBelow, IsAtMost}
+use Rattle.std.proofs.lemmas.List.Elements.{recursion_from_All}
+use Rattle.docker_laws.proofs.orders.Orders.{key_total, entry_total}
+use Rattle.docker_laws.proofs.lists.Membership.{Contains-cons, nil-Contains, below_by_recursion, all_members}
+use Rattle.docker_laws.proofs.orders.AtMost.{at_most_itself}
+use Rattle.docker_laws.proofs.lists.Later.{AllLater}
+use Rattle.cif_file.specs.declared.key.Key.{Key}
+use Rattle.cif_file.specs.Meaning.{key_meant}
+use Rattle.docker_join.specs.declared.entry.Entry.{Entry}
+use Rattle.docker_join.specs.Meaning.{entry_meant}
+use Rattle.docker_join.specs.Rows.{row_cmp, AreAscending}
+use Rattle.docker_state.specs.Rows.{last_rows}
+
+-- rows by key and then by entry
+abbrev pub by_entry : Key × Entry → Key × Entry → Ordering
+by_entry a b = ordering_then (row_cmp a b) (entry_cmp (entry_meant a.1) (entry_meant b.1))
+
+-- no row is above a later one
+abbrev pub AreSorted : List (Key × Entry) → Type 0
+AreSorted rows = AllLater (IsAtMost by_entry) rows
+
+abbrev LaterKey : Key × Entry → Key × Entry → Type 0
+LaterKey a b = (row_cmp a b ≡ Less) ⊎ ((row_cmp a b ≡ Equal) × IsAtMost entry_cmp (entry_meant a.1) (entry_meant b.1))
+
+-- of two rows in order the second has a higher key, or the same and no lesser entry
+pub later_key : (a b : Key × Entry) → IsAtMost by_entry a b → LaterKey a b
+later_key a b = by (row_cmp a b) refl
+  where
+    by : (o : Ordering) → row_cmp a b ≡ o → ¬ (ordering_then o (entry_cmp (entry_meant a.1) (entry_meant b.1)) ≡ Greater) → LaterKey a b
+    by Less is low = inl is
+    by Equal is low = inr (is, low)
+    by Greater is low = absurd (low refl)
+
+-- what all rows have, the last of each key have
+pub lasts_all : (P : Key × Entry → Type 0) (rows : List (Key × Entry)) → AllByRecursion P rows → AllByRecursion P (last_rows rows)
+lasts_all P [] all = tt
+lasts_all P (row ∷ []) all = (all.0, tt)
+lasts_all P (row ∷ next ∷ rows) all = by (is_eq (row_cmp next row)) (lasts_all P (next ∷ rows) all.1)
+  where
+    by : (b : Bool) → AllByRecursion P (last_rows (next ∷ rows)) → AllByRecursion P (cond b (last_rows (next ∷ rows)) (row ∷ last_rows (next ∷ rows)))
+    by true rest = rest
+    by false rest = (all.0, rest)
+
+-- a row whose key is below that of the next is below all that follow
+below_all : (row next : Key × Entry) (rows : List (Key × Entry)) → row_cmp row next ≡ Less → AllByRecursion (IsAtMost by_entry next) rows
+    → AllByRecursion (IsBelow row_cmp row) rows
+below_all row next [] below later = tt
+below_all row next (other ∷ rows) below later = (by (later_key next other later.0), below_all row next rows below later.1)
+  where
+    by : LaterKey next other → row_cmp row other ≡ Less
+    by (inl less) = key_total.trans (key_meant row.0) (key_meant next.0) (key_meant other.0) below less
+    by (inr same) =
+        let a = key_total.antisymm (key_meant row.0) (key_meant other.0) in
+        let b = key_total.congr (key_meant next.0) (key_meant other.0) (key_meant row.0) same.0 in
+        let d = key_total.antisymm (key_meant row.0) (key_meant next.0) in
+        cc
+
+-- the last rows ascend
+pub lasts_ascend : (rows : List (Key × Entry)) → AreSorted rows → AreAscending (last_rows rows)
+lasts_ascend [] sorted = tt
+lasts_ascend (row ∷ []) sorted = (tt, tt)
+lasts_ascend (row ∷ next ∷ rows) sorted = by (row_cmp next row) refl (lasts_ascend (next ∷ rows) sorted.1)
+  where
+    less : ¬ (row_cmp next row ≡ Equal) → LaterKey row next → row_cmp row next ≡ Less
+    less apart (inl below) = below
+    less apart (inr same) = absurd (apart (let a = key_total.antisymm (key_meant next.0) (key_meant row.0) in let b = same.0 in cc))
+
+    in_front : ¬ (row_cmp next row ≡ Equal) → AreAscending (last_rows (next ∷ rows)) → AreAscending (row ∷ last_rows (next ∷ rows))
+    in_front apart rest =
+        let below = less apart (later_key row next sorted.0.0) in
+        (lasts_all (IsBelow row_cmp row) (next ∷ rows) (below, below_all row next rows below sorted.1.0), rest)
+
+    by : (o : Ordering) → row_cmp next row ≡ o → AreAscending (last_rows (next ∷ rows))
+        → AreAscending (cond (is_eq o) (last_rows (next ∷ rows)) (row ∷ last_rows (next ∷ rows)))
+    by Equal is rest = rest
+    by Less is rest = in_front (λ tied. cc) rest
+    by Greater is rest = in_front (λ tied. cc) rest
+
+-- a row whose key is not that of the next is below it
+front_below : (row next : Key × Entry) → ¬ (row_cmp next row ≡ Equal) → LaterKey row next → row_cmp row next ≡ Less
+front_below row next apart (inl below) = below
+front_below row next apart (inr same) = absurd (apart (key_total.antisymm (key_meant next.0) (key_meant row.0) ∙ ap ordering_reverse same.0))
+
+-- the only element
+alone : {A : Type 0} (x v : A) → Contains (x ∷ []) v → x ≡ v
+alone x v inside = by (Contains-cons x [] v inside)
+  where
+    by : (x ≡ v) ⊎ Contains [] v → x ≡ v
+    by (inl same) = same
+    by (inr none) = absurd (nil-Contains v none)
+
+-- of two rows of one key the later has no lesser entry
+of_one_key : (a b : Key × Entry) → IsAtMost by_entry a b → row_cmp a b ≡ Equal → IsAtMost entry_cmp (entry_meant a.1) (entry_meant b.1)
+of_one_key a b low tied = by (later_key a b low)
+  where
+    by : LaterKey a b → IsAtMost entry_cmp (entry_meant a.1) (entry_meant b.1)
+    by (inl less) = absurd (let bad : Less ≡ Equal = sym less ∙ tied in cc)
+    by (inr same) = same.1
+
+-- the last of each key stand among the rows
+pub lasts_among : (rows : List (Key × Entry)) (z : Key × Entry) → Contains (last_rows rows) z → Contains rows z
+lasts_among rows z last =
+    below_by_recursion (Contains rows) (last_rows rows) z
+    (lasts_all (Contains rows) rows (recursion_from_All (Contains rows) rows (all_members (Contains rows) rows (λ x among. among)))) last
+
+-- of rows of one key, the last is the greatest
+pub lasts_top : (rows : List (Key × Entry)) → AreSorted rows → (z : Key × Entry) → Contains (last_rows rows) z → (w : Key × Entry) → Contains rows w
+    → row_cmp w z ≡ Equal
+    → IsAtMost entry_cmp (entry_meant w.1) (entry_meant z.1)
+lasts_top [] sorted z last w among tied = absurd (nil-Contains z last)
+lasts_top (row ∷ []) sorted z last w among tied =
+    subst (λ (v : Key × Entry). IsAtMost entry_cmp (entry_meant w.1) (entry_meant v.1)) (sym (alone row w among) ∙ alone row z last)
+    (at_most_itself entry_total (entry_meant w.1))
+lasts_top (row ∷ next ∷ rows) sorted z last w among tied =
+    by (λ inside behind. lasts_top (next ∷ rows) sorted.1 z inside w behind tied) (is_eq (row_cmp next row)) refl last
+  where
+    in_tail : (Contains (last_rows (next ∷ rows)) z → Contains (next ∷ rows) w → IsAtMost entry_cmp (entry_meant w.1) (entry_meant z.1))
+        → Contains (last_rows (next ∷ rows)) z → (row ≡ w) ⊎ Contains (next ∷ rows) w → IsAtMost entry_cmp (entry_meant w.1) (entry_meant z.1)
+    in_tail rest inside (inl same) =
+        subst (λ (v : Key × Entry). IsAtMost entry_cmp (entry_meant v.1) (entry_meant z.1)) same
+        (of_one_key row z (below_by_recursion (IsAtMost by_entry row) (next ∷ rows) z sorted.0 (lasts_among (next ∷ rows) z inside))
+        (ap (λ (v : Key × Entry). row_cmp v z) same ∙ tied))
+    in_tail rest inside (inr behind) = rest inside behind
+
+    here : is_eq (row_cmp next row) ≡ false → row ≡ z → (row ≡ w) ⊎ Contains (next ∷ rows) w → IsAtMost entry_cmp (entry_meant w.1) (entry_meant z.1)
+    here apart same (inl is_w) =
+        subst (λ (v : Key × Entry). IsAtMost entry_cmp (entry_meant w.1) (entry_meant v.1)) (sym is_w ∙ same) (at_most_itself entry_total (entry_meant w.1))
+    here apart same (inr behind) =
+        let below = front_below row next (λ level. let bad : true ≡ false = sym (ap is_eq level) ∙ apart in cc) (later_key row next sorted.0.0) in
+        let under : row_cmp row w ≡ Less = below_by_recursion (IsBelow row_cmp row) (next ∷ rows) w (below, below_all row next rows below sorted.1.0) behind in
+        let level : row_cmp w row ≡ Equal = ap (row_cmp w) same ∙ tied in
+        let turned = key_total.antisymm (key_meant row.0) (key_meant w.0) in
+        absurd (let bad : Less ≡ Equal = sym under ∙ turned ∙ ap ordering_reverse level in cc)
+
+    by : (Contains (last_rows (next ∷ rows)) z → Contains (next ∷ rows) w → IsAtMost entry_cmp (entry_meant w.1) (entry_meant z.1))
+        → (b : Bool) → is_eq (row_cmp next row) ≡ b → Contains (cond b (last_rows (next ∷ rows)) (row ∷ last_rows (next ∷ rows))) z
+        → IsAtMost entry_cmp (entry_meant w.1) (entry_meant z.1)
+    by rest true h inside = in_tail rest inside (Contains-cons row (next ∷ rows) w among)
+    by rest false h inside = step (Contains-cons row (last_rows (next ∷ rows)) z inside)
+      where
+        step : (row ≡ z) ⊎ Contains (last_rows (next ∷ rows)) z → IsAtMost entry_cmp (entry_meant w.1) (entry_meant z.1)
+        step (inl same) = here h same (Contains-cons row (next ∷ rows) w among)
+        step (inr inner) = in_tail rest inner (Contains-cons row (next ∷ rows) w among)

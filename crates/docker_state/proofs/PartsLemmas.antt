@@ -1,0 +1,26 @@
+-- A valid state to which a good entry was given is valid.
+use Rattle.std.proofs.Common.{◌≡◌, List, [], ◌∷◌, ◌++◌, map, ap, sym, ◌∙◌, subst}
+use Rattle.std.proofs.lemmas.List.{map-append}
+use Rattle.docker_model.specs.file.Change as model
+use Rattle.docker_model.specs.state.Op as ops
+use Rattle.docker_model.specs.state.State.{State, IsValid, IsOpOf}
+use Rattle.docker_laws.proofs.joins.RaisedHorizon.{none_has_to}
+use Rattle.docker_model.specs.state.StatePart.{IsStampHere}
+use Rattle.docker_laws.proofs.texts.StateGrown.{valid_more}
+use Rattle.cif_file.specs.declared.key.Key.{Key}
+use Rattle.cif_file.specs.Meaning.{key_meant}
+use Rattle.docker_join.specs.declared.entry.Entry.{Entry}
+use Rattle.docker_join.specs.Meaning.{entry_meant}
+use Rattle.docker_state.specs.declared.item.LedgerItem.{LedgerItem}
+use Rattle.docker_state.specs.Meaning.{item_meant, row_meant, state_meant}
+
+-- the state of the parts with a good entry more is valid
+pub valid_with_entry : (ledger : List LedgerItem) (rows : List (Key × Entry)) (state : State) → state_meant 0 ledger rows ≡ state
+    → IsValid (state_meant 0 ledger rows)
+    → (key : Key) (entry : Entry) → IsStampHere state (key_meant key) (entry_meant entry).stamp → IsOpOf (key_meant key) (entry_meant entry).op
+    → (after : List (Key × Entry)) → after ≡ rows ++ (key, entry) ∷ [] → IsValid (state_meant 0 ledger after)
+valid_with_entry ledger rows state view valid key entry here of after pushed =
+    subst (λ (all : List (model.Key × ops.Entry)). IsValid (record { horizon = 0; ledger = map item_meant ledger; entries = all }))
+    (sym (ap (map row_meant) pushed ∙ map-append row_meant rows ((key, entry) ∷ [])))
+    (valid_more (state_meant 0 ledger rows) (key_meant key) (entry_meant entry).stamp (entry_meant entry).op valid
+    (subst (λ (s : State). IsStampHere s (key_meant key) (entry_meant entry).stamp) (sym view) here) of (none_has_to (entry_meant entry).op))

@@ -1,0 +1,156 @@
+-- The rows of the join of two tables are the greatest entries of both.
+use Rattle.std.proofs.Common.{◌≡◌, List, ◌++◌, map, refl, ap, sym, ◌∙◌, subst, inl, inr, ◌⊎◌, Contains, Some, None}
+use Rattle.std.specs.Prelude.{Option}
+use Rattle.std.specs.Ordering.{on, ord_max}
+use Rattle.std.specs.Cmp.{on_total}
+use Rattle.std.proofs.lemmas.List.Elements.{Contains-append_left, Contains-append_right, Contains-append_cases}
+use Rattle.docker_model.specs.file.Change as model
+use Rattle.docker_model.specs.state.Op as ops
+use Rattle.docker_model.specs.state.Op.{entry_cmp}
+use Rattle.docker_model.specs.state.Order.{IsAtMost}
+use Rattle.docker_model.specs.state.State.{IsGreatestAmong}
+use Rattle.docker_laws.proofs.orders.Orders.{entry_total}
+use Rattle.docker_laws.proofs.orders.AtMost.{level, at_most_itself}
+use Rattle.docker_laws.proofs.lists.Membership.{Contains-map, map-Contains}
+use Rattle.cif_file.specs.declared.key.Key.{Key}
+use Rattle.docker_join.specs.declared.entry.Entry.{Entry}
+use Rattle.docker_join.specs.Meaning.{op_meant, entry_meant}
+use Rattle.docker_join.specs.Greater.{IsGreater}
+use Rattle.docker_join.specs.GreaterLaws.{greater_max}
+use Rattle.docker_join.specs.Records.{HasRecords}
+use Rattle.docker_join.specs.Exact.{exact_entry}
+use Rattle.docker_join.specs.Rows.{AreAscending, value_at, picked_value, IsJoinOfRows}
+use Rattle.docker_join.specs.RowLaws.{value_of, row_of}
+use Rattle.docker_state.specs.Meaning.{row_meant}
+
+abbrev Rows : Type 0
+Rows = List (Key × Entry)
+
+-- what rows have at a key, as it is meant
+abbrev pub ValueMeant : List (Key × Entry) → model.Key → ops.Entry → Type 0
+ValueMeant rows key entry = (value : Entry) × (value_at rows key ≡ Some value) × (entry_meant value ≡ entry)
+
+-- an entry among the rows is what they have at its key
+pub value_in : (rows : List (Key × Entry)) → AreAscending rows → (key : model.Key) (entry : ops.Entry) → Contains (map row_meant rows) (key, entry)
+    → ValueMeant rows key entry
+value_in rows up key entry among =
+    let found = Contains-map row_meant rows (key, entry) among in
+    (found.0.1, subst (λ k. value_at rows k ≡ Some found.0.1) (λ i. (found.2 i).0) (value_of rows found.0 up found.1), λ i. (found.2 i).1)
+
+-- and what they have at a key is among them
+pub in_rows : (rows : List (Key × Entry)) (key : model.Key) (value : Entry) → value_at rows key ≡ Some value
+    → Contains (map row_meant rows) (key, entry_meant value)
+in_rows rows key value found =
+    let row = row_of rows key value found in
+    let same : row_meant row.0 ≡ (key, entry_meant value) = (λ i. (row.2 i, entry_meant (row.3 i))) in
+    subst (Contains (map row_meant rows)) same (map-Contains row_meant rows row.0 row.1)
+
+-- the greater entry
+abbrev pub higher : Entry → Entry → Entry
+higher = ord_max (on entry_meant entry_cmp)
+
+same_value : (a b : Entry) (o : Option Entry) → o ≡ Some a → o ≡ Some b → a ≡ b
+same_value a b o is_a is_b = cc
+
+module _ (first second joined : List (Key × Entry)) (up_first : AreAscending first) (up_second : AreAscending second)
+    (is : IsJoinOfRows higher first second joined) where
+  abbrev Both : List (model.Key × ops.Entry)
+  Both = map row_meant first ++ map row_meant second
+
+  -- what the join has at a key is the greatest there
+  up : (key : model.Key) (a b : Option Entry) → value_at first key ≡ a → value_at second key ≡ b → (value : Entry) → picked_value higher a b ≡ Some value
+      → IsGreatestAmong Both key (entry_meant value)
+  up key None None is_a is_b value here = cc
+  up key (Some v) None is_a is_b value here =
+      let same : v ≡ value = cc in
+      record {
+        among = Contains-append_left (map row_meant first) (map row_meant second) (key, entry_meant value) (in_rows first key value (is_a ∙ ap Some same));
+        greatest = λ other among. by other (Contains-append_cases (map row_meant first) (map row_meant second) (key, other) among);
+      }
+    where
+      by : (other : ops.Entry) → Contains (map row_meant first) (key, other) ⊎ Contains (map row_meant second) (key, other)
+          → IsAtMost entry_cmp other (entry_meant value)
+      by other (inl inside) =
+          let there = value_in first up_first key other inside in
+          let level_with : there.0 ≡ value = same_value there.0 value (value_at first key) there.1 (is_a ∙ here) in
+          subst (λ e. IsAtMost entry_cmp e (entry_meant value)) (ap entry_meant (sym level_with) ∙ there.2) (at_most_itself entry_total (entry_meant value))
+      by other (inr inside) = let there = value_in second up_second key other inside in absurd (let none : None ≡ Some there.0 = sym is_b ∙ there.1 in cc)
+  up key None (Some w) is_a is_b value here =
+      let same : w ≡ value = cc in
+      record {
+        among = Contains-append_right (map row_meant first) (map row_meant second) (key, entry_meant value) (in_rows second key value (is_b ∙ ap Some same));
+        greatest = λ other among. by other (Contains-append_cases (map row_meant first) (map row_meant second) (key, other) among);
+      }
+    where
+      by : (other : ops.Entry) → Contains (map row_meant first) (key, other) ⊎ Contains (map row_meant second) (key, other)
+          → IsAtMost entry_cmp other (entry_meant value)
+      by other (inr inside) =
+          let there = value_in second up_second key other inside in
+          let level_with : there.0 ≡ value = same_value there.0 value (value_at second key) there.1 (is_b ∙ here) in
+          subst (λ e. IsAtMost entry_cmp e (entry_meant value)) (ap entry_meant (sym level_with) ∙ there.2) (at_most_itself entry_total (entry_meant value))
+      by other (inl inside) = let there = value_in first up_first key other inside in absurd (let none : None ≡ Some there.0 = sym is_a ∙ there.1 in cc)
+  up key (Some v) (Some w) is_a is_b value here =
+      let top : IsGreater (on entry_meant entry_cmp) v w (higher v w) = greater_max (λ e. HasRecords (op_meant e.op)) (on_total entry_meant entry_total) v w in
+      let same : higher v w ≡ value = cc in
+      let greater : IsGreater (on entry_meant entry_cmp) v w value = subst (IsGreater (on entry_meant entry_cmp) v w) same top in
+      record {
+        among = from greater.among;
+        greatest = λ other among. by greater other (Contains-append_cases (map row_meant first) (map row_meant second) (key, other) among);
+      }
+    where
+      from : (value ≡ v) ⊎ (value ≡ w) → Contains Both (key, entry_meant value)
+      from (inl same) = Contains-append_left (map row_meant first) (map row_meant second) (key, entry_meant value)
+          (in_rows first key value (is_a ∙ ap Some (sym same)))
+      from (inr same) = Contains-append_right (map row_meant first) (map row_meant second) (key, entry_meant value)
+          (in_rows second key value (is_b ∙ ap Some (sym same)))
+
+      by : IsGreater (on entry_meant entry_cmp) v w value → (other : ops.Entry)
+          → Contains (map row_meant first) (key, other) ⊎ Contains (map row_meant second) (key, other) → IsAtMost entry_cmp other (entry_meant value)
+      by greater other (inl inside) =
+          let there = value_in first up_first key other inside in
+          let level_with : v ≡ there.0 = same_value v there.0 (value_at first key) is_a there.1 in
+          subst (λ e. IsAtMost entry_cmp e (entry_meant value)) (ap entry_meant level_with ∙ there.2) greater.first
+      by greater other (inr inside) =
+          let there = value_in second up_second key other inside in
+          let level_with : w ≡ there.0 = same_value w there.0 (value_at second key) is_b there.1 in
+          subst (λ e. IsAtMost entry_cmp e (entry_meant value)) (ap entry_meant level_with ∙ there.2) greater.second
+
+  -- so each entry of the join is the greatest of its key
+  pub joined_greatest : (key : model.Key) (entry : ops.Entry) → Contains (map row_meant joined) (key, entry) → IsGreatestAmong Both key entry
+  joined_greatest key entry among =
+      let there = value_in joined is.ascends key entry among in
+      subst (IsGreatestAmong Both key) there.2 (up key (value_at first key) (value_at second key) refl refl there.0 (sym (is.values key) ∙ there.1))
+
+  -- the join has something where one of the two has
+  some_left : (v : Entry) (b : Option Entry) → (m : Entry) × (picked_value higher (Some v) b ≡ Some m)
+  some_left v None = (v, refl)
+  some_left v (Some w) = (higher v w, refl)
+
+  some_right : (a : Option Entry) (w : Entry) → (m : Entry) × (picked_value higher a (Some w) ≡ Some m)
+  some_right None w = (w, refl)
+  some_right (Some v) w = (higher v w, refl)
+
+  -- the greatest of a key, of records, stands in the join
+  pub greatest_joined : ((pair : model.Key × ops.Entry) → Contains Both pair → HasRecords pair.1.op) → (key : model.Key) (entry : ops.Entry)
+      → IsGreatestAmong Both key entry → Contains (map row_meant joined) (key, entry)
+  greatest_joined records key entry best = by (Contains-append_cases (map row_meant first) (map row_meant second) (key, entry) best.among)
+    where
+      at : (e : Entry) → entry_meant e ≡ entry → (m : Entry) → value_at joined key ≡ Some m → Contains (map row_meant joined) (key, entry)
+      at e e_is m m_is =
+          let inside : Contains (map row_meant joined) (key, entry_meant m) = in_rows joined key m m_is in
+          let top : IsGreatestAmong Both key (entry_meant m) = joined_greatest key (entry_meant m) inside in
+          let tied = level entry_total (entry_meant m) entry (best.greatest (entry_meant m) top.among) (top.greatest entry best.among) in
+          let same : m ≡ e = exact_entry m e (records (key, entry_meant m) top.among)
+          (subst (λ (v : ops.Entry). HasRecords v.op) (sym e_is) (records (key, entry) best.among))
+          (ap (entry_cmp (entry_meant m)) e_is ∙ tied) in
+          subst (λ v. Contains (map row_meant joined) (key, v)) (ap entry_meant same ∙ e_is) inside
+
+      by : Contains (map row_meant first) (key, entry) ⊎ Contains (map row_meant second) (key, entry) → Contains (map row_meant joined) (key, entry)
+      by (inl inside) =
+          let e = value_in first up_first key entry inside in
+          let m = some_left e.0 (value_at second key) in
+          at e.0 e.2 m.0 (is.values key ∙ (λ i. picked_value higher (e.1 i) (value_at second key)) ∙ m.1)
+      by (inr inside) =
+          let e = value_in second up_second key entry inside in
+          let m = some_right (value_at first key) e.0 in
+          at e.0 e.2 m.0 (is.values key ∙ (λ i. picked_value higher (value_at first key) (e.1 i)) ∙ m.1)

@@ -1,0 +1,257 @@
+-- The rows of a UID's schedules are one piece of the rows, and what is live of it are the live schedules of the UID.
+use Rattle.std.proofs.Common.{◌≡◌, ℕ, zero, suc, ◌<◌, ◌≤◌, List, [], ◌∷◌, ◌++◌, map, take, drop, length, get_or, refl, ap, sym, ◌∙◌, subst, inl, inr, ◌⊎◌, Bool, true, false, Contains, Some, arith}
+use Rattle.std.specs.Prelude.{◌↔◌}
+use Rattle.std.specs.List.{AllByRecursion, AllPairs}
+use Rattle.std.specs.List.Sorted.{IsPartitionedBy, IsPartitionPoint}
+use Rattle.std.specs.declared.cmp.Ordering.{Ordering}
+use Rattle.std.specs.declared.cmp.Ordering.TheVariants.{Less, Equal, Greater}
+use Rattle.std.specs.Ordering.{is_lt, is_le, ordering_then, ordering_reverse, nat_cmp}
+use Rattle.std.specs.Cmp.{tied_itself}
+use Rattle.std.specs.Cmp.Lexicographic.{nat_list_cmp_total}
+use Rattle.std.proofs.lemmas.Bool.{cases_lt}
+use Rattle.std.proofs.lemmas.List.{append_assoc, take-append-drop, map-append}
+use Rattle.std.proofs.lemmas.List.Elements.{All-contains, Contains-append_left, Contains-append_right, Contains-append_cases}
+use Rattle.std.proofs.lemmas.Map.Lookups.{exact_bytes}
+use Rattle.docker_model.specs.file.Change as model
+use Rattle.docker_model.specs.file.Change.{tiploc_key, association_key, schedule_key, ScheduleKey, Body, tiploc_body, association_body, schedule_body}
+use Rattle.docker_model.specs.state.Index.{AreOfUid}
+use Rattle.docker_model.specs.state.Op as ops
+use Rattle.docker_model.specs.state.Op.{key_cmp, schedule_key_cmp, put_with}
+use Rattle.docker_model.specs.state.Order.{bytes_cmp, IsBelow, IsStrictlyAscending}
+use Rattle.docker_model.specs.state.State.{State, AreAscending as AscendMeant, IsValid, IsGoodEntry, IsOpOf, live_table}
+use Rattle.docker_laws.proofs.lists.Membership.{Contains-cons, nil-Contains, Contains-map}
+use Rattle.docker_laws.proofs.orders.Ascending.{later_of}
+use Rattle.docker_laws.proofs.lists.Pairs.{pairs_from_later}
+use Rattle.cif_file.specs.declared.key.Key.{Key}
+use Rattle.cif_file.specs.Meaning.{key_meant}
+use Rattle.docker_join.specs.declared.entry.Entry.{Entry}
+use Rattle.docker_join.specs.Rows.{row_cmp, AreAscending}
+use Rattle.docker_state.specs.Live.{live_rows}
+use Rattle.docker_state.specs.Meaning.{row_meant}
+use Rattle.docker_state.specs.UidPiece.{to_uid, AreTo, IsPieceOfUid}
+use Rattle.docker_state.proofs.LiveTable.{PutThere, from_live, to_live, live_has, live_put, ascends}
+
+-- ---- a test that holds of keys up to some
+
+-- tests that hold of what is below something that they hold of
+abbrev GoesDown : (Ordering → Bool) → Type 0
+GoesDown test = (test Greater ≡ false) × (test Equal ≡ true → test Less ≡ true)
+
+module _ (test : Ordering → Bool) (down : GoesDown test) (least : test Less ≡ true) (uid : List ℕ) where
+  schedules : (a b : ScheduleKey) → schedule_key_cmp a b ≡ Less → test (bytes_cmp b.uid uid) ≡ true → test (bytes_cmp a.uid uid) ≡ true
+  schedules a b below passes = by (bytes_cmp a.uid b.uid) refl below (bytes_cmp b.uid uid) refl passes
+    where
+      by : (o : Ordering) → bytes_cmp a.uid b.uid ≡ o
+          → ordering_then o (ordering_then (nat_cmp a.runs_from b.runs_from) (nat_cmp a.indicator b.indicator)) ≡ Less
+          → (p : Ordering) → bytes_cmp b.uid uid ≡ p → test p ≡ true → test (bytes_cmp a.uid uid) ≡ true
+      by Greater at told p at_b passed = absurd (let bad : Greater ≡ Less = told in cc)
+      by Equal at told p at_b passed = ap test (nat_list_cmp_total.congr a.uid b.uid uid at ∙ at_b) ∙ passed
+      by Less at told Greater at_b passed = absurd (let bad : false ≡ true = sym down.0 ∙ passed in cc)
+      by Less at told Less at_b passed = ap test (nat_list_cmp_total.trans a.uid b.uid uid at at_b) ∙ passed
+      by Less at told Equal at_b passed =
+          let other : bytes_cmp uid b.uid ≡ Equal = nat_list_cmp_total.antisymm uid b.uid ∙ ap ordering_reverse at_b in
+          let same : bytes_cmp uid a.uid ≡ bytes_cmp b.uid a.uid = nat_list_cmp_total.congr uid b.uid a.uid other in
+          let turned : bytes_cmp b.uid a.uid ≡ Greater = nat_list_cmp_total.antisymm b.uid a.uid ∙ ap ordering_reverse at in
+          let less : bytes_cmp a.uid uid ≡ Less = nat_list_cmp_total.antisymm a.uid uid ∙ ap ordering_reverse (same ∙ turned) in
+          ap test less ∙ least
+
+  passes_below : (a b : model.Key) → key_cmp a b ≡ Less → test (to_uid b uid) ≡ true → test (to_uid a uid) ≡ true
+  passes_below (tiploc_key a) b below passes = least
+  passes_below (association_key a) b below passes = least
+  passes_below (schedule_key a) (tiploc_key b) below passes = absurd (let bad : Greater ≡ Less = below in cc)
+  passes_below (schedule_key a) (association_key b) below passes = absurd (let bad : Greater ≡ Less = below in cc)
+  passes_below (schedule_key a) (schedule_key b) below passes = schedules a b below passes
+
+  parted : (rows : List (Key × Entry)) → AreAscending rows → IsPartitionedBy (λ row. test (to_uid (key_meant row.0) uid)) rows
+  parted rows up = λ i j d before within passes. by i j d passes within (cases_lt i j) before
+    where
+      below_at : AllPairs (IsBelow row_cmp) rows
+      below_at = pairs_from_later (IsBelow row_cmp) rows (later_of row_cmp rows up)
+
+      by : (i j : ℕ) (d : Key × Entry) → test (to_uid (key_meant (get_or rows j d).0) uid) ≡ true → j < length rows → (i < j) ⊎ (j ≤ i) → i ≤ j
+          → test (to_uid (key_meant (get_or rows i d).0) uid) ≡ true
+      by i j d passes within (inl strictly) before =
+          passes_below (key_meant (get_or rows i d).0) (key_meant (get_or rows j d).0) (below_at i j d strictly within) passes
+      by i j d passes within (inr after) before =
+          let same : j ≡ i = omega arith in
+          subst (λ k. test (to_uid (key_meant (get_or rows k d).0) uid) ≡ true) same passes
+
+-- the key is below those of the UID's schedules, or one of theirs
+abbrev pub is_before : List ℕ → Key × Entry → Bool
+is_before uid row = is_lt (to_uid (key_meant row.0) uid)
+
+abbrev pub is_up_to : List ℕ → Key × Entry → Bool
+is_up_to uid row = is_le (to_uid (key_meant row.0) uid)
+
+-- the rows are parted by each of the two tests
+pub parted_before : (uid : List ℕ) (rows : List (Key × Entry)) → AreAscending rows → IsPartitionedBy (is_before uid) rows
+parted_before uid rows up = parted is_lt (refl, λ same. refl) refl uid rows up
+
+-- and by the second
+pub parted_up_to : (uid : List ℕ) (rows : List (Key × Entry)) → AreAscending rows → IsPartitionedBy (is_up_to uid) rows
+parted_up_to uid rows up = parted is_le (refl, λ same. refl) refl uid rows up
+
+-- what is behind a front ascends
+pub behind_ascends : (rows : List (Key × Entry)) (n : ℕ) → AreAscending rows → AreAscending (drop n rows)
+behind_ascends rows zero up = up
+behind_ascends [] (suc n) up = tt
+behind_ascends (row ∷ rows) (suc n) up = behind_ascends rows n up.1
+
+-- ---- the piece
+
+module _ {A : Type 0} (P : A → Type 0) where
+  -- what holds of the first elements holds of a front
+  front_all : (xs : List A) (n : ℕ) → n ≤ length xs → ((k : ℕ) (d : A) → 0 ≤ k → k < n → P (get_or xs k d)) → (z : A) → Contains (take n xs) z → P z
+  front_all xs zero bound all z among = absurd (nil-Contains z among)
+  front_all [] (suc n) bound all z among = absurd (let none : suc n ≤ 0 = bound in omega arith)
+  front_all (x ∷ xs) (suc n) bound all z among =
+      by (front_all xs n (omega arith) (λ k d low high. all (suc k) d (omega arith) (omega arith)) z) (Contains-cons x (take n xs) z among)
+    where
+      by : (Contains (take n xs) z → P z) → (x ≡ z) ⊎ Contains (take n xs) z → P z
+      by rest (inl same) = subst P same (all 0 x (omega arith) (omega arith))
+      by rest (inr inside) = rest inside
+
+  -- and what holds of the others of what is behind it
+  back_all : (xs : List A) (n : ℕ) → n ≤ length xs → ((k : ℕ) (d : A) → n ≤ k → k < length xs → P (get_or xs k d)) → (z : A) → Contains (drop n xs) z → P z
+  back_all [] zero bound all z among = absurd (nil-Contains z among)
+  back_all [] (suc n) bound all z among = absurd (let none : suc n ≤ 0 = bound in omega arith)
+  back_all (x ∷ xs) zero bound all z among =
+      by (back_all xs zero (omega arith) (λ k d low high. all (suc k) d (omega arith) (omega arith)) z) (Contains-cons x xs z among)
+    where
+      by : (Contains xs z → P z) → (x ≡ z) ⊎ Contains xs z → P z
+      by rest (inl same) = subst P same (all 0 x (omega arith) (omega arith))
+      by rest (inr inside) = rest inside
+  back_all (x ∷ xs) (suc n) bound all z among = back_all xs n (omega arith) (λ k d low high. all (suc k) d (omega arith) (omega arith)) z among
+
+less_of : (o : Ordering) → is_lt o ≡ true → o ≡ Less
+less_of Less h = refl
+less_of Equal h = absurd (let bad : false ≡ true = h in cc)
+less_of Greater h = absurd (let bad : false ≡ true = h in cc)
+
+equal_of : (o : Ordering) → is_lt o ≡ false → is_le o ≡ true → o ≡ Equal
+equal_of Less no_lt le = absurd (let bad : true ≡ false = no_lt in cc)
+equal_of Equal no_lt le = refl
+equal_of Greater no_lt le = absurd (let bad : false ≡ true = le in cc)
+
+greater_of : (o : Ordering) → is_le o ≡ false → o ≡ Greater
+greater_of Less h = absurd (let bad : true ≡ false = h in cc)
+greater_of Equal h = absurd (let bad : true ≡ false = h in cc)
+greater_of Greater h = refl
+
+-- what stands between the two places of the search is the piece
+pub piece_is : (uid : List ℕ) (rows rest here : List (Key × Entry)) (n m : ℕ) → n ≤ length rows → rest ≡ drop n rows → m ≤ length rest → here ≡ take m rest
+    → IsPartitionPoint (λ row. is_before uid row ≡ true) (λ row. is_before uid row ≡ false) rows n
+    → IsPartitionPoint (λ row. is_up_to uid row ≡ true) (λ row. is_up_to uid row ≡ false) rest m → IsPieceOfUid uid rows here
+piece_is uid rows rest here n m bound rest_is bound_too here_is first second = record {
+  before = take n rows;
+  behind = drop m rest;
+  whole =
+      sym (take-append-drop n rows) ∙ ap (λ (xs : List (Key × Entry)). take n rows ++ xs) (sym rest_is ∙ sym (take-append-drop m rest))
+      ∙ sym (append_assoc (take n rows) (take m rest) (drop m rest)) ∙ ap (λ (xs : List (Key × Entry)). (take n rows ++ xs) ++ drop m rest) (sym here_is);
+  below = λ row among. less_of (to_uid (key_meant row.0) uid) (front_all (λ r. is_before uid r ≡ true) rows n bound first.0 row among);
+  here = λ row among.
+      let inside : Contains (take m rest) row = subst (λ (xs : List (Key × Entry)). Contains xs row) here_is among in
+      let in_rest : Contains rest row =
+      subst (λ (xs : List (Key × Entry)). Contains xs row) (take-append-drop m rest) (Contains-append_left (take m rest) (drop m rest) row inside) in
+      equal_of (to_uid (key_meant row.0) uid)
+      (back_all (λ r. is_before uid r ≡ false) rows n bound first.1 row (subst (λ (xs : List (Key × Entry)). Contains xs row) rest_is in_rest))
+      (front_all (λ r. is_up_to uid r ≡ true) rest m bound_too second.0 row inside);
+  above = λ row among. greater_of (to_uid (key_meant row.0) uid) (back_all (λ r. is_up_to uid r ≡ false) rest m bound_too second.1 row among);
+}
+
+-- ---- what is live of it
+
+-- a key of the UID's schedules
+of_uid_is : (key : model.Key) (uid : List ℕ) → to_uid key uid ≡ Equal → (schedule : ScheduleKey) × (key ≡ schedule_key schedule) × (schedule.uid ≡ uid)
+of_uid_is (tiploc_key code) uid tied = absurd (let bad : Less ≡ Equal = tied in cc)
+of_uid_is (association_key key) uid tied = absurd (let bad : Less ≡ Equal = tied in cc)
+of_uid_is (schedule_key key) uid tied = (key, refl, exact_bytes key.uid uid tied)
+
+-- the body of a schedule
+schedule_of : (key : ScheduleKey) (body : Body) → IsOpOf (schedule_key key) (put_with body) → (lines : List (List ℕ)) × (body ≡ schedule_body lines)
+schedule_of key (tiploc_body bytes) good = absurd good
+schedule_of key (association_body line) good = absurd good
+schedule_of key (schedule_body lines) good = (lines, refl)
+
+-- what holds of a list holds of its front
+front_of : {A : Type 0} (P : A → Type 0) (xs ys : List A) → AllByRecursion P (xs ++ ys) → AllByRecursion P xs
+front_of P [] ys all = tt
+front_of P (x ∷ xs) ys all = (all.0, front_of P xs ys all.1)
+
+-- a part of an ascending list ascends
+part_ascends : {A : Type 0} (cmp : A → A → Ordering) (before piece behind : List A) → IsStrictlyAscending cmp ((before ++ piece) ++ behind)
+    → IsStrictlyAscending cmp piece
+part_ascends cmp [] [] behind up = tt
+part_ascends cmp [] (x ∷ piece) behind up = (front_of (IsBelow cmp x) piece behind up.0, part_ascends cmp [] piece behind up.1)
+part_ascends cmp (y ∷ before) piece behind up = part_ascends cmp before piece behind up.1
+
+module _ (state : State) (valid : IsValid state) (uid : List ℕ) (rows piece : List (Key × Entry)) (rows_are : map row_meant rows ≡ state.entries)
+    (is : IsPieceOfUid uid rows piece) where
+  entries_are : state.entries ≡ (map row_meant is.before ++ map row_meant piece) ++ map row_meant is.behind
+  entries_are =
+      sym rows_are ∙ ap (map row_meant) is.whole ∙ map-append row_meant (is.before ++ piece) is.behind
+      ∙ ap (λ (xs : List (model.Key × ops.Entry)). xs ++ map row_meant is.behind) (map-append row_meant is.before piece)
+
+  piece_up : AscendMeant (map row_meant piece)
+  piece_up =
+      part_ascends (λ (a b : model.Key × ops.Entry). key_cmp a.0 b.0) (map row_meant is.before) (map row_meant piece) (map row_meant is.behind)
+      (subst AscendMeant entries_are valid.entries.1)
+
+  in_entries : (pair : model.Key × ops.Entry) → Contains (map row_meant piece) pair → Contains state.entries pair
+  in_entries pair among =
+      subst (λ (xs : List (model.Key × ops.Entry)). Contains xs pair) (sym entries_are)
+      (Contains-append_left (map row_meant is.before ++ map row_meant piece) (map row_meant is.behind) pair
+      (Contains-append_right (map row_meant is.before) (map row_meant piece) pair among))
+
+  -- how a key that stands among some rows stands to the UID
+  stands : (order : Ordering) (some : List (Key × Entry)) → AreTo order uid some → (pair : model.Key × ops.Entry) → Contains (map row_meant some) pair
+      → to_uid pair.0 uid ≡ order
+  stands order some all pair among =
+      let row = Contains-map row_meant some pair among in
+      ap (λ (p : model.Key × ops.Entry). to_uid p.0 uid) (sym row.2) ∙ all row.0 row.1
+
+  in_piece : (pair : model.Key × ops.Entry) → Contains state.entries pair → to_uid pair.0 uid ≡ Equal → Contains (map row_meant piece) pair
+  in_piece pair among tied = outer (Contains-append_cases (map row_meant is.before ++ map row_meant piece) (map row_meant is.behind) pair
+      (subst (λ (xs : List (model.Key × ops.Entry)). Contains xs pair) entries_are among))
+    where
+      inner : Contains (map row_meant is.before) pair ⊎ Contains (map row_meant piece) pair → Contains (map row_meant piece) pair
+      inner (inl front) = absurd (let bad : Less ≡ Equal = sym (stands Less is.before is.below pair front) ∙ tied in cc)
+      inner (inr here) = here
+
+      outer : Contains (map row_meant is.before ++ map row_meant piece) pair ⊎ Contains (map row_meant is.behind) pair → Contains (map row_meant piece) pair
+      outer (inl front) = inner (Contains-append_cases (map row_meant is.before) (map row_meant piece) pair front)
+      outer (inr back) = absurd (let bad : Greater ≡ Equal = sym (stands Greater is.behind is.above pair back) ∙ tied in cc)
+
+  Told : model.Key → Body → Type 0
+  Told key body = (schedule : ScheduleKey) × (lines : List (List ℕ)) × (key ≡ schedule_key schedule) × (body ≡ schedule_body lines) ×
+      (live_table state key ≡ Some body) × (schedule.uid ≡ uid)
+
+  told : (key : model.Key) (body : Body) → PutThere (map row_meant piece) key body → Told key body
+  unfolding Told
+  told key body put =
+      let among = in_entries (key, put.0) put.1 in
+      let schedule = of_uid_is key uid (stands Equal piece is.here (key, put.0) put.1) in
+      let good : IsOpOf key put.0.op = (All-contains (IsGoodEntry state.ledger) state.entries (key, put.0) valid.entries.0 among).op in
+      let body_good : IsOpOf (schedule_key schedule.0) (put_with body) =
+      subst (λ (k : model.Key). IsOpOf k (put_with body)) schedule.1 (subst (IsOpOf key) put.2 good) in
+      let lines = schedule_of schedule.0 body body_good in
+      (schedule.0, lines.0, schedule.1, lines.1, live_put state valid key body (put.0, among, put.2), schedule.2)
+
+  back : (key : model.Key) (body : Body) → Told key body → Contains (live_rows (map row_meant piece)) (key, body)
+  unfolding Told
+  back key body made =
+      let put = live_has state key body made.4 in
+      let tied : to_uid key uid ≡ Equal =
+      ap (λ (k : model.Key). to_uid k uid) made.2 ∙ ap (λ (u : List ℕ). bytes_cmp u uid) made.5 ∙ tied_itself nat_list_cmp_total uid in
+      to_live (map row_meant piece) key put.0 body put.2 (in_piece (key, put.0) put.1 tied)
+
+  -- they are the live schedules of the UID
+  pub live_of_uid : (walked : List (model.Key × Body)) → walked ≡ live_rows (map row_meant piece) → AreOfUid (live_table state) uid walked
+  unfolding Told
+  live_of_uid walked walked_is = subst (AreOfUid (live_table state) uid) (sym walked_is) (record {
+    ascending = ascends (map row_meant piece) piece_up;
+    members = λ key body. (
+      λ among. told key body (from_live (map row_meant piece) key body among),
+      λ made. back key body made,
+    );
+  })

@@ -1,0 +1,9 @@
+use Rattle.std.proofs.Common.{map}
+use Rattle.std.specs.List.{AllWithin}
+use Rattle.docker_state.specs.Meaning.{floor_meant, item_meant}
+use Rattle.docker_state.specs.Staging.{HasIfKept}
+use Rattle.docker_state.proofs.ledger.has_kept_items.Given as goal
+
+abbrev pub invariant-loop-item : goal.invariant-loop-item
+invariant-loop-item l =
+    AllWithin (λ item. HasIfKept (map item_meant l.ledger) (item_meant item) (floor_meant l.floor)) l.items 0 l.item-index

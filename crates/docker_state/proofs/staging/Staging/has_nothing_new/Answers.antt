@@ -1,0 +1,15 @@
+use Rattle.std.proofs.Common.{List, map, subst}
+use Rattle.std.specs.Prelude.{◌↔◌, IsTrue}
+use Rattle.docker_state.specs.declared.item.LedgerItem.{LedgerItem}
+use Rattle.docker_state.specs.Meaning.{floor_meant, item_meant}
+use Rattle.docker_state.specs.Staging.{Staging, HasKeptItems}
+use Rattle.docker_state.proofs.StagingLemmas.{nothing_new_tells}
+use Rattle.docker_state.proofs.staging.Staging.has_nothing_new.Goals as goal
+
+pub returns-then-is_empty : goal.returns-then-is_empty
+returns-then-is_empty c =
+    nothing_new_tells (map item_meant c.args.ledger.now) c.args.self.now c.is_empty.result c.is_empty.ensures c.if-is_empty.true c.has_kept_items.result
+    (subst (λ (s : Staging). IsTrue c.has_kept_items.result ↔ HasKeptItems (map item_meant c.args.ledger.now) s.items s.floor) c.self.view_is
+    (subst (λ (items : List LedgerItem).
+    IsTrue c.has_kept_items.result ↔ HasKeptItems (map item_meant c.args.ledger.now) (map item_meant items) (floor_meant c.self.inside.floor))
+    c.as_slice.ensures.value c.has_kept_items.ensures))

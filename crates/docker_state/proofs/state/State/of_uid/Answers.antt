@@ -1,0 +1,10 @@
+use Rattle.std.proofs.Common.{map, ap, ◌∙◌, subst}
+use Rattle.docker_model.specs.state.State.{State, IsValid}
+use Rattle.docker_state.specs.Meaning.{row_meant}
+use Rattle.docker_state.proofs.UidRows.{live_of_uid}
+use Rattle.docker_state.proofs.state.State.of_uid.Goals as goal
+
+pub returns : goal.returns
+returns c =
+    live_of_uid c.args.self.now (subst IsValid c.self.view_is c.self.invariant.valid) c.args.uid.now c.as_slice.result.now c.rows_of_uid.result.now
+    (ap (map row_meant) c.as_slice.ensures.rows ∙ ap (λ (s : State). s.entries) c.self.view_is) c.rows_of_uid.ensures c.of.result c.of.ensures

@@ -1,0 +1,62 @@
+-- What a state has received of another, before it is committed.
+use Rattle.std.specs.Prelude.{◌≡◌, List, ◌++◌, ◌∷◌, [], map, Option, Contains, ◌⊎◌}
+use Rattle.std.specs.declared.cmp.Ordering.TheVariants.{Less}
+use Rattle.docker_model.specs.file.Change as model
+use Rattle.docker_model.specs.state.Stamp as stamps
+use Rattle.docker_model.specs.state.Stamp.{IsKept}
+use Rattle.docker_model.specs.state.Op as ops
+use Rattle.docker_model.specs.state.Op.{key_cmp}
+use Rattle.docker_model.specs.state.State.{State}
+use Rattle.docker_model.specs.state.Staging.{IsToStage}
+use Rattle.cif_file.specs.declared.key.Key.{Key}
+use Rattle.docker_join.specs.declared.stamp.FileStamp.{FileStamp}
+use Rattle.docker_join.specs.declared.entry.Entry.{Entry}
+use Rattle.docker_state.specs.declared.item.LedgerItem.{LedgerItem}
+use Rattle.docker_state.specs.Meaning.{floor_meant, item_meant, row_meant}
+
+-- the floor of the union, the ledger items received, and of the entries received those that are staged
+pub record Staging : Type 0 where
+  pub floor : Option stamps.FileStamp
+  pub items : List stamps.LedgerItem
+  pub staged : List (model.Key × ops.Entry)
+
+-- what is received of a floor, a ledger and rows
+abbrev pub staging_meant : Option FileStamp → List LedgerItem → List (Key × Entry) → Staging
+staging_meant floor items rows = record {
+  floor = floor_meant floor;
+  items = map item_meant items;
+  staged = map row_meant rows;
+}
+
+-- what is received, with an entry staged behind the others
+abbrev pub with_staged : Staging → model.Key → ops.Entry → Staging
+with_staged staging key entry = record {
+  floor = staging.floor;
+  items = staging.items;
+  staged = staging.staged ++ (key, entry) ∷ [];
+}
+
+-- an offered entry is staged where it is to be, and left out where it isn't
+abbrev pub IsOffered : State → Staging → model.Key → ops.Entry → Staging → Type 0
+IsOffered own before key entry after =
+    (IsToStage own before.floor key entry × (after ≡ with_staged before key entry))
+    ⊎ (¬ IsToStage own before.floor key entry × (after ≡ before))
+
+-- the key is above those of the staged entries
+abbrev pub IsAboveStaged : List (model.Key × ops.Entry) → model.Key → Type 0
+IsAboveStaged staged key =
+    (other : model.Key × ops.Entry) → Contains staged other → key_cmp other.0 key ≡ Less
+
+-- the ledger has the item, if that is kept under the floor
+abbrev pub HasIfKept : List stamps.LedgerItem → stamps.LedgerItem → Option stamps.FileStamp → Type 0
+HasIfKept ledger item floor = IsKept floor item.stamp → Contains ledger item
+
+-- the ledger has each of the items that is kept under the floor
+abbrev pub HasKeptItems : List stamps.LedgerItem → List stamps.LedgerItem → Option stamps.FileStamp → Type 0
+HasKeptItems ledger items floor =
+    (item : stamps.LedgerItem) → Contains items item → HasIfKept ledger item floor
+
+-- nothing is staged, and the ledger has each item that is kept under the floor
+abbrev pub HasNothingNew : List stamps.LedgerItem → Staging → Type 0
+HasNothingNew ledger staging =
+    (staging.staged ≡ []) × HasKeptItems ledger staging.items staging.floor

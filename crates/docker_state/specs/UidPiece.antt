@@ -1,0 +1,30 @@
+-- The rows of the schedules of a UID, which are one piece of rows in key order.
+use Rattle.std.specs.Prelude.{◌≡◌, ℕ, List, ◌++◌, Contains}
+use Rattle.std.specs.declared.cmp.Ordering.{Ordering}
+use Rattle.std.specs.declared.cmp.Ordering.TheVariants.{Less, Equal, Greater}
+use Rattle.docker_model.specs.file.Change as model
+use Rattle.docker_model.specs.file.Change.{tiploc_key, association_key, schedule_key}
+use Rattle.docker_model.specs.state.Order.{bytes_cmp}
+use Rattle.cif_file.specs.declared.key.Key.{Key}
+use Rattle.cif_file.specs.Meaning.{key_meant}
+use Rattle.docker_join.specs.declared.entry.Entry.{Entry}
+
+-- how a key stands to the schedules of a UID: all other kinds of key are below them
+abbrev pub to_uid : model.Key → List ℕ → Ordering
+to_uid (tiploc_key code) uid = Less
+to_uid (association_key key) uid = Less
+to_uid (schedule_key key) uid = bytes_cmp key.uid uid
+
+-- the rows stand so to the schedules of a UID
+abbrev pub AreTo : Ordering → List ℕ → List (Key × Entry) → Type 0
+AreTo order uid rows =
+    (row : Key × Entry) → Contains rows row → to_uid (key_meant row.0) uid ≡ order
+
+-- the rows of the schedules of a UID: those before them are below it, and those behind them above it
+pub record IsPieceOfUid (uid : List ℕ) (rows piece : List (Key × Entry)) : Type 0 where
+  pub before : List (Key × Entry)
+  pub behind : List (Key × Entry)
+  pub whole : rows ≡ (before ++ piece) ++ behind
+  pub below : AreTo Less uid before
+  pub here : AreTo Equal uid piece
+  pub above : AreTo Greater uid behind

@@ -1,0 +1,166 @@
+//! Receiving a state entry by entry: what is to be kept of it is staged, and then committed at once.
+ghost use Rattle.std.specs.Prelude.{◌≡◌, ◌==◌, ◌↔◌, ◌++◌, [], List, length, map, IsTrue, IsOk, IsErr, IfOk};
+ghost use Rattle.docker_model.specs.file.Change as model;
+ghost use Rattle.docker_model.specs.state.Op as ops;
+ghost use Rattle.docker_model.specs.state.Stamp.{ledger_item_cmp, IsFloor};
+ghost use Rattle.docker_model.specs.state.Order.{IsStrictlyAscending};
+ghost use Rattle.docker_model.specs.state.State.{IsLedger, IsGoodEntry, IsJoin, IsValid};
+ghost use Rattle.docker_model.specs.state.Staging.{IsToStage, IsStaged, IsCommit, staged_state};
+ghost use Rattle.cif_file.specs.Meaning.{key_meant};
+ghost use Rattle.docker_join.specs.Meaning.{entry_meant};
+ghost use Rattle.docker_state.specs.Meaning.{floor_meant, item_meant};
+ghost use Rattle.docker_state.specs.Staging.{IsAboveStaged, IsOffered, HasNothingNew, with_staged};
+
+use crate::floor::{common_floor, floor_of, is_kept};
+use crate::item::LedgerItem;
+use crate::ledger::has_kept_items;
+use crate::state::State;
+use cif_file::Key;
+use cif_line::Memory;
+use docker_index::Index;
+use docker_join::{Entry, FileStamp, Merge};
+use std::alloc::Global;
+use std::marker::Model;
+use std::mem;
+
+/// What a state has received of another: its ledger, and of its entries those that the state is to take over. The state has nothing of it before the commit.
+#[derive(Debug, Drop)]
+pub struct Staging {
+    floor: Option<FileStamp>,
+    items: Vec<LedgerItem>,
+    staged: Vec<(Key, Entry)>,
+}
+
+impl Model for Staging {
+    ghost use Rattle.std.specs.Prelude.{map};
+    ghost use Rattle.docker_model.specs.state.State.{IsValid};
+    ghost use Rattle.docker_state.specs.Meaning.{state_meant};
+    ghost use Rattle.docker_state.specs.Staging as received;
+    ghost use Rattle.docker_state.specs.Staging.{staging_meant};
+
+    ghost Value = { received.Staging };
+
+    ghost view = { λ it. staging_meant it.floor it.items.items it.staged.items };
+
+    ghost invariant = { λ it. IsValid (state_meant 0 it.items.items it.staged.items) };
+}
+
+impl Staging {
+    /// Nothing staged yet of a state with this ledger, which is valid. It takes no memory.
+    pub fn new(alloc: Global, state: &State, items: Vec<LedgerItem>) -> Result<Staging, Memory>
+        requires { IsLedger (map item_meant items.items) }
+        ensures ok { IsOk result }
+        ensures items { IfOk result (λ staging. staging.items ≡ map item_meant items.items) }
+        ensures staged { IfOk result (λ staging. staging.staged ≡ []) }
+        ensures floor { IfOk result (λ staging.
+            IsFloor (state.now.ledger ++ staging.items) staging.floor) }
+    {
+        let floor = common_floor(state.floor(), floor_of(items.as_slice()));
+        Ok(Staging {
+            floor,
+            items,
+            staged: Vec::new(alloc),
+        })
+    }
+
+    /// The ledger items received, ascending.
+    pub fn items(&self) -> &[LedgerItem]
+        ensures items { map item_meant result.now ≡ self.now.items }
+        ensures valid { IsValid (staged_state self.now.items self.now.staged) }
+    {
+        self.items.as_slice()
+    }
+
+    /// The floor of the ledger received and that of the state together: the file stamp of the newest full extract in either. None where there is none.
+    pub fn floor(&self) -> Option<FileStamp>
+        ensures { floor_meant result ≡ self.now.floor }
+    {
+        self.floor
+    }
+
+    /// How many entries are staged.
+    pub fn len(&self) -> u64
+        ensures { result ≡ length self.now.staged }
+    {
+        self.staged.len() as u64
+    }
+
+    /// Whether no entry is staged.
+    pub fn is_empty(&self) -> bool
+        ensures { result ≡ (length self.now.staged == 0) }
+    {
+        self.staged.is_empty()
+    }
+
+    /// Offers the next entry received, with its key. It is staged where it is kept under the floor and greater than the state's own entry of the key, or there is none. Want of memory leaves all as it was, without the entry.
+    pub fn offer(&mut self, state: &State, key: Key, entry: Entry) -> Result<(), Memory>
+        requires floor { IsFloor (state.now.ledger ++ self.old.items) self.old.floor }
+        requires above { IsAboveStaged self.old.staged (key_meant key) }
+        requires good { IsGoodEntry self.old.items (key_meant key, entry_meant entry) }
+        ensures offered { IsOk result
+            → IsOffered state.now self.old (key_meant key) (entry_meant entry) self.new }
+        ensures staged { IsOk result
+            → IsToStage state.now self.old.floor (key_meant key) (entry_meant entry)
+            → self.new ≡ with_staged self.old (key_meant key) (entry_meant entry) }
+        ensures left_out { ¬ IsToStage state.now self.old.floor (key_meant key) (entry_meant entry)
+            → (IsOk result) × (self.new ≡ self.old) }
+        ensures err { IsErr result → self.new ≡ self.old }
+    {
+        if is_to_stage(state, &self.floor, &key, &entry) {
+            self.staged.push((key, entry))?;
+        }
+        Ok(())
+    }
+
+    /// Whether nothing is staged, and this ledger has each item that is kept under the floor.
+    fn has_nothing_new(&self, ledger: &[LedgerItem]) -> bool
+        requires { IsStrictlyAscending ledger_item_cmp (map item_meant ledger.now) }
+        ensures { IsTrue result ↔ HasNothingNew (map item_meant ledger.now) self.now }
+    {
+        self.is_empty() && has_kept_items(ledger, self.items.as_slice(), &self.floor)
+    }
+}
+
+/// Whether an entry is kept under a floor and greater than the state's own of its key, if there is one.
+fn is_to_stage(state: &State, floor: &Option<FileStamp>, key: &Key, entry: &Entry) -> bool
+    ensures { IsTrue result
+        ↔ IsToStage state.now (floor_meant floor.now) (key_meant key.now) (entry_meant entry.now) }
+{
+    match state.get(key) {
+        Some(own) => is_kept(floor, &entry.stamp.file) && own < entry,
+        None => is_kept(floor, &entry.stamp.file),
+    }
+}
+
+impl State {
+    /// Takes over what was received: the union of the ledgers kept under its floor, and the own entries that are kept, with each staged entry at its key, lapsed under the own horizon. That is the join with the state of what was received. Where nothing is staged and no item is new it does nothing. Want of memory leaves the state as it was, and drops what was received.
+    pub fn commit(&mut self, staging: Staging) -> Result<(), Memory>
+        requires floor { IsFloor (self.old.ledger ++ staging.items) staging.floor }
+        ensures join { IsOk result
+            → IsJoin self.old (staged_state staging.items staging.staged) self.new }
+        ensures commit { IsOk result → (offered : List (model.Key × ops.Entry))
+            → IsStaged self.old staging.floor offered staging.staged
+            → IsCommit self.old staging.items staging.staged self.new }
+        ensures nothing_new { HasNothingNew self.old.ledger staging
+            → (IsOk result) × (self.new ≡ self.old) }
+        ensures err { IsErr result → self.new ≡ self.old }
+    {
+        if staging.has_nothing_new(self.ledger()) {
+            return Ok(());
+        }
+        let alloc = *staging.staged.allocator();
+        let index = Index::for_rows(alloc, staging.staged.as_slice())?;
+        let received = State::of_rows(staging.items, staging.staged, index);
+        let own = mem::replace(self, State::empty(alloc));
+        match own.join(alloc, received) {
+            Ok(joined) => {
+                *self = joined;
+                Ok(())
+            }
+            Err((own, _)) => {
+                *self = own;
+                Err(Memory)
+            }
+        }
+    }
+}
