@@ -1,6 +1,7 @@
 //! Time and memory of the calls on states, by the program `state_times`.
 
 use crate::measure::{machine, run, Input, Spent};
+use std::collections::HashMap;
 use std::fs::{self, File};
 use std::io::{BufRead, BufReader, Error, Result};
 
@@ -64,15 +65,39 @@ pub fn table(program: &str, extract: &str, update: &str, folder: &str) -> Result
         },
     ];
     let date = middle_end(extract)?;
+    let (place, uid) = busiest(extract)?;
+    let receive = |name, other, what| Job {
+        name,
+        words: vec![program, "receive", &text, other],
+        stages: vec![stage(what, "receiving the text", true)],
+        states: state,
+        memory: 0,
+    };
     let mut jobs = jobs
         .into_iter()
-        .chain([Job {
-            name: "`lapse`",
-            words: vec![program, "lapse", &text, &date],
-            stages: vec![stage("setting a horizon that half of its schedules end before", "setting the horizon", true)],
-            states: state,
-            memory: 0,
-        }])
+        .chain([
+            Job {
+                name: "`lapse`",
+                words: vec![program, "lapse", &text, &date],
+                stages: vec![stage("setting a horizon that half of its schedules end before", "setting the horizon", true)],
+                states: state,
+                memory: 0,
+            },
+            receive("`receive`", &text, "receiving the same state, with nothing new"),
+            receive("`receive`", &other, "receiving the update's"),
+            Job {
+                name: "`walk`",
+                words: vec![program, "walk", &text, &place, NOWHERE, &uid],
+                stages: vec![
+                    stage("what calls at its busiest place", "what calls there", true),
+                    stage("what is linked there", "what is linked there", true),
+                    stage("what calls at a place without a call", "what calls at the other", true),
+                    stage("the schedules of the UID that has most", "what is of the UID", true),
+                ],
+                states: state,
+                memory: 0,
+            },
+        ])
         .collect::<Vec<_>>();
     let mut counting = [f64::INFINITY; 2];
     for _ in 0..ROUNDS {
@@ -85,6 +110,27 @@ pub fn table(program: &str, extract: &str, update: &str, folder: &str) -> Result
     }
     print(&jobs, [bytes, state], counting);
     Ok(())
+}
+
+/// A TIPLOC that no extract has.
+const NOWHERE: &str = "ZZZZZZZ";
+
+/// The TIPLOC that most location records of an extract name, and the UID that most of its schedules have.
+fn busiest(extract: &str) -> Result<(String, String)> {
+    let (mut places, mut uids) = (HashMap::new(), HashMap::new());
+    for line in BufReader::new(File::open(extract)?).split(b'\n') {
+        let line = line?;
+        match line.get(..2) {
+            Some(b"LO" | b"LI" | b"LT") if line.len() >= 9 => *places.entry(line[2..9].to_vec()).or_insert(0u64) += 1,
+            Some(b"BS") if line.len() >= 9 => *uids.entry(line[3..9].to_vec()).or_insert(0u64) += 1,
+            _ => {}
+        }
+    }
+    let most = |counts: HashMap<Vec<u8>, u64>| {
+        let (name, _) = counts.into_iter().max_by(|one, other| one.1.cmp(&other.1).then(other.0.cmp(&one.0)))?;
+        Some(String::from_utf8_lossy(&name).trim_end().to_string())
+    };
+    most(places).zip(most(uids)).ok_or_else(|| Error::other("the extract has no schedule"))
 }
 
 /// The day before which half of the schedules of an extract end, as `YYYY-MM-DD`.
@@ -109,18 +155,25 @@ fn said_by(spent: &Spent) -> Result<&str> {
     }
 }
 
-/// The milliseconds that the program said of a stage: the first line of its name, since a join reads two texts.
-fn milliseconds(said: &str, stage: &str) -> Option<f64> {
-    let line = said.lines().find(|line| line.starts_with(stage))?;
-    line[stage.len()..].strip_prefix(": ")?.strip_suffix(" ms")?.parse().ok()
+/// The seconds that the program said of a stage: in the first line of its name, since a join reads two texts, and of a walk that is made often in the least.
+fn seconds(said: &str, stage: &str) -> Option<f64> {
+    let mut told = said.lines().filter_map(|line| line.strip_prefix(stage)?.strip_prefix(": "));
+    let first = told.next()?;
+    match first.strip_suffix(" ms") {
+        Some(millis) => Some(millis.parse::<f64>().ok()? / 1e3),
+        None => {
+            let nanos = [first].into_iter().chain(told).filter_map(|text| text.strip_suffix(" ns")?.parse::<f64>().ok());
+            nanos.reduce(f64::min).map(|least| least / 1e9)
+        }
+    }
 }
 
 fn measure(job: &mut Job) -> Result<()> {
     let spent = run(&job.words, Input::None)?;
     let said = said_by(&spent)?;
     for stage in &mut job.stages {
-        let took = milliseconds(said, stage.said).ok_or_else(|| Error::other(format!("nothing said of {}", stage.said)))?;
-        stage.best = stage.best.min(took / 1e3);
+        let took = seconds(said, stage.said).ok_or_else(|| Error::other(format!("nothing said of {}", stage.said)))?;
+        stage.best = stage.best.min(took);
     }
     job.memory = job.memory.max(spent.memory);
     Ok(())
@@ -143,6 +196,11 @@ fn print(jobs: &[Job], [bytes, state]: [u64; 2], [of_extract, of_text]: [f64; 2]
                 true => format!("{:.1} | {:.2}", megabytes(job.memory), job.memory as f64 / job.states as f64),
                 false => " | ".to_string(),
             };
+            // A walk reads a part of the state alone.
+            if job.name == "`walk`" {
+                println!("| {}: {} | {:.7} | | | {memory} |", job.name, stage.name, stage.best);
+                continue;
+            }
             println!(
                 "| {}: {} | {:.3} | {:.0} | {:.2} | {memory} |",
                 job.name,

@@ -1,8 +1,11 @@
 -- One write after another.
-use Rattle.std.proofs.Common.{◌≡◌, ℕ, ◌+◌, ◌-◌, List, ◌++◌, arith, length, take, drop, Option, None, Some, ap, ◌∙◌, append_assoc}
+use Rattle.std.proofs.Common.{◌≡◌, ℕ, ◌+◌, ◌-◌, List, ◌++◌, arith, length, take, drop, replicate, Option, None, Some, ap, sym, subst, ◌∙◌, append_assoc}
 use Rattle.std.proofs.lemmas.Grind.{common_steps}
+use Rattle.std.specs.List.{concat}
+use Rattle.std.proofs.lemmas.List.{replicate-append-replicate}
+use Rattle.std.proofs.lemmas.List.Folds.{concat-append}
 use Rattle.std.proofs.Math.Seq.{take-add}
-use Rattle.cif_device.specs.Device.{Takes}
+use Rattle.cif_device.specs.Device.{Takes, Round, Goes}
 
 -- two writes one after the other take both pieces
 pub Takes-append : (old middle new : Option (List ℕ)) (front back : List ℕ) →
@@ -21,3 +24,26 @@ Takes-take old middle new piece done n first second =
 -- the elements from `n` to the end are the rest
 pub take-drop_all : (n : ℕ) (xs : List ℕ) → take (length xs - n) (drop n xs) ≡ drop n xs
 take-drop_all n xs = grind (arith, common_steps)
+
+-- a text so many times over, and then so many more times
+concat-replicate_add : (m n : ℕ) (text : List ℕ) →
+    concat (replicate (m + n) text) ≡ concat (replicate m text) ++ concat (replicate n text)
+concat-replicate_add m n text =
+    ap concat (sym (replicate-append-replicate m n text)) ∙ concat-append (replicate m text) (replicate n text)
+
+-- what two reads of a source without end give, one after the other
+pub Goes-append : (old middle new : Round) (front back : List ℕ) →
+    Goes old front middle → Goes middle back new → Goes old (front ++ back) new
+Goes-append old middle new front back (again, step, m, first) (again', step', n, second) =
+    (again' ∙ again, step' ∙ step, m + n, whole)
+  where
+    then : middle.left ++ concat (replicate n old.again) ≡ back ++ new.left
+    then = subst (λ text. middle.left ++ concat (replicate n text) ≡ back ++ new.left) again second
+
+    whole : old.left ++ concat (replicate (m + n) old.again) ≡ (front ++ back) ++ new.left
+    whole = ap (λ more. old.left ++ more) (concat-replicate_add m n old.again)
+        ∙ sym (append_assoc old.left (concat (replicate m old.again)) (concat (replicate n old.again)))
+        ∙ ap (λ text. text ++ concat (replicate n old.again)) first
+        ∙ append_assoc front middle.left (concat (replicate n old.again))
+        ∙ ap (λ more. front ++ more) then
+        ∙ sym (append_assoc front back new.left)

@@ -1,6 +1,7 @@
 -- What a read takes from the bytes that a source has left, and a write adds to those a sink took.
 -- A device that can't tell its bytes has None in their place.
-use Rattle.std.specs.Prelude.{◌≡◌, ℕ, ◌-◌, ◌<◌, min, List, [], ◌++◌, length, take, ⊤, Option, None, Some, option_map}
+use Rattle.std.specs.Prelude.{◌≡◌, ℕ, ◌-◌, ◌<◌, min, List, [], ◌++◌, length, take, replicate, ⊤, Option, None, Some, option_map}
+use Rattle.std.specs.List.{concat}
 
 -- what was left is these bytes and then what is left now
 abbrev pub Reads : Option (List ℕ) → List ℕ → Option (List ℕ) → Type 0
@@ -37,3 +38,20 @@ pub record Store : Type 0 where
 -- how many more bytes it has room for
 abbrev pub room_left : Store → ℕ
 room_left store = store.room - length store.taken
+
+-- a device that fails at one call: the device within, how many calls there are up to that one, 0 behind it, and how often it failed
+pub record Fused (D : Type 0) : Type 0 where
+  pub device : D
+  pub calls : ℕ
+  pub failures : ℕ
+
+-- a source that never ends: what is left of the text that it gives, the text that follows again and again, and the most that one read gives
+pub record Round : Type 0 where
+  pub left : List ℕ
+  pub again : List ℕ
+  pub step : ℕ
+
+-- what was left, and then the other text some times over, is these bytes and then what is left now
+abbrev pub Goes : Round → List ℕ → Round → Type 0
+Goes old bytes new = (new.again ≡ old.again) × (new.step ≡ old.step)
+    × (times : ℕ) × (old.left ++ concat (replicate times old.again) ≡ bytes ++ new.left)

@@ -2,7 +2,13 @@
 #![tactic(auto)]
 
 mod device;
+mod endless;
+mod fuse;
 mod memory;
+#[cfg(test)]
+mod tests;
 
 pub use device::{Failed, Memory, Sink, Source, write_all};
+pub use endless::Endless;
+pub use fuse::Fuse;
 pub use memory::{Bytes, Kept};

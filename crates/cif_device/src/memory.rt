@@ -1,13 +1,10 @@
 //! A source and a sink in memory.
-ghost use Rattle.std.specs.Prelude.{◌≡◌, ◌+◌, ◌-◌, ◌^◌, ◌<◌, ◌≤◌, ◌↔◌, min, [], ◌++◌, length, take, Some, Ok, IfOk, IsOk, IsErr, OnOk, OnErr};
+ghost use Rattle.std.specs.Prelude.{◌≡◌, ◌+◌, ◌-◌, ◌^◌, ◌<◌, ◌≤◌, ◌↔◌, min, [], ◌∷◌, ◌++◌, length, take, Some, Ok, IsTrue, IfOk, IsOk, IsErr, OnOk, OnErr};
 ghost use Rattle.cif_device.specs.Device.{read_count, room_left};
 
 use crate::device::{Failed, Memory, Sink, Source};
 use std::alloc::Global;
 use std::marker::Model;
-
-#[cfg(test)]
-mod tests;
 
 /// A source over a slice. It never fails.
 #[derive(Clone, Debug, Drop)]
@@ -116,6 +113,21 @@ impl Kept {
         ensures within { length self.now.taken ≤ self.now.room }
     {
         self.bytes.as_slice()
+    }
+
+    /// Whether it has room for no more bytes.
+    pub(crate) fn is_full(&self) -> bool
+        ensures { IsTrue result ↔ (room_left self.now ≡ 0) }
+    {
+        self.bytes.len() == self.room
+    }
+
+    /// Takes a byte for which it has room.
+    pub(crate) fn push(&mut self, byte: u8)
+        requires { 0 < room_left self.old }
+        ensures { self.new ≡ record self.old { taken = self.old.taken ++ byte ∷ [] } }
+    {
+        self.bytes.push_reserved(byte);
     }
 }
 

@@ -32,6 +32,3 @@ pub use parser::FileParser;
 pub use pieces::read_pieces;
 pub use read::read_file;
 pub use records::MOST_RECORDS;
-
-#[cfg(test)]
-mod tests;

@@ -33,6 +33,3 @@ pub use migration::migrate;
 pub use read::{ReadFault, read_state};
 pub use state_parser::StateParser;
 pub use write::write_state;
-
-#[cfg(test)]
-mod tests;

@@ -1,16 +1,2 @@
-pub mod LineOfJobLemmas
-pub mod LineWords
-pub mod PlainWords
-pub mod RequiredWords
-pub mod FirstWord
-pub mod JobWords
-pub mod WordsLemmas
-pub mod NamedWords
-pub mod JobOfWordsLemmas
-pub mod Listed
-pub mod Outside
-pub mod Printed
-pub mod FileSchedule
-pub mod PreparedJobLemmas
 pub mod OutputLemmas
-pub mod OneScheduleExample
+pub mod SourcesLemmas

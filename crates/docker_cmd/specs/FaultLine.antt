@@ -4,21 +4,24 @@ use Rattle.cif_file.specs.declared.fault.FileFault.{FileFault}
 use Rattle.cif_file.specs.declared.fault.FileCause.{FileCause}
 use Rattle.cif_file.specs.declared.fault.FileCause.TheVariants.{Length, Byte, Kind, Place, Field, Midnights, NoEnd, After, TooMany}
 use Rattle.cif_file.specs.declared.fault.FileCause.TheVariants as cause
+use Rattle.docker_bytes.specs.declared.fault.StateFault.{StateFault}
+use Rattle.docker_bytes.specs.FaultText as state_text
+use Rattle.docker_job.specs.declared.fault.JobFault.TheVariants as job
+use Rattle.docker_office.specs.declared.fault.OfficeFault.TheVariants as office
 use Rattle.docker_cmd.specs.declared.fault.Fault.{Fault}
 use Rattle.docker_cmd.specs.declared.fault.Fault.TheVariants.{Job, Office}
-use Rattle.docker_cmd.specs.declared.fault.JobFault.TheVariants as job
-use Rattle.docker_cmd.specs.declared.fault.OfficeFault.TheVariants as office
 
--- 1 refused input or not yet, 2 usage, 3 want of memory, 4 a device
+-- 1 refused input, 2 usage, 3 want of memory, 4 a device
 abbrev pub status_of : Fault → ℕ
 status_of (Job job.Usage) = 2
 status_of (Job job.Memory) = 3
 status_of (Job job.Source) = 4
 status_of (Office (office.File fault)) = 1
+status_of (Office (office.State fault)) = 1
+status_of (Office office.Lapsed) = 1
 status_of (Office office.Source) = 4
 status_of (Office office.Sink) = 4
 status_of (Office office.Memory) = 3
-status_of (Office office.NotYet) = 1
 
 -- the name of a cause, and the column behind it where it has one
 abbrev pub cause_text : FileCause → List ℕ
@@ -37,6 +40,15 @@ cause_text cause.Memory = codes "Memory"
 abbrev pub file_line : FileFault → List ℕ
 file_line fault = codes "docker: file refused: record " ++ decimal fault.number ++ codes ": " ++ cause_text fault.cause ++ codes "\n"
 
+-- the line of a refused state
+abbrev pub state_line : StateFault → List ℕ
+state_line fault =
+    codes "docker: state refused: offset " ++ decimal fault.at ++ codes ": " ++ state_text.cause_text fault.cause ++ codes "\n"
+
+-- the line of a day before the horizon plus three days
+abbrev pub day_line : List ℕ
+day_line = codes "docker: day refused: before horizon plus three days\n"
+
 -- the line of want of memory
 abbrev pub memory_line : List ℕ
 memory_line = codes "docker: want of memory\n"
@@ -45,13 +57,9 @@ memory_line = codes "docker: want of memory\n"
 abbrev pub device_line : List ℕ
 device_line = codes "docker: device failed\n"
 
--- the line of what isn't built yet
-abbrev pub not_yet_line : List ℕ
-not_yet_line = codes "docker: not yet\n"
-
 -- the one usage line
 abbrev pub usage_line : List ℕ
-usage_line = codes "docker: usage: new STATE | check FILE | day FILE TIPLOC DATE | take STATE FILE | merge STATE OTHER | print STATE TIPLOC DATE | files STATE\n"
+usage_line = codes "docker: usage: new STATE | check FILE | day FILE TIPLOC DATE | take STATE FILE | merge STATE OTHER | print STATE TIPLOC DATE | files STATE | horizon STATE DATE | migrate STATE\n"
 
 -- the line that tells a fault
 abbrev pub fault_line : Fault → List ℕ
@@ -59,7 +67,8 @@ fault_line (Job job.Usage) = usage_line
 fault_line (Job job.Memory) = memory_line
 fault_line (Job job.Source) = device_line
 fault_line (Office (office.File fault)) = file_line fault
+fault_line (Office (office.State fault)) = state_line fault
+fault_line (Office office.Lapsed) = day_line
 fault_line (Office office.Source) = device_line
 fault_line (Office office.Sink) = device_line
 fault_line (Office office.Memory) = memory_line
-fault_line (Office office.NotYet) = not_yet_line

@@ -1,10 +1,4 @@
 pub mod CheckLine
-pub mod Docker
+pub mod Content
 pub mod FaultLine
-pub mod Grammar
-pub mod Job
-pub mod JobLine
-pub mod OneSchedule
 pub mod Prepared
-pub mod Schedule
-pub mod Words

@@ -1,100 +1,279 @@
--- What a job has read, and what it writes.
-use Rattle.std.specs.Prelude.{◌≡◌, ℕ, List, [], ◌∷◌, length, Option, Some}
-use Rattle.docker_model.specs.file.Change.{changes}
-use Rattle.docker_model.specs.state.Table.{Table, IsPlainTable}
-use Rattle.docker_model.specs.docker.DockerText.{IsDockerText}
+-- What a job reads, and what it writes.
+use Rattle.std.specs.Prelude.{◌≡◌, ℕ, ◌⊎◌, ⊤, List, [], ◌∷◌, length, Option}
+use Rattle.cif_line.specs.Device.{Takes, TakesPart, IsEnd}
+use Rattle.cif_file.specs.FileRead.{FileRead}
+use Rattle.cif_file.specs.SourceRead.{Held, ReadsText, RefusesText, ReadsNoFurther}
+use Rattle.cif_file.specs.SourceRead as files
+use Rattle.cif_file.specs.declared.fault.FileFault.{FileFault}
 use Rattle.docker_model.specs.file.FileFault.{IsFileText}
-use Rattle.cif_file.specs.FileRead.{FileRead, IsOfRecords}
-use Rattle.cif_file.specs.SourceRead.{Held, ReadsText}
-use Rattle.cif_line.specs.Device.{Takes, TakesPart}
-use Rattle.docker_cmd.specs.CheckLine.{check_line}
-use Rattle.docker_cmd.specs.Job.{JobView}
-use Rattle.docker_cmd.specs.OneSchedule.{IsOneSchedule, IsOneScheduleText}
-use Rattle.docker_cmd.specs.Schedule.{AreRecordsOf}
-use Rattle.docker_cmd.specs.declared.prepared_job.Content.{Content}
-use Rattle.docker_cmd.specs.declared.prepared_job.Content.TheVariants.{File, Schedule}
+use Rattle.docker_model.specs.state.Lapse.{IsDayRefused}
+use Rattle.docker_model.specs.state.State.{State, live_table, raise_horizon}
+use Rattle.docker_model.specs.state.StateText.{Format, dks_1, dks_2, state_text}
+use Rattle.docker_model.specs.state.Summary.{IsSummary}
+use Rattle.docker_model.specs.state.Table.{IsPlainTable}
+use Rattle.docker_model.specs.docker.DockerText.{IsDockerText, files_text}
+use Rattle.docker_bytes.specs.SourceRead.{ReadsState, JoinsState, RefusesState, ReadsOnePieceMore, WantsMemory}
+use Rattle.docker_bytes.specs.declared.fault.StateFault.{StateFault}
+use Rattle.docker_office.specs.declared.fault.OfficeFault.{OfficeFault}
+use Rattle.docker_office.specs.declared.fault.OfficeFault.TheVariants as office
+use Rattle.docker_office.specs.Office.{no_state, TakesFile, WantsForFile}
+use Rattle.docker_job.specs.Job.{JobView, TaskView, new_task, check_task, day_task, take_task, merge_task, print_task, files_task, horizon_task, migrate_task}
+use Rattle.docker_cmd.specs.CheckLine.{count_line}
 
 -- the most records that a file may have
 abbrev pub most_records : ℕ
 most_records = 4294967294
 
+-- the most bytes that a state's text may have
+abbrev pub most_bytes : ℕ
+most_bytes = 1099511627776
+
 -- the most bytes that are read at once
 abbrev pub most_at_once : ℕ
 most_at_once = 65536
 
--- what a job has read: a file, or the records of a schedule, which are its basic schedule, its origin and its terminus
+-- the bytes that a device has left, or took, or None where it can't tell them
+abbrev pub DeviceBytes : Type 0
+DeviceBytes = Option (List ℕ)
+
+-- what was read: a file, or the state of an office
 pub data ReadView : Type 0 where
   file_read : (file : FileRead) → ReadView
-  schedule_read : (basic origin terminus : List ℕ) → ReadView
-
--- what the code has read, as the same
-abbrev pub content_meant : Content → ReadView
-content_meant (File file) = file_read file
-content_meant (Schedule schedule) = schedule_read schedule.basic schedule.origin schedule.terminus
+  office_read : (state : State) → ReadView
 
 -- a job, and what it has read
 pub record PreparedView : Type 0 where
   pub job : JobView
   pub read : ReadView
 
--- it is the file of these records, or the schedule of that file
-abbrev pub IsReadOf : ReadView → List (List ℕ) → Type 0
-IsReadOf (file_read file) records = IsOfRecords file records
-IsReadOf (schedule_read basic origin terminus) records = AreRecordsOf basic origin terminus records
+-- the sources of a task, in the order of its words: none, a file that is only checked, a file that an office takes, a state in a format, a state and
+-- then a file, a state and then another
+pub data Sources : Type 0 where
+  no_source : Sources
+  checked_file : Sources
+  taken_file : Sources
+  one_state : (format : Format) → Sources
+  state_and_file : Sources
+  two_states : Sources
 
--- what was read is of this file
-abbrev pub IsPreparedOf : PreparedView → List (List ℕ) → Type 0
-IsPreparedOf prepared file = IsReadOf prepared.read file
+-- the sources of each task
+abbrev pub sources_of : TaskView → Sources
+sources_of new_task = no_source
+sources_of check_task = checked_file
+sources_of (day_task place day) = taken_file
+sources_of take_task = state_and_file
+sources_of merge_task = two_states
+sources_of (print_task place day) = one_state dks_2
+sources_of files_task = one_state dks_2
+sources_of (horizon_task day) = one_state dks_2
+sources_of migrate_task = one_state dks_1
 
--- the schedule is that of a file of one schedule whose text the source held
-pub record ReadsSchedule (left : Option (List ℕ)) (prepared : PreparedView) : Type 0 where
-  pub text : List ℕ
-  pub held : Held left text
-  pub file : List (List ℕ)
-  pub is_text : IsOneScheduleText most_records text file
-  pub of_file : IsPreparedOf prepared file
+-- the task has no source
+abbrev pub HasNoSource : TaskView → Type 0
+HasNoSource task = sources_of task ≡ no_source
 
--- what was read is the file of a text that the source held
-pub record ReadsFile (left : Option (List ℕ)) (prepared : PreparedView) : Type 0 where
-  pub file : FileRead
-  pub read_is : prepared.read ≡ file_read file
-  pub reads : ReadsText most_records left file
+-- the task has a second source
+abbrev pub HasSecondSource : TaskView → Type 0
+HasSecondSource task = (sources_of task ≡ state_and_file) ⊎ (sources_of task ≡ two_states)
 
--- the source held the text of a file, but of none of one schedule
-pub record HoldsOtherFile (left : Option (List ℕ)) : Type 0 where
+-- a source held the text of a state
+abbrev pub HoldsSomeState : DeviceBytes → Type 0
+HoldsSomeState left = (state : State) × ReadsState dks_2 most_bytes left state
+
+-- an office with the state that the first source held took the file that the second held
+pub record TakesBehind (first second : DeviceBytes) (state : State) : Type 0 where
+  pub own : State
+  pub reads : ReadsState dks_2 most_bytes first own
+  pub takes : TakesFile most_records second own state
+
+-- an office with the state that the first source held received the state that the second held
+pub record JoinsBehind (first second : DeviceBytes) (state : State) : Type 0 where
+  pub own : State
+  pub reads : ReadsState dks_2 most_bytes first own
+  pub joins : JoinsState dks_2 most_bytes second own state
+
+-- the state that the source held, after a horizon was set
+pub record RaisesState (day : ℕ) (first : DeviceBytes) (state : State) : Type 0 where
+  pub own : State
+  pub reads : ReadsState dks_2 most_bytes first own
+  pub raised : state ≡ raise_horizon day own
+
+-- the state of the office that a task has made of its sources. `check` makes none
+abbrev pub IsStateReadBy : TaskView → DeviceBytes → DeviceBytes → State → Type 0
+IsStateReadBy new_task first second state = state ≡ no_state
+IsStateReadBy check_task first second state = ⊥
+IsStateReadBy (day_task place day) first second state = TakesFile most_records first no_state state
+IsStateReadBy take_task first second state = TakesBehind first second state
+IsStateReadBy merge_task first second state = JoinsBehind first second state
+IsStateReadBy (print_task place day) first second state = ReadsState dks_2 most_bytes first state
+IsStateReadBy files_task first second state = ReadsState dks_2 most_bytes first state
+IsStateReadBy (horizon_task day) first second state = RaisesState day first state
+IsStateReadBy migrate_task first second state = ReadsState dks_1 most_bytes first state
+
+-- what a task has read: `check` the file that its source held, any other a state
+abbrev pub IsReadOf : TaskView → DeviceBytes → DeviceBytes → ReadView → Type 0
+IsReadOf task first second (file_read file) = (task ≡ check_task) × ReadsText most_records first file
+IsReadOf task first second (office_read state) = IsStateReadBy task first second state
+
+-- a state was read that is of one file whose text the source held, and its live table is the plain table of that one file
+pub record IsOfOneFile (left : DeviceBytes) (read : ReadView) : Type 0 where
   pub text : List ℕ
   pub held : Held left text
   pub file : List (List ℕ)
   pub is_text : IsFileText most_records text file
-  pub other : ¬ IsOneSchedule file
+  pub state : State
+  pub read_is : read ≡ office_read state
+  pub summary : IsSummary (file ∷ []) 0 state
+  pub plain : IsPlainTable (file ∷ []) (live_table state)
 
--- the docker text of the plain table of this one file, at the job's timing point and on its day
-pub record IsDockerOutput (job : JobView) (file : List (List ℕ)) (text : List ℕ) : Type 0 where
-  pub live : Table
-  pub plain : IsPlainTable (file ∷ []) live
-  pub place : List ℕ
-  pub place_is : job.tiploc ≡ Some place
-  pub day : ℕ
-  pub day_is : job.day ≡ Some day
-  pub docker : IsDockerText live place day text
+-- the fault is that of the file, which may stand behind a state
+abbrev pub RefusesFileOf : Sources → DeviceBytes → DeviceBytes → FileFault → Type 0
+RefusesFileOf no_source first second fault = ⊥
+RefusesFileOf checked_file first second fault = RefusesText most_records first fault
+RefusesFileOf taken_file first second fault = RefusesText most_records first fault
+RefusesFileOf (one_state format) first second fault = ⊥
+RefusesFileOf state_and_file first second fault = HoldsSomeState first × RefusesText most_records second fault
+RefusesFileOf two_states first second fault = ⊥
 
--- of a file the line of `check`, and of a schedule the docker
-abbrev pub IsOutputOf : ReadView → JobView → List (List ℕ) → List ℕ → Type 0
-IsOutputOf (file_read read) job file text = text ≡ check_line (length file) (changes file)
-IsOutputOf (schedule_read basic origin terminus) job file text = IsDockerOutput job file text
+-- the fault is that of a state; where there are two it is that of the first, or of the second behind a good one
+abbrev pub RefusesStateOf : Sources → DeviceBytes → DeviceBytes → StateFault → Type 0
+RefusesStateOf no_source first second fault = ⊥
+RefusesStateOf checked_file first second fault = ⊥
+RefusesStateOf taken_file first second fault = ⊥
+RefusesStateOf (one_state format) first second fault = RefusesState format most_bytes first fault
+RefusesStateOf state_and_file first second fault = RefusesState dks_2 most_bytes first fault
+RefusesStateOf two_states first second fault =
+    RefusesState dks_2 most_bytes first fault ⊎ (HoldsSomeState first × RefusesState dks_2 most_bytes second fault)
 
--- the output of a job, where what it has read is of this file
-abbrev pub IsOutput : PreparedView → List (List ℕ) → List ℕ → Type 0
-IsOutput prepared file text = IsOutputOf prepared.read prepared.job file text
+-- why reading is refused: never by a sink, and never for a day
+abbrev pub IsOfSources : OfficeFault → Type 0
+IsOfSources (office.File fault) = ⊤
+IsOfSources (office.State fault) = ⊤
+IsOfSources office.Source = ⊤
+IsOfSources office.Memory = ⊤
+IsOfSources office.Lapsed = ⊥
+IsOfSources office.Sink = ⊥
 
--- the sink gained the output, whichever file was read
-pub record GainsOutput (prepared : PreparedView) (old new : Option (List ℕ)) : Type 0 where
+-- memory was wanting for a state of a format
+abbrev pub WantsForState : Format → DeviceBytes → DeviceBytes → Type 0
+WantsForState format old new = WantsMemory format most_at_once most_bytes old new
+
+-- memory was wanting for what the sources hold, of which the second is read behind a good first
+abbrev pub WantsFor : Sources → DeviceBytes → DeviceBytes → DeviceBytes → DeviceBytes → Type 0
+WantsFor no_source old new second_old second_new = ⊥
+WantsFor checked_file old new second_old second_new = files.WantsMemory most_at_once most_records old new
+WantsFor taken_file old new second_old second_new = WantsForFile most_records old new
+WantsFor (one_state format) old new second_old second_new = WantsForState format old new
+WantsFor state_and_file old new second_old second_new =
+    WantsForState dks_2 old new ⊎ (HoldsSomeState old × WantsForFile most_records second_old second_new)
+WantsFor two_states old new second_old second_new =
+    WantsForState dks_2 old new ⊎ (HoldsSomeState old × WantsForState dks_2 second_old second_new)
+
+-- of a file nothing is read behind the piece that decides the answer
+abbrev pub ReadsFewOfFile : DeviceBytes → DeviceBytes → Type 0
+ReadsFewOfFile old new = ReadsNoFurther most_at_once most_records old new
+
+-- nor of a state
+abbrev pub ReadsFewOfState : Format → DeviceBytes → DeviceBytes → Type 0
+ReadsFewOfState format old new = ReadsOnePieceMore format most_at_once most_bytes old new
+
+-- what is read of the first source at most
+abbrev pub ReadsFewOfFirst : Sources → DeviceBytes → DeviceBytes → Type 0
+ReadsFewOfFirst no_source old new = new ≡ old
+ReadsFewOfFirst checked_file old new = ReadsFewOfFile old new
+ReadsFewOfFirst taken_file old new = ReadsFewOfFile old new
+ReadsFewOfFirst (one_state format) old new = ReadsFewOfState format old new
+ReadsFewOfFirst state_and_file old new = ReadsFewOfState dks_2 old new
+ReadsFewOfFirst two_states old new = ReadsFewOfState dks_2 old new
+
+-- what is read of the second source at most: nothing at all, where the first held no state
+abbrev pub ReadsFewOfSecond : Sources → DeviceBytes → DeviceBytes → DeviceBytes → Type 0
+ReadsFewOfSecond no_source first old new = new ≡ old
+ReadsFewOfSecond checked_file first old new = new ≡ old
+ReadsFewOfSecond taken_file first old new = new ≡ old
+ReadsFewOfSecond (one_state format) first old new = new ≡ old
+ReadsFewOfSecond state_and_file first old new = (new ≡ old) ⊎ (HoldsSomeState first × ReadsFewOfFile old new)
+ReadsFewOfSecond two_states first old new = (new ≡ old) ⊎ (HoldsSomeState first × ReadsFewOfState dks_2 old new)
+
+-- the file that is read stands at its end
+abbrev pub HasReadToEnd : Sources → DeviceBytes → DeviceBytes → Type 0
+HasReadToEnd no_source first second = ⊤
+HasReadToEnd checked_file first second = IsEnd first
+HasReadToEnd taken_file first second = IsEnd first
+HasReadToEnd (one_state format) first second = ⊤
+HasReadToEnd state_and_file first second = IsEnd second
+HasReadToEnd two_states first second = ⊤
+
+-- what a task writes: the counts of a file, the docker of a place and a day, the files of a ledger, or a state
+pub data Output : Type 0 where
+  counts_written : Output
+  docker_written : (place : List ℕ) (day : ℕ) → Output
+  files_written : Output
+  state_written : Output
+
+-- what each task writes
+abbrev pub output_of : TaskView → Output
+output_of new_task = state_written
+output_of check_task = counts_written
+output_of (day_task place day) = docker_written place day
+output_of take_task = state_written
+output_of merge_task = state_written
+output_of (print_task place day) = docker_written place day
+output_of files_task = files_written
+output_of (horizon_task day) = state_written
+output_of migrate_task = state_written
+
+-- what is written of the office's state: its docker text, its files text, or its own text
+abbrev pub IsStateOutput : Output → State → List ℕ → Type 0
+IsStateOutput counts_written state text = ⊥
+IsStateOutput (docker_written place day) state text = IsDockerText (live_table state) place day text
+IsStateOutput files_written state text = text ≡ files_text state.ledger
+IsStateOutput state_written state text = text ≡ state_text dks_2 state
+
+-- the text of an output
+abbrev pub IsOutputText : Output → ReadView → List ℕ → Type 0
+IsOutputText output (file_read file) text = (output ≡ counts_written) × (text ≡ count_line file.record_count (length file.changes_made))
+IsOutputText output (office_read state) text = IsStateOutput output state text
+
+-- the sink gained the text of an output
+pub record GainsText (output : Output) (read : ReadView) (old new : DeviceBytes) : Type 0 where
   pub text : List ℕ
-  pub output : (file : List (List ℕ)) → IsPreparedOf prepared file → IsOutput prepared file text
+  pub is : IsOutputText output read text
   pub gained : Takes old text new
 
--- the sink gained a beginning of the output, and not all of it
-pub record GainsPart (prepared : PreparedView) (old new : Option (List ℕ)) : Type 0 where
+-- the sink gained a beginning of it, and not all of it
+pub record GainsTextPart (output : Output) (read : ReadView) (old new : DeviceBytes) : Type 0 where
   pub text : List ℕ
-  pub output : (file : List (List ℕ)) → IsPreparedOf prepared file → IsOutput prepared file text
+  pub is : IsOutputText output read text
   pub gained : TakesPart old text new
+
+-- the sink gained the text that a job writes
+abbrev pub GainsOutput : PreparedView → DeviceBytes → DeviceBytes → Type 0
+GainsOutput prepared old new = GainsText (output_of prepared.job.task) prepared.read old new
+
+-- the sink gained a beginning of it, and not all of it
+abbrev pub GainsPart : PreparedView → DeviceBytes → DeviceBytes → Type 0
+GainsPart prepared old new = GainsTextPart (output_of prepared.job.task) prepared.read old new
+
+-- it is a docker of an office's state that refuses its day
+abbrev pub IsRefusedDocker : Output → ReadView → Type 0
+IsRefusedDocker output (file_read file) = ⊥
+IsRefusedDocker counts_written (office_read state) = ⊥
+IsRefusedDocker (docker_written place day) (office_read state) = IsDayRefused state.horizon day
+IsRefusedDocker files_written (office_read state) = ⊥
+IsRefusedDocker state_written (office_read state) = ⊥
+
+-- the job prints a docker, and its day is refused
+abbrev pub IsRefused : PreparedView → Type 0
+IsRefused prepared = IsRefusedDocker (output_of prepared.job.task) prepared.read
+
+-- it is a docker
+abbrev pub IsDocker : Output → Type 0
+IsDocker counts_written = ⊥
+IsDocker (docker_written place day) = ⊤
+IsDocker files_written = ⊥
+IsDocker state_written = ⊥
+
+-- the job prints a docker
+abbrev pub PrintsDocker : PreparedView → Type 0
+PrintsDocker prepared = IsDocker (output_of prepared.job.task)

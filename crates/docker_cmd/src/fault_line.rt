@@ -1,26 +1,30 @@
 //! The exit status and the line on standard error that tell a fault.
 ghost use Rattle.std.specs.Prelude.{◌≡◌, ◌+◌, ◌≤◌, ◌++◌, [], decimal};
 ghost use Rattle.arrayvec.specs.ArrayVec.{array_vec_len};
-ghost use Rattle.docker_cmd.specs.FaultLine.{status_of, fault_line, file_line, cause_text};
+ghost use Rattle.docker_cmd.specs.FaultLine.{status_of, fault_line, file_line, state_line, cause_text};
+ghost use Rattle.docker_bytes.specs.FaultText as state_text;
 
 use crate::buffer::put;
-use crate::fault::{Fault, JobFault, OfficeFault};
+use crate::fault::Fault;
 use arrayvec::ArrayVec;
 use cif_file::{FileCause, FileFault};
+use docker_bytes::{StateCause, StateFault};
+use docker_job::JobFault;
+use docker_office::OfficeFault;
 use itoa::Buffer;
 
 /// The line that tells a fault, with its line feed.
-pub type FaultText = ArrayVec<u8, 160>;
+pub type FaultText = ArrayVec<u8, 192>;
 
 const USAGE: &[u8] =
-    b"docker: usage: new STATE | check FILE | day FILE TIPLOC DATE | take STATE FILE | merge STATE OTHER | print STATE TIPLOC DATE | files STATE\n";
+    b"docker: usage: new STATE | check FILE | day FILE TIPLOC DATE | take STATE FILE | merge STATE OTHER | print STATE TIPLOC DATE | files STATE | horizon STATE DATE | migrate STATE\n";
 
-/// The exit status of a fault: 1 refused input or not yet, 2 usage, 3 want of memory, 4 a device.
+/// The exit status of a fault: 1 refused input, 2 usage, 3 want of memory, 4 a device.
 pub fn status(fault: &Fault) -> u8
     ensures { result ≡ status_of fault.now }
 {
     match fault {
-        Fault::Office(OfficeFault::File(_) | OfficeFault::NotYet) => 1,
+        Fault::Office(OfficeFault::File(_) | OfficeFault::State(_) | OfficeFault::Lapsed) => 1,
         Fault::Job(JobFault::Usage) => 2,
         Fault::Job(JobFault::Memory) | Fault::Office(OfficeFault::Memory) => 3,
         Fault::Job(JobFault::Source) | Fault::Office(OfficeFault::Source | OfficeFault::Sink) => 4,
@@ -34,6 +38,11 @@ pub fn fault_text(fault: &Fault) -> FaultText
     let mut text = ArrayVec::new();
     match fault {
         Fault::Office(OfficeFault::File(fault)) => put_file_fault(&mut text, fault),
+        Fault::Office(OfficeFault::State(fault)) => put_state_fault(&mut text, fault),
+        Fault::Office(OfficeFault::Lapsed) => put(
+            &mut text,
+            b"docker: day refused: before horizon plus three days\n",
+        ),
         Fault::Job(JobFault::Usage) => put(&mut text, USAGE),
         Fault::Job(JobFault::Memory) | Fault::Office(OfficeFault::Memory) => {
             put(&mut text, b"docker: want of memory\n")
@@ -41,16 +50,15 @@ pub fn fault_text(fault: &Fault) -> FaultText
         Fault::Job(JobFault::Source) | Fault::Office(OfficeFault::Source | OfficeFault::Sink) => {
             put(&mut text, b"docker: device failed\n")
         }
-        Fault::Office(OfficeFault::NotYet) => put(&mut text, b"docker: not yet\n"),
     }
     text
 }
 
 /// Appends a number in decimal.
-fn put_number(text: &mut FaultText, number: u32)
+fn put_number(text: &mut FaultText, number: u64)
     requires { array_vec_len text.old ≤ 100 }
     ensures text { text.new.items ≡ text.old.items ++ decimal number }
-    ensures bound { array_vec_len text.new ≤ array_vec_len text.old + 10 }
+    ensures bound { array_vec_len text.new ≤ array_vec_len text.old + 20 }
 {
     put(text, Buffer::new().format(number).as_bytes());
 }
@@ -61,34 +69,68 @@ fn put_file_fault(text: &mut FaultText, fault: &FileFault)
     ensures { text.new.items ≡ text.old.items ++ file_line fault.now }
 {
     put(text, b"docker: file refused: record ");
-    put_number(text, fault.number);
+    put_number(text, u64::from(fault.number));
     put(text, b": ");
     put_cause(text, &fault.cause);
     put(text, b"\n");
 }
 
-/// Appends the name of a cause, and the column behind it where it has one.
+/// Appends the name of a file's cause, and the column behind it where it has one.
 fn put_cause(text: &mut FaultText, cause: &FileCause)
     requires { array_vec_len text.old ≤ 80 }
     ensures text { text.new.items ≡ text.old.items ++ cause_text cause.now }
-    ensures bound { array_vec_len text.new ≤ array_vec_len text.old + 20 }
+    ensures bound { array_vec_len text.new ≤ array_vec_len text.old + 30 }
 {
     match cause {
         FileCause::Length => put(text, b"Length"),
         FileCause::Byte(column) => {
             put(text, b"Byte ");
-            put_number(text, u32::from(*column));
+            put_number(text, u64::from(*column));
         }
         FileCause::Kind => put(text, b"Kind"),
         FileCause::Place => put(text, b"Place"),
         FileCause::Field(column) => {
             put(text, b"Field ");
-            put_number(text, u32::from(*column));
+            put_number(text, u64::from(*column));
         }
         FileCause::Midnights => put(text, b"Midnights"),
         FileCause::NoEnd => put(text, b"NoEnd"),
         FileCause::After => put(text, b"After"),
         FileCause::TooMany => put(text, b"TooMany"),
         FileCause::Memory => put(text, b"Memory"),
+    }
+}
+
+/// Appends the line of a refused state.
+fn put_state_fault(text: &mut FaultText, fault: &StateFault)
+    requires { text.old.items ≡ [] }
+    ensures { text.new.items ≡ text.old.items ++ state_line fault.now }
+{
+    put(text, b"docker: state refused: offset ");
+    put_number(text, fault.at);
+    put(text, b": ");
+    put_state_cause(text, fault.cause);
+    put(text, b"\n");
+}
+
+/// Appends the name of a state's cause.
+fn put_state_cause(text: &mut FaultText, cause: StateCause)
+    requires { array_vec_len text.old ≤ 80 }
+    ensures text { text.new.items ≡ text.old.items ++ state_text.cause_text cause }
+    ensures bound { array_vec_len text.new ≤ array_vec_len text.old + 10 }
+{
+    match cause {
+        StateCause::Mark => put(text, b"Mark"),
+        StateCause::Item => put(text, b"Item"),
+        StateCause::Order => put(text, b"Order"),
+        StateCause::Floor => put(text, b"Floor"),
+        StateCause::Tag => put(text, b"Tag"),
+        StateCause::Stamp => put(text, b"Stamp"),
+        StateCause::Body => put(text, b"Body"),
+        StateCause::Short => put(text, b"Short"),
+        StateCause::Tail => put(text, b"Tail"),
+        StateCause::Long => put(text, b"Long"),
+        StateCause::Memory => put(text, b"Memory"),
+        StateCause::Horizon => put(text, b"Horizon"),
     }
 }

@@ -1,27 +1,20 @@
-//! The program's commands: jobs from words, what a job reads and writes, and the texts of faults.
+//! The program's commands: what a job reads and writes, and the texts of faults.
 #![tactic(auto)]
 
 mod buffer;
 mod check_line;
-mod docker_line;
-mod docker_list;
-mod docker_print;
 mod fault;
 mod fault_line;
-mod grammar;
-mod job_of_words;
-mod jobs;
-mod line_of_job;
 mod output;
 mod prepared_job;
-mod running;
-mod schedule;
-mod words;
+mod sources;
 
-pub use fault::{Fault, JobFault, OfficeFault};
+pub use docker_job::{Job, JobFault, Subcommand, Task, job, job_line};
+pub use docker_office::OfficeFault;
+pub use fault::Fault;
 pub use fault_line::{FaultText, fault_text, status};
-pub use job_of_words::job;
-pub use jobs::{Job, Subcommand};
-pub use line_of_job::job_line;
 pub use output::emit;
 pub use prepared_job::{Prepared, prepare};
+
+#[cfg(test)]
+mod tests;

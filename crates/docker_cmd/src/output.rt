@@ -1,40 +1,60 @@
 //! What a job writes.
-ghost use Rattle.std.specs.Prelude.{◌≡◌, ◌+◌, ◌-◌, ◌^◌, ◌<◌, IfErr, OnErr, OnOk};
+ghost use Rattle.std.specs.Prelude.{◌≡◌, ◌≢◌, ◌+◌, ◌-◌, ◌^◌, ◌<◌, ◌⊎◌, ◌↔◌, length, IfErr, IsOk, OnErr, OnOk, Err};
 ghost use Rattle.cif_line.specs.Device.{Takes, TakesPart};
-ghost use Rattle.docker_cmd.specs.Prepared.{GainsOutput, GainsPart};
+ghost use Rattle.docker_job.specs.Job.{check_task, task_meant};
+ghost use Rattle.docker_office.specs.Faults.{IsOfDocker};
+ghost use Rattle.docker_cmd.specs.CheckLine.{count_line};
+ghost use Rattle.docker_cmd.specs.Prepared.{GainsOutput, GainsPart, GainsText, GainsTextPart, IsDocker, IsRefused, IsRefusedDocker, PrintsDocker, office_read, output_of};
 
 use crate::check_line::check_line;
-use crate::docker_print::docker_text;
-use crate::fault::OfficeFault;
-use crate::prepared_job::{Content, Prepared};
-use crate::schedule::Schedule;
-use cif_line::{Basic, Origin, Sink, Terminus, basic, origin, terminus, write_all};
+use crate::prepared_job::Prepared;
+use crate::sources::Content;
+use cif_file::CifFile;
+use cif_line::{Sink, write_all};
+use docker_job::Task;
+use docker_office::{Office, OfficeFault};
 
-/// Writes the output of a job: of `check` the line of its file's counts, and of `day` the docker of its timing point on its day. It is written
-/// whole, after all of it is made, and where the sink fails it has gained a beginning of it.
+/// Writes what the job prints, or the state's text that is to be kept: of `check` the line of its file's counts, of `day` and `print` the docker of their
+/// timing point on their day, of `files` the office's files, and of any other job the text of the office's state.
+///
+/// `Lapsed` comes where a docker is asked for of a day before the state's horizon plus three days, and `Memory` where room for a docker is refused: both
+/// before anything is written. `Sink` leaves the sink with a beginning of the text.
 pub fn emit<K: Sink>(prepared: &Prepared<'_>, sink: &mut K) -> Result<(), OfficeFault>
     requires { K.failures sink.old < 2 ^ 64 - 1 }
-    ensures ok { OnOk result (GainsOutput prepared.now (K.taken sink.old) (K.taken sink.new)) }
-    ensures err { OnErr result (GainsPart prepared.now (K.taken sink.old) (K.taken sink.new)) }
-    ensures no_failure { OnOk result (K.failures sink.new ≡ K.failures sink.old) }
-    ensures failure { OnErr result (K.failures sink.new ≡ K.failures sink.old + 1) }
-    ensures sink { IfErr result (λ fault. fault ≡ OfficeFault.Sink) }
+    ensures ok { IsOk result →
+        GainsOutput prepared.now (K.taken sink.old) (K.taken sink.new) }
+    ensures part { result ≡ Err OfficeFault.Sink →
+        GainsPart prepared.now (K.taken sink.old) (K.taken sink.new) }
+    ensures lapsed { (result ≡ Err OfficeFault.Lapsed) ↔ IsRefused prepared.now }
+    ensures memory { result ≡ Err OfficeFault.Memory → PrintsDocker prepared.now }
+    ensures unwritten { (result ≡ Err OfficeFault.Lapsed) ⊎ (result ≡ Err OfficeFault.Memory)
+        → sink.new ≡ sink.old }
+    ensures sink { (result ≡ Err OfficeFault.Sink) ↔
+        (K.failures sink.new ≡ K.failures sink.old + 1) }
+    ensures no_failure { result ≢ Err OfficeFault.Sink →
+        K.failures sink.new ≡ K.failures sink.old }
+    ensures only { IfErr result IsOfDocker }
 {
     match prepared.content() {
-        Content::File(file) => {
-            let text = check_line(file.records(), file.changes().len());
-            write(sink, text.as_slice())
-        }
-        Content::Schedule(schedule) => {
-            let basic = basic_of(schedule);
-            let origin = origin_of(schedule);
-            let terminus = terminus_of(schedule);
-            let job = prepared.job();
-            let place = job.place();
-            let text = docker_text(&basic, &origin, &terminus, &place, job.date());
-            write(sink, text.as_slice())
-        }
+        Content::File(file) => write_counts(file, sink),
+        Content::Office(office) => write_office(office, &prepared.job().task(), sink),
     }
+}
+
+/// Writes the line of a file's counts.
+fn write_counts<K: Sink>(file: &CifFile, sink: &mut K) -> Result<(), OfficeFault>
+    requires { K.failures sink.old < 2 ^ 64 - 1 }
+    ensures whole { OnOk result (Takes (K.taken sink.old)
+        (count_line file.now.record_count (length file.now.changes_made)) (K.taken sink.new)) }
+    ensures part { OnErr result (TakesPart (K.taken sink.old)
+        (count_line file.now.record_count (length file.now.changes_made)) (K.taken sink.new)) }
+    ensures no_failure { OnOk result (K.failures sink.new ≡ K.failures sink.old) }
+    ensures sink { (result ≡ Err OfficeFault.Sink) ↔
+        (K.failures sink.new ≡ K.failures sink.old + 1) }
+    ensures only { IfErr result (λ fault. fault ≡ OfficeFault.Sink) }
+{
+    let text = check_line(file.records(), file.changes().len());
+    write(sink, text.as_slice())
 }
 
 /// Writes a text whole, or a beginning of it where the sink fails.
@@ -43,38 +63,40 @@ fn write<K: Sink>(sink: &mut K, text: &[u8]) -> Result<(), OfficeFault>
     ensures whole { OnOk result (Takes (K.taken sink.old) text.now (K.taken sink.new)) }
     ensures part { OnErr result (TakesPart (K.taken sink.old) text.now (K.taken sink.new)) }
     ensures no_failure { OnOk result (K.failures sink.new ≡ K.failures sink.old) }
-    ensures failure { OnErr result (K.failures sink.new ≡ K.failures sink.old + 1) }
-    ensures sink { IfErr result (λ fault. fault ≡ OfficeFault.Sink) }
+    ensures sink { (result ≡ Err OfficeFault.Sink) ↔
+        (K.failures sink.new ≡ K.failures sink.old + 1) }
+    ensures only { IfErr result (λ fault. fault ≡ OfficeFault.Sink) }
 {
     write_all(sink, text).map_err(|_| OfficeFault::Sink)
 }
 
-/// The basic schedule.
-fn basic_of(schedule: &Schedule) -> Basic<'_>
-    ensures line { result ≡ schedule.now.basic }
+/// Writes what a task writes of an office.
+fn write_office<K: Sink>(office: &Office, task: &Task, sink: &mut K) -> Result<(), OfficeFault>
+    requires failures { K.failures sink.old < 2 ^ 64 - 1 }
+    requires task { task_meant task.now ≢ check_task }
+    ensures ok { IsOk result → GainsText (output_of (task_meant task.now))
+        (office_read office.now) (K.taken sink.old) (K.taken sink.new) }
+    ensures part { result ≡ Err OfficeFault.Sink →
+        GainsTextPart (output_of (task_meant task.now))
+        (office_read office.now) (K.taken sink.old) (K.taken sink.new) }
+    ensures lapsed { (result ≡ Err OfficeFault.Lapsed) ↔
+        IsRefusedDocker (output_of (task_meant task.now)) (office_read office.now) }
+    ensures memory { result ≡ Err OfficeFault.Memory →
+        IsDocker (output_of (task_meant task.now)) }
+    ensures unwritten { (result ≡ Err OfficeFault.Lapsed) ⊎ (result ≡ Err OfficeFault.Memory)
+        → sink.new ≡ sink.old }
+    ensures sink { (result ≡ Err OfficeFault.Sink) ↔
+        (K.failures sink.new ≡ K.failures sink.old + 1) }
+    ensures no_failure { result ≢ Err OfficeFault.Sink →
+        K.failures sink.new ≡ K.failures sink.old }
+    ensures only { IfErr result IsOfDocker }
 {
-    match basic(&schedule.basic) {
-        Ok(view) => view,
-        Err(_) => unreachable!(),
-    }
-}
-
-/// The origin.
-fn origin_of(schedule: &Schedule) -> Origin<'_>
-    ensures line { result ≡ schedule.now.origin }
-{
-    match origin(&schedule.origin) {
-        Ok(view) => view,
-        Err(_) => unreachable!(),
-    }
-}
-
-/// The terminus.
-fn terminus_of(schedule: &Schedule) -> Terminus<'_>
-    ensures line { result ≡ schedule.now.terminus }
-{
-    match terminus(&schedule.terminus) {
-        Ok(view) => view,
-        Err(_) => unreachable!(),
+    match task {
+        Task::Day { place, day } | Task::Print { place, day } => office.print(place, *day, sink),
+        Task::Files => office.files(sink),
+        Task::New | Task::Take | Task::Merge | Task::Horizon { .. } | Task::Migrate => {
+            office.send(sink)
+        }
+        Task::Check => unreachable!(),
     }
 }

@@ -1,29 +1,14 @@
-//! What a job reads.
-ghost use Rattle.std.specs.Prelude.{◌≡◌, ◌≢◌, ◌+◌, ◌-◌, ◌^◌, ◌<◌, ◌↔◌, IfOk, IsOk, Err};
-ghost use Rattle.docker_cmd.specs.Prepared.{HoldsOtherFile, ReadsFile, ReadsSchedule, content_meant, most_at_once, most_records};
-ghost use Rattle.cif_file.specs.SourceRead.{ReadsNoFurther, RefusesText, WantsMemory};
-ghost use Rattle.cif_line.specs.Device.{IsEnd};
-ghost use Rattle.docker_cmd.specs.declared.jobs.Subcommand.TheVariants.{Check as check_subcommand, Day as day_subcommand};
+//! What a job has read.
+ghost use Rattle.std.specs.Prelude.{◌≡◌, ◌≢◌, ◌+◌, ◌-◌, ◌^◌, ◌<◌, ◌⊎◌, ◌↔◌, IfOk, IfErr, IsOk, Err};
+ghost use Rattle.docker_cmd.specs.Content.{FitsTask, content_meant};
+ghost use Rattle.docker_cmd.specs.Prepared.{HasNoSource, HasReadToEnd, HasSecondSource, HoldsSomeState, IsOfOneFile, IsOfSources, IsReadOf, ReadsFewOfFirst, ReadsFewOfSecond, RefusesFileOf, RefusesStateOf, WantsFor, sources_of, taken_file};
 
-use crate::fault::OfficeFault;
-use crate::jobs::{Job, Subcommand};
-use crate::schedule::{Schedule, schedule_of};
-use cif_file::{CifFile, ReadFault, read_file};
+use crate::sources::{Content, read_sources};
 use cif_line::Source;
+use docker_job::Job;
+use docker_office::OfficeFault;
 use std::alloc::Global;
 use std::marker::Model;
-
-/// The most records that a file may have.
-const MOST_RECORDS: u32 = 4_294_967_294;
-
-/// What a job has read.
-#[derive(Debug, Drop)]
-pub(crate) enum Content {
-    /// A file, with its changes.
-    File(CifFile),
-    /// The schedule of a file of one schedule.
-    Schedule(Schedule),
-}
 
 /// A job and what it has read.
 #[derive(Debug, Drop)]
@@ -33,10 +18,8 @@ pub struct Prepared<'a> {
 }
 
 impl<'a> Model for Prepared<'a> {
-    ghost use Rattle.std.specs.Prelude.{◌≡◌};
-    ghost use Rattle.docker_cmd.specs.Prepared.{PreparedView, content_meant};
-    ghost use Rattle.docker_cmd.specs.declared.jobs.Subcommand.TheVariants.{Day as day_subcommand};
-    ghost use Rattle.docker_cmd.specs.declared.prepared_job.Content.TheVariants.{Schedule as schedule_content};
+    ghost use Rattle.docker_cmd.specs.Prepared.{PreparedView};
+    ghost use Rattle.docker_cmd.specs.Content.{FitsTask, content_meant};
 
     ghost Value = { PreparedView };
 
@@ -45,13 +28,10 @@ impl<'a> Model for Prepared<'a> {
       read = content_meant prepared.content;
     } };
 
-    ghost invariant = { λ prepared. (schedule : _) → prepared.content ≡ schedule_content schedule
-        → prepared.job.now.subcommand ≡ day_subcommand };
+    ghost invariant = { λ prepared. FitsTask prepared.job.now.task prepared.content };
 }
 
 impl<'a> Prepared<'a> {
-    ghost use Rattle.docker_cmd.specs.declared.prepared_job.Content.TheVariants.{Schedule as schedule_content};
-
     /// The job.
     pub(crate) fn job(&self) -> &'a Job
         ensures { result.now ≡ self.now.job }
@@ -59,65 +39,60 @@ impl<'a> Prepared<'a> {
         self.job
     }
 
-    /// What was read. Where it is a schedule, the job is `day`.
+    /// What was read: of `check` a file, of any other an office.
     pub(crate) fn content(&self) -> &Content
         ensures content { self.now.read ≡ content_meant result.now }
-        ensures day { (schedule : _) → result.now ≡ schedule_content schedule
-            → self.now.job.subcommand ≡ day_subcommand }
+        ensures fits { FitsTask self.now.job.task result.now }
     {
         &self.content
     }
 }
 
-/// Reads what the job reads: `check` and `day` read the file that their first word names, from the first source to its end, or to the piece of at most
-/// 65,536 bytes that tells its first fault and not a byte behind that piece. Want of memory comes before a byte is read, or for a record up to which none
-/// is at fault. `day` is refused as not yet where the file is of another shape than that of one permanent schedule with two stops. No job reads a second
-/// source yet.
+/// Reads what the job reads, in the order of its words, and answers the job with the file, or the office, that it made of it. `new` reads nothing; `check`
+/// and `day` read FILE from the first source, `print`, `files`, `horizon` and `migrate` STATE; `take` and `merge` read STATE from the first source, and then
+/// FILE or OTHER from the second, of which nothing is read unless the first held a state. A source is read to its end, or to the piece of at most 65,536
+/// bytes that decides.
+///
+/// `File` and `State` tell why a source holds no text of a file or of a state, `Source` that one failed, and `Memory` that a growth was refused: nothing that
+/// was judged before is bad.
 pub fn prepare<'a, S: Source, T: Source>(
     alloc: Global,
     job: &'a Job,
     first: &mut S,
-    _second: &mut T,
+    second: &mut T,
 ) -> Result<Prepared<'a>, OfficeFault>
     requires first { S.failures first.old < 2 ^ 64 - 1 }
+    requires second { T.failures second.old < 2 ^ 64 - 1 }
     ensures job { IfOk result (λ prepared. prepared.job ≡ job.now) }
-    ensures check { (job.now.subcommand ≡ check_subcommand)
-        → IfOk result (ReadsFile (S.left first.old)) }
-    ensures day { (job.now.subcommand ≡ day_subcommand)
-        → IfOk result (ReadsSchedule (S.left first.old)) }
-    ensures file { (fault : _) → result ≡ Err (OfficeFault.File fault)
-        → RefusesText most_records (S.left first.old) fault }
-    ensures memory { result ≡ Err OfficeFault.Memory
-        → WantsMemory most_at_once most_records (S.left first.old) (S.left first.new) }
-    ensures not_yet { result ≡ Err OfficeFault.NotYet → (job.now.subcommand ≡ day_subcommand)
-        × HoldsOtherFile (S.left first.old) }
-    ensures end { IsOk result → IsEnd (S.left first.new) }
-    ensures no_further { ReadsNoFurther most_at_once most_records
+    ensures ok { IfOk result (λ prepared.
+        IsReadOf job.now.task (S.left first.old) (T.left second.old) prepared.read) }
+    ensures one_file { sources_of job.now.task ≡ taken_file →
+        IfOk result (λ prepared. IsOfOneFile (S.left first.old) prepared.read) }
+    ensures file { (fault : _) → result ≡ Err (OfficeFault.File fault) →
+        RefusesFileOf (sources_of job.now.task) (S.left first.old) (T.left second.old) fault }
+    ensures state { (fault : _) → result ≡ Err (OfficeFault.State fault) →
+        RefusesStateOf (sources_of job.now.task) (S.left first.old) (T.left second.old) fault }
+    ensures memory { result ≡ Err OfficeFault.Memory →
+        WantsFor (sources_of job.now.task) (S.left first.old) (S.left first.new)
+        (T.left second.old) (T.left second.new) }
+    ensures end { IsOk result →
+        HasReadToEnd (sources_of job.now.task) (S.left first.new) (T.left second.new) }
+    ensures none { HasNoSource job.now.task → first.new ≡ first.old }
+    ensures order { (second.new ≡ second.old) ⊎ (HasSecondSource job.now.task ×
+        HoldsSomeState (S.left first.old) × (S.failures first.new ≡ S.failures first.old)) }
+    ensures first_few { ReadsFewOfFirst (sources_of job.now.task)
         (S.left first.old) (S.left first.new) }
-    ensures source { (result ≡ Err OfficeFault.Source)
-        ↔ (S.failures first.new ≡ S.failures first.old + 1) }
-    ensures no_failure { result ≢ Err OfficeFault.Source
-        → S.failures first.new ≡ S.failures first.old }
-    ensures sink { result ≢ Err OfficeFault.Sink }
-    ensures second { _second.new ≡ _second.old }
+    ensures second_few { ReadsFewOfSecond (sources_of job.now.task)
+        (S.left first.old) (T.left second.old) (T.left second.new) }
+    ensures source { (result ≡ Err OfficeFault.Source) ↔
+        (S.failures first.new + T.failures second.new
+        ≡ S.failures first.old + T.failures second.old + 1) }
+    ensures first_failure { result ≢ Err OfficeFault.Source →
+        S.failures first.new ≡ S.failures first.old }
+    ensures second_failure { result ≢ Err OfficeFault.Source →
+        T.failures second.new ≡ T.failures second.old }
+    ensures only { IfErr result IsOfSources }
 {
-    let file = match read_file(alloc, first, MOST_RECORDS) {
-        Ok(file) => file,
-        Err(ReadFault::Source) => return Err(OfficeFault::Source),
-        Err(ReadFault::File(fault)) => return Err(OfficeFault::File(fault)),
-        Err(ReadFault::Memory) => return Err(OfficeFault::Memory),
-    };
-    match job.subcommand() {
-        Subcommand::Check => Ok(Prepared {
-            job,
-            content: Content::File(file),
-        }),
-        Subcommand::Day => match schedule_of(file) {
-            Some(schedule) => Ok(Prepared {
-                job,
-                content: Content::Schedule(schedule),
-            }),
-            None => Err(OfficeFault::NotYet),
-        },
-    }
+    let content = read_sources(alloc, &job.task(), first, second)?;
+    Ok(Prepared { job, content })
 }

@@ -15,7 +15,7 @@ use Rattle.docker_laws.proofs.lists.Membership.{cons-Contains, cons-Contains-fir
 use Rattle.docker_laws.proofs.dockers.ChoiceWalk.{none_chosen, chosen_more, none_linked, link_more}
 use Rattle.docker_laws.proofs.dockers.TrainOfRows.{best_is_chosen, one_answer, one_train_answer, train_tells, trains_tell, rows_have, chosen_tells}
 use Rattle.docker_laws.proofs.dockers.LinkOfRows.{best_is_link, one_link_answer, links_tell}
-use Rattle.docker_day.specs.Along.{chosen_along, link_along, AreGoodRows}
+use Rattle.docker_day.specs.Along.{chosen_along, link_along, AreGoodRows, AreLive}
 
 no_train : (train : Train) → None ≡ Some train → ⊥
 no_train train h = cc
@@ -75,15 +75,36 @@ good_rows live (row ∷ rows) good each = (
 pub good_of_uid : (live : Table) (uid : List ℕ) (rows : List Row) → HasGoodBodies live → AreOfUid live uid rows → AreGoodRows rows
 good_of_uid live uid rows good are = good_rows live rows good (λ key body among. ((are.members key body).0 among).4)
 
--- of the associations at a place
-pub good_linked : (live : Table) (place : List ℕ) (rows : List Row) → HasGoodBodies live → AreLinked live place rows → AreGoodRows rows
-good_linked live place rows good are =
-    good_rows live rows good (λ key body among. let one = (are.members key body).0 among in ap live one.2 ∙ one.4.is_live ∙ ap Some (sym one.3))
+-- rows each of which is live
+live_rows : (live : Table) (rows : List Row) → ((key : Key) (body : Body) → Contains rows (key, body) → live key ≡ Some body) → AreLive live rows
+live_rows live [] each = tt
+live_rows live (row ∷ rows) each = (
+  each row.0 row.1 (cons-Contains-first row rows),
+  live_rows live rows
+      (λ key body among. each key body (cons-Contains row rows (key, body) among)),
+)
 
--- and of the schedules that call there
+-- the associations at a place are
+linked_each : (live : Table) (place : List ℕ) (rows : List Row) → AreLinked live place rows
+    → (key : Key) (body : Body) → Contains rows (key, body) → live key ≡ Some body
+linked_each live place rows are key body among = let one = (are.members key body).0 among in ap live one.2 ∙ one.4.is_live ∙ ap Some (sym one.3)
+
+pub live_linked : (live : Table) (place : List ℕ) (rows : List Row) → AreLinked live place rows → AreLive live rows
+live_linked live place rows are = live_rows live rows (linked_each live place rows are)
+
+pub good_linked : (live : Table) (place : List ℕ) (rows : List Row) → HasGoodBodies live → AreLinked live place rows → AreGoodRows rows
+good_linked live place rows good are = good_rows live rows good (linked_each live place rows are)
+
+-- and the schedules that call there
+calling_each : (live : Table) (place : List ℕ) (rows : List Row) → AreCalling live place rows
+    → (key : Key) (body : Body) → Contains rows (key, body) → live key ≡ Some body
+calling_each live place rows are key body among = let one = (are.members key body).0 among in ap live one.2 ∙ one.4.is_live ∙ ap Some (sym one.3)
+
+pub live_calling : (live : Table) (place : List ℕ) (rows : List Row) → AreCalling live place rows → AreLive live rows
+live_calling live place rows are = live_rows live rows (calling_each live place rows are)
+
 pub good_calling : (live : Table) (place : List ℕ) (rows : List Row) → HasGoodBodies live → AreCalling live place rows → AreGoodRows rows
-good_calling live place rows good are =
-    good_rows live rows good (λ key body among. let one = (are.members key body).0 among in ap live one.2 ∙ one.4.is_live ∙ ap Some (sym one.3))
+good_calling live place rows good are = good_rows live rows good (calling_each live place rows are)
 
 -- one more row of a schedule is one more schedule
 pub next_is_one : (uid : List ℕ) (day : ℕ) (found : Option Train) (key : Key) (body : Body) (train : Train) → schedule_of key body ≡ Some train

@@ -1,17 +1,21 @@
 -- What is known of the lines that are kept under the key of a schedule.
 use Rattle.std.proofs.Common.{◌≡◌, ℕ, ◌+◌, ◌<◌, ◌≤◌, ◌^◌, Bool, true, false, List, [], ◌∷◌, ◌++◌, length, ap, sym, ◌∙◌, subst, refl, inl, inr, ◌⊎◌, All, arith}
-use Rattle.std.specs.Prelude.{IsTrue, ◌==◌}
+use Rattle.std.specs.Prelude.{IsTrue, ◌==◌, ◌&&◌, nat_le}
 use Rattle.std.specs.List.{AllByRecursion}
 use Rattle.std.proofs.lemmas.List.Elements.{All-from_recursion, recursion_from_All}
-use Rattle.docker_model.specs.records.Record.{association, basic_schedule, extra_details, HasKind, column}
+use Rattle.docker_model.specs.records.Record.{association, basic_schedule, extra_details, HasKind, column, columns}
+use Rattle.docker_model.specs.records.Date.{date_number, end_number, runs_on_weekday, weekday_of}
 use Rattle.docker_model.specs.records.Field.{HasGoodFields, is_deletion}
 use Rattle.docker_model.specs.file.File.{AreExtraDetails, IsSoundJourney, first_record}
-use Rattle.docker_model.specs.file.Change.{AssociationKey, ScheduleKey}
+use Rattle.docker_model.specs.file.Change.{AssociationKey, ScheduleKey, schedule_key, schedule_named}
+use Rattle.docker_model.specs.docker.Choice.{schedule_runs}
 use Rattle.docker_model.specs.docker.Event.{falls_to}
 use Rattle.docker_model.specs.state.State.{IsAssociationOf, IsScheduleOf}
 use Rattle.docker_laws.proofs.records.Columns.{fields_good}
 use Rattle.docker_laws.proofs.lists.AllOf.{all_append}
 use Rattle.docker_laws.proofs.dockers.FewMidnights.{few_midnights, falls_below}
+use Rattle.docker_day.specs.Runs.{runs_until}
+use Rattle.docker_day.proofs.RunFields.{three_tests}
 
 -- the first is a basic schedule
 pub first_kind : (key : ScheduleKey) (lines : List (List ℕ)) → IsScheduleOf key lines → HasKind basic_schedule (first_record lines)
@@ -58,7 +62,24 @@ lines_good key lines of =
 pub falls_few : (key : ScheduleKey) (lines : List (List ℕ)) (number : ℕ) → IsScheduleOf key lines → falls_to lines number ≤ 2
 falls_few key lines number of = let all = few_midnights key lines of in let some = falls_below lines number in omega arith
 
-pub ruleset kept_lines = (first_kind, first_good, first_stays, first_there, lines_few, lines_good)
+-- ---- when it runs, by the first day in its key
+
+same_key : (a b : ScheduleKey) → schedule_key a ≡ schedule_key b → a ≡ b
+same_key a b h = cc
+
+pub runs_by_key : (key : ScheduleKey) (lines : List (List ℕ)) (day : ℕ) → IsScheduleOf key lines
+    → (nat_le key.runs_from day && runs_until (columns 16 21 (first_record lines)) (columns 22 28 (first_record lines)) day)
+    ≡ schedule_runs (first_record lines) day
+runs_by_key key lines day of =
+    (λ i. nat_le (sym (same_key (record {
+      uid = columns 4 9 (first_record lines);
+      runs_from = date_number (columns 10 15 (first_record lines));
+      indicator = column 80 (first_record lines);
+    }) key of.key_is) i).runs_from day && runs_until (columns 16 21 (first_record lines)) (columns 22 28 (first_record lines)) day)
+    ∙ three_tests (nat_le (date_number (columns 10 15 (first_record lines))) day) (nat_le day (end_number (columns 16 21 (first_record lines))))
+    (runs_on_weekday (columns 22 28 (first_record lines)) (weekday_of day))
+
+pub ruleset kept_lines = (first_kind, first_good, first_stays, first_there, lines_few, lines_good, runs_by_key)
 
 -- ---- the line of an association
 

@@ -13,3 +13,5 @@ pub mod Gathered
 pub mod Written
 pub mod RowPieces
 pub mod Printed
+pub mod RunFields
+pub mod PassedOver

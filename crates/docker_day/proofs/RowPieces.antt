@@ -5,7 +5,7 @@ use Rattle.docker_model.specs.file.Change.{Key, tiploc_key, association_key, sch
 use Rattle.docker_model.specs.docker.Choice.{Group}
 use Rattle.docker_model.specs.docker.LiveRows.{Train, Link, schedule_of, association_of}
 use Rattle.docker_model.specs.docker.DockerLine.{DockerLine}
-use Rattle.docker_day.specs.Lines.{schedule_piece, link_here, row_piece}
+use Rattle.docker_day.specs.Lines.{schedule_piece, link_here, row_piece, is_under_way, row_under_way}
 
 abbrev pub no_line : List DockerLine
 no_line = []
@@ -27,6 +27,16 @@ some_train train h = cc
 
 some_link : (link : Link) → Some link ≡ None → ⊥
 some_link link h = cc
+
+-- of a schedule a train may be under way where that of the row may
+pub under_way_of : (key : Key) (body : Body) (train : Train) (day : ℕ) → schedule_of key body ≡ Some train
+    → is_under_way train.lines day ≡ row_under_way key body day
+under_way_of (schedule_key key) (schedule_body lines) train day is =
+    (λ i. is_under_way (sym (same_train (record { key = key; lines = lines }) train is) i).lines day)
+under_way_of (schedule_key key) (tiploc_body bytes) train day is = absurd (none_train train is)
+under_way_of (schedule_key key) (association_body line) train day is = absurd (none_train train is)
+under_way_of (tiploc_key code) body train day is = absurd (none_train train is)
+under_way_of (association_key key) body train day is = absurd (none_train train is)
 
 module _ (trains : List ℕ → ℕ → Option Train) (links : Group → ℕ → Option Link) (place : List ℕ) (day start : ℕ) where
   -- of a schedule

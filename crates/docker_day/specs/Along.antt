@@ -1,5 +1,7 @@
--- The choice of a schedule and of an association along rows, and rows whose bodies are good.
-use Rattle.std.specs.Prelude.{ℕ, List, [], ◌∷◌, Option, ⊤}
+-- The choice of a schedule and of an association along rows, and rows that are live and whose bodies are good.
+use Rattle.std.specs.Prelude.{◌≡◌, ℕ, List, [], ◌∷◌, Option, Some, ⊤}
+use Rattle.docker_model.specs.file.Change.{schedule_key, schedule_body, association_key, association_body}
+use Rattle.docker_model.specs.state.Table.{Table}
 use Rattle.docker_model.specs.state.State.{IsBodyOf}
 use Rattle.docker_model.specs.docker.Choice.{Group}
 use Rattle.docker_model.specs.state.Row.{Row}
@@ -20,3 +22,16 @@ link_along group day found (row ∷ rows) = link_along group day (next_link grou
 abbrev pub AreGoodRows : List Row → Type 0
 AreGoodRows [] = ⊤
 AreGoodRows (row ∷ rows) = IsBodyOf row.0 row.1 × AreGoodRows rows
+
+-- each row is one of the live table
+abbrev pub AreLive : Table → List Row → Type 0
+AreLive live [] = ⊤
+AreLive live (row ∷ rows) = (live row.0 ≡ Some row.1) × AreLive live rows
+
+-- the schedule is one of the live table
+abbrev pub IsLiveTrain : Table → Train → Type 0
+IsLiveTrain live train = live (schedule_key train.key) ≡ Some (schedule_body train.lines)
+
+-- and so is the association
+abbrev pub IsLiveLink : Table → Link → Type 0
+IsLiveLink live link = live (association_key link.key) ≡ Some (association_body link.line)

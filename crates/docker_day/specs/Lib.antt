@@ -9,3 +9,4 @@ pub mod Details
 pub mod Lines
 pub mod DockerValue
 pub mod Dockers
+pub mod Runs

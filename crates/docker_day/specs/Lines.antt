@@ -1,13 +1,17 @@
 -- The lines of a docker, from the events that a walk meets.
-use Rattle.std.specs.Prelude.{◌≡◌, ℕ, ◌+◌, ◌-◌, Bool, ◌&&◌, ◌==◌, nat_le, if◌then◌else◌, find, List, [], ◌∷◌, ◌++◌, Option, Some, None}
+use Rattle.std.specs.Prelude.{◌≡◌, ℕ, ◌+◌, ◌-◌, Bool, true, false, ◌&&◌, ◌||◌, ◌==◌, nat_le, not, if◌then◌else◌, find, List, [], ◌∷◌, ◌++◌, Option, Some, None}
 use Rattle.std.specs.Str.{bytes_eq}
 use Rattle.docker_model.specs.records.Record.{kind_of, columns, column}
 use Rattle.docker_model.specs.file.Change.{Key, association_key, schedule_key, AssociationKey, ScheduleKey, Body, association_body, schedule_body}
-use Rattle.docker_model.specs.docker.Choice.{Group}
+use Rattle.docker_model.specs.docker.Choice.{Group, schedule_runs}
+use Rattle.docker_model.specs.file.File.{first_record}
 use Rattle.docker_model.specs.file.Journey.{Occasion}
 use Rattle.docker_model.specs.docker.Event.{is_at}
 use Rattle.docker_model.specs.state.Table.{Table}
-use Rattle.docker_model.specs.docker.DockerLine.{DockerLine, Detail, partner, platform_by_kind, track_by_kind, path_by_kind, public_by_kind}
+use Rattle.docker_model.specs.docker.DockerLine.{DockerLine, Detail, partner, platform_by_kind, track_by_kind, path_by_kind, public_by_kind, occasion_rank, associated_uid}
+use Rattle.docker_model.specs.state.Order.{bytes_cmp}
+use Rattle.std.specs.declared.cmp.Ordering.{Ordering}
+use Rattle.std.specs.Ordering.{nat_cmp, ordering_then}
 use Rattle.docker_model.specs.records.PrintedTime.{spaces}
 use Rattle.docker_model.specs.state.Row.{Row, AreRowsOf}
 use Rattle.docker_model.specs.docker.LiveRows.{Train, Link, train_in, link_in}
@@ -66,6 +70,24 @@ lines_there place day start key detail (event ∷ events) =
     (if is_here place event && is_today day start event then line_at_event key start detail event ∷ [] else [])
     ++ lines_there place day start key detail events
 
+-- some event is behind a midnight
+abbrev pub some_late : List Occurrence → Bool
+some_late [] = false
+some_late (event ∷ events) = not (event.falls == 0) || some_late events
+
+-- the schedule of these lines runs on the day so many days before
+abbrev pub runs_back : List (List ℕ) → ℕ → ℕ → Bool
+runs_back lines day back = nat_le back day && schedule_runs (first_record lines) (day - back)
+
+-- its train may be under way on the day since one of the two days before
+abbrev pub is_under_way : List (List ℕ) → ℕ → Bool
+is_under_way lines day = (runs_back lines day 1 || runs_back lines day 2) && some_late (occurrences lines)
+
+-- that of the row, if it is of a schedule
+abbrev pub row_under_way : Key → Body → ℕ → Bool
+row_under_way (schedule_key key) (schedule_body lines) day = is_under_way lines day
+row_under_way _ _ day = true
+
 -- the event is of a call at the place and suffix
 abbrev pub is_call : List ℕ → ℕ → Occurrence → Bool
 is_call place suffix event = is_at place suffix event.line
@@ -123,3 +145,10 @@ row_piece trains links place day _ _ start = []
 -- the lines of a row so many days back, if there is such a day
 abbrev pub row_back : (List ℕ → ℕ → Option Train) → (Group → ℕ → Option Link) → List ℕ → ℕ → Key → Body → ℕ → List DockerLine
 row_back trains links place day key body back = if nat_le back day then row_piece trains links place day key body (day - back) else []
+
+-- the order of lines of one time
+abbrev pub cmp_at_one_time : DockerLine → DockerLine → Ordering
+cmp_at_one_time a b =
+    ordering_then (nat_cmp (occasion_rank a.occasion) (occasion_rank b.occasion))
+    (ordering_then (bytes_cmp a.uid b.uid) (ordering_then (nat_cmp a.start b.start)
+    (ordering_then (nat_cmp a.number b.number) (bytes_cmp (associated_uid a.detail) (associated_uid b.detail)))))

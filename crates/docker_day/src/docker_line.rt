@@ -9,7 +9,7 @@ ghost use Rattle.cif_line.specs.Letter.{stp_letter};
 ghost use Rattle.docker_day.specs.Meaning.{occasion_meant};
 ghost use Rattle.docker_day.specs.Details.{detail_meant};
 ghost use Rattle.docker_day.specs.Walk.{occurrence_meant};
-ghost use Rattle.docker_day.specs.Lines.{line_at_event, line_of_link};
+ghost use Rattle.docker_day.specs.Lines.{line_at_event, line_of_link, cmp_at_one_time};
 
 use crate::detail::Detail;
 use crate::link_view::LinkView;
@@ -220,6 +220,25 @@ impl<'a> DockerLine<'a> {
     }
 }
 
+impl DockerLine<'_> {
+    /// The order of lines of one time.
+    fn cmp_at_one_time(&self, other: &DockerLine<'_>) -> Ordering
+        ensures { result ≡ cmp_at_one_time self.now other.now }
+    {
+        self.occasion
+            .rank()
+            .cmp(&other.occasion.rank())
+            .then(self.uid.bytes().cmp(other.uid.bytes()))
+            .then(self.start.number().cmp(&other.start.number()))
+            .then(self.number.cmp(&other.number))
+            .then(
+                self.detail
+                    .associated_uid()
+                    .cmp(other.detail.associated_uid()),
+            )
+    }
+}
+
 impl PartialEq for DockerLine<'_> {
     ghost eq = { eq_by_cmp docker_line_cmp };
 
@@ -254,17 +273,9 @@ impl Ord for DockerLine<'_> {
     ghost matches_eq = { λ a b. refl };
 
     fn cmp(&self, other: &Self) -> Ordering {
-        self.time
-            .half_minutes()
-            .cmp(&other.time.half_minutes())
-            .then(self.occasion.rank().cmp(&other.occasion.rank()))
-            .then(self.uid.bytes().cmp(other.uid.bytes()))
-            .then(self.start.number().cmp(&other.start.number()))
-            .then(self.number.cmp(&other.number))
-            .then(
-                self.detail
-                    .associated_uid()
-                    .cmp(other.detail.associated_uid()),
-            )
+        match self.time.half_minutes().cmp(&other.time.half_minutes()) {
+            Ordering::Equal => self.cmp_at_one_time(other),
+            order => order,
+        }
     }
 }

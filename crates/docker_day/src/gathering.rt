@@ -1,11 +1,11 @@
 //! The lines of a docker, gathered from the rows of a walk.
-ghost use Rattle.std.specs.Prelude.{◌≡◌, ◌≤◌, OnOk, None};
+ghost use Rattle.std.specs.Prelude.{◌≡◌, ◌≤◌, OnOk, None, Some};
 ghost use Rattle.cif_file.specs.Meaning.{key_meant, body_meant};
 ghost use Rattle.docker_model.specs.state.State.{IsBodyOf, live_table};
 ghost use Rattle.docker_model.specs.docker.Gathering.{row_lines, gathered};
 ghost use Rattle.docker_model.specs.docker.LiveRows.{schedule_of};
-ghost use Rattle.docker_day.specs.Along.{AreGoodRows};
-ghost use Rattle.docker_day.specs.Lines.{Adds, link_here, row_piece, row_back};
+ghost use Rattle.docker_day.specs.Along.{AreGoodRows, AreLive, IsLiveLink};
+ghost use Rattle.docker_day.specs.Lines.{Adds, link_here, row_piece, row_back, row_under_way};
 
 use crate::choice::schedule_of;
 use crate::docker_line::DockerLine;
@@ -13,7 +13,7 @@ use crate::link_lines::link_line;
 use crate::link_view::LinkView;
 use crate::links::association_of;
 use crate::starts::day_before;
-use crate::train_lines::add_schedule;
+use crate::train_lines::{add_schedule, is_under_way};
 use cif_file::{Body, Key};
 use cif_line::{Day, Memory, Tiploc};
 use docker_state::{Standing, State};
@@ -27,6 +27,7 @@ pub(crate) fn add_rows<'a>(
     day: Day,
 ) -> Result<(), Memory>
     requires good { AreGoodRows rows }
+    requires live { AreLive (live_table state.now) rows }
     ensures { OnOk result
         (Adds (live_table state.now)
         (λ trains links. gathered trains links place.now day rows.entry)
@@ -48,14 +49,29 @@ fn add_row<'a>(
     day: Day,
 ) -> Result<(), Memory>
     requires good { IsBodyOf (key_meant key.now) (body_meant body.now) }
+    requires live { live_table state.now (key_meant key.now) ≡ Some (body_meant body.now) }
     ensures { OnOk result (Adds (live_table state.now)
         (λ trains links. row_lines trains links place.now day (key_meant key.entry.now)
         (body_meant body.entry.now))
         lines.old.items lines.new.items) }
 {
     add_back(lines, state, key, body, place, day, 0)?;
+    if !is_row_under_way(key, body, day) {
+        return Ok(());
+    }
     add_back(lines, state, key, body, place, day, 1)?;
     add_back(lines, state, key, body, place, day, 2)
+}
+
+/// Whether a row may have lines on a day of a train that started before it: of a schedule only where its train may be under way.
+fn is_row_under_way(key: &Key, body: &Body, day: Day) -> bool
+    requires good { IsBodyOf (key_meant key.now) (body_meant body.now) }
+    ensures { result ≡ row_under_way (key_meant key.now) (body_meant body.now) day }
+{
+    match schedule_of(key, body) {
+        Some(train) => is_under_way(&train, day),
+        None => true,
+    }
 }
 
 /// Adds the lines of a row on the start day so many days back, if there is such a day.
@@ -69,6 +85,7 @@ fn add_back<'a>(
     back: u16,
 ) -> Result<(), Memory>
     requires good { IsBodyOf (key_meant key.now) (body_meant body.now) }
+    requires live { live_table state.now (key_meant key.now) ≡ Some (body_meant body.now) }
     ensures { OnOk result (Adds (live_table state.now)
         (λ trains links. row_back trains links place.now day (key_meant key.entry.now)
         (body_meant body.entry.now) back)
@@ -91,6 +108,7 @@ fn add_piece<'a>(
     start: Day,
 ) -> Result<(), Memory>
     requires good { IsBodyOf (key_meant key.now) (body_meant body.now) }
+    requires live { live_table state.now (key_meant key.now) ≡ Some (body_meant body.now) }
     requires past { start ≤ day }
     ensures { OnOk result (Adds (live_table state.now)
         (λ trains links. row_piece trains links place.now day (key_meant key.entry.now)
@@ -114,6 +132,7 @@ fn add_other<'a>(
     start: Day,
 ) -> Result<(), Memory>
     requires good { IsBodyOf (key_meant key.now) (body_meant body.now) }
+    requires live { live_table state.now (key_meant key.now) ≡ Some (body_meant body.now) }
     requires past { start ≤ day }
     requires other { schedule_of (key_meant key.now) (body_meant body.now) ≡ None }
     ensures { OnOk result (Adds (live_table state.now)
@@ -137,6 +156,7 @@ fn add_link<'a>(
     start: Day,
 ) -> Result<(), Memory>
     requires past { start ≤ day }
+    requires live { IsLiveLink (live_table state.now) link.now }
     ensures { OnOk result (Adds (live_table state.now)
         (λ trains links. link_here trains links place.now day link.now start)
         lines.old.items lines.new.items) }

@@ -10,6 +10,7 @@ ghost use Rattle.docker_day.specs.Keys.{association_key_meant};
 ghost use Rattle.docker_day.specs.Meaning.{occasion_meant};
 ghost use Rattle.docker_day.specs.Occurrences.{occurrences};
 ghost use Rattle.docker_day.specs.Walk.{occurrence_meant};
+ghost use Rattle.docker_day.specs.Along.{IsLiveLink};
 ghost use Rattle.docker_day.specs.Lines.{is_call, listed, link_line_at, link_line_by, link_line_with, link_piece};
 
 use crate::choice::train_on;
@@ -34,6 +35,7 @@ pub(crate) fn link_line<'a>(
     start: Day,
 ) -> Option<DockerLine<'a>>
     requires past { start ≤ day }
+    requires live { IsLiveLink (live_table state.now) link.now }
     ensures { (rows : List Row) → AreRowsOf (live_table state.now) rows
         → listed result ≡ link_piece (train_in rows) (link_in rows) day link.now start }
 {
@@ -46,9 +48,14 @@ pub(crate) fn link_line<'a>(
 
 /// Whether an association counts on a start day of its base train, is no cancellation, and has a date indicator.
 fn is_in_force(state: &State, link: &LinkView<'_>, start: Day) -> bool
+    requires live { IsLiveLink (live_table state.now) link.now }
     ensures { (rows : List Row) → AreRowsOf (live_table state.now) rows
         → result ≡ is_in_force (link_in rows) start link.now.key link.now.line }
 {
+    // Its own days are asked first, for those of its group are looked for along all associations at the place.
+    if !link.runs_on(start) {
+        return false;
+    }
     counts_on(state, link.key(), start) & stands(link.key()) & has_indicator(link)
 }
 

@@ -9,7 +9,7 @@ ghost use Rattle.docker_model.specs.docker.Event.{falls_to};
 ghost use Rattle.docker_day.specs.Keys.{schedule_key_meant};
 ghost use Rattle.docker_day.specs.Occurrences.{occurrences};
 
-use crate::days_run::schedule_runs;
+use crate::days_run::schedule_runs_on;
 use crate::events::Events;
 use cif_file::{Lines, ScheduleKey};
 use cif_line::{Day, Line, basic};
@@ -78,11 +78,11 @@ impl<'a> ScheduleView<'a> {
         }
     }
 
-    /// Whether it runs on a day.
+    /// Whether it runs on a day. Where it begins later, its lines are not looked at.
     pub(crate) fn runs_on(&self, day: Day) -> bool
         ensures { result ≡ schedule_runs (first_record self.now.lines) day }
     {
-        schedule_runs(self.first(), day)
+        (self.key.runs_from.number() <= day.number()) && schedule_runs_on(self.first(), day)
     }
 
     /// The train identity in the basic schedule.

@@ -1,13 +1,14 @@
 //! The scheduled times of a line.
-ghost use Rattle.std.specs.Prelude.{◌≡◌, ◌≤◌, [], length};
+ghost use Rattle.std.specs.Prelude.{◌≡◌, ◌≤◌, [], length, option_map};
+ghost use Rattle.cif_line.specs.Kind.{meaning};
 ghost use Rattle.std.specs.Iterator.{YieldsFirstBy, item_count};
-ghost use Rattle.docker_model.specs.records.Record.{HasKind, origin_location, intermediate_location, terminating_location};
+ghost use Rattle.docker_model.specs.records.Record.{HasKind, kind_of, origin_location, intermediate_location, terminating_location};
 ghost use Rattle.docker_model.specs.records.Field.{HasGoodFields};
 ghost use Rattle.docker_model.specs.file.Journey.{times_of};
 ghost use Rattle.docker_day.specs.Meaning.{occasion_meant, times_meant};
 
 use crate::occasion::Occasion;
-use cif_line::{Kind, Line, Time, call, kind, origin, terminus};
+use cif_line::{Kind, Line, Time};
 
 /// The times of a line, in their order: an arrival, a pass and a departure, those that are there.
 #[derive(Clone, Copy, Debug)]
@@ -29,13 +30,14 @@ impl Times {
         }
     }
 
-    /// The times of a line.
-    pub(crate) fn of(line: &Line) -> Times
+    /// The times of a line of a kind.
+    pub(crate) fn of(kind: Option<Kind>, line: &Line) -> Times
+        requires kind { option_map meaning kind ≡ kind_of line.now }
         requires good { HasGoodFields line.now }
         ensures times { times_meant result ≡ times_of line.now }
         ensures few { length (times_meant result) ≤ 3 }
     {
-        match kind(line) {
+        match kind {
             Some(Kind::OriginLocation) => origin_times(line),
             Some(Kind::IntermediateLocation) => call_times(line),
             Some(Kind::TerminatingLocation) => terminus_times(line),
@@ -64,49 +66,43 @@ impl Iterator for Times {
 }
 
 /// The departure of an origin.
+#[tactic(auto, using(crate::proofs::LineTimes::line_times))]
 fn origin_times(line: &Line) -> Times
     requires kind { HasKind origin_location line.now }
     requires good { HasGoodFields line.now }
     ensures { times_meant result ≡ times_of line.now }
 {
-    match origin(line) {
-        Ok(view) => Times {
-            arrival: None,
-            pass: None,
-            departure: Some(view.departure()),
-        },
-        Err(_) => unreachable!(),
+    Times {
+        arrival: None,
+        pass: None,
+        departure: Some(line.present_time(11)),
     }
 }
 
 /// The arrival, the pass and the departure at an intermediate location, those that are there.
+#[tactic(auto, using(crate::proofs::LineTimes::line_times))]
 fn call_times(line: &Line) -> Times
     requires kind { HasKind intermediate_location line.now }
     requires good { HasGoodFields line.now }
     ensures { times_meant result ≡ times_of line.now }
 {
-    match call(line) {
-        Ok(view) => Times {
-            arrival: view.arrival(),
-            pass: view.pass(),
-            departure: view.departure(),
-        },
-        Err(_) => unreachable!(),
+    Times {
+        arrival: line.scheduled_time(11),
+        pass: line.scheduled_time(21),
+        departure: line.scheduled_time(16),
     }
 }
 
 /// The arrival at a terminating location.
+#[tactic(auto, using(crate::proofs::LineTimes::line_times))]
 fn terminus_times(line: &Line) -> Times
     requires kind { HasKind terminating_location line.now }
     requires good { HasGoodFields line.now }
     ensures { times_meant result ≡ times_of line.now }
 {
-    match terminus(line) {
-        Ok(view) => Times {
-            arrival: Some(view.arrival()),
-            pass: None,
-            departure: None,
-        },
-        Err(_) => unreachable!(),
+    Times {
+        arrival: Some(line.present_time(11)),
+        pass: None,
+        departure: None,
     }
 }

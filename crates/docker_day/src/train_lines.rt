@@ -13,14 +13,15 @@ ghost use Rattle.docker_day.specs.Keys.{schedule_key_meant};
 ghost use Rattle.docker_day.specs.Details.{detail_meant};
 ghost use Rattle.docker_day.specs.Occurrences.{occurrences};
 ghost use Rattle.docker_day.specs.Walk.{occurrence_meant};
-ghost use Rattle.docker_day.specs.Lines.{Adds, is_here, is_today, lines_there, schedule_piece};
+ghost use Rattle.docker_day.specs.Lines.{Adds, is_here, is_today, lines_there, runs_back, some_late, is_under_way, schedule_piece};
+ghost use Rattle.docker_day.specs.Along.{IsLiveTrain};
 
 use crate::choice::train_on;
 use crate::detail::Detail;
 use crate::docker_line::DockerLine;
 use crate::location::tiploc_in;
 use crate::schedule_view::ScheduleView;
-use crate::starts::{is_here, is_today};
+use crate::starts::{day_before, is_here, is_today};
 use crate::walk::Occurrence;
 use cif_file::ScheduleKey;
 use cif_line::{Day, Line, Memory, Tiploc};
@@ -36,15 +37,52 @@ pub(crate) fn add_schedule<'a>(
     start: Day,
 ) -> Result<(), Memory>
     requires past { start ≤ day }
+    requires live { IsLiveTrain (live_table state.now) train.now }
     ensures { OnOk result (Adds (live_table state.now)
         (λ trains links. schedule_piece trains place.now day train.now.key train.now.lines start)
         lines.old.items lines.new.items) }
 {
+    // Its own days are asked first, for the choice among the schedules of its UID takes a search.
+    if !train.runs_on(start) {
+        return Ok(());
+    }
     if runs_by(state, train, start) {
         add_events(lines, train, place, day, start)
     } else {
         Ok(())
     }
+}
+
+/// Whether the train of a schedule may be under way on a day since one of the two days before: it runs on one of them, and passes midnight.
+pub(crate) fn is_under_way(train: &ScheduleView<'_>, day: Day) -> bool
+    ensures { result ≡ is_under_way train.now.lines day }
+{
+    if !(runs_back(train, day, 1) || runs_back(train, day, 2)) {
+        return false;
+    }
+    passes_midnight(train)
+}
+
+/// Whether a schedule runs on the day so many days before.
+fn runs_back(train: &ScheduleView<'_>, day: Day, back: u16) -> bool
+    ensures { result ≡ runs_back train.now.lines day back }
+{
+    match day_before(day, back) {
+        Some(start) => train.runs_on(start),
+        None => false,
+    }
+}
+
+/// Whether some event of a schedule is behind a midnight.
+fn passes_midnight(train: &ScheduleView<'_>) -> bool
+    ensures { result ≡ some_late (occurrences train.now.lines) }
+{
+    for event in train.events() {
+        if event.falls != 0 {
+            return true;
+        }
+    }
+    false
 }
 
 /// Whether the train of a schedule runs by it from a start day on.

@@ -1,7 +1,8 @@
 //! A walk over the lines of a schedule, line by line.
-ghost use Rattle.std.specs.Prelude.{◌≡◌, ℕ, ◌+◌, ◌≤◌, [], None, if◌then◌else◌, nat_lt, length};
+ghost use Rattle.std.specs.Prelude.{◌≡◌, ℕ, ◌+◌, ◌≤◌, [], None, if◌then◌else◌, nat_lt, length, option_map};
+ghost use Rattle.cif_line.specs.Kind.{meaning};
 ghost use Rattle.std.specs.Iterator.{YieldsFirstBy};
-ghost use Rattle.docker_model.specs.records.Record.{columns};
+ghost use Rattle.docker_model.specs.records.Record.{columns, kind_of};
 ghost use Rattle.docker_model.specs.records.Field.{HasGoodFields};
 ghost use Rattle.docker_model.specs.file.Journey.{times_of};
 ghost use Rattle.docker_model.specs.docker.EventWalk.{fall_at};
@@ -67,8 +68,9 @@ impl<'a> Walk<'a> {
         ensures progress { progress_of self.new ≡ turned (progress_of self.old) line.entry.now }
     {
         self.line = line;
-        self.times = Times::of(line);
-        self.identity = identity_behind(line, self.identity);
+        let kind = kind(line);
+        self.times = Times::of(kind, line);
+        self.identity = identity_behind(kind, line, self.identity);
     }
 
     /// The next event of the line, if there is one.
@@ -106,11 +108,16 @@ fn fall(last: Option<Time>, time: Time) -> u64
     }
 }
 
-/// The identity of a train behind a line: that of a change en route (CR), and else the one before.
-fn identity_behind<'a>(line: &'a Line, identity: &'a [u8; 4]) -> &'a [u8; 4]
+/// The identity of a train behind a line of a kind: that of a change en route (CR), and else the one before.
+fn identity_behind<'a>(
+    kind: Option<Kind>,
+    line: &'a Line,
+    identity: &'a [u8; 4],
+) -> &'a [u8; 4]
+    requires { option_map meaning kind ≡ kind_of line.now }
     ensures { result.now ≡ identity_behind line.entry.now identity.entry.now }
 {
-    match kind(line) {
+    match kind {
         Some(Kind::ChangeEnRoute) => match change(line) {
             Ok(view) => view.identity(),
             Err(_) => unreachable!(),

@@ -5,7 +5,7 @@ ghost use Rattle.docker_model.specs.docker.Choice.{Group};
 ghost use Rattle.docker_model.specs.state.Index.{AreCalling, AreLinked};
 ghost use Rattle.docker_model.specs.docker.LiveRows.{HasSchedulesOf, HasAssociationsOf};
 ghost use Rattle.docker_model.specs.state.Row.{AreRowsOf};
-ghost use Rattle.docker_day.specs.Along.{AreGoodRows};
+ghost use Rattle.docker_day.specs.Along.{AreGoodRows, AreLive};
 
 use cif_line::{Tiploc, Uid};
 use docker_state::{Live, Standing, State};
@@ -35,6 +35,7 @@ pub(crate) fn associations_at<'a>(state: &'a State, place: &Tiploc) -> Standing<
     ensures has { (group : Group) → group.location ≡ place.now
         → HasAssociationsOf (live_table state.now) group result }
     ensures good { AreGoodRows result }
+    ensures live { AreLive (live_table state.now) result }
 {
     let _rows = rows_of(state);
     state.linked(place)
@@ -44,6 +45,7 @@ pub(crate) fn associations_at<'a>(state: &'a State, place: &Tiploc) -> Standing<
 pub(crate) fn schedules_at<'a>(state: &'a State, place: &Tiploc) -> Standing<'a>
     ensures calling { AreCalling (live_table state.now) place.now result }
     ensures good { AreGoodRows result }
+    ensures live { AreLive (live_table state.now) result }
 {
     let _rows = rows_of(state);
     state.calling(place)

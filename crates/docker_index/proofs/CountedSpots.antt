@@ -1,5 +1,5 @@
 -- How many spots rows have, and that they are no more than what made them has.
-use Rattle.std.proofs.Common.{◌≡◌, ℕ, ◌+◌, ◌≤◌, List, [], ◌∷◌, ◌++◌, map, length, refl, ap, sym, ◌∙◌, subst, inl, inr, ◌⊎◌, Contains, arith}
+use Rattle.std.proofs.Common.{◌≡◌, ℕ, suc, Bool, true, false, cond, filter, ◌+◌, ◌≤◌, List, [], ◌∷◌, ◌++◌, map, length, refl, ap, sym, ◌∙◌, subst, inl, inr, ◌⊎◌, Contains, arith}
 use Rattle.std.specs.List.{sum_by}
 use Rattle.std.specs.declared.cmp.Ordering.TheVariants.{Less, Equal}
 use Rattle.std.specs.Ordering.{on}
@@ -14,7 +14,8 @@ use Rattle.docker_model.specs.state.Order.{IsBelow}
 use Rattle.docker_model.specs.state.State.{AreAscending}
 use Rattle.docker_laws.proofs.lists.Membership.{Contains-cons, cons-Contains, cons-Contains-first, nil-Contains, below_by_recursion}
 use Rattle.docker_laws.proofs.orders.Orders.{key_total}
-use Rattle.docker_index.specs.Spots.{Places, call_places, link_places, spot_at, spots_from, spots_of}
+use Rattle.docker_model.specs.records.Record.{kind_of, columns, is_location}
+use Rattle.docker_index.specs.Spots.{Places, call_places, link_places, location_lines, spot_at, spots_from, spots_of}
 use Rattle.docker_index.specs.Rooms.{AreMadeBy}
 use Rattle.docker_index.proofs.Positions.{Keyed}
 
@@ -146,5 +147,36 @@ links_of_changes rows changes up made =
     let one = spots_total link_places 0 rows in
     let two = fewer (λ key op. length (link_places key op)) rows up (changed changes) made in
     let three = at_most_all (changed changes) in
+    let four = length-map {B = Pair} changes (λ (change : model.Change). (change.key, op_of change.act)) in
+    omega arith
+
+few_chosen : (test : List ℕ → Bool) (lines : List (List ℕ)) → length (filter test lines) ≤ length lines
+few_chosen test [] = omega arith
+few_chosen test (line ∷ lines) = by (test line) (few_chosen test lines)
+  where
+    by : (b : Bool) → length (filter test lines) ≤ length lines → length (cond b (line ∷ filter test lines) (filter test lines)) ≤ suc (length lines)
+    by true rest = omega arith
+    by false rest = omega arith
+
+-- a schedule has no more calls than lines
+pub calls_few : (key : Key) (lines : List (List ℕ)) → length (call_places key (put_with (schedule_body lines))) ≤ length lines
+calls_few (schedule_key key) lines =
+    let few = few_chosen (λ line. is_location (kind_of line)) lines in
+    let same = length-map (location_lines lines) (columns 3 9) in
+    omega arith
+calls_few (tiploc_key code) lines = omega arith
+calls_few (association_key key) lines = omega arith
+
+ones : (pairs : List Pair) → total (λ key op. 1) pairs ≡ length pairs
+ones [] = refl
+ones (pair ∷ pairs) = let rest = ones pairs in omega arith
+
+-- rows that changes make are no more than these
+pub rows_of_changes : (rows : List Keyed) (changes : List model.Change) → AreAscending rows → AreMadeBy changes rows → length rows ≤ length changes
+rows_of_changes rows changes up made =
+    let few = fewer (λ key op. 1) rows up (changed changes) made in
+    let one = ones (pairs_of rows) in
+    let two = ones (changed changes) in
+    let three = length-map {B = Pair} rows (λ (row : Keyed). (row.0, row.1.op)) in
     let four = length-map {B = Pair} changes (λ (change : model.Change). (change.key, op_of change.act)) in
     omega arith

@@ -25,7 +25,7 @@ use Rattle.docker_index.specs.Turns.{AtKey, firsts, is_kept, is_put, turns_of, f
 use Rattle.docker_index.specs.declared.moves.Moves.{Moves}
 use Rattle.docker_index.specs.Spots.{Places, call_places, link_places, spots_of}
 use Rattle.docker_index.specs.Joined.{LapsesTo, AreJoined, AreMoves, HasMovedSpots, moved_spots, AreRising}
-use Rattle.docker_index.specs.declared.spot.Spot.{Spot}
+use Rattle.docker_index.specs.SpotOrder.{Spot}
 use Rattle.docker_index.proofs.Positions.{Keyed}
 use Rattle.docker_index.proofs.TurnRows.{Row, picked, winner, firsts_are, seconds_are, winners_are, turns_level}
 use Rattle.docker_index.proofs.RisingMoves.{first_rising, second_rising}

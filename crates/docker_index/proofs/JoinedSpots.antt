@@ -13,7 +13,7 @@ use Rattle.docker_model.specs.state.Lapse.{lapse, lapse_entries}
 use Rattle.docker_laws.proofs.states.Lapse.{below_or, put_lapses, put_stays}
 use Rattle.cif_file.specs.Meaning.{key_meant}
 use Rattle.docker_join.specs.Meaning.{op_meant, entry_meant, row_meant}
-use Rattle.docker_index.specs.declared.spot.Spot.{Spot}
+use Rattle.docker_index.specs.SpotOrder.{Spot}
 use Rattle.docker_index.specs.Spots.{Places, spot_at, spots_from, spots_of}
 use Rattle.docker_index.specs.Turns.{AtKey, in_first, in_second, in_both, firsts, seconds, is_kept, is_put, wins, goes, after, first_moves, second_moves}
 use Rattle.docker_index.specs.Joined.{moved_spot, moved_spots}

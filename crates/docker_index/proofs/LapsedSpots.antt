@@ -10,14 +10,16 @@ use Rattle.docker_model.specs.state.Row.{Row}
 use Rattle.docker_model.specs.state.Order.{IsStrictlyAscending}
 use Rattle.docker_laws.proofs.lists.Membership.{nil-Contains}
 use Rattle.docker_laws.proofs.lists.Members.{filter_back, filter_forth}
-use Rattle.docker_index.specs.declared.spot.Spot.{Spot}
-use Rattle.docker_index.specs.SpotOrder.{spot_cmp}
-use Rattle.docker_index.specs.Spots.{Places, spots_of, AreSpotsOf}
-use Rattle.docker_index.specs.StandingRows.{live_row, is_put_at}
+use Rattle.docker_index.specs.SpotOrder.{Spot, spot_cmp}
+use Rattle.docker_index.specs.declared.mark.Mark.{Mark}
+use Rattle.docker_index.specs.MarkOrder.{mark_cmp}
+use Rattle.docker_index.specs.Spots.{Places, spots_of, spots_in, AreSpotsOf, AreMarksOf}
+use Rattle.docker_index.specs.StandingRows.{live_row, is_put_at, is_put_at_mark}
 use Rattle.docker_index.specs.Turns.{is_put}
 use Rattle.docker_index.proofs.Positions.{Keyed, some_is, spots_stand, stand_spots}
 use Rattle.docker_index.proofs.JoinedSpots.{stays}
 use Rattle.docker_index.proofs.JoinedRows.{filter_ascends}
+use Rattle.docker_index.proofs.MarkSpots.{kept_spots}
 
 none_some : {A : Type 0} (a : A) → None ≡ Some a → ⊥
 none_some a h = cc
@@ -84,3 +86,11 @@ module _ (places : Places) (none : (key : Key) (op : Op) → is_put op ≡ false
           stand_spots places before spot (old, was, subst (λ zs. Contains zs spot.place) (λ i. places (key i) (op i)) among) in
           subst (λ zs. Contains zs spot) (sym is)
           (filter_forth (is_put_at rows) spots spot ((of.members spot).1 there) (put_row rows spot row at ∙ put))
+
+  -- the same of marks
+  pub lapsed_marks : (names : List (List ℕ)) (marks after : List Mark) → after ≡ filter (is_put_at_mark rows) marks → AreMarksOf places before names marks
+      → AreMarksOf places rows names after
+  lapsed_marks names marks after is of = record {
+    up = subst (IsStrictlyAscending mark_cmp) (sym is) (filter_ascends mark_cmp (is_put_at_mark rows) marks of.up);
+    are = lapsed_spots (spots_in names marks) (spots_in names after) (ap (spots_in names) is ∙ kept_spots names rows marks) of.are;
+  }

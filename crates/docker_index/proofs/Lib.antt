@@ -1,3 +1,4 @@
+pub mod Search
 pub mod Positions
 pub mod Union
 pub mod MovedSpots
@@ -9,5 +10,9 @@ pub mod LiveIndexes
 pub mod JoinedRows
 pub mod LapsedSpots
 pub mod SortedSpots
-pub mod SpotPieces
+pub mod MarkPieces
+pub mod MarkSpots
+pub mod MovedMarks
+pub mod RoomNames
+pub mod NotedNames
 pub mod CountedSpots

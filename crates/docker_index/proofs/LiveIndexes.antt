@@ -18,8 +18,7 @@ use Rattle.docker_laws.proofs.lists.Membership.{cons-Contains, cons-Contains-fir
 use Rattle.docker_laws.proofs.indexes.IndexSegment.{calling_piece, linked_piece}
 use Rattle.docker_laws.proofs.indexes.OneIndex.{calling_by_index, linked_by_index}
 use Rattle.docker_laws.proofs.joins.StagedEntry.{entry_at_iff}
-use Rattle.docker_index.specs.declared.spot.Spot.{Spot}
-use Rattle.docker_index.specs.SpotOrder.{spot_cmp}
+use Rattle.docker_index.specs.SpotOrder.{Spot, spot_cmp}
 use Rattle.docker_index.specs.Spots.{call_places, link_places, spot_at, AreSpotsOf}
 use Rattle.docker_index.specs.Tables.{calling_row, linked_row, calling_rows, linked_rows}
 use Rattle.docker_index.specs.StandingRows.{live_row, standing_rows, IsPieceAt}

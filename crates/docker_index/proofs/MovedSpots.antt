@@ -8,8 +8,7 @@ use Rattle.std.specs.Ordering.{ordering_then, nat_cmp}
 use Rattle.std.specs.Cmp.{nat_cmp_is}
 use Rattle.std.proofs.lemmas.Cmp.{ranked}
 use Rattle.docker_model.specs.state.Order.{bytes_cmp, IsStrictlyAscending}
-use Rattle.docker_index.specs.declared.spot.Spot.{Spot}
-use Rattle.docker_index.specs.SpotOrder.{spot_cmp}
+use Rattle.docker_index.specs.SpotOrder.{Spot, spot_cmp}
 use Rattle.docker_index.specs.Spots.{Places, spot_at, spots_of, AreSpotsOf}
 use Rattle.docker_index.specs.Joined.{moved_spot, moved_spots, AreRising}
 use Rattle.docker_index.proofs.Positions.{Keyed, some_is, chosen_ascends, chosen_from, chosen_to}
@@ -64,18 +63,9 @@ module _ (moves : List (Option ℕ)) where
       let found = chosen_from (moved_spot moves) spots spot among in
       chosen_to (moved_spot moves) others found.0 spot (same found.0 found.1) found.2
 
--- no more spots go than there are
-pub moved_few : (moves : List (Option ℕ)) (spots : List Spot) → length (moved_spots moves spots) ≤ length spots
-moved_few moves [] = omega arith
-moved_few moves (spot ∷ spots) = by (moved_spot moves spot) (moved_few moves spots)
-  where
-    by : (o : Option Spot) → length (moved_spots moves spots) ≤ length spots → length (cons_option o (moved_spots moves spots)) ≤ suc (length spots)
-    by None rest = omega arith
-    by (Some moved) rest = omega arith
-
 -- the spots of both sides, merged, are those of the joined rows
 module _ (places : Places) (rows others joined : List Keyed) (moves other_moves : List (Option ℕ)) (first second : List Spot) where
-  joined_spots : (out : List Spot) → AreRising moves → AreRising other_moves → AreSpotsOf places rows first → AreSpotsOf places others second
+  pub joined_spots : (out : List Spot) → AreRising moves → AreRising other_moves → AreSpotsOf places rows first → AreSpotsOf places others second
       → ((spot : Spot) → Contains (spots_of places joined) spot
       ↔ (Contains (moved_spots moves (spots_of places rows)) spot ⊎ Contains (moved_spots other_moves (spots_of places others)) spot))
       → (AreRising moves → AreRising other_moves → IsStrictlyAscending spot_cmp first → IsStrictlyAscending spot_cmp second → IsStrictlyAscending spot_cmp out)
@@ -98,22 +88,3 @@ module _ (places : Places) (rows others joined : List Keyed) (moves other_moves 
           → Contains (moved_spots moves first) spot ⊎ Contains (moved_spots other_moves second) spot
       back spot (inl among) = inl (moved_same moves (spots_of places rows) first (λ s. (of_first.members s).1) spot among)
       back spot (inr among) = inr (moved_same other_moves (spots_of places others) second (λ s. (of_second.members s).1) spot among)
-
-  -- the same of slices that are these
-  pub joined_spots_at : (moves_at others_at : List (Option ℕ)) (first_at second_at merged : List Spot)
-      → moves_at ≡ moves → others_at ≡ other_moves → first_at ≡ first → second_at ≡ second
-      → AreRising moves → AreRising other_moves → AreSpotsOf places rows first → AreSpotsOf places others second
-      → ((spot : Spot) → Contains (spots_of places joined) spot
-      ↔ (Contains (moved_spots moves (spots_of places rows)) spot ⊎ Contains (moved_spots other_moves (spots_of places others)) spot))
-      → (AreRising moves_at → AreRising others_at → IsStrictlyAscending spot_cmp first_at → IsStrictlyAscending spot_cmp second_at
-      → IsStrictlyAscending spot_cmp merged)
-      → ((spot : Spot) → Contains merged spot ↔ (Contains (moved_spots moves_at first_at) spot ⊎ Contains (moved_spots others_at second_at) spot))
-      → AreSpotsOf places joined merged
-  joined_spots_at moves_at others_at first_at second_at merged moves_is others_is first_is second_is rise other_rise of_first of_second told ascends members =
-      joined_spots merged rise other_rise of_first of_second told
-      (λ up others_up first_up second_up.
-      ascends (subst AreRising (sym moves_is) up) (subst AreRising (sym others_is) others_up)
-      (subst (IsStrictlyAscending spot_cmp) (sym first_is) first_up) (subst (IsStrictlyAscending spot_cmp) (sym second_is) second_up))
-      (λ spot.
-      subst (λ (both : List Spot × List Spot). Contains merged spot ↔ (Contains both.0 spot ⊎ Contains both.1 spot))
-      (λ i. (moved_spots (moves_is i) (first_is i), moved_spots (others_is i) (second_is i))) (members spot))

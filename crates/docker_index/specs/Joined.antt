@@ -1,5 +1,5 @@
 -- The rows of the join of two tables, and where they come from.
-use Rattle.std.specs.Prelude.{◌≡◌, ℕ, ◌<◌, ◌≤◌, [], ◌↔◌, ◌⊎◌, List, map, slice_get, Option, Some, option_map, option_and_then, Contains}
+use Rattle.std.specs.Prelude.{◌≡◌, ℕ, ◌+◌, ◌<◌, ◌≤◌, ◌^◌, [], ◌↔◌, ◌⊎◌, List, map, slice_get, Option, Some, option_map, option_and_then, Contains}
 use Rattle.std.specs.List.{filter_map}
 use Rattle.std.specs.Vec.{vec_len, vec_capacity}
 use Rattle.std.specs.Ordering.{on, ord_max}
@@ -14,7 +14,8 @@ use Rattle.docker_join.specs.declared.stamp.FileStamp as stamp
 use Rattle.docker_join.specs.declared.entry.Entry.{Entry}
 use Rattle.docker_join.specs.Meaning.{file_stamp_meant, entry_meant, row_meant}
 use Rattle.docker_join.specs.Rows.{IsJoinOfRows}
-use Rattle.docker_index.specs.declared.spot.Spot.{Spot}
+use Rattle.docker_index.specs.SpotOrder.{Spot}
+use Rattle.docker_index.specs.declared.mark.Mark.{Mark}
 use Rattle.docker_index.specs.declared.moves.Moves.{Moves}
 use Rattle.docker_index.specs.Spots.{Places, call_places, link_places, spots_of}
 
@@ -43,6 +44,20 @@ moved_spot moves spot =
 abbrev pub moved_spots : List (Option ℕ) → List Spot → List Spot
 moved_spots moves spots = filter_map (moved_spot moves) spots
 
+-- a mark where its place and its row go, by the indexes of its places among others
+abbrev pub moved_mark : List ℕ → List (Option ℕ) → Mark → Option Mark
+moved_mark ranks moves mark = option_and_then
+    (λ rank. option_map (λ at. record { place = rank; at = at }) (option_and_then (λ (move : Option ℕ). move) (slice_get moves mark.at)))
+    (slice_get ranks mark.place)
+
+-- marks where their places and their rows go
+abbrev pub moved_marks : List ℕ → List (Option ℕ) → List Mark → List Mark
+moved_marks ranks moves marks = filter_map (moved_mark ranks moves) marks
+
+-- the indexes of the names among others
+abbrev pub AreRanks : List (List ℕ) → List (List ℕ) → List ℕ → Type 0
+AreRanks others names ranks = map (slice_get others) ranks ≡ map Some names
+
 -- of two rows that go into the join the first goes before the other
 abbrev pub AreRising : List (Option ℕ) → Type 0
 AreRising moves = (i j p q : ℕ) → i < j → slice_get moves i ≡ Some (Some p) → slice_get moves j ≡ Some (Some q) → p < q
@@ -67,3 +82,4 @@ pub record HasRows (first second : ℕ) (moves : Moves) : Type 0 where
   pub second_none : moves.second.items ≡ []
   pub second_empty : vec_len moves.second ≡ 0
   pub second_room : second ≤ vec_capacity moves.second
+  pub few : first + second < 2 ^ 32

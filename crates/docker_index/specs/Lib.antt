@@ -1,3 +1,4 @@
+pub mod MarkOrder
 pub mod SpotOrder
 pub mod Spots
 pub mod Tables

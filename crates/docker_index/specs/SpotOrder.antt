@@ -1,10 +1,15 @@
--- The order of spots: by place, then by row.
+-- Spots, and their order: by place, then by row.
+use Rattle.std.specs.Prelude.{ℕ, List}
 use Rattle.std.specs.declared.cmp.Ordering.{Ordering}
 use Rattle.std.specs.Ordering.{ordering_then, nat_cmp}
 use Rattle.std.specs.Cmp.{IsTotalOrder, then_total, on_total, nat_cmp_total}
 use Rattle.std.specs.Cmp.Lexicographic.{nat_list_cmp_total}
 use Rattle.docker_model.specs.state.Order.{bytes_cmp}
-use Rattle.docker_index.specs.declared.spot.Spot.{Spot}
+
+-- a TIPLOC, and the index of a row that has to do with it
+pub record Spot : Type 0 where
+  pub place : List ℕ
+  pub at : ℕ
 
 -- by place, then by row
 abbrev pub spot_cmp : Spot → Spot → Ordering

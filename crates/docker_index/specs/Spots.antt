@@ -1,11 +1,13 @@
 -- An index of rows by place: the spots where live schedules call, and those where live associations are.
-use Rattle.std.specs.Prelude.{ℕ, ◌+◌, ◌↔◌, List, [], ◌∷◌, ◌++◌, map, filter, Contains}
+use Rattle.std.specs.Prelude.{ℕ, ◌+◌, ◌↔◌, List, [], ◌∷◌, ◌++◌, map, filter, Contains, Option, option_map, slice_get}
+use Rattle.std.specs.List.{filter_map}
 use Rattle.docker_model.specs.records.Record.{kind_of, columns, is_location}
 use Rattle.docker_model.specs.file.Change.{Key, association_key, schedule_key, association_body, schedule_body}
 use Rattle.docker_model.specs.state.Op.{Op, put_with, Entry}
-use Rattle.docker_model.specs.state.Order.{IsStrictlyAscending}
-use Rattle.docker_index.specs.declared.spot.Spot.{Spot}
-use Rattle.docker_index.specs.SpotOrder.{spot_cmp}
+use Rattle.docker_model.specs.state.Order.{bytes_cmp, IsStrictlyAscending}
+use Rattle.docker_index.specs.SpotOrder.{Spot, spot_cmp}
+use Rattle.docker_index.specs.declared.mark.Mark.{Mark}
+use Rattle.docker_index.specs.MarkOrder.{mark_cmp}
 use Rattle.docker_index.specs.declared.index.Index.{Index}
 
 -- the location records among lines
@@ -48,7 +50,29 @@ pub record AreSpotsOf (places : Places) (rows : List (Key × Entry)) (spots : Li
   pub ascending : IsStrictlyAscending spot_cmp spots
   pub members : (spot : Spot) → Contains spots spot ↔ Contains (spots_of places rows) spot
 
+-- the spot that a mark stands for, by the places that it names
+abbrev pub mark_spot : List (List ℕ) → Mark → Option Spot
+mark_spot names mark = option_map (spot_at mark.at) (slice_get names mark.place)
+
+-- the spots that marks stand for
+abbrev pub spots_in : List (List ℕ) → List Mark → List Spot
+spots_in names marks = filter_map (mark_spot names) marks
+
+-- the marks ascend, and stand for the spots of the rows
+pub record AreMarksOf (places : Places) (rows : List (Key × Entry)) (names : List (List ℕ)) (marks : List Mark) : Type 0 where
+  pub up : IsStrictlyAscending mark_cmp marks
+  pub are : AreSpotsOf places rows (spots_in names marks)
+
 -- the index has the spots of the rows: where live schedules call, and where live associations are
 pub record IsIndexOf (rows : List (Key × Entry)) (index : Index) : Type 0 where
-  pub calls : AreSpotsOf call_places rows index.calls.items
-  pub links : AreSpotsOf link_places rows index.links.items
+  pub named : IsStrictlyAscending bytes_cmp index.places.items
+  pub calls : AreMarksOf call_places rows index.places.items index.calls.items
+  pub links : AreMarksOf link_places rows index.places.items index.links.items
+
+-- the spots where live schedules call
+abbrev pub call_spots : Index → List Spot
+call_spots index = spots_in index.places.items index.calls.items
+
+-- the spots where live associations are
+abbrev pub link_spots : Index → List Spot
+link_spots index = spots_in index.places.items index.links.items

@@ -5,7 +5,8 @@ use Rattle.std.specs.Option.{is_some}
 use Rattle.docker_model.specs.file.Change.{Key}
 use Rattle.docker_model.specs.state.Op.{Entry, body_of}
 use Rattle.docker_model.specs.state.Row.{Row}
-use Rattle.docker_index.specs.declared.spot.Spot.{Spot}
+use Rattle.docker_index.specs.SpotOrder.{Spot}
+use Rattle.docker_index.specs.declared.mark.Mark.{Mark}
 
 -- the key of a row with its body, if it is put
 abbrev pub live_row : Key × Entry → Option Row
@@ -19,6 +20,23 @@ live_at rows spot = option_and_then live_row (slice_get rows spot.at)
 abbrev pub standing_rows : List (Key × Entry) → List Spot → List Row
 standing_rows rows spots = filter_map (live_at rows) spots
 
+-- the live row that a mark names
+abbrev pub live_at_mark : List (Key × Entry) → Mark → Option Row
+live_at_mark rows mark = option_and_then live_row (slice_get rows mark.at)
+
+-- the live rows that marks name, in the order of the marks
+abbrev pub standing_marks : List (Key × Entry) → List Mark → List Row
+standing_marks rows marks = filter_map (live_at_mark rows) marks
+
+-- the marks of the place that has this index: none before and behind them is of it
+pub record IsPieceOf (rank : ℕ) (marks piece : List Mark) : Type 0 where
+  pub before : List Mark
+  pub behind : List Mark
+  pub whole : marks ≡ (before ++ piece) ++ behind
+  pub none_before : (mark : Mark) → Contains before mark → ¬ (mark.place ≡ rank)
+  pub here : (mark : Mark) → Contains piece mark → mark.place ≡ rank
+  pub none_behind : (mark : Mark) → Contains behind mark → ¬ (mark.place ≡ rank)
+
 -- the spots of the place: none before and behind them is of it
 pub record IsPieceAt (place : List ℕ) (spots piece : List Spot) : Type 0 where
   pub before : List Spot
@@ -31,3 +49,7 @@ pub record IsPieceAt (place : List ℕ) (spots piece : List Spot) : Type 0 where
 -- the row of a spot is put
 abbrev pub is_put_at : List (Key × Entry) → Spot → Bool
 is_put_at rows spot = is_some (live_at rows spot)
+
+-- the row of a mark is put
+abbrev pub is_put_at_mark : List (Key × Entry) → Mark → Bool
+is_put_at_mark rows mark = is_some (live_at_mark rows mark)

@@ -4,7 +4,7 @@ use Rattle.std.specs.List.{filter_map}
 use Rattle.docker_model.specs.file.Change.{Key, association_key, schedule_key}
 use Rattle.docker_model.specs.state.Op.{Entry}
 use Rattle.docker_model.specs.state.Index.{CallingRow, LinkedRow}
-use Rattle.docker_index.specs.declared.spot.Spot.{Spot}
+use Rattle.docker_index.specs.SpotOrder.{Spot}
 
 -- a place with the schedule of a key
 abbrev pub calling_row : List ℕ → Key → Option CallingRow

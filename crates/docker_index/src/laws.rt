@@ -5,23 +5,23 @@ ghost use Rattle.docker_model.specs.state.Op.{Entry};
 ghost use Rattle.docker_model.specs.state.State.{State, AreAscending, live_table};
 ghost use Rattle.docker_model.specs.state.Index.{IsCallingIndex, IsLinkedIndex};
 ghost use Rattle.docker_index.specs.declared.index.Index.{Index};
-ghost use Rattle.docker_index.specs.Spots.{IsIndexOf};
+ghost use Rattle.docker_index.specs.Spots.{IsIndexOf, call_spots, link_spots};
 ghost use Rattle.docker_index.specs.Tables.{calling_rows, linked_rows};
 
 /// The spots of a state's rows stand for the two indexes of its live table.
 pub fn indexes_of_rows()
     ensures calls { (state : State) (index : Index)
         → AreAscending state.entries → IsIndexOf state.entries index
-        → IsCallingIndex (live_table state) (calling_rows state.entries index.calls.items) }
+        → IsCallingIndex (live_table state) (calling_rows state.entries (call_spots index)) }
     ensures links { (state : State) (index : Index)
         → AreAscending state.entries → IsIndexOf state.entries index
-        → IsLinkedIndex (live_table state) (linked_rows state.entries index.links.items) }
+        → IsLinkedIndex (live_table state) (linked_rows state.entries (link_spots index)) }
 {}
 
 /// Rows have one index.
 pub fn one_index_of_rows()
     ensures calls { (rows : List (Key × Entry)) (first second : Index)
-        → IsIndexOf rows first → IsIndexOf rows second → first.calls.items ≡ second.calls.items }
+        → IsIndexOf rows first → IsIndexOf rows second → call_spots first ≡ call_spots second }
     ensures links { (rows : List (Key × Entry)) (first second : Index)
-        → IsIndexOf rows first → IsIndexOf rows second → first.links.items ≡ second.links.items }
+        → IsIndexOf rows first → IsIndexOf rows second → link_spots first ≡ link_spots second }
 {}

@@ -4,17 +4,21 @@
 mod fill;
 mod index;
 mod laws;
+mod mark;
+mod memo;
 mod merge;
 mod moves;
+mod names;
 mod places;
-mod spot;
+mod room;
 mod standing;
 mod turns;
 
 pub use index::Index;
 pub use laws::{indexes_of_rows, one_index_of_rows};
+pub use mark::Mark;
 pub use moves::Moves;
-pub use spot::Spot;
+pub use room::Room;
 pub use standing::Standing;
 
 #[cfg(test)]

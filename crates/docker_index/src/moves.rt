@@ -19,9 +19,9 @@ use std::alloc::Global;
 #[derive(Debug, Drop)]
 pub struct Moves {
     /// Those of the first table's rows.
-    pub first: Vec<Option<usize>>,
+    pub first: Vec<Option<u32>>,
     /// Those of the second table's rows.
-    pub second: Vec<Option<usize>>,
+    pub second: Vec<Option<u32>>,
 }
 
 impl Moves {
@@ -29,6 +29,10 @@ impl Moves {
     pub fn with_room(alloc: Global, first: usize, second: usize) -> Result<Moves, Memory>
         ensures { IfOk result (HasRows first second) }
     {
+        let all = first.checked_add(second).ok_or(Memory)?;
+        if u32::try_from(all).is_err() {
+            return Err(Memory);
+        }
         let first = Vec::with_capacity(alloc, first)?;
         let second = Vec::with_capacity(alloc, second)?;
         Ok(Moves { first, second })
@@ -76,8 +80,8 @@ impl Moves {
     }
 
     /// Takes a turn of the walk over both tables, where so many rows go before it. How many go up to and with it.
-    fn take(&mut self, turn: Turn<'_>, floor: &Option<FileStamp>, horizon: u16, at: usize) -> usize
-        requires few { at + 1 < 2 ^ 64 }
+    fn take(&mut self, turn: Turn<'_>, floor: &Option<FileStamp>, horizon: u16, at: u32) -> u32
+        requires few { at + 1 < 2 ^ 32 }
         requires first_room { vec_len self.old.first + length (firsts (turn_meant turn ∷ []))
             ≤ vec_capacity self.old.first }
         requires second_room { vec_len self.old.second + length (seconds (turn_meant turn ∷ []))
@@ -134,7 +138,7 @@ fn wins(one: &Entry, other: &Entry) -> bool
 }
 
 /// The index to which an entry goes that wins, where so many rows go before it. None where it is not kept, or not live.
-fn index_of(entry: &Entry, floor: &Option<FileStamp>, horizon: u16, at: usize) -> Option<usize>
+fn index_of(entry: &Entry, floor: &Option<FileStamp>, horizon: u16, at: u32) -> Option<u32>
     ensures { result ≡ goes (floor_meant floor.now) horizon at entry.now }
 {
     if is_kept(floor, &entry.stamp.file) && stays_put(&entry.op, horizon) {
@@ -145,8 +149,8 @@ fn index_of(entry: &Entry, floor: &Option<FileStamp>, horizon: u16, at: usize) -
 }
 
 /// How many rows go up to and with an entry that wins.
-fn index_after(entry: &Entry, floor: &Option<FileStamp>, at: usize) -> usize
-    requires { at + 1 < 2 ^ 64 }
+fn index_after(entry: &Entry, floor: &Option<FileStamp>, at: u32) -> u32
+    requires { at + 1 < 2 ^ 32 }
     ensures { result ≡ after (floor_meant floor.now) at entry.now }
 {
     if is_kept(floor, &entry.stamp.file) {

@@ -6,7 +6,7 @@ ghost use Rattle.docker_model.specs.state.Op.{put_with};
 ghost use Rattle.std.specs.List.{sum_by};
 ghost use Rattle.cif_file.specs.Meaning.{body_meant, change_meant};
 ghost use Rattle.docker_join.specs.Meaning.{op_meant, row_meant};
-ghost use Rattle.docker_index.specs.Spots.{call_places, places_of, location_lines};
+ghost use Rattle.docker_index.specs.Spots.{call_places, places_of};
 ghost use Rattle.docker_index.specs.Rooms.{calls_of_change};
 
 use cif_file::{Act, Body, Change, Key};
@@ -59,7 +59,7 @@ pub(crate) fn calls_in_changes(changes: &[Change]) -> Option<usize>
     Some(count)
 }
 
-/// How many location records a put has.
+/// A count of at least the location records that a put has.
 fn calls_of_op(op: &Op) -> usize
     ensures { (key : model.Key) → length (call_places key (op_meant op.now)) ≤ result }
 {
@@ -69,20 +69,13 @@ fn calls_of_op(op: &Op) -> usize
     }
 }
 
-/// How many location records a body has.
+/// A count of at least the location records that a body has: of all its lines, so that none is read.
 fn calls_of_body(body: &Body) -> usize
     ensures { (key : model.Key)
         → length (call_places key (put_with (body_meant body.now))) ≤ result }
 {
     match body {
-        Body::Schedule(lines) => locations_in(lines.as_slice()),
+        Body::Schedule(lines) => lines.as_slice().len(),
         _ => 0,
     }
-}
-
-/// How many location records there are among some lines.
-fn locations_in(lines: &[Line]) -> usize
-    ensures { result ≡ length (location_lines lines.now) }
-{
-    lines.iter().filter(|line| is_location(line)).count()
 }

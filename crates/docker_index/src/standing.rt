@@ -1,15 +1,19 @@
 //! The rows that stand at a place.
-ghost use Rattle.std.specs.Prelude.{◌≡◌, map};
+ghost use Rattle.std.specs.Prelude.{◌≡◌, List, map};
 ghost use Rattle.std.specs.Iterator.{YieldsFirstBy, item_count};
 ghost use Rattle.cif_file.specs.Meaning.{key_meant, body_meant};
 ghost use Rattle.docker_join.specs.Meaning.{row_meant};
 ghost use Rattle.std.specs.Option.{option_map};
-ghost use Rattle.std.specs.Ordering.{is_lt, is_le};
+ghost use Rattle.std.specs.Ordering.{is_lt, is_le, nat_cmp};
 ghost use Rattle.docker_model.specs.state.Order.{bytes_cmp, IsStrictlyAscending};
-ghost use Rattle.docker_index.specs.SpotOrder.{spot_cmp};
-ghost use Rattle.docker_index.specs.StandingRows.{standing_rows, live_at, IsPieceAt, is_put_at};
+ghost use Rattle.docker_model.specs.file.Change as model;
+ghost use Rattle.docker_model.specs.state.Op as ops;
+ghost use Rattle.docker_index.specs.Spots.{spots_in};
+ghost use Rattle.docker_index.specs.MarkOrder.{mark_cmp};
+ghost use Rattle.docker_index.specs.StandingRows.{standing_rows, standing_marks, live_at_mark, IsPieceAt, IsPieceOf, is_put_at_mark};
 
-use crate::spot::Spot;
+use crate::mark::Mark;
+use crate::names::rank_of;
 use cif_file::{Body, Key};
 use docker_join::{Entry, Op};
 use std::marker::Model;
@@ -18,27 +22,27 @@ use std::marker::Model;
 #[derive(Clone, Debug, Drop)]
 pub struct Standing<'a> {
     rows: &'a [(Key, Entry)],
-    spots: &'a [Spot],
+    marks: &'a [Mark],
 }
 
 impl<'a> Model for Standing<'a> {
     ghost use Rattle.std.specs.Prelude.{List, map};
     ghost use Rattle.docker_model.specs.state.Row.{Row};
     ghost use Rattle.docker_join.specs.Meaning.{row_meant};
-    ghost use Rattle.docker_index.specs.StandingRows.{standing_rows};
+    ghost use Rattle.docker_index.specs.StandingRows.{standing_marks};
 
     ghost Value = { List Row };
 
     ghost view = { λ standing.
-        standing_rows (map row_meant standing.rows.now) standing.spots.now };
+        standing_marks (map row_meant standing.rows.now) standing.marks.now };
 }
 
 impl<'a> Standing<'a> {
-    /// The walk over the rows that some spots name.
-    pub(crate) fn of(rows: &'a [(Key, Entry)], spots: &'a [Spot]) -> Standing<'a>
-        ensures { result ≡ standing_rows (map row_meant rows.entry.now) spots.entry.now }
+    /// The walk over the rows that some marks name.
+    pub(crate) fn of(rows: &'a [(Key, Entry)], marks: &'a [Mark]) -> Standing<'a>
+        ensures { result ≡ standing_marks (map row_meant rows.entry.now) marks.entry.now }
     {
-        Standing { rows, spots }
+        Standing { rows, marks }
     }
 }
 
@@ -51,9 +55,9 @@ impl<'a> Iterator for Standing<'a> {
     ghost remaining = { item_count (λ standing. standing) };
 
     fn next(&mut self) -> Option<(&'a Key, &'a Body)> {
-        while let Some((spot, behind)) = self.spots.split_first() {
-            self.spots = behind;
-            if let Some(row) = live_at(self.rows, spot) {
+        while let Some((mark, behind)) = self.marks.split_first() {
+            self.marks = behind;
+            if let Some(row) = live_at(self.rows, mark) {
                 return Some(row);
             }
         }
@@ -61,12 +65,12 @@ impl<'a> Iterator for Standing<'a> {
     }
 }
 
-/// The live row that a spot names.
-fn live_at<'a>(rows: &'a [(Key, Entry)], spot: &Spot) -> Option<(&'a Key, &'a Body)>
+/// The live row that a mark names.
+fn live_at<'a>(rows: &'a [(Key, Entry)], mark: &Mark) -> Option<(&'a Key, &'a Body)>
     ensures { option_map (λ row. (key_meant row.0.now, body_meant row.1.now)) result
-        ≡ live_at (map row_meant rows.entry.now) spot.now }
+        ≡ live_at_mark (map row_meant rows.entry.now) mark.now }
 {
-    match rows.get(spot.at) {
+    match rows.get(mark.at as usize) {
         Some((key, entry)) => match &entry.op {
             Op::Put(body) => Some((key, body)),
             _ => None,
@@ -75,36 +79,51 @@ fn live_at<'a>(rows: &'a [(Key, Entry)], spot: &Spot) -> Option<(&'a Key, &'a Bo
     }
 }
 
-/// Whether the row of a spot is put.
-pub(crate) fn is_put_at(rows: &[(Key, Entry)], spot: &Spot) -> bool
-    ensures { result ≡ is_put_at (map row_meant rows.now) spot.now }
+/// Whether the row of a mark is put.
+pub(crate) fn is_put_at(rows: &[(Key, Entry)], mark: &Mark) -> bool
+    ensures { result ≡ is_put_at_mark (map row_meant rows.now) mark.now }
 {
-    match rows.get(spot.at) {
+    match rows.get(mark.at as usize) {
         Some((_, entry)) => matches!(&entry.op, Op::Put(_)),
         None => false,
     }
 }
 
-/// The spots at a place, of spots that ascend. By a binary search.
-pub(crate) fn spots_at<'a>(spots: &'a [Spot], place: &[u8; 7]) -> &'a [Spot]
-    requires { IsStrictlyAscending spot_cmp spots.now }
-    ensures { IsPieceAt place.now spots.entry.now result.now }
+/// The marks of the place that has an index, of marks that ascend. By a binary search.
+pub(crate) fn marks_of<'a>(marks: &'a [Mark], rank: usize) -> &'a [Mark]
+    requires { IsStrictlyAscending mark_cmp marks.now }
+    ensures { IsPieceOf rank marks.entry.now result.now }
 {
-    let (_, rest) = spots.split_at(spots.partition_point(|spot| is_before(spot, place)));
-    let (here, _) = rest.split_at(rest.partition_point(|spot| is_up_to(spot, place)));
+    let (_, rest) = marks.split_at(marks.partition_point(|mark| is_before(mark, rank)));
+    let (here, _) = rest.split_at(rest.partition_point(|mark| is_up_to(mark, rank)));
     here
 }
 
-/// Whether the place of a spot is below a place.
-fn is_before(spot: &Spot, place: &[u8; 7]) -> bool
-    ensures { result ≡ is_lt (bytes_cmp spot.now.place place.now) }
+/// Whether the place of a mark has an index below this one.
+fn is_before(mark: &Mark, rank: usize) -> bool
+    ensures { result ≡ is_lt (nat_cmp mark.now.place rank) }
 {
-    spot.place.cmp(place).is_lt()
+    (mark.place as usize).cmp(&rank).is_lt()
 }
 
-/// Whether the place of a spot is a place, or below it.
-fn is_up_to(spot: &Spot, place: &[u8; 7]) -> bool
-    ensures { result ≡ is_le (bytes_cmp spot.now.place place.now) }
+/// Whether the place of a mark has this index, or one below it.
+fn is_up_to(mark: &Mark, rank: usize) -> bool
+    ensures { result ≡ is_le (nat_cmp mark.now.place rank) }
 {
-    spot.place.cmp(place).is_le()
+    (mark.place as usize).cmp(&rank).is_le()
+}
+
+/// The marks at a place, of marks that ascend. By a binary search, none where the place is not named.
+pub(crate) fn marks_at<'a>(places: &[[u8; 7]], marks: &'a [Mark], place: &[u8; 7]) -> &'a [Mark]
+    requires named { IsStrictlyAscending bytes_cmp places.now }
+    requires up { IsStrictlyAscending mark_cmp marks.now }
+    ensures piece { IsPieceAt place.now (spots_in places.now marks.entry.now)
+        (spots_in places.now result.now) }
+    ensures rows { (rows : List (model.Key × ops.Entry)) → standing_marks rows result.now
+        ≡ standing_rows rows (spots_in places.now result.now) }
+{
+    match rank_of(places, place) {
+        Some(rank) => marks_of(marks, rank),
+        None => &marks[..0],
+    }
 }

@@ -1,7 +1,8 @@
-use crate::{Index, Moves, Spot, Standing};
+use crate::{Index, Mark, Moves, Room};
 use cif_file::{AssocKey, Body, Key, Lines, ScheduleKey};
 use cif_line::{Day, Line, Stp, Tiploc, Uid};
 use docker_join::{Entry, FileStamp, Merge, Op, Stamp, Table};
+use std::process::Abort;
 use std::test::Fail;
 
 /// An association at Colwell.
@@ -116,30 +117,42 @@ fn update(rt: &HostRuntime) -> Result<Table<Entry>, Fail> {
     table(rt, rows)
 }
 
-/// A spot at the place of a code.
-fn spot(code: &str, at: usize) -> Result<Spot, Fail> {
-    let tiploc = tiploc(code)?;
-    Ok(Spot {
-        place: *tiploc.bytes(),
-        at,
-    })
+/// The index of a table's rows.
+fn indexed(rt: &HostRuntime, table: &Table<Entry>) -> Result<Index, Fail> {
+    let room = Room::for_rows(rt.alloc(), table.as_slice())?;
+    Ok(Index::of_rows(room, table.as_slice()))
+}
+
+/// That marks stand for these rows at these places.
+fn check(
+    rt: &impl Abort,
+    index: &Index,
+    marks: &[Mark],
+    wanted: &[(&str, u32)],
+) -> Result<(), Fail> {
+    assert_eq!(rt; marks.len(), wanted.len());
+    for (mark, (code, at)) in marks.iter().zip(wanted) {
+        let place = index.places.get(mark.place as usize).ok_or("a place")?;
+        assert_eq!(rt; place, tiploc(code)?.bytes());
+        assert_eq!(rt; mark.at, *at);
+    }
+    Ok(())
 }
 
 #[test]
 fn places_of_a_timetable(rt: HostRuntime) -> Result<(), Fail> {
     let table = timetable(&rt)?;
-    let rows = table.as_slice();
-    let index = Index::for_rows(rt.alloc(), rows)?.of_rows(rows);
+    let index = indexed(&rt, &table)?;
     let calls = [
-        spot("ASHFELD", 1)?,
-        spot("ASHFELD", 2)?,
-        spot("BRAYTON", 1)?,
-        spot("BRAYTON", 2)?,
-        spot("COLWELL", 1)?,
+        ("ASHFELD", 1),
+        ("ASHFELD", 2),
+        ("BRAYTON", 1),
+        ("BRAYTON", 2),
+        ("COLWELL", 1),
     ];
-    assert_eq!(rt; index.calls.as_slice(), calls.as_slice());
-    assert_eq!(rt; index.links.as_slice(), [spot("COLWELL", 0)?].as_slice());
-    let mut standing = Standing::of(rows, index.links.as_slice());
+    check(&rt, &index, index.calls.as_slice(), &calls)?;
+    check(&rt, &index, index.links.as_slice(), &[("COLWELL", 0)])?;
+    let mut standing = index.linked(table.as_slice(), &tiploc("COLWELL")?);
     let first = standing.next();
     assert!(rt; matches!(first, Some((Key::Assoc(_), Body::Assoc(_)))));
     assert!(rt; standing.next().is_none());
@@ -149,16 +162,12 @@ fn places_of_a_timetable(rt: HostRuntime) -> Result<(), Fail> {
 #[test]
 fn a_lapse_takes_spots_out(rt: HostRuntime) -> Result<(), Fail> {
     let mut table = timetable(&rt)?;
-    let mut index = Index::for_rows(rt.alloc(), table.as_slice())?.of_rows(table.as_slice());
+    let mut index = indexed(&rt, &table)?;
     table.lapse(1);
     index.lapse(table.as_slice());
-    let calls = [
-        spot("ASHFELD", 1)?,
-        spot("BRAYTON", 1)?,
-        spot("COLWELL", 1)?,
-    ];
-    assert_eq!(rt; index.calls.as_slice(), calls.as_slice());
-    assert_eq!(rt; index.links.as_slice(), [spot("COLWELL", 0)?].as_slice());
+    let calls = [("ASHFELD", 1), ("BRAYTON", 1), ("COLWELL", 1)];
+    check(&rt, &index, index.calls.as_slice(), &calls)?;
+    check(&rt, &index, index.links.as_slice(), &[("COLWELL", 0)])?;
     Ok(())
 }
 
@@ -167,19 +176,18 @@ fn a_join_has_both(rt: HostRuntime) -> Result<(), Fail> {
     let own = timetable(&rt)?;
     let other = update(&rt)?;
     let (rows, others) = (own.as_slice(), other.as_slice());
-    let first = Index::for_rows(rt.alloc(), rows)?.of_rows(rows);
-    let second = Index::for_rows(rt.alloc(), others)?.of_rows(others);
+    let (first, second) = (indexed(&rt, &own)?, indexed(&rt, &other)?);
     let moves = Moves::with_room(rt.alloc(), rows.len(), others.len())?;
     let moves = moves.of_tables(rows, others, &None, 0);
-    let joined = Index::for_join(rt.alloc(), &first, &second)?.of_join(&first, &second, &moves);
+    let joined = Index::of_join(rt.alloc(), &first, &second, &moves)?;
     let calls = [
-        spot("ASHFELD", 1)?,
-        spot("ASHFELD", 3)?,
-        spot("BRAYTON", 1)?,
-        spot("BRAYTON", 3)?,
+        ("ASHFELD", 1),
+        ("ASHFELD", 3),
+        ("BRAYTON", 1),
+        ("BRAYTON", 3),
     ];
-    assert_eq!(rt; joined.calls.as_slice(), calls.as_slice());
-    assert_eq!(rt; joined.links.as_slice(), [spot("COLWELL", 0)?].as_slice());
+    check(&rt, &joined, joined.calls.as_slice(), &calls)?;
+    check(&rt, &joined, joined.links.as_slice(), &[("COLWELL", 0)])?;
     Ok(())
 }
 
@@ -188,14 +196,13 @@ fn a_join_keeps_what_the_floor_does(rt: HostRuntime) -> Result<(), Fail> {
     let own = timetable(&rt)?;
     let other = update(&rt)?;
     let (rows, others) = (own.as_slice(), other.as_slice());
-    let first = Index::for_rows(rt.alloc(), rows)?.of_rows(rows);
-    let second = Index::for_rows(rt.alloc(), others)?.of_rows(others);
+    let (first, second) = (indexed(&rt, &own)?, indexed(&rt, &other)?);
     let floor = Some(entry(23537, Op::Deleted)?.stamp.file);
     let moves = Moves::with_room(rt.alloc(), rows.len(), others.len())?;
     let moves = moves.of_tables(rows, others, &floor, 0);
-    let joined = Index::for_join(rt.alloc(), &first, &second)?.of_join(&first, &second, &moves);
-    let calls = [spot("ASHFELD", 0)?, spot("BRAYTON", 0)?];
-    assert_eq!(rt; joined.calls.as_slice(), calls.as_slice());
+    let joined = Index::of_join(rt.alloc(), &first, &second, &moves)?;
+    let calls = [("ASHFELD", 0), ("BRAYTON", 0)];
+    check(&rt, &joined, joined.calls.as_slice(), &calls)?;
     assert_eq!(rt; joined.links.len(), 0);
     Ok(())
 }

@@ -1,193 +1,305 @@
-//! The records of the worked rows, column by column as they stand in a file, and their files.
-
-use std::alloc::{AllocError, Global};
+//! The records of the worked rows, column by column as they stand in a file.
 
 /// The header of an update of 9 June 2024, 21:00.
-pub(crate) const HD: &[u8] =
-    b"HDTPS.UDFROC1.PD2406090906242100DFROC1ADFROC1ZUA                                ";
+pub(crate) const HD: &str =
+    "HDTPS.UDFROC1.PD2406090906242100DFROC1ADFROC1ZUA                                ";
 
 /// The header of an update a day later.
-pub(crate) const HD_10B: &[u8] =
-    b"HDTPS.UDFROC1.PD2406091006242100DFROC1BDFROC1AUA                                ";
+pub(crate) const HD_10B: &str =
+    "HDTPS.UDFROC1.PD2406091006242100DFROC1BDFROC1AUA                                ";
 
 /// A new permanent schedule of C10001, on weekdays from 10 to 14 June 2024.
-pub(crate) const BS: &[u8] =
-    b"BSNC100012406102406141111100 POO1A10                                           P";
+pub(crate) const BS: &str =
+    "BSNC100012406102406141111100 POO1A10                                           P";
 
 /// Its revision.
-pub(crate) const BS_REVISED: &[u8] =
-    b"BSRC100012406102406141111100 POO1A10                                           P";
+pub(crate) const BS_REVISED: &str =
+    "BSRC100012406102406141111100 POO1A10                                           P";
 
 /// Its deletion.
-pub(crate) const BS_DELETED: &[u8] =
-    b"BSDC10001240610              POO                                               P";
+pub(crate) const BS_DELETED: &str =
+    "BSDC10001240610              POO                                               P";
 
 /// A schedule of C10001 on each day from 10 to 16 June.
-pub(crate) const BS_WEEK: &[u8] =
-    b"BSNC100012406102406161111111 POO1A10                                           P";
+pub(crate) const BS_WEEK: &str =
+    "BSNC100012406102406161111111 POO1A10                                           P";
 
 /// An overlay of it on 11 and 13 June.
-pub(crate) const BS_OVERLAY: &[u8] =
-    b"BSNC100012406112406130101000 POO1A10                                           O";
+pub(crate) const BS_OVERLAY: &str =
+    "BSNC100012406112406130101000 POO1A10                                           O";
 
 /// Its cancellation on 14 June, which stands alone.
-pub(crate) const BS_CANCELLED: &[u8] =
-    b"BSNC100012406142406140000100 POO1A10                                           C";
+pub(crate) const BS_CANCELLED: &str =
+    "BSNC100012406142406140000100 POO1A10                                           C";
 
 /// A schedule of C20001 on 10 June.
-pub(crate) const BS_NIGHT: &[u8] =
-    b"BSNC200012406102406101000000 POO2B20                                           P";
+pub(crate) const BS_NIGHT: &str =
+    "BSNC200012406102406101000000 POO2B20                                           P";
 
 /// A schedule of C30001 on that day.
-pub(crate) const BS_C30001: &[u8] =
-    b"BSNC300012406102406101000000 POO3C30                                           P";
+pub(crate) const BS_C30001: &str =
+    "BSNC300012406102406101000000 POO3C30                                           P";
 
 /// A schedule of C30002 on that day.
-pub(crate) const BS_C30002: &[u8] =
-    b"BSNC300022406102406101000000 POO3C32                                           P";
+pub(crate) const BS_C30002: &str =
+    "BSNC300022406102406101000000 POO3C32                                           P";
 
 /// An origin: Ashfeld, 09:00.
-pub(crate) const LO: &[u8] =
-    b"LOASHFELD 0900 09001  SL                                                        ";
+pub(crate) const LO: &str =
+    "LOASHFELD 0900 09001  SL                                                        ";
 
 /// The same at 09:05.
-pub(crate) const LO_0905: &[u8] =
-    b"LOASHFELD 0905 09051  SL                                                        ";
+pub(crate) const LO_0905: &str =
+    "LOASHFELD 0905 09051  SL                                                        ";
 
 /// The same at 09:15.
-pub(crate) const LO_0915: &[u8] =
-    b"LOASHFELD 0915 09151  SL                                                        ";
+pub(crate) const LO_0915: &str =
+    "LOASHFELD 0915 09151  SL                                                        ";
 
 /// The same at 23:55.
-pub(crate) const LO_2355: &[u8] =
-    b"LOASHFELD 2355 23551  SL                                                        ";
+pub(crate) const LO_2355: &str =
+    "LOASHFELD 2355 23551  SL                                                        ";
 
 /// Ashfeld at 10:00, without a public time or a line.
-pub(crate) const LO_1000_PLAIN: &[u8] =
-    b"LOASHFELD 1000     1                                                            ";
+pub(crate) const LO_1000_PLAIN: &str =
+    "LOASHFELD 1000     1                                                            ";
 
 /// An origin: Colwell, 10:45.
-pub(crate) const LO_COLWELL_1045: &[u8] =
-    b"LOCOLWELL 1045     5                                                            ";
+pub(crate) const LO_COLWELL_1045: &str =
+    "LOCOLWELL 1045     5                                                            ";
 
 /// A call at Colwell half a minute past midnight.
-pub(crate) const LI_0000: &[u8] =
-    b"LICOLWELL 0000H0000H     000000012  SL FL                                       ";
+pub(crate) const LI_0000: &str =
+    "LICOLWELL 0000H0000H     000000012  SL FL                                       ";
 
 /// A pass of Dunmere at 00:10.
-pub(crate) const LI_0010: &[u8] =
-    b"LIDUNMERE           0010                                                        ";
+pub(crate) const LI_0010: &str =
+    "LIDUNMERE           0010                                                        ";
 
 /// A call at Colwell from 10:10 to 10:12.
-pub(crate) const LI_1010: &[u8] =
-    b"LICOLWELL 1010 1012              3                                              ";
+pub(crate) const LI_1010: &str =
+    "LICOLWELL 1010 1012              3                                              ";
 
 /// A second call there from 10:40 to 10:42.
-pub(crate) const LI_1040: &[u8] =
-    b"LICOLWELL21040 1042              4                                              ";
+pub(crate) const LI_1040: &str =
+    "LICOLWELL21040 1042              4                                              ";
 
 /// A terminus: Brayton, 09:30.
-pub(crate) const LT: &[u8] =
-    b"LTBRAYTON 0930 09322  FL                                                        ";
+pub(crate) const LT: &str =
+    "LTBRAYTON 0930 09322  FL                                                        ";
 
 /// The same at 09:35.
-pub(crate) const LT_0935: &[u8] =
-    b"LTBRAYTON 0935 09372  FL                                                        ";
+pub(crate) const LT_0935: &str =
+    "LTBRAYTON 0935 09372  FL                                                        ";
 
 /// The same at 00:05.
-pub(crate) const LT_0005: &[u8] =
-    b"LTBRAYTON 0005 00062  FL                                                        ";
+pub(crate) const LT_0005: &str =
+    "LTBRAYTON 0005 00062  FL                                                        ";
 
 /// The same at 00:20.
-pub(crate) const LT_0020: &[u8] =
-    b"LTBRAYTON 0020 00212  FL                                                        ";
+pub(crate) const LT_0020: &str =
+    "LTBRAYTON 0020 00212  FL                                                        ";
 
 /// Brayton at 11:00, without a public time or a path.
-pub(crate) const LT_1100_PLAIN: &[u8] =
-    b"LTBRAYTON 1100     2                                                            ";
+pub(crate) const LT_1100_PLAIN: &str =
+    "LTBRAYTON 1100     2                                                            ";
 
 /// A terminus: Dunmere, 11:00.
-pub(crate) const LT_DUNMERE_1100: &[u8] =
-    b"LTDUNMERE 1100     1                                                            ";
+pub(crate) const LT_DUNMERE_1100: &str =
+    "LTDUNMERE 1100     1                                                            ";
 
 /// Ashfeld, half a minute past 09:00, without a public time or a platform.
-pub(crate) const LO_HALF: &[u8] =
-    b"LOASHFELD20900H0000                                                             ";
+pub(crate) const LO_HALF: &str =
+    "LOASHFELD20900H0000                                                             ";
 
 /// The same at 09:00, with a public time and a path.
-pub(crate) const LT_ASHFELD_0900: &[u8] =
-    b"LTASHFELD 0900 09002  FL                                                        ";
+pub(crate) const LT_ASHFELD_0900: &str =
+    "LTASHFELD 0900 09002  FL                                                        ";
 
 /// The same at 09:30.
-pub(crate) const LT_ASHFELD_0930: &[u8] =
-    b"LTASHFELD 0930 09322  FL                                                        ";
+pub(crate) const LT_ASHFELD_0930: &str =
+    "LTASHFELD 0930 09322  FL                                                        ";
 
 /// The same at 00:05.
-pub(crate) const LT_ASHFELD_0005: &[u8] =
-    b"LTASHFELD 0005 00062  FL                                                        ";
+pub(crate) const LT_ASHFELD_0005: &str =
+    "LTASHFELD 0005 00062  FL                                                        ";
 
 /// C30001 divides at its second call at Colwell, and C30002 goes on.
-pub(crate) const AA_DIVIDE: &[u8] =
-    b"AANC30001C300022406102406101000000VVSCOLWELL2 TP                               P";
+pub(crate) const AA_DIVIDE: &str =
+    "AANC30001C300022406102406101000000VVSCOLWELL2 TP                               P";
 
 /// Its amendment: another code and description.
-pub(crate) const TA: &[u8] =
-    b"TAASHFELD         ASHFIELD NEW                                          ASHFLDN ";
+pub(crate) const TA: &str =
+    "TAASHFELD         ASHFIELD NEW                                          ASHFLDN ";
+
+/// The header of an update of 9 June that names another file.
+pub(crate) const HD_9B: &str =
+    "HDTPS.UDFROC1.PD2406090906242100DFROC1BDFROC1AUA                                ";
+
+/// The header of an update of 8 June.
+pub(crate) const HD_8A: &str =
+    "HDTPS.UDFROC1.PD2406090806242100DFROC1ADFROC1ZUA                                ";
+
+/// The header of an update of 5 June.
+pub(crate) const HD_5A: &str =
+    "HDTPS.UDFROC1.PD2406090506242100DFROC1ADFROC1ZUA                                ";
+
+/// The header of a full extract of 7 June.
+pub(crate) const HD_7B: &str =
+    "HDTPS.UDFROC1.PD2406090706242100DFROC1BDFROC1AFA                                ";
+
+/// The header of an update of 9 June, behind that extract.
+pub(crate) const HD_9C: &str =
+    "HDTPS.UDFROC1.PD2406090906242100DFROC1CDFROC1BUA                                ";
+
+/// A timing point.
+pub(crate) const TI: &str =
+    "TIASHFELD         ASHFIELD CENTRAL                                              ";
+
+/// Its amendment that names its own code.
+pub(crate) const TA_SAME: &str =
+    "TAASHFELD         ASHFIELD CENTRAL                                      ASHFELD ";
+
+/// A schedule of C10002.
+pub(crate) const BS_C10002: &str =
+    "BSNC100022406102406141111100 POO1A20                                           P";
+
+/// A deletion of C10003.
+pub(crate) const BS_C10003: &str =
+    "BSDC10003240610              POO                                               P";
+
+/// Ashfeld at 10:00.
+pub(crate) const LO_1000: &str =
+    "LOASHFELD 1000 10001  SL                                                        ";
+
+/// Brayton at 10:30.
+pub(crate) const LT_1030: &str =
+    "LTBRAYTON 1030 10322  FL                                                        ";
+
+/// Ashfeld at 11:00.
+pub(crate) const LO_1100: &str =
+    "LOASHFELD 1100 11001  SL                                                        ";
+
+/// Brayton at 11:30.
+pub(crate) const LT_1130: &str =
+    "LTBRAYTON 1130 11322  FL                                                        ";
+
+/// A schedule of C10001 on 15 and 16 June.
+pub(crate) const BS_WEEKEND: &str =
+    "BSNC100012406152406161111111 POO1A10                                           P";
+
+/// Ashfeld at 09:10.
+pub(crate) const LO_0910: &str =
+    "LOASHFELD 0910 09101  SL                                                        ";
+
+/// The schedule of C10001 up to 21 June.
+pub(crate) const BS_LONGER: &str =
+    "BSNC100012406102406211111100 POO1A10                                           P";
+
+/// Ashfeld at 08:50.
+pub(crate) const LO_0850: &str =
+    "LOASHFELD 0850 08501  SL                                                        ";
+
+/// The schedule of C10001 up to 31 July.
+pub(crate) const BS_JULY: &str =
+    "BSNC100012406102407311111100 POO1A10                                           P";
+
+/// A pass of Colwell at 00:05.
+pub(crate) const LI_COLWELL_0005: &str =
+    "LICOLWELL           0005                                                        ";
+
+/// Brayton at 00:01.
+pub(crate) const LT_0001: &str =
+    "LTBRAYTON 0001 00022  FL                                                        ";
+
+/// Brayton at 00:06.
+pub(crate) const LT_0006: &str =
+    "LTBRAYTON 0006 00072  FL                                                        ";
+
+/// A schedule of C40001 on 10 June.
+pub(crate) const BS_C40001: &str =
+    "BSNC400012406102406101000000 POO4D40                                           P";
+
+/// Its cancellation.
+pub(crate) const BS_C40001_CANCELLED: &str =
+    "BSNC400012406102406101000000 POO4D40                                           C";
+
+/// A schedule of C40001 on 31 December 2059.
+pub(crate) const BS_C40001_LAST: &str =
+    "BSNC400015912315912310010000 POO4D40                                           P";
+
+/// Ashfeld at 23:00.
+pub(crate) const LO_2300: &str =
+    "LOASHFELD 2300     1                                                            ";
+
+/// Colwell at 23:50, where the train ends.
+pub(crate) const LT_COLWELL_2350: &str =
+    "LTCOLWELL 2350     1                                                            ";
+
+/// A schedule of C40002 on 11 June.
+pub(crate) const BS_C40002: &str =
+    "BSNC400022406112406110100000 POO4D42                                           P";
+
+/// Its cancellation.
+pub(crate) const BS_C40002_CANCELLED: &str =
+    "BSNC400022406112406110100000 POO4D42                                           C";
+
+/// Colwell at 00:10, where the train begins.
+pub(crate) const LO_COLWELL_0010: &str =
+    "LOCOLWELL 0010     1                                                            ";
+
+/// Ashfeld at 01:00, where the train ends.
+pub(crate) const LT_ASHFELD_0100: &str =
+    "LTASHFELD 0100     1                                                            ";
+
+/// C40001 becomes C40002, on the next day.
+pub(crate) const AA_N: &str =
+    "AANC40001C400022406102406101000000NPNCOLWELL  TP                               P";
+
+/// The same on the same day.
+pub(crate) const AA_S: &str =
+    "AANC40001C400022406102406101000000NPSCOLWELL  TP                               P";
+
+/// The same without an indicator.
+pub(crate) const AA_BLANK: &str =
+    "AANC40001C400022406102406101000000NP COLWELL  TP                               P";
+
+/// The same on the day before.
+pub(crate) const AA_P: &str =
+    "AANC40001C400022406102406101000000NPPCOLWELL  TP                               P";
+
+/// The same with an unknown indicator.
+pub(crate) const AA_X: &str =
+    "AANC40001C400022406102406101000000NPXCOLWELL  TP                               P";
+
+/// The same of an unknown category.
+pub(crate) const AA_OTHER: &str =
+    "AANC40001C400022406102406101000000XXNCOLWELL  TP                               P";
+
+/// The same on 31 December 2059.
+pub(crate) const AA_LAST: &str =
+    "AANC40001C400025912315912310010000NPNCOLWELL  TP                               P";
+
+/// A schedule of C50001 on 10 June.
+pub(crate) const BS_C50001: &str =
+    "BSNC500012406102406101000000 POO5E50                                           P";
+
+/// Ashfeld at 12:00.
+pub(crate) const LO_1200: &str =
+    "LOASHFELD 1200                                                                  ";
+
+/// A change of identity at Colwell.
+pub(crate) const CR_5E51: &str =
+    "CRCOLWELL OO5E51                                                                ";
+
+/// A pass of Colwell at 12:10.
+pub(crate) const LI_COLWELL_1210: &str =
+    "LICOLWELL           1210                                                        ";
+
+/// Brayton at 12:30.
+pub(crate) const LT_1230: &str =
+    "LTBRAYTON 1230                                                                  ";
 
 /// A trailer.
-pub(crate) const ZZ: &[u8] =
-    b"ZZ                                                                              ";
-
-/// What the amendment says of the new code.
-pub(crate) const NEW: [u8; 63] =
-    *b"         ASHFIELD NEW                                          ";
-
-/// The file of one train from Ashfeld to Brayton, on weekdays from 10 to 14 June 2024.
-pub(crate) const MORNING: [&[u8]; 5] = [HD, BS, LO, LT, ZZ];
-
-/// The same train, leaving in the evening.
-pub(crate) const EVENING: [&[u8]; 5] = [HD, BS, LO_2355, LT_0005, ZZ];
-
-/// The revision of that train, a day later.
-pub(crate) const REVISION: [&[u8]; 5] = [HD_10B, BS_REVISED, LO_0905, LT_0935, ZZ];
-
-/// A train past midnight, that calls at Colwell and passes Dunmere.
-pub(crate) const NIGHT: [&[u8]; 7] = [HD, BS_NIGHT, LO_2355, LI_0000, LI_0010, LT_0020, ZZ];
-
-/// A train with an overlay on two days, and a cancellation on another.
-pub(crate) const WEEK: [&[u8]; 9] = [
-    HD,
-    BS_WEEK,
-    LO,
-    LT,
-    BS_OVERLAY,
-    LO_0915,
-    LT,
-    BS_CANCELLED,
-    ZZ,
-];
-
-/// A train that calls at Colwell twice and divides at its second call.
-pub(crate) const DIVISION: [&[u8]; 11] = [
-    HD,
-    BS_C30001,
-    LO_1000_PLAIN,
-    LI_1010,
-    LI_1040,
-    LT_1100_PLAIN,
-    BS_C30002,
-    LO_COLWELL_1045,
-    LT_DUNMERE_1100,
-    AA_DIVIDE,
-    ZZ,
-];
-
-/// The text of these records, a line feed behind each.
-pub(crate) fn text_of(alloc: Global, records: &[&[u8]]) -> Result<Vec<u8>, AllocError> {
-    let mut text = Vec::new(alloc);
-    for record in records {
-        text.extend_from_slice(record)?;
-        text.push(b'\n')?;
-    }
-    Ok(text)
-}
+pub(crate) const ZZ: &str =
+    "ZZ                                                                              ";

@@ -1,85 +1,12 @@
--- What a binary search over an ascending ledger finds.
-use Rattle.std.proofs.Common.{◌≡◌, ◌+◌, ℕ, zero, suc, ◌<◌, ◌≤◌, List, [], ◌∷◌, map, refl, Bool, true, false, length, get_or, ap, sym, ◌∙◌, subst, inl, inr, ◌⊎◌, Contains, Ok, Err, arith}
-use Rattle.std.proofs.lemmas.Bool.{cases_lt}
-use Rattle.std.specs.Prelude.{Option, Result, ◌↔◌, IsTrue, is_ok}
-use Rattle.std.specs.List.{AllPairs, AllWithin}
+-- What a ledger has of the items of a list.
+use Rattle.std.proofs.Common.{◌≡◌, ◌+◌, ℕ, ◌<◌, ◌≤◌, List, map, Bool, true, length, get_or, ◌∙◌, subst, Contains, arith}
+use Rattle.std.specs.Prelude.{Option, ◌↔◌, IsTrue}
+use Rattle.std.specs.List.{AllWithin}
 use Rattle.std.proofs.lemmas.List.{get_or_default}
 use Rattle.std.proofs.lemmas.List.Elements.{AllWithin-more}
 use Rattle.docker_model.specs.state.Stamp.{FileStamp, LedgerItem}
+use Rattle.docker_laws.proofs.lists.Membership.{Contains-map}
 use Rattle.docker_state.specs.Staging.{HasIfKept, HasKeptItems}
-use Rattle.std.specs.List.Sorted.{IsNonDecreasingBy, IsPartitionPoint, IsSearchInRange, IsBinarySearchResult}
-use Rattle.std.specs.declared.cmp.Ordering.{Ordering}
-use Rattle.std.specs.declared.cmp.Ordering.TheVariants.{Less, Equal, Greater}
-use Rattle.std.specs.Ordering.{ordering_index, ordering_reverse}
-use Rattle.std.specs.Cmp.{IsTotalOrder, tied_itself}
-use Rattle.docker_model.specs.state.Order.{IsBelow, IsStrictlyAscending}
-use Rattle.docker_laws.proofs.lists.Membership.{cons-Contains, cons-Contains-first, Contains-map, map-Contains}
-use Rattle.docker_laws.proofs.orders.Ascending.{later_of}
-use Rattle.docker_laws.proofs.lists.Pairs.{pairs_from_later}
-use Rattle.docker_join.proofs.Along.{meant_ascending}
-
--- the element at a place
-member_at : {A : Type 0} (xs : List A) (at : ℕ) → at < length xs → (x : A) × Contains xs x × (get_or xs at x ≡ x)
-member_at {A} [] at within = absurd (let none : at < length {A = A} [] = within in omega arith)
-member_at (x ∷ xs) zero within = (x, cons-Contains-first x xs, refl)
-member_at (x ∷ xs) (suc at) within = let m = member_at xs at (omega arith) in (m.0, cons-Contains x xs m.0 m.1, m.2)
-
--- a list that ascends by what a function makes of its elements
-module _ {A B : Type 0} (f : A → B) {cmp : B → B → Ordering} (total : IsTotalOrder cmp) (exact : (x y : B) → cmp x y ≡ Equal → x ≡ y)
-    (xs : List A) (up : IsStrictlyAscending cmp (map f xs)) (z : B) where
-  abbrev to : A → Ordering
-  to x = cmp (f x) z
-
-  rises : (x y : A) → cmp (f x) (f y) ≡ Less → ordering_index (to x) ≤ ordering_index (to y)
-  rises x y below = by (to x) refl (to y) refl
-    where
-      by : (o : Ordering) → to x ≡ o → (p : Ordering) → to y ≡ p → ordering_index o ≤ ordering_index p
-      by Less at_x p at_y = omega arith
-      by Equal at_x Less at_y =
-          absurd (let same = total.congr (f x) z (f y) at_x in let back = total.antisymm (f y) z in let r = ap ordering_reverse (sym same ∙ below) in cc)
-      by Equal at_x Equal at_y = omega arith
-      by Equal at_x Greater at_y = omega arith
-      by Greater at_x Less at_y = absurd (let far = total.trans (f x) (f y) z below at_y in cc)
-      by Greater at_x Equal at_y =
-          absurd (let far = total.antisymm (f x) z in let same = total.congr (f y) z (f x) at_y in let turned = total.antisymm (f y) (f x) in
-          let r = ap ordering_reverse below in cc)
-      by Greater at_x Greater at_y = omega arith
-
-  below_at : AllPairs (IsBelow (λ a b. cmp (f a) (f b))) xs
-  below_at = pairs_from_later (IsBelow (λ a b. cmp (f a) (f b))) xs (later_of (λ a b. cmp (f a) (f b)) xs (meant_ascending f cmp xs up))
-
-  rising : IsNonDecreasingBy (λ x. ordering_index (to x)) xs
-  rising = λ i j d before within. by i j d before within (cases_lt i j)
-    where
-      by : (i j : ℕ) (d : A) → i ≤ j → j < length xs → (i < j) ⊎ (j ≤ i) → ordering_index (to (get_or xs i d)) ≤ ordering_index (to (get_or xs j d))
-      by i j d before within (inl strictly) = rises (get_or xs i d) (get_or xs j d) (below_at i j d strictly within)
-      by i j d before within (inr after) =
-          let same : i ≡ j = omega arith in
-          subst (λ k. ordering_index (to (get_or xs i d)) ≤ ordering_index (to (get_or xs k d))) same (omega arith)
-
-  -- what is below the value up to a place, and above it from there on, does not have it
-  absent : (at : ℕ) → IsPartitionPoint (λ x. to x ≡ Less) (λ x. to x ≡ Greater) xs at → ¬ Contains (map f xs) z
-  absent at parts among = let found = Contains-map f xs z among in here found.0 found.1.0 found.1.1 found.1.2 found.2 (cases_lt found.1.0 at)
-    where
-      tied : (x : A) → f x ≡ z → to x ≡ Equal
-      tied x same = ap (cmp (f x)) (sym same) ∙ tied_itself total (f x)
-
-      here : (x : A) (i : ℕ) → i < length xs → get_or xs i x ≡ x → f x ≡ z → (i < at) ⊎ (at ≤ i) → ⊥
-      here x i within is same (inl before) = let below = parts.0 i x (omega arith) before in let at_x = ap to is in let equal = tied x same in cc
-      here x i within is same (inr after) = let above = parts.1 i x after within in let at_x = ap to is in let equal = tied x same in cc
-
-  -- so the search finds the value where the list has it
-  pub search_tells : (found : Result ℕ ℕ) → IsSearchInRange found (length xs) → IsBinarySearchResult to xs found → (b : Bool) → b ≡ is_ok found
-      → IsTrue b ↔ Contains (map f xs) z
-  search_tells (Ok at) within is b same = (
-    λ _.
-        let m = member_at xs at within in
-        let tied : to m.0 ≡ Equal = ap to (sym m.2) ∙ is m.0 in
-        subst (Contains (map f xs)) (exact (f m.0) z tied) (map-Contains f xs m.0 m.1),
-    λ _. same,
-  )
-  search_tells (Err at) within is b same =
-      (λ true_is. absurd (let bad : false ≡ true = sym same ∙ true_is in cc), λ among. absurd (absent at (is rising) among))
 
 -- a ledger has each item of a list that is kept
 module _ {A : Type 0} (f : A → LedgerItem) (ledger : List LedgerItem) (floor : Option FileStamp) (items : List A) where

@@ -12,7 +12,7 @@ use crate::item::LedgerItem;
 use crate::state::State;
 use cif_file::Key;
 use cif_line::Memory;
-use docker_index::Index;
+use docker_index::Room;
 use docker_join::Entry;
 use std::alloc::Global;
 use std::marker::Model;
@@ -103,7 +103,7 @@ impl Parts {
     pub fn finish(self) -> Result<State, Memory>
         ensures { IfOk result (λ state. state ≡ self) }
     {
-        let index = Index::for_rows(*self.entries.allocator(), self.entries.as_slice())?;
-        Ok(State::of_rows(self.ledger, self.entries, index))
+        let room = Room::for_rows(*self.entries.allocator(), self.entries.as_slice())?;
+        Ok(State::of_rows(self.ledger, self.entries, room))
     }
 }

@@ -17,7 +17,7 @@ use crate::ledger::has_kept_items;
 use crate::state::State;
 use cif_file::Key;
 use cif_line::Memory;
-use docker_index::Index;
+use docker_index::Room;
 use docker_join::{Entry, FileStamp, Merge};
 use std::alloc::Global;
 use std::marker::Model;
@@ -149,8 +149,8 @@ impl State {
             return Ok(());
         }
         let alloc = *staging.staged.allocator();
-        let index = Index::for_rows(alloc, staging.staged.as_slice())?;
-        let received = State::of_rows(staging.items, staging.staged, index);
+        let room = Room::for_rows(alloc, staging.staged.as_slice())?;
+        let received = State::of_rows(staging.items, staging.staged, room);
         let own = mem::replace(self, State::empty(alloc));
         match own.join(alloc, received) {
             Ok(joined) => {

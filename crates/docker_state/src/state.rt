@@ -27,7 +27,7 @@ use crate::rows::{greatest_rows, kept_rows, made_rows};
 use crate::uid_rows::rows_of_uid;
 use cif_file::{CifFile, Key};
 use cif_line::{Day, Tiploc, Uid};
-use docker_index::{Index, Moves, Standing};
+use docker_index::{Index, Moves, Room, Standing};
 use docker_join::{Entry, FileStamp, Merge, Table};
 use std::alloc::Global;
 use std::marker::Model;
@@ -55,13 +55,13 @@ impl Model for State {
 }
 
 impl State {
-    /// The state of ledger items and rows that are valid, without a horizon, with an empty index that has room for that of the rows.
-    pub(crate) fn of_rows(ledger: Vec<LedgerItem>, rows: Vec<(Key, Entry)>, index: Index) -> State
+    /// The state of ledger items and rows that are valid, without a horizon, in room for the index of the rows.
+    pub(crate) fn of_rows(ledger: Vec<LedgerItem>, rows: Vec<(Key, Entry)>, room: Room) -> State
         requires valid { IsValid (state_meant 0 ledger.items rows.items) }
-        requires room { HasRoomFor (map row_meant rows.items) index }
+        requires room { HasRoomFor (map row_meant rows.items) room }
         ensures { result ≡ state_meant 0 ledger.items rows.items }
     {
-        let index = index.of_rows(rows.as_slice());
+        let index = Index::of_rows(room, rows.as_slice());
         State {
             horizon: 0,
             ledger,
@@ -100,13 +100,13 @@ impl State {
         let Ok(rows) = Vec::with_capacity(alloc, count) else {
             return Err(file);
         };
-        let Ok(index) = Index::for_changes(alloc, file.changes()) else {
+        let Ok(room) = Room::for_changes(alloc, file.changes()) else {
             return Err(file);
         };
         ledger.push_reserved(item);
         let made = made_rows(file.into_changes(), &item.stamp(), made);
         let rows = greatest_rows(made, rows);
-        Ok(State::of_rows(ledger, rows, index))
+        Ok(State::of_rows(ledger, rows, room))
     }
 
     /// The horizon, a day number from 0 for 1960-01-01: nothing that is put ends before that day. 0 where none was set.
@@ -199,11 +199,13 @@ impl State {
     {
         let (first, second) = (self.entries.as_slice(), other.entries.as_slice());
         let moves = Moves::with_room(alloc, first.len(), second.len()).ok()?;
-        let index = Index::for_join(alloc, &self.index, &other.index).ok()?;
         let floor = self.floor_with(other);
         let horizon = self.horizon.max(other.horizon);
         let moves = moves.of_tables(first, second, &floor, horizon);
-        Some(index.of_join(&self.index, &other.index, &moves))
+        match Index::of_join(alloc, &self.index, &other.index, &moves) {
+            Ok(index) => Some(index),
+            Err(_) => None,
+        }
     }
 
     /// The file stamp of the newest full extract among the files that are known. None where there is none.
@@ -262,14 +264,17 @@ impl Merge for State {
             horizon: own,
             ledger: first,
             entries: left,
-            index: _,
+            index: own_index,
         } = self;
         let State {
             horizon: theirs,
             ledger: second,
             entries: right,
-            index: _,
+            index: their_index,
         } = other;
+        // Given back before the rows' room is written, so that the three are never there at once.
+        drop(own_index);
+        drop(their_index);
         let joined = left.join_in(right, rows);
         let items = union_of(first.as_slice(), second.as_slice(), items);
         let ledger = kept_items(items, &floor);

@@ -11,19 +11,24 @@ fn kind_of(identity: &[u8; 2]) -> Result<Option<Kind>, Fail> {
 
 #[test]
 fn identities(rt: HostRuntime) -> Result<(), Fail> {
-    assert_eq!(rt; kind_of(b"HD")?, Some(Kind::Header));
-    assert_eq!(rt; kind_of(b"TI")?, Some(Kind::TiplocInsert));
-    assert_eq!(rt; kind_of(b"TA")?, Some(Kind::TiplocAmend));
-    assert_eq!(rt; kind_of(b"TD")?, Some(Kind::TiplocDelete));
-    assert_eq!(rt; kind_of(b"AA")?, Some(Kind::Association));
-    assert_eq!(rt; kind_of(b"BS")?, Some(Kind::BasicSchedule));
-    assert_eq!(rt; kind_of(b"BX")?, Some(Kind::ExtraDetails));
-    assert_eq!(rt; kind_of(b"LO")?, Some(Kind::OriginLocation));
-    assert_eq!(rt; kind_of(b"LI")?, Some(Kind::IntermediateLocation));
-    assert_eq!(rt; kind_of(b"LT")?, Some(Kind::TerminatingLocation));
-    assert_eq!(rt; kind_of(b"CR")?, Some(Kind::ChangeEnRoute));
-    assert_eq!(rt; kind_of(b"ZZ")?, Some(Kind::Trailer));
-    assert_eq!(rt; kind_of(b"LN")?, None);
-    assert_eq!(rt; kind_of(b"hd")?, None);
+    let rows: [(&[u8; 2], Option<Kind>); 14] = [
+        (b"HD", Some(Kind::Header)),
+        (b"TI", Some(Kind::TiplocInsert)),
+        (b"TA", Some(Kind::TiplocAmend)),
+        (b"TD", Some(Kind::TiplocDelete)),
+        (b"AA", Some(Kind::Association)),
+        (b"BS", Some(Kind::BasicSchedule)),
+        (b"BX", Some(Kind::ExtraDetails)),
+        (b"LO", Some(Kind::OriginLocation)),
+        (b"LI", Some(Kind::IntermediateLocation)),
+        (b"LT", Some(Kind::TerminatingLocation)),
+        (b"CR", Some(Kind::ChangeEnRoute)),
+        (b"ZZ", Some(Kind::Trailer)),
+        (b"LN", None),
+        (b"hd", None),
+    ];
+    for (identity, wanted) in rows {
+        assert_eq!(rt; kind_of(identity)?, wanted);
+    }
     Ok(())
 }

@@ -290,191 +290,217 @@ fn a_change_en_route(rt: HostRuntime) -> Result<(), Fail> {
 
 #[test]
 fn leftmost_bad_fields_of_timing_points(rt: HostRuntime) -> Result<(), Fail> {
-    assert_eq!(rt; fault(b"TI SHFELD         A", b' ')?, Some(FieldFault(3)));
-    assert_eq!(rt;
-        fault(
+    let rows: [(&[u8], u8, Option<FieldFault>); 7] = [
+        (b"TI SHFELD         A", b' ', Some(FieldFault(3))),
+        (
             b"TA SHFELD         A                                                      SHFLDN",
-            b' '
-        )?,
-        Some(FieldFault(3))
-    );
-    assert_eq!(rt;
-        fault(
+            b' ',
+            Some(FieldFault(3)),
+        ),
+        (
             b"TAASHFELD         A                                                      SHFLDN",
-            b' '
-        )?,
-        Some(FieldFault(73))
-    );
-    assert_eq!(rt;
-        fault(
+            b' ',
+            Some(FieldFault(73)),
+        ),
+        (
             b"TAASHFELD         A                                                           N",
-            b' '
-        )?,
-        Some(FieldFault(73))
-    );
-    assert_eq!(rt;
-        fault(
+            b' ',
+            Some(FieldFault(73)),
+        ),
+        (
             b"TIASHFELD         A                                                      SHFLDN",
-            b' '
-        )?,
-        None
-    );
-    assert_eq!(rt; fault(b"TD SHFELD", b' ')?, Some(FieldFault(3)));
-    assert_eq!(rt; fault(b"TDASHFELD", b' ')?, None);
+            b' ',
+            None,
+        ),
+        (b"TD SHFELD", b' ', Some(FieldFault(3))),
+        (b"TDASHFELD", b' ', None),
+    ];
+    for (text, last, wanted) in rows {
+        assert_eq!(rt; fault(text, last)?, wanted);
+    }
     Ok(())
 }
 
 #[test]
 fn leftmost_bad_fields_of_associations(rt: HostRuntime) -> Result<(), Fail> {
-    assert_eq!(rt;
-        fault(b"AAXC30001C300022302299999981000002VVS OLWELL2 TP", b'X')?,
-        Some(FieldFault(3))
-    );
-    assert_eq!(rt;
-        fault(b"AANC30001C300022302299999981000002VVS OLWELL2 TP", b'X')?,
-        Some(FieldFault(16))
-    );
-    assert_eq!(rt;
-        fault(b"AANC30001C300022406109999981000002VVS OLWELL2 TP", b'X')?,
-        Some(FieldFault(22))
-    );
-    assert_eq!(rt;
-        fault(b"AANC30001C300022406102406101000002VVS OLWELL2 TP", b'X')?,
-        Some(FieldFault(28))
-    );
-    assert_eq!(rt;
-        fault(b"AANC30001C300022406102406101000000VVS OLWELL2 TP", b'X')?,
-        Some(FieldFault(38))
-    );
-    assert_eq!(rt;
-        fault(b"AANC30001C300022406102406101000000VVSCOLWELL2 TP", b'X')?,
-        Some(FieldFault(80))
-    );
-    assert_eq!(rt;
-        fault(b"AANC30001C300022406102406101000000VVSCOLWELL2 TP", b'N')?,
-        None
-    );
-    assert_eq!(rt;
-        fault(b"AANC30001C300022406109999991000000VVSCOLWELL2 TP", b'P')?,
-        None
-    );
-    assert_eq!(rt;
-        fault(b"AADC30001C300022302292406101000000VVS OLWELL2 TP", b'X')?,
-        Some(FieldFault(16))
-    );
-    assert_eq!(rt;
-        fault(b"AADC30001C30002240610             VVS OLWELL2 TP", b'X')?,
-        Some(FieldFault(38))
-    );
-    assert_eq!(rt;
-        fault(b"AADC30001C30002240610             VVSCOLWELL2 TP", b'X')?,
-        Some(FieldFault(80))
-    );
-    assert_eq!(rt;
-        fault(b"AADC30001C300022406109999981000002VVSCOLWELL2 TP", b'O')?,
-        None
-    );
-    assert_eq!(rt;
-        fault(b"AARC30001C300022406109999981000000VVSCOLWELL2 TP", b'X')?,
-        Some(FieldFault(22))
-    );
+    let rows: [(&[u8], u8, Option<FieldFault>); 13] = [
+        (
+            b"AAXC30001C300022302299999981000002VVS OLWELL2 TP",
+            b'X',
+            Some(FieldFault(3)),
+        ),
+        (
+            b"AANC30001C300022302299999981000002VVS OLWELL2 TP",
+            b'X',
+            Some(FieldFault(16)),
+        ),
+        (
+            b"AANC30001C300022406109999981000002VVS OLWELL2 TP",
+            b'X',
+            Some(FieldFault(22)),
+        ),
+        (
+            b"AANC30001C300022406102406101000002VVS OLWELL2 TP",
+            b'X',
+            Some(FieldFault(28)),
+        ),
+        (
+            b"AANC30001C300022406102406101000000VVS OLWELL2 TP",
+            b'X',
+            Some(FieldFault(38)),
+        ),
+        (
+            b"AANC30001C300022406102406101000000VVSCOLWELL2 TP",
+            b'X',
+            Some(FieldFault(80)),
+        ),
+        (
+            b"AANC30001C300022406102406101000000VVSCOLWELL2 TP",
+            b'N',
+            None,
+        ),
+        (
+            b"AANC30001C300022406109999991000000VVSCOLWELL2 TP",
+            b'P',
+            None,
+        ),
+        (
+            b"AADC30001C300022302292406101000000VVS OLWELL2 TP",
+            b'X',
+            Some(FieldFault(16)),
+        ),
+        (
+            b"AADC30001C30002240610             VVS OLWELL2 TP",
+            b'X',
+            Some(FieldFault(38)),
+        ),
+        (
+            b"AADC30001C30002240610             VVSCOLWELL2 TP",
+            b'X',
+            Some(FieldFault(80)),
+        ),
+        (
+            b"AADC30001C300022406109999981000002VVSCOLWELL2 TP",
+            b'O',
+            None,
+        ),
+        (
+            b"AARC30001C300022406109999981000000VVSCOLWELL2 TP",
+            b'X',
+            Some(FieldFault(22)),
+        ),
+    ];
+    for (text, last, wanted) in rows {
+        assert_eq!(rt; fault(text, last)?, wanted);
+    }
     Ok(())
 }
 
 #[test]
 fn leftmost_bad_fields_of_calls(rt: HostRuntime) -> Result<(), Fail> {
-    assert_eq!(rt;
-        fault(b"LI OLWELL 2400 1060 1010h240010 23", b' ')?,
-        Some(FieldFault(3))
-    );
-    assert_eq!(rt;
-        fault(b"LICOLWELL 2400 1060 1010h240010 23", b' ')?,
-        Some(FieldFault(11))
-    );
-    assert_eq!(rt;
-        fault(b"LICOLWELL 1010 1060 1010h240010 23", b' ')?,
-        Some(FieldFault(16))
-    );
-    assert_eq!(rt;
-        fault(b"LICOLWELL 1010 1012 1010h240010 23", b' ')?,
-        Some(FieldFault(21))
-    );
-    assert_eq!(rt;
-        fault(b"LICOLWELL 1010 1012      240010 23", b' ')?,
-        Some(FieldFault(26))
-    );
-    assert_eq!(rt;
-        fault(b"LICOLWELL 1010 1012      101010 23", b' ')?,
-        Some(FieldFault(30))
-    );
-    assert_eq!(rt; fault(b"LICOLWELL 1010 1012      101010123", b' ')?, None);
-    assert_eq!(rt; fault(b"LICOLWELL                        3", b' ')?, None);
-    assert_eq!(rt;
-        fault(b"LICOLWELL     H1012      101010123", b' ')?,
-        Some(FieldFault(11))
-    );
-    assert_eq!(rt;
-        fault(b"LICOLWELL 1010 1012       01010123", b' ')?,
-        Some(FieldFault(26))
-    );
+    let rows: [(&[u8], u8, Option<FieldFault>); 10] = [
+        (
+            b"LI OLWELL 2400 1060 1010h240010 23",
+            b' ',
+            Some(FieldFault(3)),
+        ),
+        (
+            b"LICOLWELL 2400 1060 1010h240010 23",
+            b' ',
+            Some(FieldFault(11)),
+        ),
+        (
+            b"LICOLWELL 1010 1060 1010h240010 23",
+            b' ',
+            Some(FieldFault(16)),
+        ),
+        (
+            b"LICOLWELL 1010 1012 1010h240010 23",
+            b' ',
+            Some(FieldFault(21)),
+        ),
+        (
+            b"LICOLWELL 1010 1012      240010 23",
+            b' ',
+            Some(FieldFault(26)),
+        ),
+        (
+            b"LICOLWELL 1010 1012      101010 23",
+            b' ',
+            Some(FieldFault(30)),
+        ),
+        (b"LICOLWELL 1010 1012      101010123", b' ', None),
+        (b"LICOLWELL                        3", b' ', None),
+        (
+            b"LICOLWELL     H1012      101010123",
+            b' ',
+            Some(FieldFault(11)),
+        ),
+        (
+            b"LICOLWELL 1010 1012       01010123",
+            b' ',
+            Some(FieldFault(26)),
+        ),
+    ];
+    for (text, last, wanted) in rows {
+        assert_eq!(rt; fault(text, last)?, wanted);
+    }
     Ok(())
 }
 
 #[test]
 fn leftmost_bad_fields(rt: HostRuntime) -> Result<(), Fail> {
-    assert_eq!(rt;
-        fault(b"HDTPS.UDFROC1.PD2406090906242100DFROC1ADFROC1ZXA", b' ')?,
-        Some(FieldFault(47))
-    );
-    assert_eq!(rt;
-        fault(b"HDTPS.UDFROC1.PD2406090906242460DFROC1ADFROC1ZXA", b' ')?,
-        Some(FieldFault(29))
-    );
-    assert_eq!(rt;
-        fault(b"HDTPS.UDFROC1.PD2406093106242460DFROC1ADFROC1ZXA", b' ')?,
-        Some(FieldFault(23))
-    );
-    assert_eq!(rt;
-        fault(b"BSNC100012302292406141111100 POO1A10", b'P')?,
-        Some(FieldFault(10))
-    );
-    assert_eq!(rt;
-        fault(b"BSXC100012302292406141111100 POO1A10", b'P')?,
-        Some(FieldFault(3))
-    );
-    assert_eq!(rt;
-        fault(b"BSNC10001240610      1111100 POO1A10", b'P')?,
-        Some(FieldFault(16))
-    );
-    assert_eq!(rt;
-        fault(b"BSNC100012406109999991111120 POO1A10", b'P')?,
-        Some(FieldFault(22))
-    );
-    assert_eq!(rt;
-        fault(b"BSNC100012406109999991111100 POO1A10", b'X')?,
-        Some(FieldFault(80))
-    );
-    assert_eq!(rt; fault(b"BSNC100012406109999991111100 POO1A10", b'O')?, None);
-    assert_eq!(rt;
-        fault(b"LO ASHFEL 2400 09001  SL", b' ')?,
-        Some(FieldFault(3))
-    );
-    assert_eq!(rt;
-        fault(b"LOASHFELD 2400 09001  SL", b' ')?,
-        Some(FieldFault(11))
-    );
-    assert_eq!(rt;
-        fault(b"LOASHFELD      09001  SL", b' ')?,
-        Some(FieldFault(11))
-    );
-    assert_eq!(rt;
-        fault(b"LOASHFELD 0900 9   1  SL", b' ')?,
-        Some(FieldFault(16))
-    );
-    assert_eq!(rt;
-        fault(b"LTBRAYTON 0930H24002  FL", b' ')?,
-        Some(FieldFault(16))
-    );
+    let rows: [(&[u8], u8, Option<FieldFault>); 14] = [
+        (
+            b"HDTPS.UDFROC1.PD2406090906242100DFROC1ADFROC1ZXA",
+            b' ',
+            Some(FieldFault(47)),
+        ),
+        (
+            b"HDTPS.UDFROC1.PD2406090906242460DFROC1ADFROC1ZXA",
+            b' ',
+            Some(FieldFault(29)),
+        ),
+        (
+            b"HDTPS.UDFROC1.PD2406093106242460DFROC1ADFROC1ZXA",
+            b' ',
+            Some(FieldFault(23)),
+        ),
+        (
+            b"BSNC100012302292406141111100 POO1A10",
+            b'P',
+            Some(FieldFault(10)),
+        ),
+        (
+            b"BSXC100012302292406141111100 POO1A10",
+            b'P',
+            Some(FieldFault(3)),
+        ),
+        (
+            b"BSNC10001240610      1111100 POO1A10",
+            b'P',
+            Some(FieldFault(16)),
+        ),
+        (
+            b"BSNC100012406109999991111120 POO1A10",
+            b'P',
+            Some(FieldFault(22)),
+        ),
+        (
+            b"BSNC100012406109999991111100 POO1A10",
+            b'X',
+            Some(FieldFault(80)),
+        ),
+        (b"BSNC100012406109999991111100 POO1A10", b'O', None),
+        (b"LO ASHFEL 2400 09001  SL", b' ', Some(FieldFault(3))),
+        (b"LOASHFELD 2400 09001  SL", b' ', Some(FieldFault(11))),
+        (b"LOASHFELD      09001  SL", b' ', Some(FieldFault(11))),
+        (b"LOASHFELD 0900 9   1  SL", b' ', Some(FieldFault(16))),
+        (b"LTBRAYTON 0930H24002  FL", b' ', Some(FieldFault(16))),
+    ];
+    for (text, last, wanted) in rows {
+        assert_eq!(rt; fault(text, last)?, wanted);
+    }
     Ok(())
 }
 

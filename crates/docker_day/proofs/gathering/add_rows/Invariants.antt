@@ -3,7 +3,7 @@ use Rattle.docker_model.specs.state.State.{live_table}
 use Rattle.docker_model.specs.docker.Gathering.{gathered}
 use Rattle.docker_model.specs.state.Row.{Row, AreRowsOf}
 use Rattle.docker_model.specs.docker.LiveRows.{train_in, link_in}
-use Rattle.docker_day.specs.Along.{AreGoodRows}
+use Rattle.docker_day.specs.Along.{AreGoodRows, AreLive}
 use Rattle.docker_day.proofs.gathering.add_rows.Given as goal
 
 -- what is out and the lines of the rows to come are all
@@ -13,4 +13,5 @@ invariant-loop-key l = record {
       → l.lines.items ++ gathered (train_in rows) (link_in rows) l.place l.day l.key-iterator
       ≡ l.initial.lines.items ++ gathered (train_in rows) (link_in rows) l.place l.day l.fn.rows;
   good : AreGoodRows l.key-iterator;
+  live : AreLive (live_table l.state) l.key-iterator;
 }

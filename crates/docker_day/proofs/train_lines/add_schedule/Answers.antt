@@ -1,6 +1,8 @@
 use Rattle.std.proofs.Common.{sym, ◌∙◌, refl}
 use Rattle.std.proofs.lemmas.Result.{on_ok_weaker}
+use Rattle.docker_model.specs.state.State.{live_table}
 use Rattle.docker_day.proofs.Adding.{added_if, not_added}
+use Rattle.docker_day.proofs.PassedOver.{runs_not}
 use Rattle.docker_day.proofs.train_lines.add_schedule.Goals as goal
 
 pub returns-then-runs_by : goal.returns-then-runs_by
@@ -11,3 +13,8 @@ returns-then-runs_by c =
 
 pub returns-else-runs_by : goal.returns-else-runs_by
 returns-else-runs_by c = λ rows are. not_added _ _ _ (sym (c.runs_by.ensures rows are) ∙ c.if-runs_by.false)
+
+pub returns-then-not-runs_on : goal.returns-then-not-runs_on
+returns-then-not-runs_on c = λ rows are.
+    not_added _ _ _ (runs_not (live_table c.args.state.now) rows c.args.train.now c.args.start are c.requires.live
+    (sym c.runs_on.ensures ∙ c.if-not-runs_on.true))

@@ -8,8 +8,8 @@ use Rattle.docker_state.specs.Meaning.{floor_meant, item_meant, row_meant, state
 use Rattle.docker_state.proofs.StateJoin.{rows_joined}
 use Rattle.docker_state.proofs.state.State.index_of_join.Goals as goal
 
-pub returns : goal.returns
-returns c = λ joined is.
+pub returns-in-Ok : goal.returns-in-Ok
+returns-in-Ok c = λ joined is.
     let one = state_meant c.self.inside.horizon c.self.inside.ledger.items c.self.inside.entries in
     let two = state_meant c.other.inside.horizon c.other.inside.ledger.items c.other.inside.entries in
     let join : IsJoin one two joined =
@@ -27,7 +27,7 @@ returns c = λ joined is.
     (sym c.as_slice-first.ensures.rows)
     (subst (λ (xs : List (Key × Entry)). AreJoined c.self.inside.entries xs (floor_meant c.floor_with-floor.result) c.max-horizon.result joined.entries)
     (sym c.as_slice-second.ensures.rows) rows)) in
-    c.of_join.ensures (map row_meant c.self.inside.entries) (map row_meant c.other.inside.entries) joined.entries
+    c.in-Ok.ensures (map row_meant c.self.inside.entries) (map row_meant c.other.inside.entries) joined.entries
     (subst (λ (xs : List (Key × Entry)). AreMoves (map row_meant xs) (map row_meant c.other.inside.entries) joined.entries c.of_tables-moves.result)
     c.as_slice-first.ensures.rows
     (subst (λ (xs : List (Key × Entry)). AreMoves (map row_meant c.as_slice-first.result.now) (map row_meant xs) joined.entries c.of_tables-moves.result)

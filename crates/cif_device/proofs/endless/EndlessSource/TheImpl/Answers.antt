@@ -1,0 +1,13 @@
+-- A read is always Ok, and nothing is told of the bytes.
+use Rattle.std.proofs.Common.{refl}
+use Rattle.cif_device.proofs.endless.EndlessSource.TheImpl.Goals as goal
+
+pub read-tells : goal.read-tells
+read-tells g c = record {
+  within = c.ensures.within;
+  moved = rw c.ensures.count refl;
+  end = rw c.ensures.count (λ _ _. tt);
+  no_failure = rw c.ensures.count refl;
+  counted = rw c.ensures.count tt;
+  unmoved = rw c.ensures.count tt;
+}

@@ -1,0 +1,136 @@
+//! A device in memory that fails at one call.
+ghost use Rattle.std.specs.Prelude.{◌≡◌, ◌⊎◌, ◌+◌, ◌-◌, ◌^◌, ◌<◌, ◌≤◌, ◌↔◌, min, [], ◌++◌, length, take, Some, IsTrue, IfOk, IsErr, OnOk, OnErr};
+ghost use Rattle.cif_device.specs.Device.{room_left};
+
+use crate::device::{Failed, Sink, Source};
+use crate::memory::{Bytes, Kept};
+use std::marker::Model;
+
+/// A device in memory, of which at most one byte passes at a call, and which fails at one call alone.
+#[derive(Debug, Drop)]
+pub struct Fuse<D> {
+    device: D,
+    calls: u64,
+    failures: u64,
+}
+
+impl<D> Model for Fuse<D> {
+    ghost use Rattle.cif_device.specs.Device.{Fused};
+
+    ghost Value = { Fused D };
+
+    ghost view = { λ fuse. record {
+      device = fuse.device;
+      calls = fuse.calls;
+      failures = fuse.failures;
+    } };
+}
+
+impl<D> Fuse<D> {
+    /// Passes the bytes of this device, one at a call, and fails at the call of this number alone, counted from 1.
+    pub fn new(device: D, call: u64) -> Self
+        requires { 0 < call }
+        ensures device { result.device ≡ device }
+        ensures calls { result.calls ≡ call }
+        ensures no_failure { result.failures ≡ 0 }
+    {
+        Fuse {
+            device,
+            calls: call,
+            failures: 0,
+        }
+    }
+
+    /// The device whose bytes pass.
+    pub fn device(&self) -> &D
+        ensures { result.now ≡ self.now.device }
+    {
+        &self.device
+    }
+
+    /// Counts a call, and tells whether it is the one that fails.
+    fn blows(&mut self) -> bool
+        ensures blows { IsTrue result ↔ (self.old.calls ≡ 1) }
+        ensures counted { self.new ≡ record self.old { calls = self.old.calls - 1 } }
+    {
+        let blows = self.calls == 1;
+        self.calls = self.calls.saturating_sub(1);
+        blows
+    }
+}
+
+impl Source for Fuse<Bytes<'_>> {
+    ghost left = { λ fuse. Some fuse.device.left };
+
+    ghost failures = { λ fuse. fuse.failures };
+
+    fn read(&mut self, into: &mut [u8]) -> Result<usize, Failed>
+        requires { self.old.failures < 2 ^ 64 - 1 }
+        ensures within { IfOk result (λ n. n ≤ length into.new) }
+        ensures moved { IfOk result (λ n.
+            self.old.device.left ≡ take n into.new ++ self.new.device.left) }
+        ensures end { IfOk result (λ n. n ≡ 0 → 0 < length into.new → self.old.device.left ≡ []) }
+        ensures no_failure { OnOk result (self.new.failures ≡ self.old.failures) }
+        ensures counted { OnErr result (self.new.failures ≡ self.old.failures + 1) }
+        ensures unmoved { OnErr result (self.new.device.left ≡ self.old.device.left) }
+
+        // What a source promises is above, and what this one adds below.
+        ensures count { IfOk result (λ n.
+            n ≡ min (min 1 (length into.old)) (length self.old.device.left)) }
+        ensures blows { IsErr result ↔ (self.old.calls ≡ 1) }
+        ensures calls { self.new.calls ≡ self.old.calls - 1 }
+    {
+        if self.blows() {
+            self.failures += 1;
+            return Err(Failed);
+        }
+        let room = into.len().min(1);
+        self.device.read(&mut into[..room])
+    }
+
+    fn failures(&self) -> u64 {
+        self.failures
+    }
+}
+
+impl Sink for Fuse<Kept> {
+    ghost taken = { λ fuse. Some fuse.device.taken };
+
+    ghost failures = { λ fuse. fuse.failures };
+
+    fn write(&mut self, piece: &[u8]) -> Result<usize, Failed>
+        requires { self.old.failures < 2 ^ 64 - 1 }
+        ensures within { IfOk result (λ n. n ≤ length piece.now) }
+        ensures moved { IfOk result (λ n.
+            self.new.device.taken ≡ self.old.device.taken ++ take n piece.now) }
+        ensures progress { IfOk result (λ n. 0 < length piece.now → 0 < n) }
+        ensures no_failure { OnOk result (self.new.failures ≡ self.old.failures) }
+        ensures counted { OnErr result (self.new.failures ≡ self.old.failures + 1) }
+        ensures unmoved { OnErr result (self.new.device.taken ≡ self.old.device.taken) }
+
+        // What a sink promises is above, and what this one adds below.
+        ensures count { IfOk result (λ n. n ≡ min 1 (length piece.now)) }
+        ensures fails { IsErr result ↔ ((self.old.calls ≡ 1)
+            ⊎ ((0 < length piece.now) × (room_left self.old.device ≡ 0))) }
+        ensures calls { self.new.calls ≡ self.old.calls - 1 }
+        ensures room { self.new.device.room ≡ self.old.device.room }
+    {
+        if self.blows() {
+            self.failures += 1;
+            return Err(Failed);
+        }
+        let Some(byte) = piece.first() else {
+            return Ok(0);
+        };
+        if self.device.is_full() {
+            self.failures += 1;
+            return Err(Failed);
+        }
+        self.device.push(*byte);
+        Ok(1)
+    }
+
+    fn failures(&self) -> u64 {
+        self.failures
+    }
+}

@@ -1,0 +1,172 @@
+-- What is passed over without a search gives no line.
+use Rattle.std.proofs.Common.{◌≡◌, ℕ, ◌+◌, ◌-◌, ◌<◌, ◌≤◌, ◌==◌, ◌⊎◌, inl, inr, Bool, true, false, cond, List, [], ◌∷◌, ◌++◌, refl, ap, sym, ◌∙◌, append-nil, Some, None, arith, eqb-true}
+use Rattle.std.specs.Prelude.{Option, ◌&&◌, ◌||◌, not, nat_le, codes}
+use Rattle.std.specs.Ordering.{is_eq}
+use Rattle.std.proofs.lemmas.Bool.{leb-true}
+use Rattle.docker_model.specs.records.Record.{column}
+use Rattle.docker_model.specs.file.File.{first_record}
+use Rattle.docker_model.specs.file.Change.{Key, tiploc_key, schedule_key, association_key, ScheduleKey, AssociationKey, Body, tiploc_body, schedule_body, association_body}
+use Rattle.docker_model.specs.state.Op.{schedule_key_cmp, association_key_cmp}
+use Rattle.docker_model.specs.state.Table.{Table}
+use Rattle.docker_model.specs.state.Row.{Row, AreRowsOf}
+use Rattle.docker_model.specs.docker.Association.{is_date_indicator}
+use Rattle.docker_model.specs.docker.Choice.{schedule_runs, association_runs, group_of}
+use Rattle.docker_model.specs.docker.DockerLine.{DockerLine, Detail, ends, tiploc_of_first}
+use Rattle.docker_model.specs.docker.LiveRows.{Train, Link, train_in, link_in, IsTrainOn, IsLinkOn}
+use Rattle.docker_model.specs.docker.Gathering.{event_lines, row_lines, runs_by, counts_as, is_in_force}
+use Rattle.docker_laws.proofs.orders.AtMost.{eq_is}
+use Rattle.docker_laws.proofs.orders.Orders.{exact_schedule_key, exact_association_key}
+use Rattle.docker_laws.proofs.dockers.OneChoice.{one_schedule, one_association}
+use Rattle.docker_laws.proofs.dockers.TrainOfRows.{trains_tell}
+use Rattle.docker_laws.proofs.dockers.LinkOfRows.{links_tell}
+use Rattle.docker_day.specs.Occurrences.{Occurrence, occurrences}
+use Rattle.docker_day.specs.Along.{IsLiveTrain, IsLiveLink}
+use Rattle.docker_day.specs.Lines.{line_at_event, is_here, is_today, lines_there, some_late, runs_back, is_under_way, row_under_way, row_back, schedule_piece, Adds}
+use Rattle.docker_day.proofs.TrainLines.{event_lines_are}
+use Rattle.docker_day.proofs.LinkLines.{three_backs}
+use Rattle.docker_day.proofs.RowPieces.{no_line}
+
+true_false : true ≡ false → ⊥
+true_false bad = cc
+
+-- a live schedule that does not run on a day is not that by which its train runs
+pub runs_not : (live : Table) (rows : List Row) (train : Train) (start : ℕ) → AreRowsOf live rows → IsLiveTrain live train
+    → schedule_runs (first_record train.lines) start ≡ false → runs_by (train_in rows train.key.uid start) train.key ≡ false
+runs_not live rows train start are is_live idle = by (train_in rows train.key.uid start) (trains_tell live rows are train.key.uid start)
+  where
+    by : (found : Option Train) → IsTrainOn live train.key.uid start found → runs_by found train.key ≡ false
+    by None none = refl
+    by (Some other) runs = inner (is_eq (schedule_key_cmp other.key train.key)) refl
+      where
+        inner : (b : Bool) → is_eq (schedule_key_cmp other.key train.key) ≡ b → b ≡ false
+        inner false h = refl
+        inner true h =
+            let same = exact_schedule_key other.key train.key (eq_is (schedule_key_cmp other.key train.key) h) in
+            let lines = one_schedule live other.key train.key other.lines train.lines same runs.chosen.running.is_live is_live in
+            absurd (true_false (sym runs.chosen.running.runs_then ∙ ap (λ (ls : List (List ℕ)). schedule_runs (first_record ls) start) lines ∙ idle))
+
+-- a live association that does not run on a start day is not the one of its group that counts
+pub counts_not : (live : Table) (rows : List Row) (link : Link) (start : ℕ) → AreRowsOf live rows → IsLiveLink live link
+    → association_runs link.line start ≡ false → counts_as (link_in rows (group_of link.key) start) link.key ≡ false
+counts_not live rows link start are is_live idle = by (link_in rows (group_of link.key) start) (links_tell live rows are (group_of link.key) start)
+  where
+    by : (found : Option Link) → IsLinkOn live (group_of link.key) start found → counts_as found link.key ≡ false
+    by None none = refl
+    by (Some other) chosen = inner (is_eq (association_key_cmp other.key link.key)) refl
+      where
+        inner : (b : Bool) → is_eq (association_key_cmp other.key link.key) ≡ b → b ≡ false
+        inner false h = refl
+        inner true h =
+            let same = exact_association_key other.key link.key (eq_is (association_key_cmp other.key link.key) h) in
+            let line = one_association live other.key link.key other.line link.line same chosen.associated.is_live is_live in
+            absurd (true_false (sym chosen.associated.runs_then ∙ ap (λ (l : List ℕ). association_runs l start) line ∙ idle))
+
+and_false : (a b : Bool) → b ≡ false → (a && b) ≡ false
+and_false true b h = h
+and_false false b h = refl
+
+not_not : (b : Bool) → not b ≡ false → b ≡ true
+not_not true h = refl
+not_not false h = absurd (true_false h)
+
+-- where no event is behind a midnight, none is on a day behind the start
+none_late : (place : List ℕ) (day start : ℕ) (key : ScheduleKey) (detail : Detail) (events : List Occurrence) → start < day → some_late events ≡ false
+    → lines_there place day start key detail events ≡ []
+none_late place day start key detail [] before none = refl
+none_late place day start key detail (event ∷ events) before none =
+    by (not (event.falls == 0)) refl (none_late place day start key detail events before)
+  where
+    not_today : event.falls ≡ 0 → (b : Bool) → (start + event.falls == day) ≡ b → b ≡ false
+    not_today at_first false h = refl
+    not_today at_first true h = let same : start + event.falls ≡ day = eqb-true (start + event.falls) day h in absurd (omega arith)
+
+    elsewhere : not (event.falls == 0) ≡ false → (is_here place event && is_today day start event) ≡ false
+    elsewhere h = and_false (is_here place event) (is_today day start event)
+        (not_today (eqb-true event.falls 0 (not_not (event.falls == 0) h)) (is_today day start event) refl)
+
+    by : (b : Bool) → not (event.falls == 0) ≡ b
+        → (some_late events ≡ false → lines_there place day start key detail events ≡ [])
+        → lines_there place day start key detail (event ∷ events) ≡ []
+    by true h rest = absurd (true_false ((λ i. sym h i || some_late events) ∙ none))
+    by false h rest =
+        let none_behind : some_late events ≡ false = (λ i. sym h i || some_late events) ∙ none in
+        (λ i. cond (elsewhere h i) (line_at_event key start detail event ∷ []) [] ++ rest none_behind i)
+
+-- so the schedule has no line there
+no_lines_then : (place : List ℕ) (day start : ℕ) (key : ScheduleKey) (lines : List (List ℕ)) → start < day → some_late (occurrences lines) ≡ false
+    → event_lines place day start key lines ≡ []
+no_lines_then place day start key lines before none =
+    sym (event_lines_are place day start key lines)
+    ∙ none_late place day start key (ends (tiploc_of_first (codes "LO") lines) (tiploc_of_first (codes "LT") lines)) (occurrences lines) before none
+
+-- none of two tests, or not the third
+none_of_both : (a b c : Bool) → ((a || b) && c) ≡ false → ((a ≡ false) × (b ≡ false)) ⊎ (c ≡ false)
+none_of_both a b false h = inr refl
+none_of_both false false true h = inl (refl, refl)
+none_of_both true b true h = absurd (true_false h)
+none_of_both false true true h = absurd (true_false h)
+
+module _ (live : Table) (rows : List Row) (are : AreRowsOf live rows) (place : List ℕ) (day : ℕ) where
+  abbrev lines_back : Key → Body → ℕ → List DockerLine
+  lines_back key body back = row_back (train_in rows) (link_in rows) place day key body back
+
+  schedule_back : (train : Train) (back : ℕ) → 0 < back → IsLiveTrain live train
+      → (runs_back train.lines day back ≡ false) ⊎ (some_late (occurrences train.lines) ≡ false)
+      → lines_back (schedule_key train.key) (schedule_body train.lines) back ≡ []
+  schedule_back train back some is_live none = by (nat_le back day) refl none
+    where
+      piece : List DockerLine
+      piece = schedule_piece (train_in rows) place day train.key train.lines (day - back)
+
+      by : (b : Bool) → nat_le back day ≡ b → (runs_back train.lines day back ≡ false) ⊎ (some_late (occurrences train.lines) ≡ false)
+          → cond b piece [] ≡ []
+      by false h which = refl
+      by true h (inl idle) =
+          (λ i. cond (runs_not live rows train (day - back) are is_live ((λ j. sym h j && schedule_runs (first_record train.lines) (day - back)) ∙ idle) i)
+          (event_lines place day (day - back) train.key train.lines) [])
+      by true h (inr early) =
+          let low = leb-true back day h in
+          let before : day - back < day = omega arith in
+          ap (λ more. cond (runs_by (train_in rows train.key.uid (day - back)) train.key) more [])
+          (no_lines_then place day (day - back) train.key train.lines before early)
+          ∙ none_either (runs_by (train_in rows train.key.uid (day - back)) train.key)
+        where
+          none_either : (b : Bool) → cond b no_line [] ≡ no_line
+          none_either true = refl
+          none_either false = refl
+
+  -- a row of which no train is under way has no line of a train that started before
+  pub none_back : (key : Key) (body : Body) → live key ≡ Some body → row_under_way key body day ≡ false
+      → (lines_back key body 1 ≡ []) × (lines_back key body 2 ≡ [])
+  none_back (schedule_key key) (schedule_body lines) is_live not_so =
+      by (none_of_both (runs_back lines day 1) (runs_back lines day 2) (some_late (occurrences lines)) not_so)
+    where
+      train : Train
+      train = record { key = key; lines = lines }
+
+      by : ((runs_back lines day 1 ≡ false) × (runs_back lines day 2 ≡ false)) ⊎ (some_late (occurrences lines) ≡ false)
+          → (lines_back (schedule_key key) (schedule_body lines) 1 ≡ []) × (lines_back (schedule_key key) (schedule_body lines) 2 ≡ [])
+      by (inl idle) = (schedule_back train 1 (omega arith) is_live (inl idle.0), schedule_back train 2 (omega arith) is_live (inl idle.1))
+      by (inr early) = (schedule_back train 1 (omega arith) is_live (inr early), schedule_back train 2 (omega arith) is_live (inr early))
+  none_back (schedule_key key) (tiploc_body bytes) is_live not_so = absurd (true_false not_so)
+  none_back (schedule_key key) (association_body line) is_live not_so = absurd (true_false not_so)
+  none_back (tiploc_key code) body is_live not_so = absurd (true_false not_so)
+  none_back (association_key key) body is_live not_so = absurd (true_false not_so)
+
+-- so its lines are those of the trains that start on the day
+pub first_back_alone : (place : List ℕ) (day : ℕ) (key : Key) (body : Body) (live : Table) (first second : List DockerLine) → live key ≡ Some body
+    → row_under_way key body day ≡ false → Adds live (λ trains links. row_back trains links place day key body 0) first second
+    → Adds live (λ trains links. row_lines trains links place day key body) first second
+first_back_alone place day key body live first second is_live not_so one =
+    three_backs place day key body live first second second second one
+    (λ rows are. nothing second (none_back live rows are place day key body is_live not_so).0)
+    (λ rows are. nothing second (none_back live rows are place day key body is_live not_so).1)
+  where
+    nothing : (before : List DockerLine) {more : List DockerLine} → more ≡ [] → before ≡ before ++ more
+    nothing before none = sym (append-nil before) ∙ ap (λ out. before ++ out) (sym none)
+
+-- an association that does not run on a start day is not in force then
+pub not_in_force : (live : Table) (rows : List Row) (link : Link) (start : ℕ) → AreRowsOf live rows → IsLiveLink live link
+    → association_runs link.line start ≡ false → false ≡ is_in_force (link_in rows) start link.key link.line
+not_in_force live rows link start are is_live idle =
+    (λ i. (sym (counts_not live rows link start are is_live idle) i && not (link.key.indicator == 67)) && is_date_indicator (column 37 link.line))

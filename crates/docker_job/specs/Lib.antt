@@ -1,0 +1,5 @@
+pub mod Grammar
+pub mod Job
+pub mod JobLine
+pub mod Subcommands
+pub mod Words

@@ -1,0 +1,97 @@
+-- The lines of ledger items, written one by one.
+use Rattle.std.proofs.Common.{◌≡◌, ℕ, suc, ◌+◌, ◌<◌, ◌≤◌, List, [], ◌∷◌, ◌++◌, length, take, drop, map, get_or, All, refl, ap, sym, ◌∙◌, subst, Some, None, Ok, Err, arith, append_assoc, append-nil, length-append}
+use Rattle.std.specs.Prelude.{Option, option_map, Result, OnErr}
+use Rattle.std.proofs.Math.ListN.{get_or-map, drop_of_length-le}
+use Rattle.std.proofs.Math.Seq.{take-suc, take-append-add}
+use Rattle.std.proofs.lemmas.List.{map-append, length-map, take-append-le, take-append-drop}
+use Rattle.std.proofs.lemmas.Grind.{flat_map-append}
+use Rattle.cif_line.specs.Device.{Takes, TakesPart}
+use Rattle.docker_model.specs.docker.DockerText.{ended, file_text, files_text}
+use Rattle.docker_model.specs.state.State.{IsGoodItem}
+use Rattle.docker_state.specs.declared.item.LedgerItem.{LedgerItem}
+use Rattle.docker_state.specs.Meaning.{item_meant}
+
+-- the text of items
+abbrev pub text_of : List LedgerItem → List ℕ
+text_of items = files_text (map item_meant items)
+
+-- the text of two lists
+text_joined : (xs ys : List LedgerItem) → text_of (xs ++ ys) ≡ text_of xs ++ text_of ys
+text_joined xs ys =
+    ap files_text (map-append item_meant xs ys) ∙ flat_map-append (λ item. ended (file_text item)) (map item_meant xs) (map item_meant ys)
+
+-- the text of one item is its line
+text_of_one : (item : LedgerItem) → text_of (item ∷ []) ≡ ended (file_text (item_meant item))
+text_of_one item = append-nil (ended (file_text (item_meant item)))
+
+-- no byte is taken
+pub none_taken : (sink : Option (List ℕ)) → Takes sink [] sink
+none_taken None = refl
+none_taken (Some taken) = ap Some (sym (append-nil taken))
+
+-- bytes, and then more
+taken_then : (first now next : Option (List ℕ)) (front back : List ℕ) → Takes first front now → Takes now back next → Takes first (front ++ back) next
+taken_then None now next front back one two = two ∙ ap (option_map (λ taken. taken ++ back)) one
+taken_then (Some taken) now next front back one two =
+    two ∙ ap (option_map (λ bytes. bytes ++ back)) one ∙ ap Some (append_assoc taken front back)
+
+-- each item of a valid ledger has a minute of the day
+pub minute_at : (items : List LedgerItem) (i : ℕ) (item : LedgerItem) → All IsGoodItem (map item_meant items) → i < length items
+    → item ≡ get_or items i item → item.minute < 1440
+minute_at items i item all below at =
+    let size = length-map items item_meant in
+    let same : get_or (map item_meant items) i (item_meant item) ≡ item_meant item = get_or-map item_meant items i item ∙ ap item_meant (sym at) in
+    let good : IsGoodItem (item_meant item) = subst IsGoodItem same (all i (item_meant item) (omega arith)) in
+    good.minute
+
+-- the lines of the items before one were taken
+module _ (items : List LedgerItem) (i : ℕ) (item : LedgerItem) (line : List ℕ) (first now next : Option (List ℕ)) (below : i < length items)
+    (at : item ≡ get_or items i item) (line_is : line ≡ ended (file_text (item_meant item))) (so_far : Takes first (text_of (take i items)) now) where
+  following : suc i ≡ i + 1
+  following = omega arith
+
+  front_and_line : text_of (take (i + 1) items) ≡ text_of (take i items) ++ line
+  front_and_line =
+      ap (λ n. text_of (take n items)) (sym following) ∙ ap text_of (take-suc items i item below)
+      ∙ text_joined (take i items) (get_or items i item ∷ []) ∙ ap (λ one. text_of (take i items) ++ text_of (one ∷ [])) (sym at)
+      ∙ ap (λ bytes. text_of (take i items) ++ bytes) (text_of_one item ∙ sym line_is)
+
+  -- and then its line
+  pub line_taken : Takes now line next → Takes first (text_of (take (i + 1) items)) next
+  line_taken taken = subst (λ bytes. Takes first bytes next) (sym front_and_line) (taken_then first now next (text_of (take i items)) line so_far taken)
+
+  whole : text_of items ≡ text_of (take i items) ++ (line ++ text_of (drop (i + 1) items))
+  whole =
+      ap text_of (sym (take-append-drop (i + 1) items)) ∙ text_joined (take (i + 1) items) (drop (i + 1) items)
+      ∙ ap (λ bytes. bytes ++ text_of (drop (i + 1) items)) front_and_line
+      ∙ append_assoc (text_of (take i items)) line (text_of (drop (i + 1) items))
+
+  -- and then a beginning of its line
+  pub line_begun : TakesPart now line next → TakesPart first (text_of items) next
+  line_begun (n, short, taken) =
+      let front = text_of (take i items) in
+      let rest = text_of (drop (i + 1) items) in
+      let one = length-append front (line ++ rest) in
+      let two = length-append line rest in
+      let size : length (text_of items) ≡ length (front ++ (line ++ rest)) = ap length whole in
+      let within : take n (line ++ rest) ≡ take n line = take-append-le n line rest (omega arith) in
+      let cut : take (length front + n) (text_of items) ≡ front ++ take n line =
+      ap (take (length front + n)) whole ∙ take-append-add front (line ++ rest) n ∙ ap (λ bytes. front ++ bytes) within in (
+        length front + n,
+        omega arith,
+        subst (λ bytes. Takes first bytes next) (sym cut) (taken_then first now next front (take n line) so_far taken),
+      )
+
+-- behind the last item
+pub all_taken : (items : List LedgerItem) (i : ℕ) (first now : Option (List ℕ)) → length items ≤ i → Takes first (text_of (take i items)) now
+    → Takes first (text_of items) now
+all_taken items i first now end so_far = subst (λ xs. Takes first (text_of xs) now) all so_far
+  where
+    all : take i items ≡ items
+    all =
+        sym (append-nil (take i items)) ∙ ap (λ rest. take i items ++ rest) (sym (drop_of_length-le items end)) ∙ take-append-drop i items
+
+-- what holds of an error, of any answer
+pub on_err : {A E : Type 0} (answer : Result A E) (P : Type 0) → P → OnErr answer P
+on_err (Ok a) P holds = tt
+on_err (Err e) P holds = holds

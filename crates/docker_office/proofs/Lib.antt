@@ -1,0 +1,6 @@
+pub mod FilesLemmas
+pub mod OfficeLemmas
+pub mod MetEvents
+pub mod RunSoFar
+pub mod RunClauses
+pub mod EndedRuns

@@ -1,0 +1,331 @@
+-- Each event of a run meets its definition, whatever the office answers.
+use Rattle.std.proofs.Common.{◌≡◌, ℕ, ◌^◌, ◌<◌, ◌≤◌, List, [], ◌∷◌, ◌++◌, length, set, get_or, refl, sym, ◌∙◌, ap, subst, arith, Option, Some, None, Result, Ok, Err, IsOk, IsErr, IfErr}
+use Rattle.std.proofs.lemmas.List.{length-map, set-get_or, map-append}
+use Rattle.cif_line.specs.Device.{Store}
+use Rattle.cif_file.specs.declared.fault.FileFault.{FileFault}
+use Rattle.cif_file.specs.SourceRead.{RefusesText}
+use Rattle.docker_bytes.specs.declared.fault.StateFault.{StateFault}
+use Rattle.docker_bytes.specs.FaultMeaning.{cause_meant as state_cause_meant}
+use Rattle.docker_bytes.specs.SourceRead.{IsCauseOf, JoinsState, ReadsState, RefusesState}
+use Rattle.docker_model.specs.records.Date.{last_day}
+use Rattle.docker_model.specs.file.Text.{lines_of}
+use Rattle.docker_model.specs.file.File.{IsFile}
+use Rattle.docker_model.specs.file.FileFault.{IsFileFault, IsFileText}
+use Rattle.docker_model.specs.state.State.{State, raise_horizon}
+use Rattle.docker_model.specs.state.StateFault as states
+use Rattle.docker_model.specs.state.StateFault.{IsStateText}
+use Rattle.docker_model.specs.state.StateText.{dks_2, state_text}
+use Rattle.docker_model.specs.state.Summary.{IsSummary}
+use Rattle.docker_model.specs.run.Run as model
+use Rattle.docker_model.specs.run.Run.{RunEvent, take_file, send_state, deliver, reload, horizon_event, refused, no_office, no_message, KnownSets, IsOffice, IsMessage, IsOfficeReply, IsMessageReply, IsFileReply, IsDoneOrNoMemory, after_done}
+use Rattle.docker_model.specs.run.Knowledge.{Holds, message_text}
+use Rattle.docker_laws.proofs.runs.RunSteps.{sizes, message_reads, after_take, after_send, after_delivery, after_reload, after_horizon}
+use Rattle.docker_laws.proofs.texts.OneStateFault.{no_fault_of_state}
+use Rattle.docker_office.specs.declared.fault.OfficeFault.{OfficeFault}
+use Rattle.docker_office.specs.declared.fault.OfficeFault.TheVariants as why
+use Rattle.docker_office.specs.Faults.{IsOfFile, IsOfState}
+use Rattle.docker_office.specs.Office.{TakesFile, no_state}
+use Rattle.docker_office.specs.declared.reply.Reply.{Reply}
+use Rattle.docker_office.specs.declared.reply.Reply.TheVariants.{Done, Refused}
+use Rattle.docker_office.specs.declared.reply.RunFault.{RunFault}
+use Rattle.docker_office.specs.declared.reply.RunFault.TheVariants.{NoOffice, NoMessage, Office}
+use Rattle.docker_office.specs.declared.steps.Holdings.{Holdings}
+use Rattle.docker_office.specs.RunMeaning.{IsMissing, IsTextCause, refusal_of_file, reply_for, texts_of}
+use Rattle.docker_office.specs.RunSteps.{AreOf, MeetsEvent}
+
+-- what refuses the bytes that are left refuses the text that they are
+pub refused_text : (limit : ℕ) (left text : List ℕ) (answer : Result Unit OfficeFault) → left ≡ text
+    → ((fault : StateFault) → answer ≡ Err (why.State fault) → RefusesState dks_2 limit (Some left) fault)
+    → (fault : StateFault) → answer ≡ Err (why.State fault) → RefusesState dks_2 limit (Some text) fault
+refused_text limit left text answer same refuses fault is = subst (λ t. RefusesState dks_2 limit (Some t) fault) same (refuses fault is)
+
+module _ (known : KnownSets) (held : Holdings) (holds : AreOf known held) where
+  -- ---- offices and messages
+
+  is_office : (office : ℕ) → office < length held.offices.items → IsOffice known office
+  is_office office there = let many = (sizes dks_2 known held.offices.items (texts_of held.messages.items) holds).0 in omega arith
+
+  no_office_there : (office : ℕ) (There : Type 0) → length held.offices.items ≤ office → IsOfficeReply known office (refused no_office) There
+  no_office_there office There far =
+      let many = (sizes dks_2 known held.offices.items (texts_of held.messages.items) holds).0 in
+      record { absent = λ _. refl; there = λ there. absurd (omega arith) }
+
+  office_there : (office : ℕ) (reply : model.Reply) (There : Type 0) → office < length held.offices.items → There → IsOfficeReply known office reply There
+  office_there office reply There there is = record { absent = λ never. absurd (never (is_office office there)); there = λ _. is }
+
+  many_messages : length held.messages.items ≡ length known.messages
+  many_messages =
+      sym (length-map held.messages.items (λ (kept : Store). kept.taken)) ∙ (sizes dks_2 known held.offices.items (texts_of held.messages.items) holds).1
+
+  is_message : (message : ℕ) → message < length held.messages.items → IsMessage known message
+  is_message message sent = let many = many_messages in omega arith
+
+  no_message_sent : (message : ℕ) → length held.messages.items ≤ message → IsMessageReply known message (refused no_message)
+  no_message_sent message far = let many = many_messages in record { absent = λ _. refl; there = λ sent. absurd (omega arith) }
+
+  message_sent : (message : ℕ) (reply : model.Reply) → message < length held.messages.items → IsDoneOrNoMemory reply → IsMessageReply known message reply
+  message_sent message reply sent is = record { absent = λ never. absurd (never (is_message message sent)); there = λ _. is }
+
+  -- ---- no such office, and no such message
+
+  -- no office takes the file
+  pub take_without_office : (office : ℕ) (text : List ℕ) (limit : ℕ) → length held.offices.items ≤ office
+      → MeetsEvent known (take_file office text limit) (Refused NoOffice) held
+  take_without_office office text limit far =
+      record { told = tt; may = no_office_there office (IsFileReply limit text (refused no_office)) far; holds = holds }
+
+  -- none sends
+  pub send_without_office : (office : ℕ) → length held.offices.items ≤ office → MeetsEvent known (send_state office) (Refused NoOffice) held
+  send_without_office office far = record { told = tt; may = no_office_there office (IsDoneOrNoMemory (refused no_office)) far; holds = holds }
+
+  -- none sets a horizon
+  pub horizon_without_office : (office day : ℕ) → length held.offices.items ≤ office → MeetsEvent known (horizon_event office day) (Refused NoOffice) held
+  horizon_without_office office day far =
+      record { told = tt; may = no_office_there office (refused no_office ≡ model.done) far; holds = holds }
+
+  -- the office or the message to be delivered is missing
+  pub delivery_missing : (office message : ℕ) (fault : RunFault)
+      → IsMissing (length held.offices.items) (length held.messages.items) office message fault
+      → MeetsEvent known (deliver office message) (Refused fault) held
+  delivery_missing office message NoOffice far =
+      record { told = tt; may = no_office_there office (IsMessageReply known message (refused no_office)) far; holds = holds }
+  delivery_missing office message NoMessage far = record {
+    told = tt;
+    may = office_there office (refused no_message) (IsMessageReply known message (refused no_message)) far.0 (no_message_sent message far.1);
+    holds = holds;
+  }
+  delivery_missing office message (Office fault) never = absurd never
+
+  -- the office or the message to go back to is missing
+  pub reload_missing : (office message : ℕ) (fault : RunFault)
+      → IsMissing (length held.offices.items) (length held.messages.items) office message fault
+      → MeetsEvent known (reload office message) (Refused fault) held
+  reload_missing office message NoOffice far =
+      record { told = tt; may = no_office_there office (IsMessageReply known message (refused no_office)) far; holds = holds }
+  reload_missing office message NoMessage far = record {
+    told = tt;
+    may = office_there office (refused no_message) (IsMessageReply known message (refused no_message)) far.0 (no_message_sent message far.1);
+    holds = holds;
+  }
+  reload_missing office message (Office fault) never = absurd never
+
+  -- ---- what is held after an event
+
+  -- the state of an office was replaced, and the messages are those before
+  pub record IsReplaced (office : ℕ) (now : State) (after : Holdings) : Type 0 where
+    pub offices : after.offices.items ≡ set held.offices.items office now
+    pub messages : after.messages.items ≡ held.messages.items
+
+  replaced : (sets : KnownSets) (office : ℕ) (now : State) (after : Holdings) → IsReplaced office now after
+      → Holds dks_2 sets (set held.offices.items office now) (texts_of held.messages.items) → AreOf sets after
+  replaced sets office now after is have =
+      subst (λ states. Holds dks_2 sets states (texts_of after.messages.items)) (sym is.offices)
+      (subst (λ kept. Holds dks_2 sets (set held.offices.items office now) (texts_of kept)) (sym is.messages) have)
+
+  -- by the state that it had
+  unchanged : (office : ℕ) (now : State) (after : Holdings) → IsReplaced office now after → now ≡ get_or held.offices.items office no_state
+      → AreOf known after
+  unchanged office now after is same =
+      replaced known office now after is
+      (subst (λ states. Holds dks_2 known states (texts_of held.messages.items))
+      (sym (ap (set held.offices.items office) same ∙ set-get_or held.offices.items office no_state)) holds)
+
+  -- ---- a file is taken
+
+  module _ (office : ℕ) (text : List ℕ) (limit : ℕ) (there : office < length held.offices.items) (now : State) (after : Holdings)
+      (is : IsReplaced office now after) where
+    took : limit ≤ 4_294_967_294 → TakesFile limit (Some text) (get_or held.offices.items office no_state) now
+        → MeetsEvent known (take_file office text limit) Done after
+    took low takes =
+        let same : takes.file ≡ lines_of text = sym takes.is_text.lines ∙ ap lines_of (sym takes.held) in
+        let file : IsFileText limit text (lines_of text) = record {
+          lines = refl;
+          is = subst IsFile same takes.is_text.is;
+          within = subst (λ f. length f ≤ limit) same takes.is_text.within;
+        } in
+        record {
+          told = tt;
+          may = office_there office model.done (IsFileReply limit text model.done) there file;
+          holds =
+              replaced (after_done known (take_file office text limit)) office now after is
+              (after_take dks_2 known held.offices.items (texts_of held.messages.items) holds office text limit takes.own now (is_office office there) low file
+              (subst (λ f. IsSummary (f ∷ []) 0 takes.own) same takes.of_file) takes.joined);
+        }
+
+    file_refused : (fault : FileFault) → now ≡ get_or held.offices.items office no_state → RefusesText limit (Some text) fault
+        → MeetsEvent known (take_file office text limit) (Refused (Office (why.File fault))) after
+    file_refused fault same refuses = record {
+      told = subst IsTextCause (sym refuses.is.cause_is) tt;
+      may =
+          subst (λ cause. IsOfficeReply known office (refused (refusal_of_file fault.number cause))
+          (IsFileReply limit text (refused (refusal_of_file fault.number cause)))) (sym refuses.is.cause_is)
+          (office_there office (refused (refusal_of_file fault.number (Some refuses.is.cause)))
+          (IsFileReply limit text (refused (refusal_of_file fault.number (Some refuses.is.cause)))) there
+          (subst (λ t. IsFileFault limit t (record { number = fault.number; cause = refuses.is.cause })) (sym refuses.held) refuses.is.is));
+      holds = unchanged office now after is same;
+    }
+
+    take_without_memory : now ≡ get_or held.offices.items office no_state → MeetsEvent known (take_file office text limit) (Refused (Office why.Memory)) after
+    take_without_memory same = record {
+      told = tt;
+      may = office_there office (refused model.no_memory) (IsFileReply limit text (refused model.no_memory)) there tt;
+      holds = unchanged office now after is same;
+    }
+
+    -- whatever the office answers
+    pub take_met : (answer : Result Unit OfficeFault) (reply : Reply) → reply ≡ reply_for answer → limit ≤ 4_294_967_294
+        → (IsOk answer → TakesFile limit (Some text) (get_or held.offices.items office no_state) now)
+        → (IsErr answer → now ≡ get_or held.offices.items office no_state)
+        → ((fault : FileFault) → answer ≡ Err (why.File fault) → RefusesText limit (Some text) fault) → ¬ (answer ≡ Err why.Source) → IfErr answer IsOfFile
+        → MeetsEvent known (take_file office text limit) reply after
+    take_met answer reply same low ok stays file source only =
+        subst (λ r. MeetsEvent known (take_file office text limit) r after) (sym same) (by answer ok stays file source only)
+      where
+        by : (a : Result Unit OfficeFault) → (IsOk a → TakesFile limit (Some text) (get_or held.offices.items office no_state) now)
+            → (IsErr a → now ≡ get_or held.offices.items office no_state)
+            → ((fault : FileFault) → a ≡ Err (why.File fault) → RefusesText limit (Some text) fault) → ¬ (a ≡ Err why.Source) → IfErr a IsOfFile
+            → MeetsEvent known (take_file office text limit) (reply_for a) after
+        by (Ok unit) ok stays file source only = took low (ok refl)
+        by (Err (why.File fault)) ok stays file source only = file_refused fault (stays refl) (file fault refl)
+        by (Err why.Memory) ok stays file source only = take_without_memory (stays refl)
+        by (Err why.Source) ok stays file source only = absurd (source refl)
+        by (Err (why.State fault)) ok stays file source only = absurd only
+        by (Err why.Lapsed) ok stays file source only = absurd only
+        by (Err why.Sink) ok stays file source only = absurd only
+
+  -- ---- a state is sent
+
+  -- as a message behind those before
+  pub send_met : (office : ℕ) (message : Store) (after : Holdings) → office < length held.offices.items → after.offices.items ≡ held.offices.items
+      → after.messages.items ≡ held.messages.items ++ message ∷ [] → message.taken ≡ state_text dks_2 (get_or held.offices.items office no_state)
+      → MeetsEvent known (send_state office) Done after
+  send_met office message after there same more is = record {
+    told = tt;
+    may = office_there office model.done (IsDoneOrNoMemory model.done) there tt;
+    holds =
+        subst (λ states. Holds dks_2 (after_done known (send_state office)) states (texts_of after.messages.items)) (sym same)
+        (subst (Holds dks_2 (after_done known (send_state office)) held.offices.items)
+        (sym (ap texts_of more ∙ map-append (λ (kept : Store). kept.taken) held.messages.items (message ∷ [])
+        ∙ ap (λ text. texts_of held.messages.items ++ text ∷ []) is))
+        (after_send dks_2 known held.offices.items (texts_of held.messages.items) holds office (is_office office there)));
+  }
+
+  -- without memory there is no message more
+  pub send_without_memory : (office : ℕ) → office < length held.offices.items → MeetsEvent known (send_state office) (Refused (Office why.Memory)) held
+  send_without_memory office there = record {
+    told = tt;
+    may = office_there office (refused model.no_memory) (IsDoneOrNoMemory (refused model.no_memory)) there tt;
+    holds = holds;
+  }
+
+  -- ---- a horizon is set
+
+  pub horizon_met : (office day : ℕ) (now : State) (after : Holdings) → office < length held.offices.items → day ≤ last_day → IsReplaced office now after
+      → now ≡ raise_horizon day (get_or held.offices.items office no_state) → MeetsEvent known (horizon_event office day) Done after
+  horizon_met office day now after there low is raised = record {
+    told = tt;
+    may = office_there office model.done (model.done ≡ model.done) there refl;
+    holds =
+        replaced (after_done known (horizon_event office day)) office now after is
+        (subst (λ s. Holds dks_2 (after_done known (horizon_event office day)) (set held.offices.items office s) (texts_of held.messages.items)) (sym raised)
+        (after_horizon dks_2 known held.offices.items (texts_of held.messages.items) holds office day (is_office office there) low));
+  }
+
+  -- ---- a message is read
+
+  module _ (office message : ℕ) (text : List ℕ) (there : office < length held.offices.items) (sent : message < length held.messages.items)
+      (text_is : text ≡ message_text (texts_of held.messages.items) message) (short : length text < 2 ^ 64) where
+    -- it has no fault
+    no_fault : (fault : StateFault) → RefusesState dks_2 (length text) (Some text) fault → ⊥
+    no_fault fault refuses = by (state_cause_meant fault.cause) refuses.is
+      where
+        reads : (state : State) × IsStateText dks_2 (length text) text state
+        reads =
+            subst (λ t. (state : State) × IsStateText dks_2 (length t) t state) (sym text_is)
+            (let read = message_reads dks_2 known held.offices.items (texts_of held.messages.items) holds message (is_message message sent)
+            (subst (λ t. length t < 2 ^ 64) text_is short) in (read.0, read.2))
+
+        by : (cause : Option states.StateCause) → IsCauseOf dks_2 (length text) refuses.text fault.at cause → ⊥
+        by None is = is
+        by (Some cause) is =
+            no_fault_of_state dks_2 (length text) text reads.0 (record { at = fault.at; cause = cause }) reads.1
+            (subst (λ t. states.IsStateFault dks_2 (length text) t (record { at = fault.at; cause = cause })) (sym refuses.held) is)
+
+    -- what is read of it is told by its text
+    read_of : (state : State) → (read : ReadsState dks_2 (length text) (Some text) state)
+        → IsStateText dks_2 (length text) (message_text (texts_of held.messages.items) message) state
+    read_of state read = subst (λ t. IsStateText dks_2 (length text) t state) (sym read.held ∙ text_is) read.is
+
+    module _ (now : State) (after : Holdings) (is : IsReplaced office now after) where
+      delivered : JoinsState dks_2 (length text) (Some text) (get_or held.offices.items office no_state) now
+          → MeetsEvent known (deliver office message) Done after
+      delivered joins = record {
+        told = tt;
+        may = office_there office model.done (IsMessageReply known message model.done) there (message_sent message model.done sent tt);
+        holds =
+            replaced (after_done known (deliver office message)) office now after is
+            (after_delivery dks_2 known held.offices.items (texts_of held.messages.items) holds office message (length text) joins.received now
+            (is_office office there) (is_message message sent) (subst (λ t. length t < 2 ^ 64) text_is short) (read_of joins.received joins.read) joins.join);
+      }
+
+      reloaded : ReadsState dks_2 (length text) (Some text) now → MeetsEvent known (reload office message) Done after
+      reloaded reads = record {
+        told = tt;
+        may = office_there office model.done (IsMessageReply known message model.done) there (message_sent message model.done sent tt);
+        holds =
+            replaced (after_done known (reload office message)) office now after is
+            (after_reload dks_2 known held.offices.items (texts_of held.messages.items) holds office message (length text) now
+            (is_office office there) (is_message message sent) (subst (λ t. length t < 2 ^ 64) text_is short) (read_of now reads));
+      }
+
+      no_memory_there : IsOfficeReply known office (refused model.no_memory) (IsMessageReply known message (refused model.no_memory))
+      no_memory_there =
+          office_there office (refused model.no_memory) (IsMessageReply known message (refused model.no_memory)) there
+          (message_sent message (refused model.no_memory) sent tt)
+
+      delivery_without_memory : now ≡ get_or held.offices.items office no_state → MeetsEvent known (deliver office message) (Refused (Office why.Memory)) after
+      delivery_without_memory same = record { told = tt; may = no_memory_there; holds = unchanged office now after is same }
+
+      reload_without_memory : now ≡ get_or held.offices.items office no_state → MeetsEvent known (reload office message) (Refused (Office why.Memory)) after
+      reload_without_memory same = record { told = tt; may = no_memory_there; holds = unchanged office now after is same }
+
+      -- it is delivered, whatever the office answers
+      pub delivery_met : (answer : Result Unit OfficeFault) (reply : Reply) → reply ≡ reply_for answer
+          → (IsOk answer → JoinsState dks_2 (length text) (Some text) (get_or held.offices.items office no_state) now)
+          → (IsErr answer → now ≡ get_or held.offices.items office no_state)
+          → ((fault : StateFault) → answer ≡ Err (why.State fault) → RefusesState dks_2 (length text) (Some text) fault) → ¬ (answer ≡ Err why.Source)
+          → IfErr answer IsOfState → MeetsEvent known (deliver office message) reply after
+      delivery_met answer reply same ok stays state source only =
+          subst (λ r. MeetsEvent known (deliver office message) r after) (sym same) (by answer ok stays state source only)
+        where
+          by : (a : Result Unit OfficeFault) → (IsOk a → JoinsState dks_2 (length text) (Some text) (get_or held.offices.items office no_state) now)
+              → (IsErr a → now ≡ get_or held.offices.items office no_state)
+              → ((fault : StateFault) → a ≡ Err (why.State fault) → RefusesState dks_2 (length text) (Some text) fault) → ¬ (a ≡ Err why.Source)
+              → IfErr a IsOfState → MeetsEvent known (deliver office message) (reply_for a) after
+          by (Ok unit) ok stays state source only = delivered (ok refl)
+          by (Err why.Memory) ok stays state source only = delivery_without_memory (stays refl)
+          by (Err (why.State fault)) ok stays state source only = absurd (no_fault fault (state fault refl))
+          by (Err why.Source) ok stays state source only = absurd (source refl)
+          by (Err (why.File fault)) ok stays state source only = absurd only
+          by (Err why.Lapsed) ok stays state source only = absurd only
+          by (Err why.Sink) ok stays state source only = absurd only
+
+      -- it is gone back to, whatever the office answers
+      pub reload_met : (answer : Result Unit OfficeFault) (reply : Reply) → reply ≡ reply_for answer
+          → (IsOk answer → ReadsState dks_2 (length text) (Some text) now) → (IsErr answer → now ≡ get_or held.offices.items office no_state)
+          → ((fault : StateFault) → answer ≡ Err (why.State fault) → RefusesState dks_2 (length text) (Some text) fault) → ¬ (answer ≡ Err why.Source)
+          → IfErr answer IsOfState → MeetsEvent known (reload office message) reply after
+      reload_met answer reply same ok stays state source only =
+          subst (λ r. MeetsEvent known (reload office message) r after) (sym same) (by answer ok stays state source only)
+        where
+          by : (a : Result Unit OfficeFault) → (IsOk a → ReadsState dks_2 (length text) (Some text) now)
+              → (IsErr a → now ≡ get_or held.offices.items office no_state)
+              → ((fault : StateFault) → a ≡ Err (why.State fault) → RefusesState dks_2 (length text) (Some text) fault) → ¬ (a ≡ Err why.Source)
+              → IfErr a IsOfState → MeetsEvent known (reload office message) (reply_for a) after
+          by (Ok unit) ok stays state source only = reloaded (ok refl)
+          by (Err why.Memory) ok stays state source only = reload_without_memory (stays refl)
+          by (Err (why.State fault)) ok stays state source only = absurd (no_fault fault (state fault refl))
+          by (Err why.Source) ok stays state source only = absurd (source refl)
+          by (Err (why.File fault)) ok stays state source only = absurd only
+          by (Err why.Lapsed) ok stays state source only = absurd only
+          by (Err why.Sink) ok stays state source only = absurd only

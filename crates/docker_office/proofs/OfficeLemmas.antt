@@ -1,0 +1,90 @@
+-- What an office's calls tell, from what the calls below tell.
+use Rattle.std.proofs.Common.{◌≡◌, ℕ, List, [], ◌∷◌, ◌++◌, sym, ◌∙◌, subst, Ok, Err}
+use Rattle.std.specs.Prelude.{Option, Result, max, IsOk, OnOk, OnErr}
+use Rattle.std.specs.Result.{is_ok}
+use Rattle.std.proofs.Math.Nat.{zero-max}
+use Rattle.docker_model.specs.state.State.{State, IsJoin}
+use Rattle.docker_model.specs.state.Summary.{IsSummary}
+use Rattle.docker_model.specs.state.StateText.{Format, dks_2}
+use Rattle.docker_laws.proofs.joins.JoinLaws.{join_commutes}
+use Rattle.docker_laws.proofs.states.SummaryLaws.{join_is_summary}
+use Rattle.docker_laws.proofs.texts.TextsApart.{one_text}
+use Rattle.cif_file.specs.FileRead.{FileRead, IsOfRecords}
+use Rattle.cif_file.specs.SourceRead.{ReadsText}
+use Rattle.cif_file.specs.declared.fault.FileFault.{FileFault}
+use Rattle.cif_file.specs.declared.fault.ReadFault as files
+use Rattle.cif_file.specs.declared.fault.ReadFault.TheVariants as file_faults
+use Rattle.docker_bytes.specs.SourceRead.{Held, ReadsState, JoinsState}
+use Rattle.docker_office.specs.declared.fault.OfficeFault.TheVariants.{File}
+use Rattle.docker_office.specs.Faults.{told_of_file}
+use Rattle.docker_office.specs.Office.{TakesFile, KnowsFileToo, HoldsState}
+
+-- ---- answers that are Ok together
+
+-- what holds where an answer is Ok holds where one is that is Ok with it
+pub on_ok_with : {A B E F : Type 0} (P : Type 0) (first : Result A E) (second : Result B F) → is_ok second ≡ is_ok first → OnOk first P → OnOk second P
+on_ok_with P (Ok a) (Ok b) same holds = holds
+on_ok_with P (Ok a) (Err f) same holds = tt
+on_ok_with P (Err e) (Err f) same holds = tt
+on_ok_with P (Err e) (Ok b) same holds = let never : ⊥ = cc in absurd never
+
+-- what holds where an answer is Ok, where one is that is Ok with it
+pub of_ok : {A B E F : Type 0} (P : Type 0) (first : Result A E) (second : Result B F) → is_ok second ≡ is_ok first → OnOk first P → IsOk second → P
+of_ok P (Ok a) second same holds is = holds
+of_ok P (Err e) second same holds is = let never : ⊥ = cc in absurd never
+
+-- what holds where an answer is Err, where one is that is Ok with it
+pub of_err : {A B E F : Type 0} (P : Type 0) (first : Result A E) (second : Result B F) → is_ok second ≡ is_ok first → OnErr first P → (e : F) → second ≡ Err e
+    → P
+of_err P (Err e) second same holds fault is = holds
+of_err P (Ok a) second same holds fault is = let never : ⊥ = cc in absurd never
+
+-- ---- faults
+
+-- an office tells a file's fault of no other one
+pub same_file_fault : (cause : files.ReadFault) (fault : FileFault) → told_of_file cause ≡ File fault → cause ≡ file_faults.File fault
+same_file_fault file_faults.Source fault same = let never : ⊥ = cc in absurd never
+same_file_fault (file_faults.File other) fault same = cc
+same_file_fault file_faults.Memory fault same = let never : ⊥ = cc in absurd never
+
+-- ---- states
+
+-- a file was read, and its state joined
+pub takes_file : (limit : ℕ) (left : Option (List ℕ)) (read : FileRead) (old own new : State) → ReadsText limit left read
+    → ((file : List (List ℕ)) → IsOfRecords read file → IsSummary (file ∷ []) 0 own) → IsJoin old own new → TakesFile limit left old new
+takes_file limit left read old own new reads summary join = record {
+  text = reads.text;
+  held = reads.held;
+  file = reads.of_text.records;
+  is_text = reads.of_text.is_text;
+  own = own;
+  of_file = summary reads.of_text.records reads.of_text.of_records;
+  joined = join;
+}
+
+-- so the summary of some files becomes that of one more
+pub knows_file_too : (limit : ℕ) (left : Option (List ℕ)) (old new : State) (files : List (List (List ℕ))) (horizon : ℕ) → TakesFile limit left old new
+    → IsSummary files horizon old → KnowsFileToo limit left files horizon new
+knows_file_too limit left old new files horizon takes is = record {
+  text = takes.text;
+  held = takes.held;
+  file = takes.file;
+  is_text = takes.is_text;
+  summary = subst (λ h. IsSummary (takes.file ∷ files) h new) (zero-max horizon)
+      (join_is_summary (takes.file ∷ []) files 0 horizon takes.own old new takes.of_file is (join_commutes old takes.own new takes.joined));
+}
+
+-- of a source that tells its bytes one state is read
+pub one_read : (format : Format) (limit : ℕ) (left : Option (List ℕ)) (read sent : State) → ReadsState format limit left read
+    → HoldsState format limit left sent → read ≡ sent
+one_read format limit left read sent reads holds =
+    let same : holds.text ≡ reads.text = subst (λ bytes. Held bytes reads.text) holds.told reads.held in
+    one_text format read sent reads.is.valid holds.is.valid (sym reads.is.is ∙ sym same ∙ holds.is.is)
+
+-- so the summaries of two sets of files become that of both
+pub joins_summaries : (limit : ℕ) (left : Option (List ℕ)) (old new : State) → JoinsState dks_2 limit left old new
+    → (files others : List (List (List ℕ))) (g h : ℕ) (sent : State) → IsSummary files g old → IsSummary others h sent → HoldsState dks_2 limit left sent
+    → IsSummary (files ++ others) (max g h) new
+joins_summaries limit left old new joins files others g h sent of_files of_others holds =
+    join_is_summary files others g h old joins.received new of_files
+    (subst (IsSummary others h) (sym (one_read dks_2 limit left joins.received sent joins.read holds)) of_others) joins.join

@@ -1,0 +1,54 @@
+-- What a run leaves, read event by event, office by office and message by message.
+use Rattle.std.proofs.Common.{◌≡◌, ℕ, zero, suc, ◌<◌, List, [], ◌∷◌, length, take, sym, ◌∙◌, arith}
+use Rattle.std.specs.Prelude.{fold}
+use Rattle.std.specs.List.{zip}
+use Rattle.docker_model.specs.state.StateText.{dks_2}
+use Rattle.docker_model.specs.run.Run.{RunEvent, Reply, Exchange, KnownSets, IsReply, AreReplies, after_reply, none_known}
+use Rattle.docker_model.specs.run.Knowledge.{Holds, sets_of, sent_count}
+use Rattle.docker_laws.proofs.runs.KnownSets.{replies_long, offices_are, messages_are}
+use Rattle.docker_laws.proofs.runs.RunEnd.{run_holds}
+use Rattle.docker_laws.proofs.runs.RunSteps.{sizes, office_is, message_is}
+use Rattle.docker_office.specs.RunEnds.{LeavesRun, IsReplyAt, HasSummary, TellsSummary, event_at, reply_at}
+
+-- a reply in a run that begins anywhere
+reply_there : (known : KnownSets) (events : List RunEvent) (replies : List Reply) → AreReplies known events replies → (place : ℕ) → place < length events
+    → IsReply (fold after_reply known (zip (take place events) (take place replies))) (event_at events place) (reply_at replies place)
+reply_there known [] replies are place low = absurd (omega arith)
+reply_there known (event ∷ events) [] are place low = absurd are
+reply_there known (event ∷ events) (reply ∷ replies) are zero low = are.0
+reply_there known (event ∷ events) (reply ∷ replies) are (suc place) low =
+    reply_there (after_reply known (event, reply)) events replies are.1 place (omega arith)
+
+module _ (offices : ℕ) (events : List RunEvent) (exchange : Exchange) (leaves : LeavesRun offices events exchange) where
+  held : Holds dks_2 (sets_of offices events exchange) exchange.states exchange.messages
+  held = run_holds dks_2 offices events exchange leaves.good leaves.run
+
+  many : (length exchange.states ≡ length (sets_of offices events exchange).offices) × (length exchange.messages ≡ length (sets_of offices events exchange).messages)
+  many = sizes dks_2 (sets_of offices events exchange) exchange.states exchange.messages held
+
+  -- a reply for each event
+  pub one_each : length exchange.replies ≡ length events
+  one_each = sym (replies_long (none_known offices) events exchange.replies leaves.run.replies)
+
+  -- each is one that its event may have
+  pub each_reply : (place : ℕ) → place < length events → IsReplyAt offices events exchange.replies place
+  each_reply place low = reply_there (none_known offices) events exchange.replies leaves.run.replies place low
+
+  -- a message for each sending that was done
+  pub one_sent : length exchange.messages ≡ sent_count events exchange.replies
+  one_sent = many.1 ∙ messages_are offices events exchange.replies
+
+  -- so many offices
+  pub all_offices : length exchange.states ≡ offices
+  all_offices = many.0 ∙ offices_are offices events exchange.replies
+
+  -- each has the summary of what it knows
+  pub each_state : (office : ℕ) → office < offices → HasSummary offices events exchange office
+  each_state office there =
+      office_is dks_2 (sets_of offices events exchange) exchange.states exchange.messages held office
+      (let same = offices_are offices events exchange.replies in omega arith)
+
+  -- each message tells the summary of what it knows
+  pub each_message : (message : ℕ) → message < length exchange.messages → TellsSummary offices events exchange message
+  each_message message sent =
+      message_is dks_2 (sets_of offices events exchange) exchange.states exchange.messages held message (let same = many.1 in omega arith)

@@ -1,0 +1,10 @@
+use Rattle.std.proofs.Common.{ap}
+use Rattle.docker_model.specs.state.StateText.{dks_2, state_text}
+use Rattle.docker_office.proofs.EndedRuns.{one_state}
+use Rattle.docker_office.proofs.headline.known_files_fix_states.Goals as goal
+
+pub returns-clause-state : goal.returns-clause-state
+returns-clause-state c = one_state
+
+pub returns-clause-text : goal.returns-clause-text
+returns-clause-text c = λ first second one two left right same. ap (state_text dks_2) (one_state first second one two left right same)

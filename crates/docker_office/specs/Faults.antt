@@ -1,0 +1,54 @@
+-- The faults of an office: which of a lower call they are, and which a call can have.
+use Rattle.std.specs.Prelude.{⊤}
+use Rattle.cif_file.specs.declared.fault.ReadFault as files
+use Rattle.cif_file.specs.declared.fault.ReadFault.TheVariants as file_faults
+use Rattle.docker_bytes.specs.declared.read.ReadFault as states
+use Rattle.docker_bytes.specs.declared.read.ReadFault.TheVariants as state_faults
+use Rattle.docker_day.specs.declared.fault.DockerFault as dockers
+use Rattle.docker_day.specs.declared.fault.DockerFault.TheVariants as docker_faults
+use Rattle.docker_office.specs.declared.fault.OfficeFault.{OfficeFault}
+use Rattle.docker_office.specs.declared.fault.OfficeFault.TheVariants.{File, State, Lapsed, Source, Sink, Memory}
+
+-- the fault of a file that is read, as an office tells it
+abbrev pub told_of_file : files.ReadFault → OfficeFault
+told_of_file file_faults.Source = Source
+told_of_file (file_faults.File fault) = File fault
+told_of_file file_faults.Memory = Memory
+
+-- the fault of a state that is read
+abbrev pub told_of_state : states.ReadFault → OfficeFault
+told_of_state state_faults.Source = Source
+told_of_state (state_faults.State fault) = State fault
+told_of_state state_faults.Memory = Memory
+
+-- the fault of a docker that is made
+abbrev pub told_of_docker : dockers.DockerFault → OfficeFault
+told_of_docker docker_faults.Lapsed = Lapsed
+told_of_docker docker_faults.Memory = Memory
+
+-- one that a call which reads a file can have
+abbrev pub IsOfFile : OfficeFault → Type 0
+IsOfFile (File fault) = ⊤
+IsOfFile Source = ⊤
+IsOfFile Memory = ⊤
+IsOfFile (State fault) = ⊥
+IsOfFile Lapsed = ⊥
+IsOfFile Sink = ⊥
+
+-- one that a call which reads a state can have
+abbrev pub IsOfState : OfficeFault → Type 0
+IsOfState (State fault) = ⊤
+IsOfState Source = ⊤
+IsOfState Memory = ⊤
+IsOfState (File fault) = ⊥
+IsOfState Lapsed = ⊥
+IsOfState Sink = ⊥
+
+-- one that a call which prints a docker can have
+abbrev pub IsOfDocker : OfficeFault → Type 0
+IsOfDocker Lapsed = ⊤
+IsOfDocker Sink = ⊤
+IsOfDocker Memory = ⊤
+IsOfDocker (File fault) = ⊥
+IsOfDocker (State fault) = ⊥
+IsOfDocker Source = ⊥

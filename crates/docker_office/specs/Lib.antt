@@ -1,0 +1,5 @@
+pub mod Faults
+pub mod Office
+pub mod RunMeaning
+pub mod RunSteps
+pub mod RunEnds

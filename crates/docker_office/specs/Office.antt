@@ -1,0 +1,67 @@
+-- What an office does with the state that it keeps.
+use Rattle.std.specs.Prelude.{◌≡◌, ℕ, max, ◌⊎◌, List, [], ◌∷◌, ◌++◌, Option, Some}
+use Rattle.cif_line.specs.Device.{Takes, TakesPart}
+use Rattle.docker_model.specs.file.FileFault.{IsFileText}
+use Rattle.docker_model.specs.state.State.{State, IsJoin, live_table}
+use Rattle.docker_model.specs.state.Summary.{IsSummary}
+use Rattle.docker_model.specs.state.StateText.{Format, dks_2}
+use Rattle.docker_model.specs.state.StateFault.{IsStateText}
+use Rattle.docker_model.specs.docker.DockerText.{IsDockerText}
+use Rattle.cif_file.specs.SourceRead.{Held, WantsMemory}
+
+-- no file is known, and no horizon is set
+abbrev pub no_state : State
+no_state = record { horizon = 0; ledger = []; entries = [] }
+
+-- the source held the text of a file of at most so many records
+pub record HoldsFile (limit : ℕ) (left : Option (List ℕ)) : Type 0 where
+  pub text : List ℕ
+  pub held : Held left text
+  pub file : List (List ℕ)
+  pub is_text : IsFileText limit text file
+
+-- the state was joined with that of the file whose text the source held, of at most so many records
+pub record TakesFile (limit : ℕ) (left : Option (List ℕ)) (old new : State) : Type 0 where
+  pub text : List ℕ
+  pub held : Held left text
+  pub file : List (List ℕ)
+  pub is_text : IsFileText limit text file
+  pub own : State
+  pub of_file : IsSummary (file ∷ []) 0 own
+  pub joined : IsJoin old own new
+
+-- memory was wanting while a file was read, or for the state of one that was read whole
+abbrev pub WantsForFile : ℕ → Option (List ℕ) → Option (List ℕ) → Type 0
+WantsForFile limit old new = WantsMemory 65536 limit old new ⊎ HoldsFile limit old
+
+-- the state is the summary of these files and of the one whose text the source held, under their horizon
+pub record KnowsFileToo (limit : ℕ) (left : Option (List ℕ)) (files : List (List (List ℕ))) (horizon : ℕ) (new : State) : Type 0 where
+  pub text : List ℕ
+  pub held : Held left text
+  pub file : List (List ℕ)
+  pub is_text : IsFileText limit text file
+  pub summary : IsSummary (file ∷ files) horizon new
+
+-- the source tells its bytes, and they are the text of this state in a format, within the limit
+pub record HoldsState (format : Format) (limit : ℕ) (left : Option (List ℕ)) (sent : State) : Type 0 where
+  pub text : List ℕ
+  pub told : left ≡ Some text
+  pub is : IsStateText format limit text sent
+
+-- where the state was the summary of some files, and the source held the text of that of others, it is the summary of all of them
+abbrev pub JoinsSummaries : ℕ → Option (List ℕ) → State → State → Type 0
+JoinsSummaries limit left old new =
+    (files others : List (List (List ℕ))) (g h : ℕ) (sent : State) → IsSummary files g old → IsSummary others h sent → HoldsState dks_2 limit left sent
+    → IsSummary (files ++ others) (max g h) new
+
+-- the sink gained the docker text of the state for a place and a day
+pub record PrintsDocker (state : State) (place : List ℕ) (day : ℕ) (old new : Option (List ℕ)) : Type 0 where
+  pub text : List ℕ
+  pub is : IsDockerText (live_table state) place day text
+  pub gained : Takes old text new
+
+-- the sink gained a beginning of it, and not all of it
+pub record PrintsPart (state : State) (place : List ℕ) (day : ℕ) (old new : Option (List ℕ)) : Type 0 where
+  pub text : List ℕ
+  pub is : IsDockerText (live_table state) place day text
+  pub gained : TakesPart old text new

@@ -1,0 +1,68 @@
+-- What a run leaves, event by event, office by office and message by message.
+use Rattle.std.specs.Prelude.{◌≡◌, ℕ, ◌<◌, ◌≤◌, ◌↔◌, List, take, slice_index_or, All, ⊤}
+use Rattle.docker_model.specs.state.State.{State, live_table}
+use Rattle.docker_model.specs.state.Lapse.{IsDayRefused}
+use Rattle.docker_model.specs.state.Table.{Table}
+use Rattle.docker_model.specs.docker.DockerText.{IsDockerText}
+use Rattle.docker_model.specs.state.StateText.{dks_2}
+use Rattle.docker_model.specs.run.Run.{RunEvent, take_file, send_state, deliver, reload, horizon_event, Reply, done, Known, Exchange, IsRun, IsReply, IsStateOf, IsMessageOf, office_known, message_known, known_sets}
+use Rattle.docker_model.specs.run.Knowledge.{IsGoodEvent, office_state, message_text, sets_of}
+
+-- a file is taken under a limit of at most 4,294,967,294 records
+abbrev pub HasGoodLimit : RunEvent → Type 0
+HasGoodLimit (take_file office text limit) = limit ≤ 4_294_967_294
+HasGoodLimit (send_state office) = ⊤
+HasGoodLimit (deliver office message) = ⊤
+HasGoodLimit (reload office message) = ⊤
+HasGoodLimit (horizon_event office day) = ⊤
+
+-- it is what a run of these events at so many offices leaves, with messages of the mark DKS2; limits and horizons of the events are good
+pub record LeavesRun (offices : ℕ) (events : List RunEvent) (exchange : Exchange) : Type 0 where
+  pub run : IsRun dks_2 offices events exchange
+  pub good : All (IsGoodEvent dks_2) events
+
+-- what an office knows where a run ends
+abbrev pub known_at_end : ℕ → List RunEvent → Exchange → ℕ → Known
+known_at_end offices events exchange office = office_known (sets_of offices events exchange) office
+
+-- what a message knows there
+abbrev pub sent_with : ℕ → List RunEvent → Exchange → ℕ → Known
+sent_with offices events exchange message = message_known (sets_of offices events exchange) message
+
+-- the event at a place, from 0
+abbrev pub event_at : List RunEvent → ℕ → RunEvent
+event_at events place = slice_index_or events place (send_state 0)
+
+-- the reply at a place
+abbrev pub reply_at : List Reply → ℕ → Reply
+reply_at replies place = slice_index_or replies place done
+
+-- the reply at a place is one that the event there may have, after the events before it and their replies
+abbrev pub IsReplyAt : ℕ → List RunEvent → List Reply → ℕ → Type 0
+IsReplyAt offices events replies place =
+    IsReply (known_sets offices (take place events) (take place replies)) (event_at events place) (reply_at replies place)
+
+-- the state of an office is the summary of what it knows
+abbrev pub HasSummary : ℕ → List RunEvent → Exchange → ℕ → Type 0
+HasSummary offices events exchange office = IsStateOf (known_at_end offices events exchange office) (office_state exchange.states office)
+
+-- the bytes of a message are the text of the summary of what it knows, as its office knew it when it was sent
+abbrev pub TellsSummary : ℕ → List RunEvent → Exchange → ℕ → Type 0
+TellsSummary offices events exchange message = IsMessageOf dks_2 (sent_with offices events exchange message) (message_text exchange.messages message)
+
+-- an office of some run knows this where the run ends, and has this state
+pub record EndsWith (known : Known) (state : State) : Type 0 where
+  pub offices : ℕ
+  pub events : List RunEvent
+  pub exchange : Exchange
+  pub leaves : LeavesRun offices events exchange
+  pub office : ℕ
+  pub there : office < offices
+  pub knows : known_at_end offices events exchange office ≡ known
+  pub has : office_state exchange.states office ≡ state
+
+-- of each timing point and each day that the state does not refuse, its docker is that of the table
+abbrev pub PrintsAs : State → Table → Type 0
+PrintsAs state table =
+    (place : List ℕ) (day : ℕ) → ¬ IsDayRefused state.horizon day → (text : List ℕ) → IsDockerText (live_table state) place day text
+    ↔ IsDockerText table place day text

@@ -1,0 +1,80 @@
+-- What events, replies and messages of a run mean, as the definitions name them.
+use Rattle.std.specs.Prelude.{ℕ, ◌<◌, ◌≤◌, List, map, Option, Some, None, Result, Ok, Err, ⊤}
+use Rattle.cif_file.specs.Meaning.{cause_meant}
+use Rattle.cif_line.specs.Device.{Store}
+use Rattle.docker_model.specs.file.FileFault as files
+use Rattle.docker_model.specs.run.Run as model
+use Rattle.docker_model.specs.run.Run.{take_file, send_state, deliver, reload, horizon_event, done, refused, no_office, no_message, no_memory, bad_file}
+use Rattle.docker_office.specs.declared.fault.OfficeFault.{OfficeFault}
+use Rattle.docker_office.specs.declared.fault.OfficeFault.TheVariants as fault
+use Rattle.docker_office.specs.declared.event.Event.{Event}
+use Rattle.docker_office.specs.declared.event.Event.TheVariants as event
+use Rattle.docker_office.specs.declared.reply.Reply.{Reply}
+use Rattle.docker_office.specs.declared.reply.Reply.TheVariants.{Done, Refused}
+use Rattle.docker_office.specs.declared.reply.RunFault.{RunFault}
+use Rattle.docker_office.specs.declared.reply.RunFault.TheVariants.{NoOffice, NoMessage, Office}
+
+-- an event
+abbrev pub event_meant : Event → model.RunEvent
+event_meant (event.Take office text limit) = take_file office text.now limit
+event_meant (event.Send office) = send_state office
+event_meant (event.Deliver office message) = deliver office message
+event_meant (event.Reload office message) = reload office message
+event_meant (event.Horizon office day) = horizon_event office day
+
+-- events
+abbrev pub events_meant : List Event → List model.RunEvent
+events_meant = map event_meant
+
+-- a file's fault with this cause, or want of memory where it has none of a text's
+abbrev pub refusal_of_file : ℕ → Option files.FileCause → model.Refusal
+refusal_of_file number None = no_memory
+refusal_of_file number (Some cause) = bad_file (record { number = number; cause = cause })
+
+-- what a fault of an office is as a refusal. Of those that a run gives it is the file's, or want of memory
+abbrev pub refusal_meant : OfficeFault → model.Refusal
+refusal_meant (fault.File why) = refusal_of_file why.number (cause_meant why.cause)
+refusal_meant _ = no_memory
+
+-- a reply
+abbrev pub reply_meant : Reply → model.Reply
+reply_meant Done = done
+reply_meant (Refused NoOffice) = refused no_office
+reply_meant (Refused NoMessage) = refused no_message
+reply_meant (Refused (Office why)) = refused (refusal_meant why)
+
+-- a cause that a text can have
+abbrev pub IsTextCause : Option files.FileCause → Type 0
+IsTextCause None = ⊥
+IsTextCause (Some cause) = ⊤
+
+-- the faults of an office that a run gives: a file's, whose cause is never want of memory, and want of memory
+abbrev pub IsRunRefusal : OfficeFault → Type 0
+IsRunRefusal (fault.File why) = IsTextCause (cause_meant why.cause)
+IsRunRefusal fault.Memory = ⊤
+IsRunRefusal (fault.State why) = ⊥
+IsRunRefusal fault.Lapsed = ⊥
+IsRunRefusal fault.Source = ⊥
+IsRunRefusal fault.Sink = ⊥
+
+-- the replies that a run gives
+abbrev pub IsRunReply : Reply → Type 0
+IsRunReply Done = ⊤
+IsRunReply (Refused NoOffice) = ⊤
+IsRunReply (Refused NoMessage) = ⊤
+IsRunReply (Refused (Office why)) = IsRunRefusal why
+
+-- the reply to an event by what its office answers
+abbrev pub reply_for : Result Unit OfficeFault → Reply
+reply_for (Ok unit) = Done
+reply_for (Err why) = Refused (Office why)
+
+-- of so many offices and messages, an office or a message is missing: the message only where the office is there
+abbrev pub IsMissing : (offices messages office message : ℕ) → RunFault → Type 0
+IsMissing offices messages office message NoOffice = offices ≤ office
+IsMissing offices messages office message NoMessage = (office < offices) × (messages ≤ message)
+IsMissing offices messages office message (Office why) = ⊥
+
+-- the texts of messages
+abbrev pub texts_of : List Store → List (List ℕ)
+texts_of = map (λ (kept : Store). kept.taken)

@@ -1,0 +1,17 @@
+-- What is held in the middle of a run, and an event that is met there.
+use Rattle.docker_model.specs.state.StateText.{dks_2}
+use Rattle.docker_model.specs.run.Run.{RunEvent, KnownSets, IsReply, after_reply}
+use Rattle.docker_model.specs.run.Knowledge.{Holds}
+use Rattle.docker_office.specs.declared.reply.Reply.{Reply}
+use Rattle.docker_office.specs.declared.steps.Holdings.{Holdings}
+use Rattle.docker_office.specs.RunMeaning.{IsRunReply, reply_meant, texts_of}
+
+-- states and messages are those of what offices and messages know
+abbrev pub AreOf : KnownSets → Holdings → Type 0
+AreOf known held = Holds dks_2 known held.offices.items (texts_of held.messages.items)
+
+-- the reply is one that the event may have there, and what is held is what is known after it
+pub record MeetsEvent (known : KnownSets) (event : RunEvent) (reply : Reply) (held : Holdings) : Type 0 where
+  pub told : IsRunReply reply
+  pub may : IsReply known event (reply_meant reply)
+  pub holds : AreOf (after_reply known (event, reply_meant reply)) held

@@ -1,0 +1,72 @@
+//! What a run leaves.
+ghost use Rattle.std.specs.Prelude.{◌≡◌, All, map};
+ghost use Rattle.docker_office.specs.RunMeaning.{IsRunReply, reply_meant, texts_of};
+
+use crate::office::Office;
+use crate::reply::Reply;
+use cif_line::Kept;
+use std::marker::Model;
+
+/// What a run leaves: the offices, the messages that were sent, and the replies to the events.
+#[derive(Debug, Drop)]
+pub struct Exchange {
+    offices: Vec<Office>,
+    messages: Vec<Kept>,
+    replies: Vec<Reply>,
+}
+
+impl Model for Exchange {
+    ghost use Rattle.std.specs.Prelude.{All, map};
+    ghost use Rattle.docker_model.specs.run.Run as model;
+    ghost use Rattle.docker_office.specs.RunMeaning.{IsRunReply, reply_meant, texts_of};
+
+    ghost Value = { model.Exchange };
+
+    ghost view = { λ exchange. record {
+      states = exchange.offices.items;
+      messages = texts_of exchange.messages.items;
+      replies = map reply_meant exchange.replies.items;
+    } };
+
+    ghost invariant = { λ exchange. All IsRunReply exchange.replies.items };
+}
+
+impl Exchange {
+    /// The exchange of these.
+    pub(crate) fn of(offices: Vec<Office>, messages: Vec<Kept>, replies: Vec<Reply>) -> Exchange
+        requires { All IsRunReply replies.items }
+        ensures { result ≡ record {
+          states = offices.items;
+          messages = texts_of messages.items;
+          replies = map reply_meant replies.items;
+        } }
+    {
+        Exchange {
+            offices,
+            messages,
+            replies,
+        }
+    }
+
+    /// The offices, each with its state at the end.
+    pub fn offices(&self) -> &[Office]
+        ensures { result.now ≡ self.now.states }
+    {
+        self.offices.as_slice()
+    }
+
+    /// The messages, in the order in which they were sent, also those that no event delivered. Each holds its whole text.
+    pub fn messages(&self) -> &[Kept]
+        ensures { texts_of result.now ≡ self.now.messages }
+    {
+        self.messages.as_slice()
+    }
+
+    /// The replies, one for each event and in their order. Each is one that a run gives: of the faults of an office a file's, or want of memory.
+    pub fn replies(&self) -> &[Reply]
+        ensures meant { map reply_meant result.now ≡ self.now.replies }
+        ensures each { All IsRunReply result.now }
+    {
+        self.replies.as_slice()
+    }
+}

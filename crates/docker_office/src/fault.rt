@@ -1,0 +1,72 @@
+//! Why an office refuses.
+use cif_file::FileFault;
+use docker_bytes::StateFault;
+use docker_day::DockerFault;
+use thiserror::Error;
+
+/// Why an office refuses what it is asked for.
+#[derive(Clone, Copy, PartialEq, Eq, Debug, Error)]
+pub enum OfficeFault {
+    /// The source holds no text of a file: its first record at fault. The cause is never want of memory.
+    #[error("file refused: {0}")]
+    File(FileFault),
+    /// The source holds no text of a state: its first bad part. The cause is never want of memory.
+    #[error("state refused: {0}")]
+    State(StateFault),
+    /// The state has a horizon, and the day asked for is before it plus three days.
+    #[error("day refused: before horizon plus three days")]
+    Lapsed,
+    /// The source failed.
+    #[error("the source failed")]
+    Source,
+    /// The sink failed.
+    #[error("the sink failed")]
+    Sink,
+    /// A growth was refused: want of memory.
+    #[error("want of memory")]
+    Memory,
+}
+
+impl From<cif_file::ReadFault> for OfficeFault {
+    ghost use Rattle.docker_office.specs.Faults.{told_of_file};
+    ghost use Rattle.std.specs.Prelude.{◌≡◌};
+
+    ghost from_gives = { λ cause fault. fault ≡ told_of_file cause };
+
+    fn from(cause: cif_file::ReadFault) -> OfficeFault {
+        match cause {
+            cif_file::ReadFault::Source => OfficeFault::Source,
+            cif_file::ReadFault::File(fault) => OfficeFault::File(fault),
+            cif_file::ReadFault::Memory => OfficeFault::Memory,
+        }
+    }
+}
+
+impl From<docker_bytes::ReadFault> for OfficeFault {
+    ghost use Rattle.docker_office.specs.Faults.{told_of_state};
+    ghost use Rattle.std.specs.Prelude.{◌≡◌};
+
+    ghost from_gives = { λ cause fault. fault ≡ told_of_state cause };
+
+    fn from(cause: docker_bytes::ReadFault) -> OfficeFault {
+        match cause {
+            docker_bytes::ReadFault::Source => OfficeFault::Source,
+            docker_bytes::ReadFault::State(fault) => OfficeFault::State(fault),
+            docker_bytes::ReadFault::Memory => OfficeFault::Memory,
+        }
+    }
+}
+
+impl From<DockerFault> for OfficeFault {
+    ghost use Rattle.docker_office.specs.Faults.{told_of_docker};
+    ghost use Rattle.std.specs.Prelude.{◌≡◌};
+
+    ghost from_gives = { λ cause fault. fault ≡ told_of_docker cause };
+
+    fn from(cause: DockerFault) -> OfficeFault {
+        match cause {
+            DockerFault::Lapsed => OfficeFault::Lapsed,
+            DockerFault::Memory => OfficeFault::Memory,
+        }
+    }
+}

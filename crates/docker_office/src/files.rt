@@ -1,0 +1,86 @@
+//! The text of the files that a state knows: a line for each, of 33 columns and a line feed.
+ghost use Rattle.std.specs.Prelude.{◌≡◌, ◌+◌, ◌-◌, ◌^◌, ◌<◌, ◌≤◌, ◌++◌, length, map, All, OnOk, OnErr};
+ghost use Rattle.arrayvec.specs.ArrayVec.{array_vec_len};
+ghost use Rattle.cif_line.specs.Device.{Takes, TakesPart};
+ghost use Rattle.docker_model.specs.docker.DockerText.{ended, file_text, files_text};
+ghost use Rattle.docker_model.specs.records.PrintedTime.{minute_text};
+ghost use Rattle.docker_model.specs.state.State.{IsGoodItem};
+ghost use Rattle.docker_state.specs.Meaning.{item_meant};
+
+use arrayvec::ArrayVec;
+use cif_line::{Failed, Sink, write_all};
+use docker_state::LedgerItem;
+
+/// The bytes of a line, of 33 columns and a line feed.
+const WIDTH: usize = 34;
+
+/// Writes the lines of ledger items, in their order.
+pub(crate) fn write_files<K: Sink>(items: &[LedgerItem], sink: &mut K) -> Result<(), Failed>
+    requires failures { K.failures sink.old < 2 ^ 64 - 1 }
+    requires good { All IsGoodItem (map item_meant items.now) }
+    ensures whole { OnOk result (Takes (K.taken sink.old) (files_text (map item_meant items.now))
+        (K.taken sink.new)) }
+    ensures part { OnErr result (TakesPart (K.taken sink.old)
+        (files_text (map item_meant items.now)) (K.taken sink.new)) }
+    ensures no_failure { OnOk result (K.failures sink.new ≡ K.failures sink.old) }
+    ensures counted { OnErr result (K.failures sink.new ≡ K.failures sink.old + 1) }
+{
+    for item in items {
+        write_all(sink, &line_of(item))?;
+    }
+    Ok(())
+}
+
+/// The line of a ledger item, with its line feed: its day and minute, its reference, its update indicator and its last reference.
+fn line_of(item: &LedgerItem) -> [u8; WIDTH]
+    requires { item.now.minute < 1440 }
+    ensures { result ≡ ended (file_text (item_meant item.now)) }
+{
+    let mut text = ArrayVec::new();
+    put(&mut text, &item.day.iso());
+    put(&mut text, b" ");
+    put(&mut text, &clock_text(item.minute));
+    put(&mut text, b" ");
+    put(&mut text, &item.reference);
+    put(&mut text, b" ");
+    put(&mut text, &[item.indicator.letter(), b' ']);
+    put(&mut text, &item.last_reference);
+    put(&mut text, b"\n");
+    whole(text)
+}
+
+/// A minute of the day as HHMM.
+fn clock_text(minute: u16) -> [u8; 4]
+    requires { minute < 1440 }
+    ensures { result ≡ minute_text minute }
+{
+    let (hour, minute) = ((minute / 60) as u8, (minute % 60) as u8);
+    [
+        b'0' + hour / 10,
+        b'0' + hour % 10,
+        b'0' + minute / 10,
+        b'0' + minute % 10,
+    ]
+}
+
+/// Appends bytes for which there is room.
+fn put(text: &mut ArrayVec<u8, WIDTH>, bytes: &[u8])
+    requires { array_vec_len text.old + length bytes.now ≤ WIDTH }
+    ensures items { text.new.items ≡ text.old.items ++ bytes.now }
+    ensures len { array_vec_len text.new ≡ array_vec_len text.old + length bytes.now }
+{
+    if text.try_extend_from_slice(bytes).is_err() {
+        unreachable!()
+    }
+}
+
+/// The bytes of a full line.
+fn whole(text: ArrayVec<u8, WIDTH>) -> [u8; WIDTH]
+    requires full { array_vec_len text ≡ WIDTH }
+    ensures { result ≡ text.items }
+{
+    match text.into_inner() {
+        Ok(bytes) => bytes,
+        Err(_) => unreachable!(),
+    }
+}

@@ -1,0 +1,22 @@
+//! Offices: each keeps a state, takes files, swaps states with the others, and prints; and runs of events at several of them.
+#![tactic(auto)]
+
+mod event;
+mod exchange;
+mod fault;
+mod files;
+pub mod headline;
+mod office;
+mod reply;
+mod runs;
+mod steps;
+
+pub use event::Event;
+pub use exchange::Exchange;
+pub use fault::OfficeFault;
+pub use office::Office;
+pub use reply::{Reply, RunFault};
+pub use runs::run;
+
+#[cfg(test)]
+mod tests;

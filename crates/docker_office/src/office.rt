@@ -1,0 +1,245 @@
+//! An office, and what is asked of it.
+ghost use Rattle.std.specs.Prelude.{◌≡◌, ◌≢◌, ℕ, List, [], ◌+◌, ◌-◌, ◌^◌, ◌<◌, ◌≤◌, ◌⊎◌, ◌↔◌, max, IsOk, IsErr, IfErr, OnOk, OnErr, Err};
+ghost use Rattle.cif_line.specs.Device.{IsEnd, Takes, TakesPart};
+ghost use Rattle.cif_file.specs.SourceRead.{ReadsNoFurther, RefusesText};
+ghost use Rattle.docker_bytes.specs.SourceRead.{JoinsState, ReadsOnePieceMore, ReadsState, RefusesState, WantsMemory};
+ghost use Rattle.docker_model.specs.docker.DockerText.{files_text};
+ghost use Rattle.docker_model.specs.state.Lapse.{IsDayRefused};
+ghost use Rattle.docker_model.specs.state.State as states;
+ghost use Rattle.docker_model.specs.state.State.{IsJoin, IsValid, raise_horizon};
+ghost use Rattle.docker_model.specs.state.StateText.{dks_1, dks_2, state_text};
+ghost use Rattle.docker_model.specs.state.Summary.{IsSummary};
+ghost use Rattle.docker_office.specs.Faults.{IsOfDocker, IsOfFile, IsOfState};
+ghost use Rattle.docker_office.specs.Office.{HoldsState, JoinsSummaries, KnowsFileToo, PrintsDocker, PrintsPart, TakesFile, WantsForFile, no_state};
+
+use crate::fault::OfficeFault;
+use crate::files::write_files;
+use cif_file::{MOST_RECORDS, read_file};
+use cif_line::{Day, Memory, Sink, Source, Tiploc};
+use docker_bytes::{join_state, migrate, read_state, write_state};
+use docker_day::{docker, write_docker};
+use docker_join::Merge;
+use docker_state::State;
+use std::alloc::Global;
+use std::marker::Model;
+use std::mem;
+
+/// An office: the state of the files that it knows, under its horizon.
+#[derive(Debug, Drop)]
+pub struct Office {
+    alloc: Global,
+    state: State,
+}
+
+impl Model for Office {
+    ghost use Rattle.docker_model.specs.state.State as states;
+
+    ghost Value = { states.State };
+
+    ghost view = { λ office. office.state };
+}
+
+impl Office {
+    /// An office that knows no file and has no horizon.
+    pub fn new(alloc: Global) -> Office
+        ensures empty { result ≡ no_state }
+        ensures summary { IsSummary [] 0 result }
+    {
+        Office {
+            alloc,
+            state: State::empty(alloc),
+        }
+    }
+
+    /// The state that it keeps.
+    pub fn state(&self) -> &State
+        ensures state { result.now ≡ self.now }
+        ensures valid { IsValid self.now }
+    {
+        // A state is valid, as its ledger tells.
+        let _ledger = self.state.ledger();
+        &self.state
+    }
+
+    /// Takes the file whose text a source holds, of at most `limit` records: its state is joined with the office's. The source is read to its end, or to
+    /// the piece, of at most 65,536 bytes, that tells the first fault. A refusal, `File`, `Source` or `Memory`, leaves the office as it was.
+    pub fn take<S: Source>(&mut self, source: &mut S, limit: u32) -> Result<(), OfficeFault>
+        requires failures { S.failures source.old < 2 ^ 64 - 1 }
+        requires limit { limit ≤ MOST_RECORDS }
+        ensures ok { IsOk result → TakesFile limit (S.left source.old) self.old self.new }
+        ensures summary { IsOk result → (files : List (List (List ℕ))) (horizon : ℕ)
+            → IsSummary files horizon self.old
+            → KnowsFileToo limit (S.left source.old) files horizon self.new }
+        ensures unchanged { IsErr result → self.new ≡ self.old }
+        ensures file { (fault : _) → result ≡ Err (OfficeFault.File fault)
+            → RefusesText limit (S.left source.old) fault }
+        ensures memory { result ≡ Err OfficeFault.Memory
+            → WantsForFile limit (S.left source.old) (S.left source.new) }
+        ensures end { IsOk result → IsEnd (S.left source.new) }
+        ensures no_further { ReadsNoFurther 65536 limit (S.left source.old) (S.left source.new) }
+        ensures source { (result ≡ Err OfficeFault.Source)
+            ↔ (S.failures source.new ≡ S.failures source.old + 1) }
+        ensures no_failure { result ≢ Err OfficeFault.Source
+            → S.failures source.new ≡ S.failures source.old }
+        ensures only { IfErr result IsOfFile }
+    {
+        let file = read_file(self.alloc, source, limit)?;
+        let Ok(taken) = State::of_file(self.alloc, file) else {
+            return Err(OfficeFault::Memory);
+        };
+        self.join(taken)
+    }
+
+    /// Joins the state with another. Want of memory leaves it as it was.
+    fn join(&mut self, other: State) -> Result<(), OfficeFault>
+        requires { IsValid other }
+        ensures ok { IsOk result → IsJoin self.old other self.new }
+        ensures unchanged { IsErr result → self.new ≡ self.old }
+        ensures only { IfErr result (λ fault. fault ≡ OfficeFault.Memory) }
+    {
+        // A state is valid, as its ledger tells.
+        let _ledger = self.state.ledger();
+        let own = mem::replace(&mut self.state, State::empty(self.alloc));
+        match own.join(self.alloc, other) {
+            Ok(joined) => {
+                self.state = joined;
+                Ok(())
+            }
+            Err((own, _)) => {
+                self.state = own;
+                Err(OfficeFault::Memory)
+            }
+        }
+    }
+
+    /// Joins the state with the one whose text a source holds, of at most `limit` bytes. A refusal, `State`, `Source` or `Memory`, leaves the office as it
+    /// was.
+    pub fn receive<S: Source>(&mut self, source: &mut S, limit: u64) -> Result<(), OfficeFault>
+        requires { S.failures source.old < 2 ^ 64 - 1 }
+        ensures ok { IsOk result
+            → JoinsState dks_2 limit (S.left source.old) self.old self.new }
+        ensures summary { IsOk result
+            → JoinsSummaries limit (S.left source.old) self.old self.new }
+        ensures unchanged { IsErr result → self.new ≡ self.old }
+        ensures state { (fault : _) → result ≡ Err (OfficeFault.State fault)
+            → RefusesState dks_2 limit (S.left source.old) fault }
+        ensures memory { result ≡ Err OfficeFault.Memory
+            → WantsMemory dks_2 65536 limit (S.left source.old) (S.left source.new) }
+        ensures few { ReadsOnePieceMore dks_2 65536 limit (S.left source.old) (S.left source.new) }
+        ensures source { (result ≡ Err OfficeFault.Source)
+            ↔ (S.failures source.new ≡ S.failures source.old + 1) }
+        ensures no_failure { result ≢ Err OfficeFault.Source
+            → S.failures source.new ≡ S.failures source.old }
+        ensures only { IfErr result IsOfState }
+    {
+        join_state(self.alloc, &mut self.state, source, limit)?;
+        Ok(())
+    }
+
+    /// Replaces the state by the one whose text a source holds, of at most `limit` bytes: what the office knew and the text does not tell is forgotten. A
+    /// refusal, `State`, `Source` or `Memory`, leaves the office as it was.
+    pub fn reload<S: Source>(&mut self, source: &mut S, limit: u64) -> Result<(), OfficeFault>
+        requires { S.failures source.old < 2 ^ 64 - 1 }
+        ensures ok { IsOk result → ReadsState dks_2 limit (S.left source.old) self.new }
+        ensures sent { IsOk result → (sent : states.State)
+            → HoldsState dks_2 limit (S.left source.old) sent → self.new ≡ sent }
+        ensures unchanged { IsErr result → self.new ≡ self.old }
+        ensures state { (fault : _) → result ≡ Err (OfficeFault.State fault)
+            → RefusesState dks_2 limit (S.left source.old) fault }
+        ensures memory { result ≡ Err OfficeFault.Memory
+            → WantsMemory dks_2 65536 limit (S.left source.old) (S.left source.new) }
+        ensures few { ReadsOnePieceMore dks_2 65536 limit (S.left source.old) (S.left source.new) }
+        ensures source { (result ≡ Err OfficeFault.Source)
+            ↔ (S.failures source.new ≡ S.failures source.old + 1) }
+        ensures no_failure { result ≢ Err OfficeFault.Source
+            → S.failures source.new ≡ S.failures source.old }
+        ensures only { IfErr result IsOfState }
+    {
+        self.state = read_state(self.alloc, source, limit)?;
+        Ok(())
+    }
+
+    /// Replaces the state by the one whose text of the mark `DKS1` a source holds, of at most `limit` bytes: it tells no horizon, and the state has none. A
+    /// text of the mark `DKS2` is refused at 0. A refusal, `State`, `Source` or `Memory`, leaves the office as it was.
+    pub fn migrate<S: Source>(&mut self, source: &mut S, limit: u64) -> Result<(), OfficeFault>
+        requires { S.failures source.old < 2 ^ 64 - 1 }
+        ensures ok { IsOk result → ReadsState dks_1 limit (S.left source.old) self.new }
+        ensures unchanged { IsErr result → self.new ≡ self.old }
+        ensures state { (fault : _) → result ≡ Err (OfficeFault.State fault)
+            → RefusesState dks_1 limit (S.left source.old) fault }
+        ensures memory { result ≡ Err OfficeFault.Memory
+            → WantsMemory dks_1 65536 limit (S.left source.old) (S.left source.new) }
+        ensures few { ReadsOnePieceMore dks_1 65536 limit (S.left source.old) (S.left source.new) }
+        ensures source { (result ≡ Err OfficeFault.Source)
+            ↔ (S.failures source.new ≡ S.failures source.old + 1) }
+        ensures no_failure { result ≢ Err OfficeFault.Source
+            → S.failures source.new ≡ S.failures source.old }
+        ensures only { IfErr result IsOfState }
+    {
+        self.state = migrate(self.alloc, source, limit)?;
+        Ok(())
+    }
+
+    /// Sets a horizon: what is put and ends before this day lapses. A day that is not after the horizon changes nothing. Takes no memory, and is never
+    /// refused.
+    pub fn set_horizon(&mut self, day: Day)
+        ensures raised { self.new ≡ raise_horizon day self.old }
+        ensures summary { (files : List (List (List ℕ))) (horizon : ℕ)
+            → IsSummary files horizon self.old → IsSummary files (max horizon day) self.new }
+    {
+        self.state.set_horizon(day);
+    }
+
+    /// Writes the text of the state, as another office receives or reloads it. Takes no memory: `Sink` alone refuses, and leaves the sink with a beginning
+    /// of the text, and not all of it.
+    pub fn send<K: Sink>(&self, sink: &mut K) -> Result<(), OfficeFault>
+        requires { K.failures sink.old < 2 ^ 64 - 1 }
+        ensures whole { OnOk result
+            (Takes (K.taken sink.old) (state_text dks_2 self.now) (K.taken sink.new)) }
+        ensures part { OnErr result
+            (TakesPart (K.taken sink.old) (state_text dks_2 self.now) (K.taken sink.new)) }
+        ensures no_failure { OnOk result (K.failures sink.new ≡ K.failures sink.old) }
+        ensures sink { (result ≡ Err OfficeFault.Sink)
+            ↔ (K.failures sink.new ≡ K.failures sink.old + 1) }
+        ensures only { IfErr result (λ fault. fault ≡ OfficeFault.Sink) }
+    {
+        write_state(&self.state, sink).map_err(|_| OfficeFault::Sink)
+    }
+
+    /// Prints the docker of a timing point and a day. It is made before its first byte is written, so that `Lapsed`, where the day is before the horizon
+    /// plus three days, and `Memory` write nothing; `Sink` leaves the sink with a beginning of the text, and not all of it.
+    pub fn print<K: Sink>(&self, place: &Tiploc, day: Day, sink: &mut K) -> Result<(), OfficeFault>
+        requires { K.failures sink.old < 2 ^ 64 - 1 }
+        ensures ok { IsOk result
+            → PrintsDocker self.now place.now day (K.taken sink.old) (K.taken sink.new) }
+        ensures part { result ≡ Err OfficeFault.Sink
+            → PrintsPart self.now place.now day (K.taken sink.old) (K.taken sink.new) }
+        ensures lapsed { (result ≡ Err OfficeFault.Lapsed) ↔ IsDayRefused self.now.horizon day }
+        ensures unwritten { (result ≡ Err OfficeFault.Lapsed) ⊎ (result ≡ Err OfficeFault.Memory)
+            → sink.new ≡ sink.old }
+        ensures sink { (result ≡ Err OfficeFault.Sink)
+            ↔ (K.failures sink.new ≡ K.failures sink.old + 1) }
+        ensures no_failure { result ≢ Err OfficeFault.Sink
+            → K.failures sink.new ≡ K.failures sink.old }
+        ensures only { IfErr result IsOfDocker }
+    {
+        let docker = docker(self.alloc, &self.state, place, day)?;
+        write_docker(&docker, sink).map_err(|_| OfficeFault::Sink)
+    }
+
+    /// Writes a line for each file that the office knows, in the order of the ledger. Takes no memory: `Sink` alone refuses, and leaves the sink with a
+    /// beginning of the text, and not all of it.
+    pub fn files<K: Sink>(&self, sink: &mut K) -> Result<(), OfficeFault>
+        requires { K.failures sink.old < 2 ^ 64 - 1 }
+        ensures whole { OnOk result
+            (Takes (K.taken sink.old) (files_text self.now.ledger) (K.taken sink.new)) }
+        ensures part { OnErr result
+            (TakesPart (K.taken sink.old) (files_text self.now.ledger) (K.taken sink.new)) }
+        ensures no_failure { OnOk result (K.failures sink.new ≡ K.failures sink.old) }
+        ensures sink { (result ≡ Err OfficeFault.Sink)
+            ↔ (K.failures sink.new ≡ K.failures sink.old + 1) }
+        ensures only { IfErr result (λ fault. fault ≡ OfficeFault.Sink) }
+    {
+        write_files(self.state.ledger(), sink).map_err(|_| OfficeFault::Sink)
+    }
+}

@@ -1,0 +1,41 @@
+//! A run of events at several offices.
+ghost use Rattle.std.specs.Prelude.{◌≡◌, ℕ, ◌<◌, All, length, IfOk};
+ghost use Rattle.docker_model.specs.run.Knowledge.{sent_count};
+ghost use Rattle.docker_office.specs.RunMeaning.{events_meant};
+ghost use Rattle.docker_office.specs.RunEnds.{HasGoodLimit, HasSummary, IsReplyAt, LeavesRun, TellsSummary};
+
+use crate::event::Event;
+use crate::exchange::Exchange;
+use crate::steps::Holdings;
+use cif_line::Memory;
+use std::alloc::Global;
+
+/// Meets events in their order, at so many offices that know nothing at first, and answers what they leave. `Memory` only where room for the offices, the
+/// messages or the replies is refused, before the first event; then each event has one reply, and one that is refused changes nothing.
+///
+/// Each reply is one that its event may have there: `NoOffice` where there is no such office, and where there is, `NoMessage` where there is no such message.
+/// Else a Take is done, or refused for the fault of its text or for want of memory; a Send, a Deliver and a Reload are done or want memory, and a Horizon is
+/// done. Each office has the state of exactly the files and the horizon that it knows, and each message tells what its office knew when it was sent.
+///
+/// So the files and horizons that an office knows fix its bytes and its dockers, whatever was lost, repeated or reordered: the laws of `headline` say it.
+pub fn run(alloc: Global, offices: usize, events: &[Event<'_>]) -> Result<Exchange, Memory>
+    requires { All HasGoodLimit (events_meant events.now) }
+    ensures run { IfOk result (LeavesRun offices (events_meant events.now)) }
+    ensures one_each { IfOk result (λ left. length left.replies ≡ length events.now) }
+    ensures reply { IfOk result (λ left. (place : ℕ) → place < length events.now
+        → IsReplyAt offices (events_meant events.now) left.replies place) }
+    ensures sent { IfOk result (λ left.
+        length left.messages ≡ sent_count (events_meant events.now) left.replies) }
+    ensures offices { IfOk result (λ left. length left.states ≡ offices) }
+    ensures state { IfOk result (λ left. (office : ℕ) → office < offices
+        → HasSummary offices (events_meant events.now) left office) }
+    ensures message { IfOk result (λ left. (message : ℕ) → message < length left.messages
+        → TellsSummary offices (events_meant events.now) left message) }
+{
+    let mut held = Holdings::new(alloc, offices, events.len())?;
+    let mut replies = Vec::with_capacity(alloc, events.len())?;
+    for event in events {
+        replies.push_reserved(held.meet(alloc, event));
+    }
+    Ok(Exchange::of(held.offices, held.messages, replies))
+}

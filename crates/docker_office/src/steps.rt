@@ -1,0 +1,243 @@
+//! The events of a run, one by one.
+ghost use Rattle.std.specs.Prelude.{◌≡◌, ◌≢◌, ℕ, ◌+◌, ◌^◌, ◌<◌, ◌≤◌, [], All, length, vec_len, vec_capacity, IfSome, IfNone, IsOk, IsErr, IfOk, IfErr, Some, Err};
+ghost use Rattle.cif_file.specs.SourceRead.{RefusesText};
+ghost use Rattle.docker_bytes.specs.SourceRead.{JoinsState, ReadsState, RefusesState};
+ghost use Rattle.docker_model.specs.state.StateText.{dks_2, state_text};
+ghost use Rattle.docker_model.specs.state.Summary.{IsSummary};
+ghost use Rattle.docker_model.specs.run.Run.{KnownSets, take_file, send_state, deliver, reload, horizon_event};
+ghost use Rattle.docker_model.specs.run.Knowledge.{IsGoodEvent, message_text};
+ghost use Rattle.docker_office.specs.Faults.{IsOfFile, IsOfState};
+ghost use Rattle.docker_office.specs.Office.{TakesFile};
+ghost use Rattle.docker_office.specs.RunMeaning.{IsMissing, event_meant, reply_for, texts_of};
+ghost use Rattle.docker_office.specs.RunEnds.{HasGoodLimit};
+
+use crate::event::Event;
+use crate::fault::OfficeFault;
+use crate::office::Office;
+use crate::reply::{Reply, RunFault};
+use cif_file::MOST_RECORDS;
+use cif_line::{Bytes, Day, Kept, Memory};
+use docker_bytes::encoded_len;
+use std::alloc::Global;
+
+/// How many bytes of a text or of a message are read at once, at most.
+const PIECE: usize = 65_536;
+
+/// Offices and the messages that they sent so far.
+#[derive(Debug, Drop)]
+pub(crate) struct Holdings {
+    pub(crate) offices: Vec<Office>,
+    pub(crate) messages: Vec<Kept>,
+}
+
+impl Holdings {
+    ghost use Rattle.docker_office.specs.RunSteps.{AreOf, MeetsEvent};
+
+    /// So many offices that know nothing, and room for so many messages.
+    pub(crate) fn new(alloc: Global, offices: usize, messages: usize) -> Result<Holdings, Memory>
+        ensures offices { IfOk result (λ held. length held.offices.items ≡ offices) }
+        ensures each { IfOk result (λ held. All (IsSummary [] 0) held.offices.items) }
+        ensures messages { IfOk result (λ held. held.messages.items ≡ []) }
+        ensures room { IfOk result (λ held. messages ≤ vec_capacity held.messages) }
+    {
+        let mut known = Vec::with_capacity(alloc, offices)?;
+        let messages = Vec::with_capacity(alloc, messages)?;
+        for _ in 0..offices {
+            known.push_reserved(Office::new(alloc));
+        }
+        Ok(Holdings {
+            offices: known,
+            messages,
+        })
+    }
+
+    /// The reply to an event, once it is done or refused.
+    pub(crate) fn meet(&mut self, alloc: Global, event: &Event<'_>) -> Reply
+        requires limit { HasGoodLimit (event_meant event.now) }
+        requires room { vec_len self.old.messages < vec_capacity self.old.messages }
+        ensures good { IsGoodEvent dks_2 (event_meant event.now) }
+        ensures met { (known : KnownSets) → AreOf known self.old
+            → MeetsEvent known (event_meant event.now) result self.new }
+        ensures room { vec_capacity self.new.messages ≡ vec_capacity self.old.messages }
+        ensures few { vec_len self.new.messages ≤ vec_len self.old.messages + 1 }
+    {
+        match event {
+            Event::Take {
+                office,
+                text,
+                limit,
+            } => self.take(*office, text, *limit),
+            Event::Send { office } => self.send(alloc, *office),
+            Event::Deliver { office, message } => self.deliver(*office, *message),
+            Event::Reload { office, message } => self.reload(*office, *message),
+            Event::Horizon { office, day } => self.set_horizon(*office, *day),
+        }
+    }
+
+    /// What is missing of an office and a message: first the office.
+    fn missing(&self, office: usize, message: usize) -> Option<RunFault>
+        ensures some { IfSome result (IsMissing (length self.now.offices.items)
+            (length self.now.messages.items) office message) }
+        ensures office { IfNone result (office < length self.now.offices.items) }
+        ensures message { IfNone result (message < length self.now.messages.items) }
+    {
+        if office >= self.offices.len() {
+            return Some(RunFault::NoOffice);
+        }
+        if message >= self.messages.len() {
+            return Some(RunFault::NoMessage);
+        }
+        None
+    }
+
+    /// An office takes the file of a text.
+    fn take(&mut self, office: usize, text: &[u8], limit: u32) -> Reply
+        requires { limit ≤ MOST_RECORDS }
+        ensures met { (known : KnownSets) → AreOf known self.old
+            → MeetsEvent known (take_file office text.now limit) result self.new }
+        ensures messages { self.new.messages ≡ self.old.messages }
+    {
+        if office >= self.offices.len() {
+            return Reply::Refused(RunFault::NoOffice);
+        }
+        reply_to(take_text(&mut self.offices[office], text, limit))
+    }
+
+    /// An office sends its state. Where that is refused, there is no message more.
+    fn send(&mut self, alloc: Global, office: usize) -> Reply
+        requires { vec_len self.old.messages < vec_capacity self.old.messages }
+        ensures met { (known : KnownSets) → AreOf known self.old
+            → MeetsEvent known (send_state office) result self.new }
+        ensures room { vec_capacity self.new.messages ≡ vec_capacity self.old.messages }
+        ensures few { vec_len self.new.messages ≤ vec_len self.old.messages + 1 }
+    {
+        if office >= self.offices.len() {
+            return Reply::Refused(RunFault::NoOffice);
+        }
+        match message_of(alloc, &self.offices[office]) {
+            Ok(message) => {
+                self.messages.push_reserved(message);
+                Reply::Done
+            }
+            Err(Memory) => Reply::Refused(RunFault::Office(OfficeFault::Memory)),
+        }
+    }
+
+    /// A message is delivered to an office.
+    fn deliver(&mut self, office: usize, message: usize) -> Reply
+        ensures met { (known : KnownSets) → AreOf known self.old
+            → MeetsEvent known (deliver office message) result self.new }
+        ensures messages { self.new.messages ≡ self.old.messages }
+    {
+        match self.missing(office, message) {
+            Some(fault) => Reply::Refused(fault),
+            None => {
+                let text = text_at(self.messages.as_slice(), message);
+                reply_to(receive_text(&mut self.offices[office], text))
+            }
+        }
+    }
+
+    /// An office goes back to the state that a message tells.
+    fn reload(&mut self, office: usize, message: usize) -> Reply
+        ensures met { (known : KnownSets) → AreOf known self.old
+            → MeetsEvent known (reload office message) result self.new }
+        ensures messages { self.new.messages ≡ self.old.messages }
+    {
+        match self.missing(office, message) {
+            Some(fault) => Reply::Refused(fault),
+            None => {
+                let text = text_at(self.messages.as_slice(), message);
+                reply_to(reload_text(&mut self.offices[office], text))
+            }
+        }
+    }
+
+    /// An office sets a horizon.
+    fn set_horizon(&mut self, office: usize, day: Day) -> Reply
+        ensures good { IsGoodEvent dks_2 (horizon_event office day) }
+        ensures met { (known : KnownSets) → AreOf known self.old
+            → MeetsEvent known (horizon_event office day) result self.new }
+        ensures messages { self.new.messages ≡ self.old.messages }
+    {
+        // A day has a number of at most 36524.
+        let _number = day.number();
+        if office >= self.offices.len() {
+            return Reply::Refused(RunFault::NoOffice);
+        }
+        self.offices[office].set_horizon(day);
+        Reply::Done
+    }
+}
+
+/// An office takes the file of a text.
+fn take_text(office: &mut Office, text: &[u8], limit: u32) -> Result<(), OfficeFault>
+    requires { limit ≤ MOST_RECORDS }
+    ensures ok { IsOk result → TakesFile limit (Some text.now) office.old office.new }
+    ensures unchanged { IsErr result → office.new ≡ office.old }
+    ensures file { (fault : _) → result ≡ Err (OfficeFault.File fault)
+        → RefusesText limit (Some text.now) fault }
+    ensures source { result ≢ Err OfficeFault.Source }
+    ensures only { IfErr result IsOfFile }
+{
+    office.take(&mut Bytes::new(text, PIECE), limit)
+}
+
+/// An office receives the state of a text, of which every byte is read.
+fn receive_text(office: &mut Office, text: &[u8]) -> Result<(), OfficeFault>
+    ensures ok { IsOk result
+        → JoinsState dks_2 (length text.now) (Some text.now) office.old office.new }
+    ensures unchanged { IsErr result → office.new ≡ office.old }
+    ensures state { (fault : _) → result ≡ Err (OfficeFault.State fault)
+        → RefusesState dks_2 (length text.now) (Some text.now) fault }
+    ensures source { result ≢ Err OfficeFault.Source }
+    ensures only { IfErr result IsOfState }
+{
+    office.receive(&mut Bytes::new(text, PIECE), text.len() as u64)
+}
+
+/// An office goes back to the state of a text, of which every byte is read.
+fn reload_text(office: &mut Office, text: &[u8]) -> Result<(), OfficeFault>
+    ensures ok { IsOk result → ReadsState dks_2 (length text.now) (Some text.now) office.new }
+    ensures unchanged { IsErr result → office.new ≡ office.old }
+    ensures state { (fault : _) → result ≡ Err (OfficeFault.State fault)
+        → RefusesState dks_2 (length text.now) (Some text.now) fault }
+    ensures source { result ≢ Err OfficeFault.Source }
+    ensures only { IfErr result IsOfState }
+{
+    office.reload(&mut Bytes::new(text, PIECE), text.len() as u64)
+}
+
+/// What an office sends: its whole text, in room that is reserved before a byte is written. A text that is too long for any room is want of memory.
+fn message_of(alloc: Global, office: &Office) -> Result<Kept, Memory>
+    ensures { IfOk result (λ kept. kept.taken ≡ state_text dks_2 office.now) }
+{
+    let Ok(room) = usize::try_from(encoded_len(office.state())) else {
+        return Err(Memory);
+    };
+    let mut message = Kept::new(alloc, room)?;
+    // A sink in memory fails only where its room is used up.
+    match office.send(&mut message) {
+        Ok(()) => Ok(message),
+        Err(_) => Err(Memory),
+    }
+}
+
+/// The text of a message.
+fn text_at(messages: &[Kept], message: usize) -> &[u8]
+    requires { message < length messages.now }
+    ensures text { result.now ≡ message_text (texts_of messages.now) message }
+    ensures short { length result.now < 2 ^ 64 }
+{
+    messages[message].bytes()
+}
+
+/// The reply to an event by what the office answers.
+fn reply_to(answer: Result<(), OfficeFault>) -> Reply
+    ensures { result ≡ reply_for answer }
+{
+    match answer {
+        Ok(()) => Reply::Done,
+        Err(fault) => Reply::Refused(RunFault::Office(fault)),
+    }
+}

@@ -1,0 +1,259 @@
+//! The files of the worked rows, as their records.
+
+use crate::records::*;
+
+/// The records of a file, in turn.
+pub(crate) type File = &'static [&'static str];
+
+/// One train from Ashfeld to Brayton, on weekdays from 10 to 14 June 2024.
+pub(crate) const MORNING: File = &[HD, BS, LO, LT, ZZ];
+
+/// The same without its trailer.
+pub(crate) const OPEN: File = &[HD, BS, LO, LT];
+
+/// The same train, as a revision.
+pub(crate) const REVISED: File = &[HD, BS_REVISED, LO, LT, ZZ];
+
+/// The same train, leaving in the evening.
+pub(crate) const EVENING: File = &[HD, BS, LO_2355, LT_0005, ZZ];
+
+/// The revision of that train, a day later.
+pub(crate) const REVISION: File = &[HD_10B, BS_REVISED, LO_0905, LT_0935, ZZ];
+
+/// An update of 5 June: C10003 is deleted.
+pub(crate) const FIFTH: File = &[HD_5A, BS_C10003, BS, LO, LT, ZZ];
+
+/// A full extract of 7 June: C10002 alone.
+pub(crate) const SEVENTH: File = &[HD_7B, BS_C10002, LO_1000, LT_1030, ZZ];
+
+/// An update of 9 June: C10001 two hours later.
+pub(crate) const NINTH: File = &[HD_9C, BS, LO_1100, LT_1130, ZZ];
+
+/// A deletion of C10001.
+pub(crate) const DELETION: File = &[HD_9B, BS_DELETED, ZZ];
+
+/// C10001, a day before that.
+pub(crate) const EIGHTH: File = &[HD_8A, BS, LO, LT, ZZ];
+
+/// A timing point.
+pub(crate) const PLACE: File = &[HD, TI, ZZ];
+
+/// Its new code, a day later.
+pub(crate) const RENAMED: File = &[HD_10B, TA, ZZ];
+
+/// A train with an overlay on two days, and a cancellation on another.
+pub(crate) const WEEK: File = &[
+    HD,
+    BS_WEEK,
+    LO,
+    LT,
+    BS_OVERLAY,
+    LO_0915,
+    LT,
+    BS_CANCELLED,
+    ZZ,
+];
+
+/// The same with another schedule at its end.
+pub(crate) const WEEKEND: File = &[
+    HD,
+    BS_WEEK,
+    LO,
+    LT,
+    BS_OVERLAY,
+    LO_0915,
+    LT,
+    BS_CANCELLED,
+    BS_WEEKEND,
+    LO_0910,
+    LT,
+    ZZ,
+];
+
+/// A train past midnight, that calls at Colwell and passes Dunmere.
+pub(crate) const NIGHT: File = &[HD, BS_NIGHT, LO_2355, LI_0000, LI_0010, LT_0020, ZZ];
+
+/// A train past two midnights.
+pub(crate) const TWO_NIGHTS: File = &[
+    HD,
+    BS_NIGHT,
+    LO_2355,
+    LI_0010,
+    LI_COLWELL_0005,
+    LT_0006,
+    ZZ,
+];
+
+/// A train past three, which no schedule may pass.
+pub(crate) const THREE_NIGHTS: File = &[
+    HD,
+    BS_NIGHT,
+    LO_2355,
+    LI_0010,
+    LI_COLWELL_0005,
+    LT_0001,
+    ZZ,
+];
+
+/// A train that calls at Colwell twice and divides at its second call.
+pub(crate) const DIVISION: File = &[
+    HD,
+    BS_C30001,
+    LO_1000_PLAIN,
+    LI_1010,
+    LI_1040,
+    LT_1100_PLAIN,
+    BS_C30002,
+    LO_COLWELL_1045,
+    LT_DUNMERE_1100,
+    AA_DIVIDE,
+    ZZ,
+];
+
+/// A train that changes its identity on its way.
+pub(crate) const IDENTITY: File = &[
+    HD,
+    BS_C50001,
+    LO_1200,
+    CR_5E51,
+    LI_COLWELL_1210,
+    LT_1230,
+    ZZ,
+];
+
+/// The train of the morning up to a later day, ten minutes earlier.
+pub(crate) const LONGER: File = &[HD, BS_LONGER, LO_0850, LT, ZZ];
+
+/// The train of the morning, five minutes later.
+pub(crate) const LATER: File = &[HD, BS, LO_0905, LT, ZZ];
+
+/// A deletion of that train under the same header.
+pub(crate) const DELETED: File = &[HD, BS_DELETED, ZZ];
+
+/// The train of the morning up to the end of July, of the day before.
+pub(crate) const JULY: File = &[HD_8A, BS_JULY, LO, LT, ZZ];
+
+/// A train without a public time that leaves Ashfeld at half a minute.
+pub(crate) const HALF: File = &[HD, BS, LO_HALF, LT, ZZ];
+
+/// A train from Ashfeld to Ashfeld, that comes when it leaves.
+pub(crate) const ROUND: File = &[HD, BS, LO, LT_ASHFELD_0900, ZZ];
+
+/// A train to Colwell that becomes another one there on the next day.
+pub(crate) const NEXT_DAY: File = &[
+    HD,
+    BS_C40001,
+    LO_2300,
+    LT_COLWELL_2350,
+    BS_C40002,
+    LO_COLWELL_0010,
+    LT_ASHFELD_0100,
+    AA_N,
+    ZZ,
+];
+
+/// The same on the same day.
+pub(crate) const SAME_DAY: File = &[
+    HD,
+    BS_C40001,
+    LO_2300,
+    LT_COLWELL_2350,
+    BS_C40002,
+    LO_COLWELL_0010,
+    LT_ASHFELD_0100,
+    AA_S,
+    ZZ,
+];
+
+/// The same without an indicator.
+pub(crate) const NO_INDICATOR: File = &[
+    HD,
+    BS_C40001,
+    LO_2300,
+    LT_COLWELL_2350,
+    BS_C40002,
+    LO_COLWELL_0010,
+    LT_ASHFELD_0100,
+    AA_BLANK,
+    ZZ,
+];
+
+/// The same on the day before.
+pub(crate) const DAY_BEFORE: File = &[
+    HD,
+    BS_C40001,
+    LO_2300,
+    LT_COLWELL_2350,
+    BS_C40002,
+    LO_COLWELL_0010,
+    LT_ASHFELD_0100,
+    AA_P,
+    ZZ,
+];
+
+/// The same by an unknown indicator.
+pub(crate) const UNKNOWN_INDICATOR: File = &[
+    HD,
+    BS_C40001,
+    LO_2300,
+    LT_COLWELL_2350,
+    BS_C40002,
+    LO_COLWELL_0010,
+    LT_ASHFELD_0100,
+    AA_X,
+    ZZ,
+];
+
+/// The same by an unknown category.
+pub(crate) const UNKNOWN_CATEGORY: File = &[
+    HD,
+    BS_C40001,
+    LO_2300,
+    LT_COLWELL_2350,
+    BS_C40002,
+    LO_COLWELL_0010,
+    LT_ASHFELD_0100,
+    AA_OTHER,
+    ZZ,
+];
+
+/// The same on the last day of the calendar.
+pub(crate) const LAST_DAY: File = &[
+    HD,
+    BS_C40001_LAST,
+    LO_2300,
+    LT_COLWELL_2350,
+    BS_C40002,
+    LO_COLWELL_0010,
+    LT_ASHFELD_0100,
+    AA_LAST,
+    ZZ,
+];
+
+/// The train that becomes another one, which is cancelled.
+pub(crate) const PARTNER_CANCELLED: File = &[
+    HD,
+    BS_C40001,
+    LO_2300,
+    LT_COLWELL_2350,
+    BS_C40002,
+    LO_COLWELL_0010,
+    LT_ASHFELD_0100,
+    AA_N,
+    BS_C40002_CANCELLED,
+    ZZ,
+];
+
+/// The same where itself is cancelled.
+pub(crate) const BASE_CANCELLED: File = &[
+    HD,
+    BS_C40001,
+    LO_2300,
+    LT_COLWELL_2350,
+    BS_C40002,
+    LO_COLWELL_0010,
+    LT_ASHFELD_0100,
+    AA_N,
+    BS_C40001_CANCELLED,
+    ZZ,
+];
