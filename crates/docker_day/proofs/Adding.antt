@@ -28,7 +28,3 @@ told_if test told lines is same = same ∙ (λ i. cond (sym is i) told [])
 -- and none where it does not
 pub untold : (test : Bool) (told : List DockerLine) → test ≡ false → [] ≡ cond test told []
 untold test told is = λ i. cond (sym is i) told []
-
--- one more row out, and the rest to come
-pub row_out : (before after row rest all : List DockerLine) → after ≡ before ++ row → before ++ (row ++ rest) ≡ all → after ++ rest ≡ all
-row_out before after row rest all is same = ap (λ out. out ++ rest) is ∙ append_assoc before row rest ∙ same

@@ -44,11 +44,6 @@ module _ (place : List ℕ) (day start : ℕ) (key : ScheduleKey) (lines : List 
   pub event_lines_are : lines_there place day start key detail (occurrences lines) ≡ event_lines place day start key lines
   event_lines_are = along (events_of lines)
 
--- one more line out, and the rest to come
-pub line_out : (before after rest all : List DockerLine) (line : DockerLine) → after ≡ before ++ line ∷ [] → before ++ ((line ∷ []) ++ rest) ≡ all
-    → after ++ rest ≡ all
-line_out before after rest all line is same = ap (λ out. out ++ rest) is ∙ append_assoc before (line ∷ []) rest ∙ same
-
 -- ---- schedules without a journey
 
 no_times_met : (p : Progress) (lines : List (List ℕ)) → AllByRecursion (λ (line : List ℕ). times_of line ≡ []) lines → occurrences_from p lines ≡ []

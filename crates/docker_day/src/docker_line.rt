@@ -225,17 +225,16 @@ impl DockerLine<'_> {
     fn cmp_at_one_time(&self, other: &DockerLine<'_>) -> Ordering
         ensures { result ≡ cmp_at_one_time self.now other.now }
     {
-        self.occasion
-            .rank()
-            .cmp(&other.occasion.rank())
+        let by_occasion = self.occasion.rank().cmp(&other.occasion.rank());
+        let by_partner = self
+            .detail
+            .associated_uid()
+            .cmp(other.detail.associated_uid());
+        by_occasion
             .then(self.uid.bytes().cmp(other.uid.bytes()))
             .then(self.start.number().cmp(&other.start.number()))
             .then(self.number.cmp(&other.number))
-            .then(
-                self.detail
-                    .associated_uid()
-                    .cmp(other.detail.associated_uid()),
-            )
+            .then(by_partner)
     }
 }
 

@@ -109,11 +109,7 @@ fn fall(last: Option<Time>, time: Time) -> u64
 }
 
 /// The identity of a train behind a line of a kind: that of a change en route (CR), and else the one before.
-fn identity_behind<'a>(
-    kind: Option<Kind>,
-    line: &'a Line,
-    identity: &'a [u8; 4],
-) -> &'a [u8; 4]
+fn identity_behind<'a>(kind: Option<Kind>, line: &'a Line, identity: &'a [u8; 4]) -> &'a [u8; 4]
     requires { option_map meaning kind ≡ kind_of line.now }
     ensures { result.now ≡ identity_behind line.entry.now identity.entry.now }
 {
