@@ -1,0 +1,167 @@
+//! Time and memory of the commands of an office, beside `wc -l` of the bytes that each reads.
+
+use crate::measure::{machine, run, Input, Spent};
+use std::collections::HashMap;
+use std::fs::{self, File};
+use std::io::{BufRead, BufReader, Error, Result};
+
+const ROUNDS: usize = 5;
+
+/// A command: what STATE is before it, its words, the files that it reads, and the bytes of the texts of the states that it holds.
+struct Job<'a> {
+    name: &'static str,
+    before: Option<&'a str>,
+    words: Vec<&'a str>,
+    reads: Vec<&'a str>,
+    states: u64,
+    best: f64,
+    processor: f64,
+    memory: u64,
+    counting: f64,
+    lines: usize,
+}
+
+/// The paths of the states that the commands begin with.
+struct States {
+    empty: String,
+    full: String,
+    update: String,
+    /// The full state in the older format.
+    old: String,
+    /// The STATE that a command writes.
+    own: String,
+}
+
+/// Prints the table of an extract and an update of it. The states are left in the folder.
+pub fn table(program: &str, extract: &str, update: &str, folder: &str) -> Result<()> {
+    let states = make_states(program, extract, update, folder)?;
+    let (place, date) = busiest(extract)?;
+    let size = |path: &str| fs::metadata(path).map(|about| about.len());
+    let (full, beside) = (size(&states.full)?, size(&states.update)?);
+    let States { empty, full: whole, update: other, old, own } = &states;
+    let job = |name, before: Option<&'static str>, words: &[&'static str], reads: &[&'static str], held: u64| {
+        let path = |word: &'static str| match word {
+            "STATE" => own.as_str(),
+            "EMPTY" => empty.as_str(),
+            "FULL" => whole.as_str(),
+            "OTHER" => other.as_str(),
+            "OLD" => old.as_str(),
+            "FILE" => extract,
+            "UPDATE" => update,
+            "TIPLOC" => place.as_str(),
+            "DATE" => date.as_str(),
+            word => word,
+        };
+        let words = [program].into_iter().chain(words.iter().map(|&word| path(word))).collect();
+        let reads = reads.iter().map(|&word| path(word)).collect();
+        let worst = f64::INFINITY;
+        Job { name, before: before.map(path), words, reads, states: held, best: worst, processor: worst, memory: 0, counting: worst, lines: 0 }
+    };
+    let mut jobs = [
+        job("`check FILE`", None, &["check", "FILE"], &["FILE"], full),
+        job("`day FILE TIPLOC DATE`", None, &["day", "FILE", "TIPLOC", "DATE"], &["FILE"], full),
+        job("`take` of the extract, by an office that knows nothing", Some("EMPTY"), &["take", "STATE", "FILE"], &["FILE"], full),
+        job("`take` of the update", Some("FULL"), &["take", "STATE", "UPDATE"], &["FULL", "UPDATE"], full + beside),
+        job("`merge` of the update's state", Some("FULL"), &["merge", "STATE", "OTHER"], &["FULL", "OTHER"], full + beside),
+        job("`merge` of the full state into the update's", Some("OTHER"), &["merge", "STATE", "FULL"], &["OTHER", "FULL"], full + beside),
+        job("`merge` with nothing new", Some("FULL"), &["merge", "STATE", "FULL"], &["FULL", "FULL"], full),
+        job("`horizon` of that day", Some("FULL"), &["horizon", "STATE", "DATE"], &["FULL"], full),
+        job("`migrate`", Some("OLD"), &["migrate", "STATE"], &["OLD"], full),
+        job("`print STATE TIPLOC DATE`", None, &["print", "FULL", "TIPLOC", "DATE"], &["FULL"], full),
+        job("`files STATE`", None, &["files", "FULL"], &["FULL"], full),
+    ];
+    for _ in 0..ROUNDS {
+        for job in &mut jobs {
+            measure(job, own)?;
+        }
+    }
+    let busy = jobs[1].lines.saturating_sub(2);
+    println!("{}", machine());
+    println!(
+        "\nextract {:.1} MB, its state {:.1} MB, the update's {:.1} MB; {place} on {date} has {busy} lines; best time and greatest memory of {ROUNDS}\n",
+        size(extract)? as f64 / 1e6,
+        full as f64 / 1e6,
+        beside as f64 / 1e6
+    );
+    print(&jobs)
+}
+
+/// Makes the states that the commands begin with.
+fn make_states(program: &str, extract: &str, update: &str, folder: &str) -> Result<States> {
+    let path = |name: &str| format!("{folder}/{name}.state");
+    let states = States { empty: path("empty"), full: path("full"), update: path("update"), old: path("old"), own: path("own") };
+    done(&[program, "new", &states.empty])?;
+    for (state, file) in [(&states.full, extract), (&states.update, update)] {
+        done(&[program, "new", state])?;
+        done(&[program, "take", state, file])?;
+    }
+    // The older format has another mark and no horizon.
+    let text = fs::read(&states.full)?;
+    fs::write(&states.old, [b"DKS1", &text[6..]].concat())?;
+    Ok(states)
+}
+
+/// Runs a command that has to end well; what it took and said.
+fn done(words: &[&str]) -> Result<Spent> {
+    let spent = run(words, Input::None)?;
+    match (spent.status, &*spent.errors) {
+        (0, "") => Ok(spent),
+        (status, errors) => Err(Error::other(format!("{words:?} ended with {status}: {errors}"))),
+    }
+}
+
+/// The timing point that the most location records name, and the day of the header, as `YYYY-MM-DD`.
+fn busiest(extract: &str) -> Result<(String, String)> {
+    let mut counts: HashMap<[u8; 7], usize> = HashMap::new();
+    let mut date = String::new();
+    for line in BufReader::new(File::open(extract)?).split(b'\n') {
+        let line = line?;
+        match line.get(..2) {
+            Some(b"HD") => date = String::from_utf8_lossy(&line[22..28]).into_owned(),
+            Some(b"LO" | b"LI" | b"LT") => *counts.entry(line[2..9].try_into().map_err(Error::other)?).or_default() += 1,
+            _ => {}
+        }
+    }
+    let place = counts.iter().max_by_key(|&(place, count)| (count, place)).ok_or_else(|| Error::other("the extract has no location"))?.0;
+    let place = String::from_utf8_lossy(place).trim_end().to_string();
+    Ok((place, format!("20{}-{}-{}", &date[4..6], &date[2..4], &date[..2])))
+}
+
+fn measure(job: &mut Job, own: &str) -> Result<()> {
+    let mut counting = 0.0;
+    for path in &job.reads {
+        counting += run(&["wc", "-l", path], Input::None)?.seconds;
+    }
+    if let Some(before) = job.before {
+        fs::copy(before, own)?;
+    }
+    let spent = done(&job.words)?;
+    job.counting = job.counting.min(counting);
+    job.best = job.best.min(spent.seconds);
+    job.processor = job.processor.min(spent.processor);
+    job.memory = job.memory.max(spent.memory);
+    job.lines = spent.output.lines().count();
+    Ok(())
+}
+
+fn print(jobs: &[Job]) -> Result<()> {
+    println!("| Command | Time, s | MB/s read | × `wc -l` | Processor, s | Peak memory, MB | × the states held |");
+    println!("|---|---|---|---|---|---|---|");
+    for job in jobs {
+        let mut bytes = 0;
+        for path in &job.reads {
+            bytes += fs::metadata(path)?.len();
+        }
+        println!(
+            "| {} | {:.3} | {:.0} | {:.1} | {:.3} | {:.1} | {:.2} |",
+            job.name,
+            job.best,
+            bytes as f64 / 1e6 / job.best,
+            job.best / job.counting,
+            job.processor,
+            job.memory as f64 / 1e6,
+            job.memory as f64 / job.states as f64,
+        );
+    }
+    Ok(())
+}
