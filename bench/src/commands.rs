@@ -1,9 +1,10 @@
-//! Time and memory of the commands of an office, beside `wc -l` of the bytes that each reads.
+//! Time and memory of the commands of an office, beside `wc -l` of the bytes that each reads and beside the plain program of the bench, which
+//! has to give the same bytes.
 
 use crate::measure::{machine, run, Input, Spent};
 use std::collections::HashMap;
 use std::fs::{self, File};
-use std::io::{BufRead, BufReader, Error, Result};
+use std::io::{copy, BufRead, BufReader, Error, Result, Seek, SeekFrom, Write};
 
 const ROUNDS: usize = 5;
 
@@ -14,11 +15,32 @@ struct Job<'a> {
     words: Vec<&'a str>,
     reads: Vec<&'a str>,
     states: u64,
-    best: f64,
-    processor: f64,
-    memory: u64,
-    counting: f64,
+    counting: Vec<f64>,
+    /// Of the program, and of the plain one.
+    took: [Took; 2],
     lines: usize,
+}
+
+/// What the runs of a program took.
+#[derive(Default)]
+struct Took {
+    seconds: Vec<f64>,
+    processor: Vec<f64>,
+    memory: u64,
+}
+
+impl Took {
+    fn add(&mut self, spent: &Spent) {
+        self.seconds.push(spent.seconds);
+        self.processor.push(spent.processor);
+        self.memory = self.memory.max(spent.memory);
+    }
+}
+
+fn median(values: &[f64]) -> f64 {
+    let mut values = values.to_vec();
+    values.sort_by(f64::total_cmp);
+    values[values.len() / 2]
 }
 
 /// The paths of the states that the commands begin with.
@@ -34,6 +56,8 @@ struct States {
 
 /// Prints the table of an extract and an update of it. The states are left in the folder.
 pub fn table(program: &str, extract: &str, update: &str, folder: &str) -> Result<()> {
+    let plain = std::env::current_exe()?;
+    let plain = plain.to_str().ok_or_else(|| Error::other("this program's path isn't text"))?;
     let states = make_states(program, extract, update, folder)?;
     let (place, date) = busiest(extract)?;
     let size = |path: &str| fs::metadata(path).map(|about| about.len());
@@ -52,10 +76,9 @@ pub fn table(program: &str, extract: &str, update: &str, folder: &str) -> Result
             "DATE" => date.as_str(),
             word => word,
         };
-        let words = [program].into_iter().chain(words.iter().map(|&word| path(word))).collect();
+        let words = words.iter().map(|&word| path(word)).collect();
         let reads = reads.iter().map(|&word| path(word)).collect();
-        let worst = f64::INFINITY;
-        Job { name, before: before.map(path), words, reads, states: held, best: worst, processor: worst, memory: 0, counting: worst, lines: 0 }
+        Job { name, before: before.map(path), words, reads, states: held, counting: Vec::new(), took: Default::default(), lines: 0 }
     };
     let mut jobs = [
         job("`check FILE`", None, &["check", "FILE"], &["FILE"], full),
@@ -72,7 +95,7 @@ pub fn table(program: &str, extract: &str, update: &str, folder: &str) -> Result
     ];
     for _ in 0..ROUNDS {
         for job in &mut jobs {
-            measure(job, own)?;
+            measure(job, [&[program], &[plain, "plain"]], own)?;
         }
     }
     let busy = jobs[1].lines.saturating_sub(2);
@@ -96,8 +119,11 @@ fn make_states(program: &str, extract: &str, update: &str, folder: &str) -> Resu
         done(&[program, "take", state, file])?;
     }
     // The older format has another mark and no horizon.
-    let text = fs::read(&states.full)?;
-    fs::write(&states.old, [b"DKS1", &text[6..]].concat())?;
+    let mut full = File::open(&states.full)?;
+    full.seek(SeekFrom::Start(6))?;
+    let mut old = File::create(&states.old)?;
+    old.write_all(b"DKS1")?;
+    copy(&mut full, &mut old)?;
     Ok(states)
 }
 
@@ -127,40 +153,54 @@ fn busiest(extract: &str) -> Result<(String, String)> {
     Ok((place, format!("20{}-{}-{}", &date[4..6], &date[2..4], &date[..2])))
 }
 
-fn measure(job: &mut Job, own: &str) -> Result<()> {
+/// Runs both programs in turn; they have to print the same, and to leave the same STATE. No state is held in memory here: a process that is
+/// started begins with the peak of this one.
+fn measure(job: &mut Job, programs: [&[&str]; 2], own: &str) -> Result<()> {
     let mut counting = 0.0;
     for path in &job.reads {
         counting += run(&["wc", "-l", path], Input::None)?.seconds;
     }
-    if let Some(before) = job.before {
-        fs::copy(before, own)?;
+    job.counting.push(counting);
+    let other = format!("{own}.other");
+    let mut outputs = Vec::new();
+    for (program, took) in programs.iter().zip(&mut job.took) {
+        if let Some(before) = job.before {
+            fs::copy(before, own)?;
+        }
+        let spent = done(&[program, &*job.words].concat())?;
+        took.add(&spent);
+        job.lines = spent.output.lines().count();
+        if job.before.is_some() && outputs.is_empty() {
+            fs::rename(own, &other)?;
+        }
+        outputs.push(spent.output);
     }
-    let spent = done(&job.words)?;
-    job.counting = job.counting.min(counting);
-    job.best = job.best.min(spent.seconds);
-    job.processor = job.processor.min(spent.processor);
-    job.memory = job.memory.max(spent.memory);
-    job.lines = spent.output.lines().count();
+    let same = job.before.is_none() || run(&["cmp", own, &other], Input::None)?.status == 0;
+    if !same || outputs[0] != outputs[1] {
+        return Err(Error::other(format!("{}: the plain program gives other bytes", job.name)));
+    }
     Ok(())
 }
 
 fn print(jobs: &[Job]) -> Result<()> {
-    println!("| Command | Time, s | MB/s read | × `wc -l` | Processor, s | Peak memory, MB | × the states held |");
-    println!("|---|---|---|---|---|---|---|");
+    println!("| Command | Time, s | MB/s read | × `wc -l` | Processor, s | × plain | Peak memory, MB | × plain | × the states held |");
+    println!("|---|---|---|---|---|---|---|---|---|");
     for job in jobs {
         let mut bytes = 0;
         for path in &job.reads {
             bytes += fs::metadata(path)?.len();
         }
+        let [own, plain] = &job.took;
+        let (time, processor, memory) = (median(&own.seconds), median(&own.processor), own.memory as f64);
         println!(
-            "| {} | {:.3} | {:.0} | {:.1} | {:.3} | {:.1} | {:.2} |",
+            "| {} | {time:.3} | {:.0} | {:.1} | {processor:.3} | {:.2} | {:.1} | {:.2} | {:.2} |",
             job.name,
-            job.best,
-            bytes as f64 / 1e6 / job.best,
-            job.best / job.counting,
-            job.processor,
-            job.memory as f64 / 1e6,
-            job.memory as f64 / job.states as f64,
+            bytes as f64 / 1e6 / time,
+            time / median(&job.counting),
+            processor / median(&plain.processor),
+            memory / 1e6,
+            memory / plain.memory as f64,
+            memory / job.states as f64,
         );
     }
     Ok(())
