@@ -78,7 +78,16 @@ pub fn table(program: &str, extract: &str, update: &str, folder: &str) -> Result
         };
         let words = words.iter().map(|&word| path(word)).collect();
         let reads = reads.iter().map(|&word| path(word)).collect();
-        Job { name, before: before.map(path), words, reads, states: held, counting: Vec::new(), took: Default::default(), lines: 0 }
+        Job {
+            name,
+            before: before.map(path),
+            words,
+            reads,
+            states: held,
+            counting: Vec::new(),
+            took: Default::default(),
+            lines: 0,
+        }
     };
     let mut jobs = [
         job("`check FILE`", None, &["check", "FILE"], &["FILE"], full),
@@ -86,7 +95,13 @@ pub fn table(program: &str, extract: &str, update: &str, folder: &str) -> Result
         job("`take` of the extract, by an office that knows nothing", Some("EMPTY"), &["take", "STATE", "FILE"], &["FILE"], full),
         job("`take` of the update", Some("FULL"), &["take", "STATE", "UPDATE"], &["FULL", "UPDATE"], full + beside),
         job("`merge` of the update's state", Some("FULL"), &["merge", "STATE", "OTHER"], &["FULL", "OTHER"], full + beside),
-        job("`merge` of the full state into the update's", Some("OTHER"), &["merge", "STATE", "FULL"], &["OTHER", "FULL"], full + beside),
+        job(
+            "`merge` of the full state into the update's",
+            Some("OTHER"),
+            &["merge", "STATE", "FULL"],
+            &["OTHER", "FULL"],
+            full + beside,
+        ),
         job("`merge` with nothing new", Some("FULL"), &["merge", "STATE", "FULL"], &["FULL", "FULL"], full),
         job("`horizon` of that day", Some("FULL"), &["horizon", "STATE", "DATE"], &["FULL"], full),
         job("`migrate`", Some("OLD"), &["migrate", "STATE"], &["OLD"], full),
@@ -148,7 +163,8 @@ fn busiest(extract: &str) -> Result<(String, String)> {
             _ => {}
         }
     }
-    let place = counts.iter().max_by_key(|&(place, count)| (count, place)).ok_or_else(|| Error::other("the extract has no location"))?.0;
+    let place =
+        counts.iter().max_by_key(|&(place, count)| (count, place)).ok_or_else(|| Error::other("the extract has no location"))?.0;
     let place = String::from_utf8_lossy(place).trim_end().to_string();
     Ok((place, format!("20{}-{}-{}", &date[4..6], &date[2..4], &date[..2])))
 }
@@ -183,7 +199,9 @@ fn measure(job: &mut Job, programs: [&[&str]; 2], own: &str) -> Result<()> {
 }
 
 fn print(jobs: &[Job]) -> Result<()> {
-    println!("| Command | Time, s | MB/s read | × `wc -l` | Processor, s | × plain | Peak memory, MB | × plain | × the states held |");
+    println!(
+        "| Command | Time, s | MB/s read | × `wc -l` | Processor, s | × plain | Peak memory, MB | × plain | × the states held |"
+    );
     println!("|---|---|---|---|---|---|---|---|---|");
     for job in jobs {
         let mut bytes = 0;

@@ -70,7 +70,9 @@ fn mutate(text: &mut Vec<u8>, subject: Subject, random: &mut Random) -> &'static
 fn records(text: &[u8]) -> Vec<usize> {
     let begins = |at: &usize| {
         let identity = text.get(*at..*at + 2);
-        identity.is_some_and(|two| [b"HD", b"TI", b"TA", b"TD", b"AA", b"BS", b"BX", b"LO", b"LI", b"CR", b"LT", b"ZZ"].iter().any(|known| *known == two))
+        identity.is_some_and(|two| {
+            [b"HD", b"TI", b"TA", b"TD", b"AA", b"BS", b"BX", b"LO", b"LI", b"CR", b"LT", b"ZZ"].iter().any(|known| *known == two)
+        })
     };
     (0..text.len()).filter(begins).filter(|at| at + 80 <= text.len()).collect()
 }
@@ -138,7 +140,8 @@ struct Tally {
 fn states_of(files: &[Vec<u8>]) -> Option<Vec<Vec<u8>>> {
     let kept = |words: &[&str], files: &[Vec<u8>]| answer(words, files).ok()?.state;
     let empty = kept(&["new", "STATE"], &[])?;
-    let mut states = files.iter().map(|file| kept(&["take", "STATE", "FILE"], &[empty.clone(), file.clone()])).collect::<Option<Vec<_>>>()?;
+    let mut states =
+        files.iter().map(|file| kept(&["take", "STATE", "FILE"], &[empty.clone(), file.clone()])).collect::<Option<Vec<_>>>()?;
     let mut whole = empty;
     for state in &states {
         whole = kept(&["merge", "STATE", "OTHER"], &[whole, state.clone()])?;

@@ -98,7 +98,8 @@ fn front(event: &Event, kind: u8, uid: &[u8; 6], stp: u8, own: bool) -> String {
         b"LT" => (19, None, Some(22)),
         _ => (33, Some(36), Some(39)),
     };
-    let field = |column: Option<usize>| column.filter(|_| own).map_or("   ".to_string(), |from| text(&event.line[from..from + 3]));
+    let field =
+        |column: Option<usize>| column.filter(|_| own).map_or("   ".to_string(), |from| text(&event.line[from..from + 3]));
     let minutes = event.half_minutes / 2;
     format!(
         "{:02}{:02}{} {} {} {} {} {} {} {} {} {}",
@@ -165,7 +166,9 @@ fn add_events(lines: &mut Vec<Line>, trains: &Trains, uid: &[u8; 6], row: Schedu
             continue;
         }
         let all = events(body);
-        let (Some(first), Some(last)) = (body.bytes.chunks_exact(80).find(|line| &line[..2] == b"LO"), body.bytes.chunks_exact(80).last()) else {
+        let (Some(first), Some(last)) =
+            (body.bytes.chunks_exact(80).find(|line| &line[..2] == b"LO"), body.bytes.chunks_exact(80).last())
+        else {
             continue;
         };
         for event in all.iter().filter(|event| event.line[2..9] == *place && start + event.falls == day) {
@@ -192,7 +195,8 @@ fn add_associations(lines: &mut Vec<Line>, trains: &Trains, rows: &[Schedule], p
     for (named, rows) in groups {
         let Some((base, other, suffix)) = named else { continue };
         for start in day.saturating_sub(2)..=day {
-            let Some((key, body)) = chosen(&rows, DAYS_OF_ASSOCIATION, start).filter(|(key, _)| stp_and_first(key).0 != b'C') else {
+            let Some((key, body)) = chosen(&rows, DAYS_OF_ASSOCIATION, start).filter(|(key, _)| stp_and_first(key).0 != b'C')
+            else {
                 continue;
             };
             let kind = match &body.bytes[34..36] {
@@ -213,7 +217,8 @@ fn add_associations(lines: &mut Vec<Line>, trains: &Trains, rows: &[Schedule], p
             if start + event.falls != day {
                 continue;
             }
-            let partner = u16::try_from(partner_day).ok().filter(|&day| day <= 36_524).and_then(|day| trains.running(&other, day));
+            let partner =
+                u16::try_from(partner_day).ok().filter(|&day| day <= 36_524).and_then(|day| trains.running(&other, day));
             let identity = partner.map_or("????".to_string(), |(_, body)| text(&at::<4>(&body.bytes, 33)));
             let front = front(event, kind, &base, stp_and_first(key).0, false);
             let order = (event.half_minutes, kind_rank(kind), base, start, event.number, other);
@@ -226,7 +231,15 @@ fn add_associations(lines: &mut Vec<Line>, trains: &Trains, rows: &[Schedule], p
 pub fn files(state: &State) -> String {
     let line = |item: &super::state::Item| {
         let (stamp, minute) = (&item.stamp, item.stamp.minute);
-        format!("{} {:02}{:02} {} {} {}\n", iso(stamp.day), minute / 60, minute % 60, text(&stamp.reference), item.indicator as char, text(&item.last))
+        format!(
+            "{} {:02}{:02} {} {} {}\n",
+            iso(stamp.day),
+            minute / 60,
+            minute % 60,
+            text(&stamp.reference),
+            item.indicator as char,
+            text(&item.last)
+        )
     };
     state.ledger.iter().map(line).collect()
 }

@@ -48,7 +48,14 @@ pub fn iso_number(date: &str) -> Option<u16> {
     let digits = |from: usize, to: usize| bytes.get(from..to).filter(|part| part.iter().all(u8::is_ascii_digit));
     let (century, year, month, day) = (digits(0, 2)?, digits(2, 4)?, digits(5, 7)?, digits(8, 10)?);
     let wanted = if two(year) >= 60 { b"19" } else { b"20" };
-    if bytes.len() != 10 || bytes[4] != b'-' || bytes[7] != b'-' || century != wanted || two(month) == 0 || two(month) > 12 || two(day) == 0 {
+    if bytes.len() != 10
+        || bytes[4] != b'-'
+        || bytes[7] != b'-'
+        || century != wanted
+        || two(month) == 0
+        || two(month) > 12
+        || two(day) == 0
+    {
         return None;
     }
     let number = number(year, month, day);
@@ -78,7 +85,14 @@ pub fn time(field: &[u8]) -> Option<u16> {
 }
 
 pub fn association_key(line: &[u8]) -> Key {
-    Key::Association { base: at(line, 4), other: at(line, 10), start: day(&line[15..]), place: at(line, 38), suffix: line[44], stp: line[79] }
+    Key::Association {
+        base: at(line, 4),
+        other: at(line, 10),
+        start: day(&line[15..]),
+        place: at(line, 38),
+        suffix: line[44],
+        stp: line[79],
+    }
 }
 
 pub fn schedule_key(line: &[u8]) -> Key {

@@ -7,7 +7,7 @@ pub mod state;
 pub mod take;
 pub mod text;
 
-use crate::judge::{line_of, judge_stream, LIMIT};
+use crate::judge::{judge_stream, line_of, LIMIT};
 use state::State;
 use std::fs;
 use std::io::Result;

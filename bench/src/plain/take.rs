@@ -36,7 +36,8 @@ impl Taking {
         match &line[..2] {
             b"HD" => {
                 let minute = line[28..32].iter().fold(0, |minute, digit| minute * 10 + u16::from(digit - b'0'));
-                let stamp = FileStamp { day: day_first(&line[22..]), minute: minute / 100 * 60 + minute % 100, reference: at(line, 33) };
+                let stamp =
+                    FileStamp { day: day_first(&line[22..]), minute: minute / 100 * 60 + minute % 100, reference: at(line, 33) };
                 self.item = Some(Item { stamp, indicator: line[46], last: at(line, 40) });
             }
             b"TI" | b"TA" => {

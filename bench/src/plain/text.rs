@@ -187,7 +187,10 @@ fn ledger_item(reader: &mut Reader, before: &[Item]) -> Result<Item, StateFault>
     reader.item = reader.used;
     let bytes = reader.part(19)?;
     let item = Item { stamp: stamp_of(bytes), indicator: bytes[11], last: array(&bytes[12..]) };
-    let good = item.stamp.day <= LAST_DAY && item.stamp.minute <= 1439 && printable(&bytes[4..]) && matches!(item.indicator, b'F' | b'U');
+    let good = item.stamp.day <= LAST_DAY
+        && item.stamp.minute <= 1439
+        && printable(&bytes[4..])
+        && matches!(item.indicator, b'F' | b'U');
     reader.check(good, StateCause::Item)?;
     reader.check(before.last().is_none_or(|last| *last < item), StateCause::Order)?;
     reader.check(item.indicator != b'F' || before.first().is_none_or(|first| item.stamp <= first.stamp), StateCause::Floor)?;
@@ -225,7 +228,8 @@ fn key(reader: &mut Reader, tag: u8) -> Result<Key, StateFault> {
         2 => {
             let bytes = reader.part(23)?;
             let (start, place, suffix, stp) = (pair(&bytes[12..]), array(&bytes[14..]), bytes[21], bytes[22]);
-            let good = printable(&bytes[..12]) && start <= LAST_DAY && printable(&bytes[14..22]) && bytes[14] != b' ' && is_stp(stp);
+            let good =
+                printable(&bytes[..12]) && start <= LAST_DAY && printable(&bytes[14..22]) && bytes[14] != b' ' && is_stp(stp);
             (Key::Association { base: array(bytes), other: array(&bytes[6..]), start, place, suffix, stp }, good)
         }
         _ => {
@@ -247,7 +251,10 @@ fn body(reader: &mut Reader, key: &Key, horizon: u16) -> Result<Body, StateFault
         }
         Key::Association { .. } => {
             let line = reader.part(80)?;
-            let good = printable(line) && line.starts_with(b"AAN") && ScheduleJudge::association_is_good(array(line)) && association_key(line) == *key;
+            let good = printable(line)
+                && line.starts_with(b"AAN")
+                && ScheduleJudge::association_is_good(array(line))
+                && association_key(line) == *key;
             reader.check(good && end(&line[21..]) >= horizon, StateCause::Body)?;
             Ok(Body { end: end(&line[21..]), bytes: line.to_vec() })
         }
