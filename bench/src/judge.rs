@@ -268,6 +268,40 @@ impl Judge {
     }
 }
 
+/// Judges the lines of one schedule in turn, as a state's text has them.
+pub struct ScheduleJudge(Judge);
+
+impl ScheduleJudge {
+    pub fn new() -> ScheduleJudge {
+        let mut judge = Judge::new(LIMIT);
+        judge.place = Place::BetweenUnits;
+        ScheduleJudge(judge)
+    }
+
+    /// Whether a schedule goes on with this line: the first is a basic schedule, and no other is.
+    pub fn line(&mut self, line: &[u8]) -> bool {
+        let judge = &mut self.0;
+        let first = judge.counts.records == 0;
+        let goes_on = match &line[..2] {
+            b"BS" => first,
+            b"BX" | b"LO" | b"LI" | b"CR" | b"LT" => !first,
+            _ => false,
+        };
+        goes_on && judge.record(line).is_ok()
+    }
+
+    /// Whether the lines are a schedule.
+    pub fn complete(&self) -> bool {
+        let Judge { place, journey_optional, .. } = self.0;
+        place == Place::BetweenUnits || journey_optional && matches!(place, Place::AfterBasic | Place::AfterExtra)
+    }
+
+    /// Whether each checked field of an association's line is good.
+    pub fn association_is_good(line: [u8; 80]) -> bool {
+        Judge::new(LIMIT).bad_field(Kind::Association, &line).is_none()
+    }
+}
+
 fn printable(byte: &u8) -> bool {
     (0x20..=0x7E).contains(byte)
 }

@@ -1,10 +1,13 @@
 //! Makes extracts, judges them by a plain reader, flips bytes of them, and measures the program on them.
 
+mod commands;
 mod flip;
 mod judge;
 mod make;
 mod measure;
+mod mutate;
 mod network;
+mod plain;
 mod plan;
 mod random;
 mod records;
@@ -17,7 +20,8 @@ use std::io::Result;
 use std::process::ExitCode;
 
 const USAGE: &str = "usage: extract full SCHEDULES SEED FILE | extract update SCHEDULES BASE_SEED SEED DAY FILE | \
-extract judge FILE | extract flip FILE SEED | extract compare DOCKER FILE SEED FLIPS | extract measure DOCKER FILE.. | extract state STATE_TIMES FILE UPDATE FOLDER";
+extract judge FILE | extract flip FILE SEED | extract compare DOCKER FILE SEED FLIPS | extract measure DOCKER FILE.. | extract state STATE_TIMES FILE UPDATE FOLDER | \
+extract commands DOCKER FILE UPDATE FOLDER | extract plain WORD.. | extract mutate DOCKER FOLDER SEED TIMES FILE..";
 
 fn main() -> ExitCode {
     let words: Vec<String> = std::env::args().skip(1).collect();
@@ -54,6 +58,11 @@ fn job(words: &[&str]) -> Option<Result<u8>> {
             flip::compare(program, path, number(seed)?, count(flips)?).map(|same| u8::from(!same))
         }
         ["measure", program, paths @ ..] if !paths.is_empty() => measure::tables(program, paths).map(|()| 0),
+        ["mutate", program, folder, seed, times, paths @ ..] if !paths.is_empty() => {
+            mutate::compare(program, folder, number(seed)?, count(times)?, paths).map(|same| u8::from(!same))
+        }
+        ["plain", words @ ..] if !words.is_empty() => plain::run(words),
+        ["commands", program, path, update, folder] => commands::table(program, path, update, folder).map(|()| 0),
         ["state", program, path, update, folder] => state::table(program, path, update, folder).map(|()| 0),
         _ => return None,
     })

@@ -3,6 +3,7 @@
 use crate::flip::Flip;
 use crate::judge::{judge_stream, judge_text, line_of, Answer, Cause, Counts, Fault, LIMIT};
 use crate::make;
+use crate::plain;
 use crate::random::Random;
 use std::fs;
 use std::io::{Read, Result};
@@ -345,4 +346,42 @@ fn flips_change_one_byte() {
         assert_eq!(((flip.record - 1) * 81) as usize + flip.column - 1, flip.offset);
         assert!((1..=81).contains(&flip.column));
     }
+}
+
+// ---------------------------------------------------------------- the plain program
+
+/// The office's extracts of the examples, and what the plain program makes of them.
+fn example(name: &str) -> Vec<u8> {
+    fs::read(format!("{}/../examples/office/{name}", env!("CARGO_MANIFEST_DIR"))).unwrap()
+}
+
+fn kept(words: &[&str], files: &[Vec<u8>]) -> Vec<u8> {
+    plain::answer(words, files).unwrap().state.unwrap()
+}
+
+#[test]
+fn texts_of_states() {
+    let empty = kept(&["new", "STATE"], &[]);
+    assert_eq!(empty, [b"DKS2".as_slice(), &[0; 18]].concat());
+    let one = fs::read(concat!(env!("CARGO_MANIFEST_DIR"), "/../examples/one-schedule.cif")).unwrap();
+    assert_eq!(kept(&["take", "STATE", "FILE"], &[empty, one]).len(), 311);
+}
+
+#[test]
+fn dockers_of_a_morning() {
+    let transcript = String::from_utf8(example("transcript")).unwrap();
+    let empty = kept(&["new", "STATE"], &[]);
+    let mut texts = Vec::new();
+    for order in [["full.cif", "monday.cif", "tuesday.cif"], ["tuesday.cif", "full.cif", "monday.cif"]] {
+        texts.push(order.iter().fold(empty.clone(), |state, name| kept(&["take", "STATE", "FILE"], &[state, example(name)])));
+    }
+    assert_eq!(texts[0], texts[1]);
+    for place in ["ASHFELD", "BRAYTON", "CORHAM"] {
+        let docker = plain::answer(&["print", "STATE", place, "2024-06-12"], &texts[..1]).unwrap().output;
+        assert!(docker.starts_with(&format!("DOCKER {place}")) && transcript.contains(&docker), "{docker}");
+    }
+    let files = plain::answer(&["files", "STATE"], &texts[..1]).unwrap().output;
+    assert!(files.lines().count() == 3 && transcript.contains(&files), "{files}");
+    let near = kept(&["horizon", "STATE", "2024-06-10"], &texts[..1]);
+    assert_eq!(plain::answer(&["print", "STATE", "CORHAM", "2024-06-12"], &[near]).unwrap().status, 1);
 }

@@ -1,0 +1,100 @@
+//! Fields of records, as numbers and bytes.
+
+use super::state::{Key, NO_END};
+
+/// The bytes from a column on, which count from 1.
+pub fn at<const N: usize>(line: &[u8], column: usize) -> [u8; N] {
+    let mut bytes = [0; N];
+    bytes.copy_from_slice(&line[column - 1..column - 1 + N]);
+    bytes
+}
+
+fn two(digits: &[u8]) -> u16 {
+    u16::from(digits[0] - b'0') * 10 + u16::from(digits[1] - b'0')
+}
+
+const BEFORE_MONTH: [u16; 12] = [0, 31, 59, 90, 120, 151, 181, 212, 243, 273, 304, 334];
+
+/// The day number of a year of two digits, a month and a day that are a date. Every fourth year is a leap year, 1960 the first.
+fn number(year: &[u8], month: &[u8], day: &[u8]) -> u16 {
+    let years = (two(year) + 40) % 100;
+    let month = usize::from(two(month)) - 1;
+    let leap = u16::from(years % 4 == 0 && month > 1);
+    years * 365 + (years + 3) / 4 + BEFORE_MONTH[month] + leap + two(day) - 1
+}
+
+/// Of a date YYMMDD.
+pub fn day(field: &[u8]) -> u16 {
+    number(&field[..2], &field[2..4], &field[4..6])
+}
+
+/// Of a date DDMMYY.
+pub fn day_first(field: &[u8]) -> u16 {
+    number(&field[4..6], &field[2..4], &field[..2])
+}
+
+/// Of an end date.
+pub fn end(field: &[u8]) -> u16 {
+    if &field[..6] == b"999999" {
+        NO_END
+    } else {
+        day(field)
+    }
+}
+
+/// Of a date YYYY-MM-DD of the calendar, from 1960 to 2059.
+pub fn iso_number(date: &str) -> Option<u16> {
+    let bytes = date.as_bytes();
+    let digits = |from: usize, to: usize| bytes.get(from..to).filter(|part| part.iter().all(u8::is_ascii_digit));
+    let (century, year, month, day) = (digits(0, 2)?, digits(2, 4)?, digits(5, 7)?, digits(8, 10)?);
+    let wanted = if two(year) >= 60 { b"19" } else { b"20" };
+    if bytes.len() != 10
+        || bytes[4] != b'-'
+        || bytes[7] != b'-'
+        || century != wanted
+        || two(month) == 0
+        || two(month) > 12
+        || two(day) == 0
+    {
+        return None;
+    }
+    let number = number(year, month, day);
+    (iso(number) == date).then_some(number)
+}
+
+/// A day as YYYY-MM-DD.
+pub fn iso(number: u16) -> String {
+    let (mut year, mut rest) = (1960, number);
+    loop {
+        let length = if year % 4 == 0 { 366 } else { 365 };
+        if rest < length {
+            break;
+        }
+        rest -= length;
+        year += 1;
+    }
+    let leap = u16::from(year % 4 == 0);
+    let start = |month: usize| BEFORE_MONTH[month] + if month > 1 { leap } else { 0 };
+    let month = (0..12).rev().find(|&month| start(month) <= rest).unwrap_or(0);
+    format!("{year}-{:02}-{:02}", month + 1, rest - start(month) + 1)
+}
+
+/// The half minutes of a scheduled time, where there is one.
+pub fn time(field: &[u8]) -> Option<u16> {
+    (field[0] != b' ').then(|| (two(field) * 60 + two(&field[2..])) * 2 + u16::from(field[4] == b'H'))
+}
+
+pub fn association_key(line: &[u8]) -> Key {
+    Key::Association {
+        base: at(line, 4),
+        other: at(line, 10),
+        start: day(&line[15..]),
+        place: at(line, 38),
+        suffix: line[44],
+        stp: line[79],
+    }
+}
+
+pub fn schedule_key(line: &[u8]) -> Key {
+    Key::Schedule { uid: at(line, 4), first: day(&line[9..]), stp: line[79] }
+}

@@ -1,0 +1,42 @@
+// Preloaded under the program: the growth whose number is in GROWTH is refused, and no other. Each is counted from 1, and the one that was refused
+// leaves the file that REFUSED names.
+#define _GNU_SOURCE
+#include <dlfcn.h>
+#include <errno.h>
+#include <fcntl.h>
+#include <stdlib.h>
+#include <unistd.h>
+
+static long growths;
+
+static int is_refused(void) {
+  const char *wanted = getenv("GROWTH"), *told = getenv("REFUSED");
+  if (!wanted || ++growths != atol(wanted)) return 0;
+  if (told) close(open(told, O_CREAT | O_WRONLY, 0600));
+  errno = ENOMEM;
+  return 1;
+}
+
+void *malloc(size_t size) {
+  static void *(*next)(size_t);
+  if (!next) next = dlsym(RTLD_NEXT, "malloc");
+  return is_refused() ? NULL : next(size);
+}
+
+void *realloc(void *old, size_t size) {
+  static void *(*next)(void *, size_t);
+  if (!next) next = dlsym(RTLD_NEXT, "realloc");
+  return is_refused() ? NULL : next(old, size);
+}
+
+void *aligned_alloc(size_t alignment, size_t size) {
+  static void *(*next)(size_t, size_t);
+  if (!next) next = dlsym(RTLD_NEXT, "aligned_alloc");
+  return is_refused() ? NULL : next(alignment, size);
+}
+
+int posix_memalign(void **out, size_t alignment, size_t size) {
+  static int (*next)(void **, size_t, size_t);
+  if (!next) next = dlsym(RTLD_NEXT, "posix_memalign");
+  return is_refused() ? ENOMEM : next(out, alignment, size);
+}
