@@ -19,10 +19,4 @@ pub mod LapsedChoice
 pub mod LapsedDocker
 pub mod StateChoice
 pub mod PrintedDocker
-pub mod TableOfOne
-pub mod KeptSchedule
 pub mod TrainOfOne
-pub mod DockerOfOne
-pub mod DockerListOfOne
-pub mod FileOfOne
-pub mod ResultOfOne

@@ -9,7 +9,6 @@ pub mod StateFaultExamples
 pub mod ChoiceExamples
 pub mod AssociationExample
 pub mod StageExamples
-pub mod ExamplesOfOne
 pub mod HorizonExamples
 pub mod StagingExamples
 pub mod RunExamples

@@ -7,7 +7,7 @@ use super::records::{
 };
 use crate::{Office, OfficeFault};
 use arrayvec::ArrayVec;
-use cif_line::{Bytes, Day, Kept, Tiploc};
+use cif_line::{Bytes, Day, Kept, Sink, Tiploc};
 use docker_bytes::encoded_len;
 use std::process::Abort;
 use std::test::Fail;
@@ -123,6 +123,7 @@ fn want_of_memory_prints_nothing(rt: HostRuntime) -> Result<(), Fail> {
     let day = Day::from_iso("2024-06-10").ok_or("a day")?;
     if office.print(&place, day, &mut sink) == Err(OfficeFault::Memory) {
         assert!(rt; sink.bytes().is_empty());
+        assert_eq!(rt; sink.failures(), 0);
         office.print(&place, day, &mut sink)?;
     }
     assert_eq!(rt; sink.bytes().len(), 171);
