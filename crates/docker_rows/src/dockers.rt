@@ -1,531 +1,586 @@
 //! The dockers that offices print.
 
 use crate::files::*;
-use crate::offices::{office_of, printed, text_of};
+use crate::offices::{office_of, printed};
+use std::alloc::Global;
+use std::process::Abort;
 use std::test::Fail;
 
-/// The files that an office took in turn, a place, a day, and the docker there: its heading, its lines and its last line.
-type Row = (
-    &'static [File],
-    &'static str,
-    &'static str,
-    &'static [&'static str],
-);
+/// The files that an office took in turn, a place, a day, and the docker there.
+type Row = (&'static [File], &'static str, &'static str, &'static str);
 
-const ROWS: &[Row] = &[
+/// Looks whether each of these dockers is printed.
+fn are_printed(rt: &impl Abort, alloc: Global, rows: &[Row]) -> Result<(), Fail> {
+    for (files, place, day, docker) in rows {
+        let office = office_of(alloc, files)?;
+        let text = printed(alloc, &office, place, day)?;
+        assert_eq!(rt; text.bytes(), docker.as_bytes(), "{place} {day}");
+    }
+    Ok(())
+}
+
+/// Dockers of one train.
+const ONE_TRAIN: &[Row] = &[
     (
         &[],
         "ELM",
         "2024-06-10",
-        &[
-            "DOCKER ELM     2024-06-10                               ",
-            "END                                                     ",
-        ],
+        "\
+DOCKER ELM     2024-06-10                               
+END                                                     
+",
     ),
     (
         &[MORNING],
         "ASHFELD",
         "2024-06-10",
-        &[
-            "DOCKER ASHFELD 2024-06-10                               ",
-            "0900  D 1A10 C10001 P   1   SL      0900 ASHFELD BRAYTON",
-            "END                                                     ",
-        ],
+        "\
+DOCKER ASHFELD 2024-06-10                               
+0900  D 1A10 C10001 P   1   SL      0900 ASHFELD BRAYTON
+END                                                     
+",
     ),
     (
         &[MORNING],
         "BRAYTON",
         "2024-06-10",
-        &[
-            "DOCKER BRAYTON 2024-06-10                               ",
-            "0930  A 1A10 C10001 P   2       FL  0932 ASHFELD BRAYTON",
-            "END                                                     ",
-        ],
+        "\
+DOCKER BRAYTON 2024-06-10                               
+0930  A 1A10 C10001 P   2       FL  0932 ASHFELD BRAYTON
+END                                                     
+",
     ),
     (
         &[MORNING],
         "ASHFELD",
         "2024-06-15",
-        &[
-            "DOCKER ASHFELD 2024-06-15                               ",
-            "END                                                     ",
-        ],
+        "\
+DOCKER ASHFELD 2024-06-15                               
+END                                                     
+",
     ),
     (
         &[MORNING],
         "BRAYTON",
         "2024-06-15",
-        &[
-            "DOCKER BRAYTON 2024-06-15                               ",
-            "END                                                     ",
-        ],
+        "\
+DOCKER BRAYTON 2024-06-15                               
+END                                                     
+",
     ),
     (
         &[REVISED],
         "ASHFELD",
         "2024-06-10",
-        &[
-            "DOCKER ASHFELD 2024-06-10                               ",
-            "0900  D 1A10 C10001 P   1   SL      0900 ASHFELD BRAYTON",
-            "END                                                     ",
-        ],
+        "\
+DOCKER ASHFELD 2024-06-10                               
+0900  D 1A10 C10001 P   1   SL      0900 ASHFELD BRAYTON
+END                                                     
+",
     ),
     (
         &[EVENING],
         "BRAYTON",
         "2024-06-10",
-        &[
-            "DOCKER BRAYTON 2024-06-10                               ",
-            "END                                                     ",
-        ],
+        "\
+DOCKER BRAYTON 2024-06-10                               
+END                                                     
+",
     ),
     (
         &[EVENING],
         "BRAYTON",
         "2024-06-15",
-        &[
-            "DOCKER BRAYTON 2024-06-15                               ",
-            "0005  A 1A10 C10001 P   2       FL  0006 ASHFELD BRAYTON",
-            "END                                                     ",
-        ],
+        "\
+DOCKER BRAYTON 2024-06-15                               
+0005  A 1A10 C10001 P   2       FL  0006 ASHFELD BRAYTON
+END                                                     
+",
     ),
     (
         &[HALF],
         "ASHFELD",
         "2024-06-10",
-        &[
-            "DOCKER ASHFELD 2024-06-10                               ",
-            "0900H D 1A10 C10001 P 2                  ASHFELD BRAYTON",
-            "END                                                     ",
-        ],
+        "\
+DOCKER ASHFELD 2024-06-10                               
+0900H D 1A10 C10001 P 2                  ASHFELD BRAYTON
+END                                                     
+",
     ),
     (
         &[ROUND],
         "ASHFELD",
         "2024-06-10",
-        &[
-            "DOCKER ASHFELD 2024-06-10                               ",
-            "0900  A 1A10 C10001 P   2       FL  0900 ASHFELD ASHFELD",
-            "0900  D 1A10 C10001 P   1   SL      0900 ASHFELD ASHFELD",
-            "END                                                     ",
-        ],
+        "\
+DOCKER ASHFELD 2024-06-10                               
+0900  A 1A10 C10001 P   2       FL  0900 ASHFELD ASHFELD
+0900  D 1A10 C10001 P   1   SL      0900 ASHFELD ASHFELD
+END                                                     
+",
     ),
+];
+
+#[test]
+fn one_train(rt: HostRuntime) -> Result<(), Fail> {
+    are_printed(&rt, rt.alloc(), ONE_TRAIN)
+}
+
+/// Dockers of files in an order and in another.
+const ORDERS: &[Row] = &[
     (
         &[MORNING, REVISION],
         "ASHFELD",
         "2024-06-10",
-        &[
-            "DOCKER ASHFELD 2024-06-10                               ",
-            "0905  D 1A10 C10001 P   1   SL      0905 ASHFELD BRAYTON",
-            "END                                                     ",
-        ],
+        "\
+DOCKER ASHFELD 2024-06-10                               
+0905  D 1A10 C10001 P   1   SL      0905 ASHFELD BRAYTON
+END                                                     
+",
     ),
     (
         &[REVISION, MORNING],
         "ASHFELD",
         "2024-06-10",
-        &[
-            "DOCKER ASHFELD 2024-06-10                               ",
-            "0905  D 1A10 C10001 P   1   SL      0905 ASHFELD BRAYTON",
-            "END                                                     ",
-        ],
+        "\
+DOCKER ASHFELD 2024-06-10                               
+0905  D 1A10 C10001 P   1   SL      0905 ASHFELD BRAYTON
+END                                                     
+",
     ),
     (
         &[NINTH, FIFTH, SEVENTH],
         "ASHFELD",
         "2024-06-10",
-        &[
-            "DOCKER ASHFELD 2024-06-10                               ",
-            "1000  D 1A20 C10002 P   1   SL      1000 ASHFELD BRAYTON",
-            "1100  D 1A10 C10001 P   1   SL      1100 ASHFELD BRAYTON",
-            "END                                                     ",
-        ],
+        "\
+DOCKER ASHFELD 2024-06-10                               
+1000  D 1A20 C10002 P   1   SL      1000 ASHFELD BRAYTON
+1100  D 1A10 C10001 P   1   SL      1100 ASHFELD BRAYTON
+END                                                     
+",
     ),
     (
         &[DELETION, EIGHTH],
         "ASHFELD",
         "2024-06-10",
-        &[
-            "DOCKER ASHFELD 2024-06-10                               ",
-            "END                                                     ",
-        ],
+        "\
+DOCKER ASHFELD 2024-06-10                               
+END                                                     
+",
     ),
     (
         &[EIGHTH, DELETION],
         "ASHFELD",
         "2024-06-10",
-        &[
-            "DOCKER ASHFELD 2024-06-10                               ",
-            "END                                                     ",
-        ],
+        "\
+DOCKER ASHFELD 2024-06-10                               
+END                                                     
+",
     ),
     (
         &[PLACE, RENAMED],
         "ASHFLDN",
         "2024-06-10",
-        &[
-            "DOCKER ASHFLDN 2024-06-10 ASHFIELD NEW                  ",
-            "END                                                     ",
-        ],
+        "\
+DOCKER ASHFLDN 2024-06-10 ASHFIELD NEW                  
+END                                                     
+",
     ),
     (
         &[PLACE, RENAMED],
         "ASHFELD",
         "2024-06-10",
-        &[
-            "DOCKER ASHFELD 2024-06-10                               ",
-            "END                                                     ",
-        ],
+        "\
+DOCKER ASHFELD 2024-06-10                               
+END                                                     
+",
     ),
+];
+
+#[test]
+fn files_in_any_order(rt: HostRuntime) -> Result<(), Fail> {
+    are_printed(&rt, rt.alloc(), ORDERS)
+}
+
+/// Dockers of a train with an overlay, a cancellation and a later schedule.
+const WEEKS: &[Row] = &[
     (
         &[WEEK],
         "ASHFELD",
         "2024-06-10",
-        &[
-            "DOCKER ASHFELD 2024-06-10                               ",
-            "0900  D 1A10 C10001 P   1   SL      0900 ASHFELD BRAYTON",
-            "END                                                     ",
-        ],
+        "\
+DOCKER ASHFELD 2024-06-10                               
+0900  D 1A10 C10001 P   1   SL      0900 ASHFELD BRAYTON
+END                                                     
+",
     ),
     (
         &[WEEK],
         "ASHFELD",
         "2024-06-11",
-        &[
-            "DOCKER ASHFELD 2024-06-11                               ",
-            "0915  D 1A10 C10001 O   1   SL      0915 ASHFELD BRAYTON",
-            "END                                                     ",
-        ],
+        "\
+DOCKER ASHFELD 2024-06-11                               
+0915  D 1A10 C10001 O   1   SL      0915 ASHFELD BRAYTON
+END                                                     
+",
     ),
     (
         &[WEEK],
         "ASHFELD",
         "2024-06-12",
-        &[
-            "DOCKER ASHFELD 2024-06-12                               ",
-            "0900  D 1A10 C10001 P   1   SL      0900 ASHFELD BRAYTON",
-            "END                                                     ",
-        ],
+        "\
+DOCKER ASHFELD 2024-06-12                               
+0900  D 1A10 C10001 P   1   SL      0900 ASHFELD BRAYTON
+END                                                     
+",
     ),
     (
         &[WEEK],
         "ASHFELD",
         "2024-06-13",
-        &[
-            "DOCKER ASHFELD 2024-06-13                               ",
-            "0915  D 1A10 C10001 O   1   SL      0915 ASHFELD BRAYTON",
-            "END                                                     ",
-        ],
+        "\
+DOCKER ASHFELD 2024-06-13                               
+0915  D 1A10 C10001 O   1   SL      0915 ASHFELD BRAYTON
+END                                                     
+",
     ),
     (
         &[WEEK],
         "ASHFELD",
         "2024-06-14",
-        &[
-            "DOCKER ASHFELD 2024-06-14                               ",
-            "END                                                     ",
-        ],
+        "\
+DOCKER ASHFELD 2024-06-14                               
+END                                                     
+",
     ),
     (
         &[WEEK],
         "ASHFELD",
         "2024-06-15",
-        &[
-            "DOCKER ASHFELD 2024-06-15                               ",
-            "0900  D 1A10 C10001 P   1   SL      0900 ASHFELD BRAYTON",
-            "END                                                     ",
-        ],
+        "\
+DOCKER ASHFELD 2024-06-15                               
+0900  D 1A10 C10001 P   1   SL      0900 ASHFELD BRAYTON
+END                                                     
+",
     ),
     (
         &[WEEK],
         "ASHFELD",
         "2024-06-16",
-        &[
-            "DOCKER ASHFELD 2024-06-16                               ",
-            "0900  D 1A10 C10001 P   1   SL      0900 ASHFELD BRAYTON",
-            "END                                                     ",
-        ],
+        "\
+DOCKER ASHFELD 2024-06-16                               
+0900  D 1A10 C10001 P   1   SL      0900 ASHFELD BRAYTON
+END                                                     
+",
     ),
     (
         &[WEEKEND],
         "ASHFELD",
         "2024-06-15",
-        &[
-            "DOCKER ASHFELD 2024-06-15                               ",
-            "0910  D 1A10 C10001 P   1   SL      0910 ASHFELD BRAYTON",
-            "END                                                     ",
-        ],
+        "\
+DOCKER ASHFELD 2024-06-15                               
+0910  D 1A10 C10001 P   1   SL      0910 ASHFELD BRAYTON
+END                                                     
+",
     ),
     (
         &[WEEKEND],
         "ASHFELD",
         "2024-06-16",
-        &[
-            "DOCKER ASHFELD 2024-06-16                               ",
-            "0910  D 1A10 C10001 P   1   SL      0910 ASHFELD BRAYTON",
-            "END                                                     ",
-        ],
+        "\
+DOCKER ASHFELD 2024-06-16                               
+0910  D 1A10 C10001 P   1   SL      0910 ASHFELD BRAYTON
+END                                                     
+",
     ),
+];
+
+#[test]
+fn a_week(rt: HostRuntime) -> Result<(), Fail> {
+    are_printed(&rt, rt.alloc(), WEEKS)
+}
+
+/// Dockers of trains past midnight.
+const NIGHTS: &[Row] = &[
     (
         &[NIGHT],
         "COLWELL",
         "2024-06-10",
-        &[
-            "DOCKER COLWELL 2024-06-10                               ",
-            "END                                                     ",
-        ],
+        "\
+DOCKER COLWELL 2024-06-10                               
+END                                                     
+",
     ),
     (
         &[NIGHT],
         "COLWELL",
         "2024-06-11",
-        &[
-            "DOCKER COLWELL 2024-06-11                               ",
-            "0000H A 2B20 C20001 P   2   SL  FL       ASHFELD BRAYTON",
-            "0000H D 2B20 C20001 P   2   SL  FL  0001 ASHFELD BRAYTON",
-            "END                                                     ",
-        ],
+        "\
+DOCKER COLWELL 2024-06-11                               
+0000H A 2B20 C20001 P   2   SL  FL       ASHFELD BRAYTON
+0000H D 2B20 C20001 P   2   SL  FL  0001 ASHFELD BRAYTON
+END                                                     
+",
     ),
     (
         &[NIGHT],
         "DUNMERE",
         "2024-06-11",
-        &[
-            "DOCKER DUNMERE 2024-06-11                               ",
-            "0010  P 2B20 C20001 P                    ASHFELD BRAYTON",
-            "END                                                     ",
-        ],
+        "\
+DOCKER DUNMERE 2024-06-11                               
+0010  P 2B20 C20001 P                    ASHFELD BRAYTON
+END                                                     
+",
     ),
     (
         &[TWO_NIGHTS],
         "COLWELL",
         "2024-06-12",
-        &[
-            "DOCKER COLWELL 2024-06-12                               ",
-            "0005  P 2B20 C20001 P                    ASHFELD BRAYTON",
-            "END                                                     ",
-        ],
+        "\
+DOCKER COLWELL 2024-06-12                               
+0005  P 2B20 C20001 P                    ASHFELD BRAYTON
+END                                                     
+",
     ),
     (
         &[TWO_NIGHTS],
         "BRAYTON",
         "2024-06-12",
-        &[
-            "DOCKER BRAYTON 2024-06-12                               ",
-            "0006  A 2B20 C20001 P   2       FL  0007 ASHFELD BRAYTON",
-            "END                                                     ",
-        ],
+        "\
+DOCKER BRAYTON 2024-06-12                               
+0006  A 2B20 C20001 P   2       FL  0007 ASHFELD BRAYTON
+END                                                     
+",
     ),
+];
+
+#[test]
+fn past_midnight(rt: HostRuntime) -> Result<(), Fail> {
+    are_printed(&rt, rt.alloc(), NIGHTS)
+}
+
+/// Dockers with associations.
+const LINKS: &[Row] = &[
     (
         &[DIVISION],
         "COLWELL",
         "2024-06-10",
-        &[
-            "DOCKER COLWELL 2024-06-10                               ",
-            "1010  A 3C30 C30001 P   3                ASHFELD BRAYTON",
-            "1012  D 3C30 C30001 P   3                ASHFELD BRAYTON",
-            "1040  A 3C30 C30001 P 2 4                ASHFELD BRAYTON",
-            "1040  V 3C30 C30001 P 2 4                C30002  3C32   ",
-            "1042  D 3C30 C30001 P 2 4                ASHFELD BRAYTON",
-            "1045  D 3C32 C30002 P   5                COLWELL DUNMERE",
-            "END                                                     ",
-        ],
+        "\
+DOCKER COLWELL 2024-06-10                               
+1010  A 3C30 C30001 P   3                ASHFELD BRAYTON
+1012  D 3C30 C30001 P   3                ASHFELD BRAYTON
+1040  A 3C30 C30001 P 2 4                ASHFELD BRAYTON
+1040  V 3C30 C30001 P 2 4                C30002  3C32   
+1042  D 3C30 C30001 P 2 4                ASHFELD BRAYTON
+1045  D 3C32 C30002 P   5                COLWELL DUNMERE
+END                                                     
+",
     ),
     (
         &[NEXT_DAY],
         "COLWELL",
         "2024-06-10",
-        &[
-            "DOCKER COLWELL 2024-06-10                               ",
-            "2350  A 4D40 C40001 P   1                ASHFELD COLWELL",
-            "2350  N 4D40 C40001 P   1                C40002  4D42   ",
-            "END                                                     ",
-        ],
+        "\
+DOCKER COLWELL 2024-06-10                               
+2350  A 4D40 C40001 P   1                ASHFELD COLWELL
+2350  N 4D40 C40001 P   1                C40002  4D42   
+END                                                     
+",
     ),
     (
         &[SAME_DAY],
         "COLWELL",
         "2024-06-10",
-        &[
-            "DOCKER COLWELL 2024-06-10                               ",
-            "2350  A 4D40 C40001 P   1                ASHFELD COLWELL",
-            "2350  N 4D40 C40001 P   1                C40002  ????   ",
-            "END                                                     ",
-        ],
+        "\
+DOCKER COLWELL 2024-06-10                               
+2350  A 4D40 C40001 P   1                ASHFELD COLWELL
+2350  N 4D40 C40001 P   1                C40002  ????   
+END                                                     
+",
     ),
     (
         &[NO_INDICATOR],
         "COLWELL",
         "2024-06-10",
-        &[
-            "DOCKER COLWELL 2024-06-10                               ",
-            "2350  A 4D40 C40001 P   1                ASHFELD COLWELL",
-            "2350  N 4D40 C40001 P   1                C40002  ????   ",
-            "END                                                     ",
-        ],
+        "\
+DOCKER COLWELL 2024-06-10                               
+2350  A 4D40 C40001 P   1                ASHFELD COLWELL
+2350  N 4D40 C40001 P   1                C40002  ????   
+END                                                     
+",
     ),
     (
         &[DAY_BEFORE],
         "COLWELL",
         "2024-06-10",
-        &[
-            "DOCKER COLWELL 2024-06-10                               ",
-            "2350  A 4D40 C40001 P   1                ASHFELD COLWELL",
-            "2350  N 4D40 C40001 P   1                C40002  ????   ",
-            "END                                                     ",
-        ],
+        "\
+DOCKER COLWELL 2024-06-10                               
+2350  A 4D40 C40001 P   1                ASHFELD COLWELL
+2350  N 4D40 C40001 P   1                C40002  ????   
+END                                                     
+",
     ),
     (
         &[UNKNOWN_INDICATOR],
         "COLWELL",
         "2024-06-10",
-        &[
-            "DOCKER COLWELL 2024-06-10                               ",
-            "2350  A 4D40 C40001 P   1                ASHFELD COLWELL",
-            "END                                                     ",
-        ],
+        "\
+DOCKER COLWELL 2024-06-10                               
+2350  A 4D40 C40001 P   1                ASHFELD COLWELL
+END                                                     
+",
     ),
     (
         &[UNKNOWN_CATEGORY],
         "COLWELL",
         "2024-06-10",
-        &[
-            "DOCKER COLWELL 2024-06-10                               ",
-            "2350  A 4D40 C40001 P   1                ASHFELD COLWELL",
-            "END                                                     ",
-        ],
+        "\
+DOCKER COLWELL 2024-06-10                               
+2350  A 4D40 C40001 P   1                ASHFELD COLWELL
+END                                                     
+",
     ),
     (
         &[LAST_DAY],
         "COLWELL",
         "2059-12-31",
-        &[
-            "DOCKER COLWELL 2059-12-31                               ",
-            "2350  A 4D40 C40001 P   1                ASHFELD COLWELL",
-            "2350  N 4D40 C40001 P   1                C40002  ????   ",
-            "END                                                     ",
-        ],
-    ),
-    (
-        &[MORNING, LONGER],
-        "ASHFELD",
-        "2024-06-10",
-        &[
-            "DOCKER ASHFELD 2024-06-10                               ",
-            "0850  D 1A10 C10001 P   1   SL      0850 ASHFELD BRAYTON",
-            "END                                                     ",
-        ],
-    ),
-    (
-        &[LONGER, MORNING],
-        "ASHFELD",
-        "2024-06-10",
-        &[
-            "DOCKER ASHFELD 2024-06-10                               ",
-            "0850  D 1A10 C10001 P   1   SL      0850 ASHFELD BRAYTON",
-            "END                                                     ",
-        ],
-    ),
-    (
-        &[MORNING, LATER],
-        "ASHFELD",
-        "2024-06-10",
-        &[
-            "DOCKER ASHFELD 2024-06-10                               ",
-            "0905  D 1A10 C10001 P   1   SL      0905 ASHFELD BRAYTON",
-            "END                                                     ",
-        ],
-    ),
-    (
-        &[LATER, MORNING],
-        "ASHFELD",
-        "2024-06-10",
-        &[
-            "DOCKER ASHFELD 2024-06-10                               ",
-            "0905  D 1A10 C10001 P   1   SL      0905 ASHFELD BRAYTON",
-            "END                                                     ",
-        ],
-    ),
-    (
-        &[MORNING, DELETED],
-        "ASHFELD",
-        "2024-06-10",
-        &[
-            "DOCKER ASHFELD 2024-06-10                               ",
-            "0900  D 1A10 C10001 P   1   SL      0900 ASHFELD BRAYTON",
-            "END                                                     ",
-        ],
-    ),
-    (
-        &[DELETED, MORNING],
-        "ASHFELD",
-        "2024-06-10",
-        &[
-            "DOCKER ASHFELD 2024-06-10                               ",
-            "0900  D 1A10 C10001 P   1   SL      0900 ASHFELD BRAYTON",
-            "END                                                     ",
-        ],
+        "\
+DOCKER COLWELL 2059-12-31                               
+2350  A 4D40 C40001 P   1                ASHFELD COLWELL
+2350  N 4D40 C40001 P   1                C40002  ????   
+END                                                     
+",
     ),
     (
         &[PARTNER_CANCELLED],
         "COLWELL",
         "2024-06-10",
-        &[
-            "DOCKER COLWELL 2024-06-10                               ",
-            "2350  A 4D40 C40001 P   1                ASHFELD COLWELL",
-            "2350  N 4D40 C40001 P   1                C40002  ????   ",
-            "END                                                     ",
-        ],
+        "\
+DOCKER COLWELL 2024-06-10                               
+2350  A 4D40 C40001 P   1                ASHFELD COLWELL
+2350  N 4D40 C40001 P   1                C40002  ????   
+END                                                     
+",
     ),
     (
         &[BASE_CANCELLED],
         "COLWELL",
         "2024-06-10",
-        &[
-            "DOCKER COLWELL 2024-06-10                               ",
-            "END                                                     ",
-        ],
+        "\
+DOCKER COLWELL 2024-06-10                               
+END                                                     
+",
     ),
+];
+
+#[test]
+fn associations(rt: HostRuntime) -> Result<(), Fail> {
+    are_printed(&rt, rt.alloc(), LINKS)
+}
+
+/// Dockers of entries of one stamp.
+const TIES: &[Row] = &[
+    (
+        &[MORNING, LONGER],
+        "ASHFELD",
+        "2024-06-10",
+        "\
+DOCKER ASHFELD 2024-06-10                               
+0850  D 1A10 C10001 P   1   SL      0850 ASHFELD BRAYTON
+END                                                     
+",
+    ),
+    (
+        &[LONGER, MORNING],
+        "ASHFELD",
+        "2024-06-10",
+        "\
+DOCKER ASHFELD 2024-06-10                               
+0850  D 1A10 C10001 P   1   SL      0850 ASHFELD BRAYTON
+END                                                     
+",
+    ),
+    (
+        &[MORNING, LATER],
+        "ASHFELD",
+        "2024-06-10",
+        "\
+DOCKER ASHFELD 2024-06-10                               
+0905  D 1A10 C10001 P   1   SL      0905 ASHFELD BRAYTON
+END                                                     
+",
+    ),
+    (
+        &[LATER, MORNING],
+        "ASHFELD",
+        "2024-06-10",
+        "\
+DOCKER ASHFELD 2024-06-10                               
+0905  D 1A10 C10001 P   1   SL      0905 ASHFELD BRAYTON
+END                                                     
+",
+    ),
+    (
+        &[MORNING, DELETED],
+        "ASHFELD",
+        "2024-06-10",
+        "\
+DOCKER ASHFELD 2024-06-10                               
+0900  D 1A10 C10001 P   1   SL      0900 ASHFELD BRAYTON
+END                                                     
+",
+    ),
+    (
+        &[DELETED, MORNING],
+        "ASHFELD",
+        "2024-06-10",
+        "\
+DOCKER ASHFELD 2024-06-10                               
+0900  D 1A10 C10001 P   1   SL      0900 ASHFELD BRAYTON
+END                                                     
+",
+    ),
+];
+
+#[test]
+fn equal_stamps(rt: HostRuntime) -> Result<(), Fail> {
+    are_printed(&rt, rt.alloc(), TIES)
+}
+
+/// Dockers of a train that changes its identity.
+const IDENTITIES: &[Row] = &[
     (
         &[IDENTITY],
         "ASHFELD",
         "2024-06-10",
-        &[
-            "DOCKER ASHFELD 2024-06-10                               ",
-            "1200  D 5E50 C50001 P                    ASHFELD BRAYTON",
-            "END                                                     ",
-        ],
+        "\
+DOCKER ASHFELD 2024-06-10                               
+1200  D 5E50 C50001 P                    ASHFELD BRAYTON
+END                                                     
+",
     ),
     (
         &[IDENTITY],
         "COLWELL",
         "2024-06-10",
-        &[
-            "DOCKER COLWELL 2024-06-10                               ",
-            "1210  P 5E51 C50001 P                    ASHFELD BRAYTON",
-            "END                                                     ",
-        ],
+        "\
+DOCKER COLWELL 2024-06-10                               
+1210  P 5E51 C50001 P                    ASHFELD BRAYTON
+END                                                     
+",
     ),
     (
         &[IDENTITY],
         "BRAYTON",
         "2024-06-10",
-        &[
-            "DOCKER BRAYTON 2024-06-10                               ",
-            "1230  A 5E51 C50001 P                    ASHFELD BRAYTON",
-            "END                                                     ",
-        ],
+        "\
+DOCKER BRAYTON 2024-06-10                               
+1230  A 5E51 C50001 P                    ASHFELD BRAYTON
+END                                                     
+",
     ),
 ];
 
 #[test]
-fn dockers_of_files(rt: HostRuntime) -> Result<(), Fail> {
-    let alloc = rt.alloc();
-    for (files, place, day, lines) in ROWS {
-        let office = office_of(alloc, files)?;
-        let text = printed(alloc, &office, place, day)?;
-        let wanted = text_of(alloc, lines)?;
-        assert_eq!(rt; text.bytes(), wanted.as_slice(), "{place} {day}");
-    }
-    Ok(())
+fn a_change_of_identity(rt: HostRuntime) -> Result<(), Fail> {
+    are_printed(&rt, rt.alloc(), IDENTITIES)
 }

@@ -74,15 +74,7 @@ pub(crate) const WEEKEND: File = &[
 pub(crate) const NIGHT: File = &[HD, BS_NIGHT, LO_2355, LI_0000, LI_0010, LT_0020, ZZ];
 
 /// A train past two midnights.
-pub(crate) const TWO_NIGHTS: File = &[
-    HD,
-    BS_NIGHT,
-    LO_2355,
-    LI_0010,
-    LI_COLWELL_0005,
-    LT_0006,
-    ZZ,
-];
+pub(crate) const TWO_NIGHTS: File = &[HD, BS_NIGHT, LO_2355, LI_0010, LI_COLWELL_0005, LT_0006, ZZ];
 
 /// A train past three, which no schedule may pass.
 pub(crate) const THREE_NIGHTS: File = &[

@@ -71,7 +71,8 @@ fn a_horizon_that_rises(rt: HostRuntime) -> Result<(), Fail> {
 }
 
 /// A state with the horizon 2024-06-15 and one entry that has lapsed.
-const LAPSED: &[u8; 67] = b"DKS2\x5b\xf6\0\0\0\0\0\0\0\x01\x5b\xf0\x04\xecDFROC1AUDFROC1Z\0\0\0\0\0\0\0\x01\
+const LAPSED: &[u8; 67] =
+    b"DKS2\x5b\xf6\0\0\0\0\0\0\0\x01\x5b\xf0\x04\xecDFROC1AUDFROC1Z\0\0\0\0\0\0\0\x01\
 \x03C10001\x5b\xf1P\x5b\xf0\x04\xecDFROC1A\0\0\0\x02\x02";
 
 #[test]

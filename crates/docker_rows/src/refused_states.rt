@@ -29,7 +29,12 @@ const CHANGED: &[(usize, &[u8], u64, StateCause)] = &[
     (66, b"\x03", 41, StateCause::Body),
     (66, b"\x02", 67, StateCause::Tail),
     (73, b"R", 41, StateCause::Body),
-    (33, b"\xff\xff\xff\xff\xff\xff\xff\xff", 311, StateCause::Short),
+    (
+        33,
+        b"\xff\xff\xff\xff\xff\xff\xff\xff",
+        311,
+        StateCause::Short,
+    ),
 ];
 
 #[test]
@@ -98,7 +103,12 @@ const OLD: &[(usize, &[u8], u64, StateCause)] = &[
     (59, b"B", 39, StateCause::Stamp),
     (64, b"\x02", 39, StateCause::Body),
     (71, b"R", 39, StateCause::Body),
-    (31, b"\xff\xff\xff\xff\xff\xff\xff\xff", 309, StateCause::Short),
+    (
+        31,
+        b"\xff\xff\xff\xff\xff\xff\xff\xff",
+        309,
+        StateCause::Short,
+    ),
 ];
 
 #[test]

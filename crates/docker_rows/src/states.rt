@@ -93,13 +93,10 @@ fn a_file_in_pieces_and_with_other_line_ends(rt: HostRuntime) -> Result<(), Fail
         returns.extend_from_slice(record.as_bytes())?;
         returns.extend_from_slice(b"\r\n")?;
     }
+    let open = text.as_slice().get(..404).ok_or("a text")?;
     let known = office_of(alloc, &[MORNING])?;
     let want = sent(alloc, &known)?;
-    let rows = [
-        (text.as_slice(), 1),
-        (returns.as_slice(), 64),
-        (&text.as_slice()[..404], 100),
-    ];
+    let rows = [(text.as_slice(), 1), (returns.as_slice(), 64), (open, 100)];
     for (text, step) in rows {
         let mut office = Office::new(alloc);
         office.take(&mut Bytes::new(text, step), 5)?;
