@@ -1,1 +1,3 @@
-pub mod JobInputLemmas
+pub mod JobSourcesLemmas
+pub mod JobOutputLemmas
+pub mod ProgramLemmas

@@ -1,34 +1,23 @@
--- What the program does with what it is given: its words, its standard input, and the files that it may open.
-use Rattle.std.specs.Prelude.{◌≡◌, ℕ, ◌+◌, List, [], ◌∷◌, Option, Some, None, Result, Ok, Err, ⊤, ◌⊎◌, codes, if◌then◌else◌}
-use Rattle.std.specs.Option.{option_map_or}
-use Rattle.std.specs.Str.{bytes_eq}
+-- What the program does with its words, over its devices.
+use Rattle.std.specs.Prelude.{◌≡◌, ◌≢◌, ℕ, ◌+◌, List, [], ◌∷◌, Option, Some, None, Result, Ok, Err, ⊤, ◌⊎◌}
 use Rattle.cif_line.specs.Device.{Takes, TakesPart}
-use Rattle.cif_file.specs.SourceRead.{ReadsNoFurther, RefusesText, WantsMemory}
-use Rattle.docker_cmd.specs.Words.{Text}
-use Rattle.docker_cmd.specs.Job.{JobView, IsJobOf, NameNoJob}
-use Rattle.docker_cmd.specs.JobLine.{ReadsAtMost, ReadsJob, HasJob, HasNoJob}
-use Rattle.docker_cmd.specs.Prepared.{PreparedView, ReadsFile, ReadsSchedule, HoldsOtherFile, GainsOutput, GainsPart, most_at_once, most_records}
+use Rattle.cif_file.specs.SourceRead.{Held}
+use Rattle.cif_file.specs.declared.fault.FileFault.{FileFault}
+use Rattle.docker_bytes.specs.declared.fault.StateFault.{StateFault}
+use Rattle.docker_job.specs.Words.{Text}
+use Rattle.docker_job.specs.Job.{JobView, IsJobOf, NameNoJob}
+use Rattle.docker_job.specs.JobLine.{ReadsAtMost, ReadsJob, HasJob, HasNoJob}
+use Rattle.docker_job.specs.declared.fault.JobFault.TheVariants as job
+use Rattle.docker_office.specs.declared.fault.OfficeFault.{OfficeFault}
+use Rattle.docker_office.specs.declared.fault.OfficeFault.TheVariants as office
+use Rattle.docker_cmd.specs.Prepared.{DeviceBytes, PreparedView, IsReadOf, HasReadToEnd, ReadsFewOfFirst, ReadsFewOfSecond, RefusesFileOf, RefusesStateOf, WantsFor, GainsOutput, GainsPart, IsOutputText, IsRefused, PrintsDocker, output_of, sources_of}
 use Rattle.docker_cmd.specs.FaultLine.{fault_line, status_of}
 use Rattle.docker_cmd.specs.declared.fault.Fault.{Fault}
 use Rattle.docker_cmd.specs.declared.fault.Fault.TheVariants.{Job, Office}
-use Rattle.docker_cmd.specs.declared.fault.JobFault.TheVariants as job
-use Rattle.docker_cmd.specs.declared.fault.OfficeFault.TheVariants as office
-use Rattle.docker_cmd.specs.declared.jobs.Subcommand.TheVariants.{Check, Day}
-
--- the bytes of a device, or None where it can't tell them
-abbrev pub DeviceBytes : Type 0
-DeviceBytes = Option (List ℕ)
-
--- its words, what standard input held and has left, and what the file of each name holds
-pub record Given : Type 0 where
-  pub words : List Text
-  pub input : DeviceBytes
-  pub left : DeviceBytes
-  pub files : Text → DeviceBytes
-
--- the same, of its parts
-abbrev pub given : List Text → DeviceBytes → DeviceBytes → (Text → DeviceBytes) → Given
-given words input left files = record { words = words; input = input; left = left; files = files }
+use Rattle.docker_program.specs.declared.files.OpenFault.{OpenFault}
+use Rattle.docker_program.specs.declared.files.OpenFault.TheVariants as opening
+use Rattle.docker_program.specs.Names.{names_of, stored_by}
+use Rattle.docker_program.specs.Devices.{Given, Written, IsUnwritten, LeavesOtherFiles, AreThere, FailsToOpen, LeavesOthers, first_held, first_left, second_held, second_left}
 
 -- the words name this job; where there are none the first line of standard input does, and the rest of that is left
 abbrev pub AsksFor : List Text → DeviceBytes → JobView → DeviceBytes → Type 0
@@ -50,74 +39,164 @@ abbrev pub AsksAtMost : List Text → DeviceBytes → DeviceBytes → Type 0
 AsksAtMost [] input rest = ReadsAtMost 256 input rest
 AsksAtMost (word ∷ words) input rest = rest ≡ input
 
--- the name of the file that a job of these words reads; the word stdin names standard input
-abbrev pub named_file : List Text → Option Text
-named_file [] = None
-named_file (name ∷ words) = if bytes_eq name (codes "stdin") then None else Some name
-
--- what the source of the job holds: that file, or what is left of standard input
-abbrev pub source_held : List Text → DeviceBytes → (Text → DeviceBytes) → DeviceBytes
-source_held words rest files = option_map_or files (named_file words) rest
-
--- a job that reads a file leaves standard input as it is, and a job that reads standard input reads it no further than the piece that tells its fault
-abbrev pub LeavesInput : Option Text → DeviceBytes → DeviceBytes → Type 0
-LeavesInput (Some name) rest left = left ≡ rest
-LeavesInput None rest left = ReadsNoFurther most_at_once most_records rest left
-
--- memory was wanting for what a job reads: of standard input this is left, and of a file something is
-abbrev pub WantsForInput : Option Text → DeviceBytes → DeviceBytes → Type 0
-WantsForInput (Some name) held left = (rest : DeviceBytes) × WantsMemory most_at_once most_records held rest
-WantsForInput None held left = WantsMemory most_at_once most_records held left
-
--- the same, of a job
-abbrev pub held_for : JobView → DeviceBytes → (Text → DeviceBytes) → DeviceBytes
-held_for job rest files = source_held job.words rest files
-
--- a job is asked for, and this holds of it and of what its source holds
-pub record IsAsked (given : Given) (Holds : JobView → DeviceBytes → Type 0) : Type 0 where
+-- a job is asked for, and this holds of it, where standard input held so much behind the job line
+pub record IsAsked (words : List Text) (given : Given) (Holds : JobView → DeviceBytes → Type 0) : Type 0 where
   pub job : JobView
   pub rest : DeviceBytes
-  pub asks : AsksFor given.words given.input job rest
-  pub at_most : AsksAtMost given.words given.input rest
-  pub leaves : LeavesInput (named_file job.words) rest given.left
-  pub holds : Holds job (held_for job rest given.files)
+  pub asks : AsksFor words given.input job rest
+  pub at_most : AsksAtMost words given.input rest
+  pub holds : Holds job rest
 
--- what the job reads of its source
-pub record IsPrepared (job : JobView) (held : DeviceBytes) (prepared : PreparedView) : Type 0 where
+-- no job is asked for, or it couldn't be told
+pub record IsNotAsked (words : List Text) (given : Given) (Why : Type 0) : Type 0 where
+  pub why : Why
+  pub at_most : AsksAtMost words given.input given.left
+  pub first : given.first.left ≡ given.first.before
+  pub second : given.second.left ≡ given.second.before
+
+-- all files that a job reads were opened before anything was read of them; of each source no more was read than decides, and of no other device anything
+pub record IsOpened (given : Given) (job : JobView) (rest : DeviceBytes) : Type 0 where
+  pub there : AreThere (names_of job) given
+  pub others : LeavesOthers (names_of job) rest given
+  pub first_few : ReadsFewOfFirst (sources_of job.task)
+      (first_held (names_of job) rest given) (first_left (names_of job) given)
+  pub second_few : ReadsFewOfSecond (sources_of job.task) (first_held (names_of job) rest given)
+      (second_held (names_of job) rest given) (second_left (names_of job) given)
+
+-- what was read of the sources: the job, and what they held; or the fault of what they held
+abbrev pub EndsReading : JobView → DeviceBytes → DeviceBytes → DeviceBytes → DeviceBytes → Result PreparedView OfficeFault → Type 0
+EndsReading job first left second second_left (Ok prepared) =
+    (prepared.job ≡ job) × IsReadOf job.task first second prepared.read × HasReadToEnd (sources_of job.task) left second_left
+EndsReading job first left second second_left (Err (office.File fault)) = RefusesFileOf (sources_of job.task) first second fault
+EndsReading job first left second second_left (Err (office.State fault)) = RefusesStateOf (sources_of job.task) first second fault
+EndsReading job first left second second_left (Err office.Source) = ⊤
+EndsReading job first left second second_left (Err office.Memory) = WantsFor (sources_of job.task) first left second second_left
+EndsReading job first left second second_left (Err office.Lapsed) = ⊥
+EndsReading job first left second second_left (Err office.Sink) = ⊥
+
+-- two sources of a job were read in their order, and no further than decides
+pub record ReadsInOrder (job : JobView) (first left second second_left : DeviceBytes) (result : Result PreparedView OfficeFault) : Type 0 where
+  pub first_few : ReadsFewOfFirst (sources_of job.task) first left
+  pub second_few : ReadsFewOfSecond (sources_of job.task) first second second_left
+  pub ends : EndsReading job first left second second_left result
+
+-- the fault is that of a file which a source of the job held
+abbrev pub RefusesFile : Given → FileFault → JobView → DeviceBytes → Type 0
+RefusesFile given fault job rest = IsOpened given job rest
+    × RefusesFileOf (sources_of job.task) (first_held (names_of job) rest given) (second_held (names_of job) rest given) fault
+
+-- the fault is that of a state which a source of the job held
+abbrev pub RefusesState : Given → StateFault → JobView → DeviceBytes → Type 0
+RefusesState given fault job rest = IsOpened given job rest
+    × RefusesStateOf (sources_of job.task) (first_held (names_of job) rest given) (second_held (names_of job) rest given) fault
+
+-- memory was wanting for what the sources of the job held
+abbrev pub WantsForSources : Given → JobView → DeviceBytes → Type 0
+WantsForSources given job rest = IsOpened given job rest
+    × WantsFor (sources_of job.task) (first_held (names_of job) rest given) (first_left (names_of job) given)
+    (second_held (names_of job) rest given) (second_left (names_of job) given)
+
+-- why a source wasn't opened, as an office tells it
+abbrev pub fault_of_opening : OpenFault → OfficeFault
+fault_of_opening opening.Failed = office.Source
+fault_of_opening opening.Memory = office.Memory
+
+-- a file wasn't opened
+abbrev pub IsNotOpened : Given → JobView → DeviceBytes → Type 0
+IsNotOpened given job rest = FailsToOpen (names_of job) rest given
+
+-- the job read its sources whole, and this is what it has of them
+pub record IsPrepared (given : Given) (job : JobView) (rest : DeviceBytes) (prepared : PreparedView) : Type 0 where
+  pub opened : IsOpened given job rest
   pub job_is : prepared.job ≡ job
-  pub check : (job.subcommand ≡ Check) → ReadsFile held prepared
-  pub day : (job.subcommand ≡ Day) → ReadsSchedule held prepared
+  pub read : IsReadOf job.task (first_held (names_of job) rest given) (second_held (names_of job) rest given) prepared.read
+  pub to_end : HasReadToEnd (sources_of job.task) (first_left (names_of job) given) (second_left (names_of job) given)
 
--- the output gained that of the job
-abbrev pub Writes : DeviceBytes → DeviceBytes → JobView → DeviceBytes → Type 0
-Writes old new job held = (prepared : PreparedView) × (IsPrepared job held prepared × GainsOutput prepared old new)
+-- the sources that a job names were opened and read, and the result is what comes of that
+abbrev pub ReadsNamed : Given → JobView → DeviceBytes → Result PreparedView OfficeFault → Type 0
+ReadsNamed given job rest (Ok prepared) = IsPrepared given job rest prepared
+ReadsNamed given job rest (Err (office.File fault)) = RefusesFile given fault job rest
+ReadsNamed given job rest (Err (office.State fault)) = RefusesState given fault job rest
+ReadsNamed given job rest (Err office.Source) = IsNotOpened given job rest ⊎ IsOpened given job rest
+ReadsNamed given job rest (Err office.Memory) = IsNotOpened given job rest ⊎ WantsForSources given job rest
+ReadsNamed given job rest (Err office.Lapsed) = ⊥
+ReadsNamed given job rest (Err office.Sink) = ⊥
 
--- it gained a beginning of that, and not all of it
-abbrev pub WritesPart : DeviceBytes → DeviceBytes → JobView → DeviceBytes → Type 0
-WritesPart old new job held = (prepared : PreparedView) × (IsPrepared job held prepared × GainsPart prepared old new)
+-- the same, and this holds of what was read
+abbrev pub HasRead : Given → (PreparedView → Type 0) → JobView → DeviceBytes → Type 0
+HasRead given Holds job rest = (prepared : PreparedView) × (IsPrepared given job rest prepared × Holds prepared)
+
+-- the file of this name holds what the job writes, and each other is as it was
+pub record StoresOutput (written : Written) (prepared : PreparedView) (name : Text) : Type 0 where
+  pub text : List ℕ
+  pub is : IsOutputText (output_of prepared.job.task) prepared.read text
+  pub held : Held (written.files_now name) text
+  pub others : LeavesOtherFiles name written.files written.files_now
+
+-- the output gained what a job writes; or, where it writes a file, that holds it
+abbrev pub WritesTo : Option Text → Written → PreparedView → Type 0
+WritesTo None written prepared = GainsOutput prepared written.output written.output_now × (written.files_now ≡ written.files)
+WritesTo (Some name) written prepared = StoresOutput written prepared name × (written.output_now ≡ written.output)
+
+-- the output gained a beginning of that, and not all of it; or the file that is written may hold anything
+abbrev pub WritesPartTo : Option Text → Written → PreparedView → Type 0
+WritesPartTo None written prepared = GainsPart prepared written.output written.output_now × (written.files_now ≡ written.files)
+WritesPartTo (Some name) written prepared = LeavesOtherFiles name written.files written.files_now × (written.output_now ≡ written.output)
+
+-- what a job has read is written where the job writes
+abbrev pub Writes : Written → PreparedView → Type 0
+Writes written prepared = WritesTo (stored_by prepared.job) written prepared
+
+-- the same in part
+abbrev pub WritesPart : Written → PreparedView → Type 0
+WritesPart written prepared = WritesPartTo (stored_by prepared.job) written prepared
+
+-- memory may be wanting to write it: for a docker, or to name a file
+abbrev pub MayWantToWrite : PreparedView → Type 0
+MayWantToWrite prepared = PrintsDocker prepared ⊎ (stored_by prepared.job ≢ None)
+
+-- what a job has read was written, and the result is what comes of that
+abbrev pub EndsWriting : Written → PreparedView → Result ⊤ OfficeFault → Type 0
+EndsWriting written prepared (Ok done) = Writes written prepared
+EndsWriting written prepared (Err office.Sink) = WritesPart written prepared
+EndsWriting written prepared (Err office.Lapsed) = IsRefused prepared × IsUnwritten written
+EndsWriting written prepared (Err office.Memory) = MayWantToWrite prepared × IsUnwritten written
+EndsWriting written prepared (Err (office.File fault)) = ⊥
+EndsWriting written prepared (Err (office.State fault)) = ⊥
+EndsWriting written prepared (Err office.Source) = ⊥
+
+-- why memory was wanting: a file wasn't opened for that, or for what the sources held, or for what is written
+abbrev pub WantsMemory : Given → JobView → DeviceBytes → Type 0
+WantsMemory given job rest = IsNotOpened given job rest ⊎ WantsForSources given job rest ⊎ HasRead given MayWantToWrite job rest
 
 -- what holds where the program ends by this fault before it writes
-abbrev pub IsWhy : Given → Fault → Type 0
-IsWhy given (Job job.Usage) = AskForNone given.words given.input × AsksAtMost given.words given.input given.left
-IsWhy given (Job job.Memory) = AskForSome given.words given.input × AsksAtMost given.words given.input given.left
-IsWhy given (Job job.Source) = (given.words ≡ []) × AsksAtMost given.words given.input given.left
-IsWhy given (Office (office.File fault)) = IsAsked given (λ job held. RefusesText most_records held fault)
-IsWhy given (Office office.NotYet) = IsAsked given (λ job held. (job.subcommand ≡ Day) × HoldsOtherFile held)
-IsWhy given (Office office.Source) = IsAsked given (λ job held. ⊤)
-IsWhy given (Office office.Memory) = IsAsked given (λ job held. WantsForInput (named_file job.words) held given.left)
-IsWhy given (Office office.Sink) = ⊥
+abbrev pub IsWhy : List Text → Given → Fault → Type 0
+IsWhy words given (Job job.Usage) = IsNotAsked words given (AskForNone words given.input)
+IsWhy words given (Job job.Memory) = IsNotAsked words given (AskForSome words given.input)
+IsWhy words given (Job job.Source) = IsNotAsked words given (words ≡ [])
+IsWhy words given (Office (office.File fault)) = IsAsked words given (RefusesFile given fault)
+IsWhy words given (Office (office.State fault)) = IsAsked words given (RefusesState given fault)
+IsWhy words given (Office office.Lapsed) = IsAsked words given (HasRead given IsRefused)
+IsWhy words given (Office office.Source) = IsAsked words given (λ job rest. IsNotOpened given job rest ⊎ IsOpened given job rest)
+IsWhy words given (Office office.Memory) = IsAsked words given (WantsMemory given)
+IsWhy words given (Office office.Sink) = ⊥
 
--- the program ends without a fault, and has written the output of its job; or the output failed, and took a beginning of that; or another fault came, and
+-- the program ends without a fault, and has written the output of its job; or what it writes to failed, and took a part of that; or another fault came, and
 -- nothing is written
-abbrev pub EndsBy : Given → DeviceBytes → DeviceBytes → Option Fault → Type 0
-EndsBy given old new None = IsAsked given (Writes old new)
-EndsBy given old new (Some (Office office.Sink)) = IsAsked given (WritesPart old new)
-EndsBy given old new (Some fault) = IsWhy given fault × (new ≡ old)
+abbrev pub EndsBy : List Text → Given → Written → Option Fault → Type 0
+EndsBy words given written None = IsAsked words given (HasRead given (Writes written))
+EndsBy words given written (Some (Office office.Sink)) = IsAsked words given (HasRead given (WritesPart written))
+EndsBy words given written (Some fault) = IsWhy words given fault × IsUnwritten written
 
 -- the exit status: 0, or the fault's
 abbrev pub ending_status : Option Fault → ℕ
 ending_status None = 0
 ending_status (Some fault) = status_of fault
+
+-- the same of an office's result
+abbrev pub result_status : {A : Type 0} → Result A OfficeFault → ℕ
+result_status (Ok answer) = 0
+result_status (Err fault) = status_of (Office fault)
 
 -- the sink of faults, which has failed so often before and after, gained nothing, or the line of the fault; where it fails, a beginning of that
 abbrev pub Tells : Option Fault → DeviceBytes → DeviceBytes → ℕ → ℕ → Type 0
@@ -125,12 +204,23 @@ Tells None old new before after = new ≡ old
 Tells (Some fault) old new before after =
     ((after ≡ before) × Takes old (fault_line fault) new) ⊎ ((after ≡ before + 1) × TakesPart old (fault_line fault) new)
 
--- how the program ends, by its status and what its output and the sink of faults gained
-pub record Performs (given : Given) (status : ℕ) (output output_now faults faults_now : DeviceBytes) (before after : ℕ) : Type 0 where
+-- the sink of faults before and now, with how often it failed
+pub record FaultSink : Type 0 where
+  pub taken : DeviceBytes
+  pub taken_now : DeviceBytes
+  pub before : ℕ
+  pub after : ℕ
+
+-- the same, of its parts
+abbrev pub fault_sink : DeviceBytes → DeviceBytes → ℕ → ℕ → FaultSink
+fault_sink taken taken_now before after = record { taken = taken; taken_now = taken_now; before = before; after = after }
+
+-- how the program ends, by its status and what it wrote
+pub record Performs (words : List Text) (given : Given) (written : Written) (faults : FaultSink) (status : ℕ) : Type 0 where
   pub ending : Option Fault
-  pub ends : EndsBy given output output_now ending
+  pub ends : EndsBy words given written ending
   pub status_is : status ≡ ending_status ending
-  pub tells : Tells ending faults faults_now before after
+  pub tells : Tells ending faults.taken faults.taken_now faults.before faults.after
 
 -- the fault of a call that answers nothing else
 abbrev pub fault_in : {A : Type 0} → Result A Fault → Option Fault

@@ -1,5 +1,5 @@
 //! The real devices: standard input, a file that is opened, standard output and standard error. They can't tell their bytes.
-ghost use Rattle.std.specs.Prelude.{◌≡◌, ◌<◌, ◌^◌, ◌-◌, None};
+ghost use Rattle.std.specs.Prelude.{◌≡◌, ◌<◌, ◌≤◌, ◌^◌, ◌-◌, None, IfSome, false, length};
 
 use crate::files::{Files, OpenFault};
 use cif_line::{Failed, Sink, Source};
@@ -54,8 +54,8 @@ impl Source for Input {
 
     fn read(&mut self, into: &mut [u8]) -> Result<usize, Failed> {
         let read = match &mut self.from {
-            From::Stdin(stdin) => stdin.read(into).ok(),
-            From::File(file) => file.read(into).ok(),
+            From::Stdin(stdin) => read_some(stdin, into),
+            From::File(file) => read_some(file, into),
             From::Closed => None,
         };
         match read {
@@ -75,6 +75,8 @@ impl Source for Input {
 impl Files for Input {
     ghost held = { λ _ _. None };
 
+    ghost is_missing = { λ _ _. false };
+
     fn open(&mut self, name: &str) -> Result<(), OpenFault> {
         match File::open(&self.rt, name) {
             Ok(file) => {
@@ -88,6 +90,20 @@ impl Files for Input {
             }
         }
     }
+}
+
+/// Reads once, and again where a signal interrupts that; none where the device fails.
+fn read_some<R: Read>(from: &mut R, into: &mut [u8]) -> Option<usize>
+    ensures { IfSome result (λ n. n ≤ length into.new) }
+{
+    for _ in 0..u64::MAX {
+        match from.read(into) {
+            Ok(n) => return Some(n),
+            Err(error) if error.kind() == ErrorKind::Interrupted => {}
+            Err(_) => return None,
+        }
+    }
+    None
 }
 
 /// Standard output or standard error.
@@ -133,12 +149,12 @@ impl Sink for Output {
 
     fn write(&mut self, piece: &[u8]) -> Result<usize, Failed> {
         let written = match &mut self.to {
-            To::Stdout(stdout) => stdout.write(piece),
-            To::Stderr(stderr) => stderr.write(piece),
+            To::Stdout(stdout) => write_some(stdout, piece),
+            To::Stderr(stderr) => write_some(stderr, piece),
         };
         match written {
-            Ok(n) if n > 0 || piece.is_empty() => Ok(n),
-            _ => {
+            Some(n) => Ok(n),
+            None => {
                 self.failures += 1;
                 Err(Failed)
             }
@@ -148,4 +164,19 @@ impl Sink for Output {
     fn failures(&self) -> u64 {
         self.failures
     }
+}
+
+/// Writes once, and again where a signal interrupts that; none where the device fails, or takes nothing.
+pub(crate) fn write_some<W: Write>(to: &mut W, piece: &[u8]) -> Option<usize>
+    ensures within { IfSome result (λ n. n ≤ length piece.now) }
+    ensures progress { IfSome result (λ n. 0 < length piece.now → 0 < n) }
+{
+    for _ in 0..u64::MAX {
+        match to.write(piece) {
+            Ok(n) if n > 0 || piece.is_empty() => return Some(n),
+            Err(error) if error.kind() == ErrorKind::Interrupted => {}
+            _ => return None,
+        }
+    }
+    None
 }

@@ -1,15 +1,30 @@
 //! Files that are opened by their names.
-ghost use Rattle.std.specs.Prelude.{◌≡◌, ℕ, ◌+◌, ◌-◌, ◌^◌, ◌<◌, ◌↔◌, ◌≢◌, List, Option, OnOk, Err};
+ghost use Rattle.std.specs.Prelude.{◌≡◌, ℕ, ◌+◌, ◌-◌, ◌^◌, ◌<◌, ◌↔◌, ◌≢◌, Bool, false, List, Option, OnOk, OnErr, Err};
 
 use cif_line::Source;
+use docker_cmd::OfficeFault;
 
 /// Why a file isn't opened.
 #[derive(Clone, Copy, PartialEq, Eq, Debug)]
 pub enum OpenFault {
-    /// It isn't there, it may not be read, or its device failed.
+    /// It isn't there, it may not be opened so, or its device failed.
     Failed,
     /// A growth was refused: want of memory.
     Memory,
+}
+
+impl From<OpenFault> for OfficeFault {
+    ghost use Rattle.docker_program.specs.Program.{fault_of_opening};
+    ghost use Rattle.std.specs.Prelude.{◌≡◌};
+
+    ghost from_gives = { λ cause fault. fault ≡ fault_of_opening cause };
+
+    fn from(cause: OpenFault) -> OfficeFault {
+        match cause {
+            OpenFault::Failed => OfficeFault::Source,
+            OpenFault::Memory => OfficeFault::Memory,
+        }
+    }
 }
 
 /// A source that reads a file, once one is opened.
@@ -17,10 +32,16 @@ pub trait Files: Source {
     // The bytes that the file of a name holds, or None where they can't be told.
     ghost held: { Self → List ℕ → Option (List ℕ) };
 
+    // There is no file of a name to be opened, as far as that can be told.
+    ghost is_missing: { Self → List ℕ → Bool };
+
     /// Opens the file of this name, to be read from its first byte. A device that fails counts it; want of memory is no failure of a device.
+    /// One that isn't opened leaves the source as it was.
     fn open(&mut self, name: &str) -> Result<(), OpenFault>
         requires { Self.failures self.old < 2 ^ 64 - 1 }
         ensures opened { OnOk result (Self.left self.new ≡ held self.old name.now) }
+        ensures there { OnOk result (is_missing self.old name.now ≡ false) }
+        ensures unopened { OnErr result (Self.left self.new ≡ Self.left self.old) }
         ensures counted { (result ≡ Err OpenFault.Failed)
             ↔ (Self.failures self.new ≡ Self.failures self.old + 1) }
         ensures no_failure { result ≢ Err OpenFault.Failed

@@ -1,7 +1,9 @@
 //! The program on the real devices.
 use crate::devices::{Input, Output};
 use crate::fault_report::tell;
+use crate::folder::Folder;
 use crate::program::perform;
+use crate::standard::hold_standard;
 use docker_cmd::{Fault, JobFault};
 use std::env;
 use std::io::ErrorKind;
@@ -9,6 +11,7 @@ use std::process::ExitCode;
 
 /// Runs the program with its words, standard input, output and error, and answers its exit status.
 pub fn run(rt: &HostRuntime) -> ExitCode {
+    let _standard = hold_standard(rt);
     ExitCode::from(run_own_words(rt))
 }
 
@@ -19,6 +22,8 @@ pub fn run_words(rt: &HostRuntime, words: &[&str]) -> u8 {
         words,
         &mut Input::stdin(rt),
         &mut Input::closed(rt),
+        &mut Input::closed(rt),
+        &mut Folder::new(rt),
         &mut Output::stdout(rt),
         &mut Output::stderr(rt),
     )

@@ -4,12 +4,19 @@
 mod devices;
 mod fault_report;
 mod files;
+mod folder;
 mod host;
-mod job_input;
+mod job_names;
+mod job_output;
+mod job_sources;
+mod names;
 mod program;
 mod request;
+mod standard;
+mod stores;
 
 pub use fault_report::tell;
 pub use files::{Files, OpenFault};
 pub use host::{run, run_words};
 pub use program::perform;
+pub use stores::Stores;

@@ -1,69 +1,100 @@
 //! The order of the program's work.
 ghost use Rattle.std.specs.Prelude.{◌≡◌, ◌≢◌, ◌+◌, ◌-◌, ◌^◌, ◌<◌, ◌↔◌, None, Some};
-ghost use Rattle.docker_cmd.specs.Words.{texts};
-ghost use Rattle.docker_program.specs.Program.{EndsBy, Performs, ending_status, fault_in, given};
+ghost use Rattle.docker_job.specs.Words.{texts};
+ghost use Rattle.docker_program.specs.Devices.{IsCounted, device_of, given, written};
+ghost use Rattle.docker_program.specs.Program.{EndsBy, Performs, ending_status, fault_in, fault_sink};
 
 use crate::fault_report::tell;
 use crate::files::Files;
-use crate::job_input::read_input;
+use crate::job_names::stored;
+use crate::job_output::write_output;
+use crate::job_sources::read_sources;
 use crate::request::requested_job;
+use crate::stores::Stores;
 use cif_line::{Sink, Source};
-use docker_cmd::{Fault, emit};
+use docker_cmd::{Fault, Job};
 use std::alloc::Global;
+use std::mem;
 
-/// Does the job that is asked for: reads its source, and then writes its output.
-fn do_job<S: Source, F: Files, K: Sink>(
+/// Looks at the file that a job writes, before anything is read.
+fn look_at_stored<W: Stores>(job: &Job, store: &mut W)
+    ensures held { W.held store.new ≡ W.held store.old }
+    ensures no_failure { W.failures store.new ≡ W.failures store.old }
+{
+    if let Some(name) = stored(job) {
+        store.look(name);
+    }
+}
+
+/// Does the job that is asked for: reads its sources, and then writes its output.
+fn do_job<S: Source, F: Files, W: Stores, K: Sink>(
     alloc: Global,
     words: &[&str],
     stdin: &mut S,
-    file: &mut F,
+    first: &mut F,
+    second: &mut F,
+    store: &mut W,
     output: &mut K,
 ) -> Result<(), Fault>
     requires stdin { S.failures stdin.old < 2 ^ 64 - 1 }
-    requires file { F.failures file.old < 2 ^ 64 - 1 }
+    requires first { F.failures first.old < 2 ^ 64 - 1 }
+    requires second { F.failures second.old < 2 ^ 64 - 1 }
+    requires store { W.failures store.old < 2 ^ 64 - 1 }
     requires output { K.failures output.old < 2 ^ 64 - 1 }
-    ensures ends { EndsBy
-        (given (texts words.now) (S.left stdin.old) (S.left stdin.new) (F.held file.old))
-        (K.taken output.old) (K.taken output.new) (fault_in result) }
-    ensures device { (ending_status (fault_in result) ≡ 4)
-        ↔ (S.failures stdin.new + F.failures file.new + K.failures output.new
-        ≡ S.failures stdin.old + F.failures file.old + K.failures output.old + 1) }
-    ensures no_device { ending_status (fault_in result) ≢ 4
-        → S.failures stdin.new + F.failures file.new + K.failures output.new
-        ≡ S.failures stdin.old + F.failures file.old + K.failures output.old }
+    ensures ends { EndsBy (texts words.now)
+        (given (S.left stdin.old) (S.left stdin.new)
+        (device_of F.left F.held F.is_missing first.old first.new)
+        (device_of F.left F.held F.is_missing second.old second.new))
+        (written (K.taken output.old) (K.taken output.new) (W.held store.old) (W.held store.new))
+        (fault_in result) }
+    ensures counted { IsCounted (ending_status (fault_in result))
+        (S.failures stdin.old + F.failures first.old + F.failures second.old
+        + W.failures store.old + K.failures output.old)
+        (S.failures stdin.new + F.failures first.new + F.failures second.new
+        + W.failures store.new + K.failures output.new) }
 {
     let job = requested_job(alloc, words, stdin)?;
-    let prepared = read_input(alloc, &job, stdin, file)?;
-    emit(&prepared, output)?;
-    Ok(())
+    look_at_stored(&job, store);
+    let prepared = read_sources(alloc, &job, stdin, first, second)?;
+    let done = write_output(&job, &prepared, store, output);
+    // The program ends here: what it has read is left to the system, not freed piece by piece.
+    mem::forget(prepared);
+    Ok(done?)
 }
 
-/// Does what the words ask for, and answers the exit status. With no words at all the job is on the first line of standard input. Nothing is written
-/// before all is read; a fault is one line on the sink of faults.
-pub fn perform<S: Source, F: Files, K: Sink, L: Sink>(
+/// Does what the words ask for, and answers the exit status. With no words at all the job is on the first line of standard input. All files that the job
+/// reads are opened first, in the order of the words, and nothing is written, or made to be written, before all is read; a fault is one line on the
+/// sink of faults.
+pub fn perform<S: Source, F: Files, W: Stores, K: Sink, L: Sink>(
     alloc: Global,
     words: &[&str],
     stdin: &mut S,
-    file: &mut F,
+    first: &mut F,
+    second: &mut F,
+    store: &mut W,
     output: &mut K,
     faults: &mut L,
 ) -> u8
     requires stdin { S.failures stdin.old < 2 ^ 64 - 1 }
-    requires file { F.failures file.old < 2 ^ 64 - 1 }
+    requires first { F.failures first.old < 2 ^ 64 - 1 }
+    requires second { F.failures second.old < 2 ^ 64 - 1 }
+    requires store { W.failures store.old < 2 ^ 64 - 1 }
     requires output { K.failures output.old < 2 ^ 64 - 1 }
     requires faults { L.failures faults.old < 2 ^ 64 - 1 }
-    ensures performs { Performs
-        (given (texts words.now) (S.left stdin.old) (S.left stdin.new) (F.held file.old)) result
-        (K.taken output.old) (K.taken output.new) (L.taken faults.old) (L.taken faults.new)
-        (L.failures faults.old) (L.failures faults.new) }
-    ensures device { (result ≡ 4)
-        ↔ (S.failures stdin.new + F.failures file.new + K.failures output.new
-        ≡ S.failures stdin.old + F.failures file.old + K.failures output.old + 1) }
-    ensures no_device { result ≢ 4
-        → S.failures stdin.new + F.failures file.new + K.failures output.new
-        ≡ S.failures stdin.old + F.failures file.old + K.failures output.old }
+    ensures performs { Performs (texts words.now)
+        (given (S.left stdin.old) (S.left stdin.new)
+        (device_of F.left F.held F.is_missing first.old first.new)
+        (device_of F.left F.held F.is_missing second.old second.new))
+        (written (K.taken output.old) (K.taken output.new) (W.held store.old) (W.held store.new))
+        (fault_sink (L.taken faults.old) (L.taken faults.new)
+        (L.failures faults.old) (L.failures faults.new)) result }
+    ensures counted { IsCounted result
+        (S.failures stdin.old + F.failures first.old + F.failures second.old
+        + W.failures store.old + K.failures output.old)
+        (S.failures stdin.new + F.failures first.new + F.failures second.new
+        + W.failures store.new + K.failures output.new) }
 {
-    match do_job(alloc, words, stdin, file, output) {
+    match do_job(alloc, words, stdin, first, second, store, output) {
         Ok(()) => 0,
         Err(fault) => tell(&fault, faults),
     }

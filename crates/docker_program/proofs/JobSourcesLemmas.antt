@@ -1,0 +1,127 @@
+-- What was read of files that were opened is what was read of the sources of a job.
+use Rattle.std.proofs.Common.{◌≡◌, refl, sym, ◌∙◌, subst, inl, inr, Ok, Err, Bor}
+use Rattle.std.specs.Prelude.{Result, ◌⊎◌, ⊤}
+use Rattle.docker_job.specs.Job.{JobView}
+use Rattle.docker_cmd.specs.Prepared.{DeviceBytes, PreparedView}
+use Rattle.docker_office.specs.declared.fault.OfficeFault.{OfficeFault}
+use Rattle.docker_office.specs.declared.fault.OfficeFault.TheVariants as office
+use Rattle.docker_program.specs.Devices.{AreOpened, AreThere, FileDevice, Given, LeavesOthers, first_held, first_left, given, second_held, second_left}
+use Rattle.docker_job.specs.Words.{Text}
+use Rattle.docker_program.specs.declared.names.Names as declared
+use Rattle.docker_program.specs.declared.names.Names.TheVariants as code
+use Rattle.docker_program.specs.Names.{Names, no_source, standard_input, one_file, file_and_input, two_files, names_meant, names_of}
+use Rattle.docker_program.specs.Program.{IsOpened, ReadsInOrder, ReadsNamed}
+
+-- the devices, with so much left in each
+abbrev now : DeviceBytes → DeviceBytes → FileDevice → DeviceBytes → FileDevice → DeviceBytes → Given
+now input left first first_now second second_now =
+    given input left (record first { left = first_now }) (record second { left = second_now })
+
+-- what the first source held doesn't depend on what is left
+same_first : (names : Names) (rest input before left : DeviceBytes) (first second : FileDevice) (one two : DeviceBytes) →
+    first_held names rest (given input before first second) ≡ first_held names rest (now input left first one second two)
+same_first no_source rest input before left first second one two = refl
+same_first standard_input rest input before left first second one two = refl
+same_first (one_file name) rest input before left first second one two = refl
+same_first (file_and_input name) rest input before left first second one two = refl
+same_first (two_files name other) rest input before left first second one two = refl
+
+-- nor what the second held
+same_second : (names : Names) (rest input before left : DeviceBytes) (first second : FileDevice) (one two : DeviceBytes) →
+    second_held names rest (given input before first second) ≡ second_held names rest (now input left first one second two)
+same_second no_source rest input before left first second one two = refl
+same_second standard_input rest input before left first second one two = refl
+same_second (one_file name) rest input before left first second one two = refl
+same_second (file_and_input name) rest input before left first second one two = refl
+same_second (two_files name other) rest input before left first second one two = refl
+
+-- nor which files are there
+still_there : (names : Names) (input before left : DeviceBytes) (first second : FileDevice) (one two : DeviceBytes) →
+    AreThere names (given input before first second) → AreThere names (now input left first one second two)
+still_there no_source input before left first second one two there = tt
+still_there standard_input input before left first second one two there = tt
+still_there (one_file name) input before left first second one two there = there
+still_there (file_and_input name) input before left first second one two there = there
+still_there (two_files name other) input before left first second one two there = there
+
+-- sources of these names are there, and were read in order
+record AreRead (names : Names) (given : Given) (job : JobView) (rest : DeviceBytes) (result : Result PreparedView OfficeFault) : Type 0 where
+  there : AreThere names given
+  others : LeavesOthers names rest given
+  reads : ReadsInOrder job (first_held names rest given) (first_left names given) (second_held names rest given) (second_left names given) result
+
+-- so they were opened before they were read
+opened_by : (given : Given) (job : JobView) (rest : DeviceBytes) (result : Result PreparedView OfficeFault) →
+    AreRead (names_of job) given job rest result → IsOpened given job rest
+opened_by given job rest result read = record {
+  there = read.there;
+  others = read.others;
+  first_few = read.reads.first_few;
+  second_few = read.reads.second_few;
+}
+
+-- by what the result is
+by_result : (given : Given) (job : JobView) (rest : DeviceBytes) (result : Result PreparedView OfficeFault) →
+    AreRead (names_of job) given job rest result → ReadsNamed given job rest result
+by_result given job rest (Ok prepared) read = record {
+  opened = opened_by given job rest (Ok prepared) read;
+  job_is = read.reads.ends.0;
+  read = read.reads.ends.1;
+  to_end = read.reads.ends.2;
+}
+by_result given job rest (Err (office.File fault)) read = (opened_by given job rest (Err (office.File fault)) read, read.reads.ends)
+by_result given job rest (Err (office.State fault)) read = (opened_by given job rest (Err (office.State fault)) read, read.reads.ends)
+by_result given job rest (Err office.Source) read = inr (opened_by given job rest (Err office.Source) read)
+by_result given job rest (Err office.Memory) read = inr (opened_by given job rest (Err office.Memory) read, read.reads.ends)
+by_result given job rest (Err office.Lapsed) read = read.reads.ends
+by_result given job rest (Err office.Sink) read = read.reads.ends
+
+-- of files that were opened, what was read of them is what was read of the sources of the job with these names
+pub reads_named : (job : JobView) (names : Names) → names ≡ names_of job →
+    (rest input before left : DeviceBytes) (first second : FileDevice) (one two : DeviceBytes) (result : Result PreparedView OfficeFault) →
+    AreOpened names rest (given input before first second) → LeavesOthers names rest (now input left first one second two) →
+    ReadsInOrder job (first_left names (given input before first second)) (first_left names (now input left first one second two))
+    (second_left names (given input before first second)) (second_left names (now input left first one second two)) result →
+    ReadsNamed (now input left first one second two) job rest result
+reads_named job names is rest input before left first second one two result opened others reads =
+    by_result (now input left first one second two) job rest result
+    (subst (λ names. AreRead names (now input left first one second two) job rest result) is (record {
+      there = still_there names input before left first second one two opened.there;
+      others = others;
+      reads = subst (λ held. ReadsInOrder job (first_held names rest (now input left first one second two)) (first_left names (now input left first one second two))
+          held (second_left names (now input left first one second two)) result)
+          (opened.second ∙ same_second names rest input before left first second one two)
+          (subst (λ held. ReadsInOrder job held (first_left names (now input left first one second two))
+          (second_left names (given input before first second)) (second_left names (now input left first one second two)) result)
+          (opened.first ∙ same_first names rest input before left first second one two) reads);
+    }))
+
+-- no source of these names is standard input
+abbrev pub AreFiles : Names → Type 0
+AreFiles no_source = ⊤
+AreFiles standard_input = ⊥
+AreFiles (one_file name) = ⊤
+AreFiles (file_and_input name) = ⊥
+AreFiles (two_files name other) = ⊤
+
+-- the same of files alone, where standard input is left as it was
+pub reads_files : (job : JobView) (names : Names) → names ≡ names_of job → AreFiles names →
+    (rest input : DeviceBytes) (first second : FileDevice) (one two : DeviceBytes) (result : Result PreparedView OfficeFault) →
+    AreOpened names rest (given input rest first second) → ReadsInOrder job first.left one second.left two result →
+    ReadsNamed (now input rest first one second two) job rest result
+reads_files job no_source is files rest input first second one two result opened reads =
+    reads_named job no_source is rest input rest rest first second one two result opened refl reads
+reads_files job standard_input is files rest input first second one two result opened reads = elim files [ ]
+reads_files job (one_file name) is files rest input first second one two result opened reads =
+    reads_named job (one_file name) is rest input rest rest first second one two result opened refl reads
+reads_files job (file_and_input name) is files rest input first second one two result opened reads = elim files [ ]
+reads_files job (two_files name other) is files rest input first second one two result opened reads =
+    reads_named job (two_files name other) is rest input rest rest first second one two result opened refl reads
+
+-- the names of an arm for files
+pub are_files : (names : declared.Names) →
+    (names ≡ code.None) ⊎ (((name : Bor Text) × (names ≡ code.File name)) ⊎ ((name : Bor Text) × (other : Bor Text) × (names ≡ code.Files name other))) →
+    AreFiles (names_meant names)
+are_files names (inl is) = subst (λ names. AreFiles (names_meant names)) (sym is) tt
+are_files names (inr (inl (name, is))) = subst (λ names. AreFiles (names_meant names)) (sym is) tt
+are_files names (inr (inr (name, other, is))) = subst (λ names. AreFiles (names_meant names)) (sym is) tt

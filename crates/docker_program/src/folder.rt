@@ -1,0 +1,237 @@
+//! The real files that are written anew. A regular file is written beside its place, and then renamed over it: whenever that ends, the file is whole, as it was
+//! or as it is to be. A pipe or a device is written where it stands.
+ghost use Rattle.std.specs.Prelude.{◌≡◌, ◌<◌, ◌^◌, ◌-◌, ◌+◌, None, option_map, string_bytes};
+
+use crate::devices::write_some;
+use crate::files::OpenFault;
+use crate::stores::Stores;
+use cif_line::{Failed, Sink};
+use std::alloc::AllocError;
+use std::fs::{File, Metadata};
+use std::io::ErrorKind;
+use std::os::unix::fs::MetadataExt;
+use std::{fs, io};
+
+/// What stands behind a file's name in that of its draft.
+const BESIDE: &str = ".new";
+
+/// Which file stood under a name, and when it was written last.
+#[derive(Clone, Copy, PartialEq, Eq)]
+struct Seen {
+    device: u64,
+    node: u64,
+    size: u64,
+    seconds: i64,
+    nanoseconds: i64,
+}
+
+impl Seen {
+    /// The file of this metadata.
+    fn of(file: &Metadata) -> Seen {
+        Seen {
+            device: file.dev(),
+            node: file.ino(),
+            size: file.size(),
+            seconds: file.mtime(),
+            nanoseconds: file.mtime_nsec(),
+        }
+    }
+}
+
+/// A draft beside its file.
+#[derive(Drop)]
+struct Beside {
+    draft: String,
+    file: String,
+}
+
+/// The file of a name that is written anew.
+#[derive(Drop)]
+pub(crate) struct Folder {
+    rt: HostRuntime,
+    seen: Option<Seen>,
+    target: Option<String>,
+    beside: Option<Beside>,
+    pub(crate) failures: u64,
+}
+
+/// A new text of a file, as far as it is written.
+#[derive(Drop)]
+pub(crate) struct Draft {
+    file: File,
+    pub(crate) failures: u64,
+}
+
+impl Sink for Draft {
+    ghost taken = { λ _. None };
+
+    ghost failures = { λ draft. draft.failures };
+
+    fn write(&mut self, piece: &[u8]) -> Result<usize, Failed> {
+        match write_some(&mut self.file, piece) {
+            Some(n) => Ok(n),
+            None => {
+                self.failures += 1;
+                Err(Failed)
+            }
+        }
+    }
+
+    fn failures(&self) -> u64 {
+        self.failures
+    }
+}
+
+impl From<io::Error> for OpenFault {
+    fn from(error: io::Error) -> OpenFault {
+        if error.kind() == ErrorKind::OutOfMemory {
+            return OpenFault::Memory;
+        }
+        OpenFault::Failed
+    }
+}
+
+impl From<AllocError> for OpenFault {
+    fn from(_refused: AllocError) -> OpenFault {
+        OpenFault::Memory
+    }
+}
+
+impl Folder {
+    /// No file yet.
+    pub(crate) fn new(rt: &HostRuntime) -> Folder
+        ensures { result.failures ≡ 0 }
+    {
+        Folder {
+            rt: *rt,
+            seen: None,
+            target: None,
+            beside: None,
+            failures: 0,
+        }
+    }
+
+    /// Which file stands under a name, if one does.
+    fn seen(&self, name: &str) -> Option<Seen> {
+        fs::metadata(&self.rt, name)
+            .ok()
+            .map(|file| Seen::of(&file))
+    }
+
+    /// Opens a draft of the file of this name. A file that isn't there yet is written beside its place too, but a link that leads nowhere is followed.
+    fn open(&self, name: &str) -> Result<(File, Option<Beside>), OpenFault> {
+        match fs::metadata(&self.rt, name) {
+            Ok(file) if file.is_file() => {
+                let path = fs::canonicalize(&self.rt, name)?.into_string();
+                self.open_beside(name, path, Some(file))
+            }
+            Ok(_) => Ok((File::create(&self.rt, name)?, None)),
+            Err(error) if error.kind() == ErrorKind::NotFound => {
+                if fs::symlink_metadata(&self.rt, name).is_ok() {
+                    return Ok((File::create(&self.rt, name)?, None));
+                }
+                let path = String::from_str(self.rt.alloc(), name)?;
+                self.open_beside(name, path, None)
+            }
+            Err(error) => Err(OpenFault::from(error)),
+        }
+    }
+
+    /// Opens a draft beside a file, which nobody else has made, and which has the file's permissions.
+    fn open_beside(
+        &self,
+        name: &str,
+        file: String,
+        old: Option<Metadata>,
+    ) -> Result<(File, Option<Beside>), OpenFault> {
+        let mut draft = String::from_str(self.rt.alloc(), file.as_str())?;
+        draft.push_str(BESIDE)?;
+        let opened = File::create_new(&self.rt, draft.as_str())?;
+        if let Err(fault) = self.admit(name, &opened, old) {
+            let _ = fs::remove_file(&self.rt, draft.as_str());
+            return Err(fault);
+        }
+        Ok((opened, Some(Beside { draft, file })))
+    }
+
+    /// Whether a draft may take the place of the file: that is still the one that was looked at.
+    fn admit(&self, name: &str, draft: &File, old: Option<Metadata>) -> Result<(), OpenFault> {
+        if self.seen(name) != self.seen {
+            return Err(OpenFault::Failed);
+        }
+        if let Some(file) = old {
+            draft.set_permissions(file.permissions())?;
+        }
+        Ok(())
+    }
+
+    /// Writes a draft that lies beside its file to the disk, and renames it over the file.
+    fn replace(&self, draft: &File) -> io::Result<()> {
+        let Some(beside) = &self.beside else {
+            return Ok(());
+        };
+        draft.sync_all()?;
+        fs::rename(&self.rt, beside.draft.as_str(), beside.file.as_str())
+    }
+
+    /// Takes a draft that lies beside its file away, as far as that can be done.
+    fn remove_draft(&self) {
+        if let Some(beside) = &self.beside {
+            let _ = fs::remove_file(&self.rt, beside.draft.as_str());
+        }
+    }
+}
+
+impl Stores for Folder {
+    type Draft = Draft;
+
+    ghost held = { λ _ _. None };
+
+    ghost target = { λ folder. option_map (λ name. string_bytes name) folder.target };
+
+    ghost failures = { λ folder. folder.failures };
+
+    fn look(&mut self, name: &str) {
+        self.seen = self.seen(name);
+    }
+
+    fn create(&mut self, name: &str) -> Result<Draft, OpenFault> {
+        let opened = match String::from_str(self.rt.alloc(), name) {
+            Ok(target) => {
+                self.target = Some(target);
+                self.open(name)
+            }
+            Err(_) => Err(OpenFault::Memory),
+        };
+        match opened {
+            Ok((file, beside)) => {
+                self.beside = beside;
+                Ok(Draft { file, failures: 0 })
+            }
+            Err(OpenFault::Memory) => Err(OpenFault::Memory),
+            Err(OpenFault::Failed) => {
+                self.failures += 1;
+                Err(OpenFault::Failed)
+            }
+        }
+    }
+
+    fn complete(&mut self, draft: Draft) -> Result<(), Failed> {
+        self.failures += draft.failures;
+        if self.replace(&draft.file).is_err() {
+            self.remove_draft();
+            self.failures += 1;
+            return Err(Failed);
+        }
+        Ok(())
+    }
+
+    fn discard(&mut self, draft: Draft) {
+        self.failures += draft.failures;
+        self.remove_draft();
+    }
+
+    fn failures(&self) -> u64 {
+        self.failures
+    }
+}

@@ -1,0 +1,72 @@
+//! What the words of a job name.
+ghost use Rattle.std.specs.Prelude.{◌≡◌, option_map};
+ghost use Rattle.docker_program.specs.Names.{behind_file, file_or_input, first_word, names_meant, names_of, second_word, stored_by};
+
+use crate::names::{Names, STDIN};
+use docker_cmd::{Job, Task};
+
+/// The sources of a job.
+pub(crate) fn names(job: &Job) -> Names<'_>
+    ensures { names_meant result ≡ names_of job.now }
+{
+    match job.task() {
+        Task::New => Names::None,
+        Task::Check | Task::Day { .. } | Task::Print { .. } | Task::Files => {
+            file_or_input(first_word(job))
+        }
+        Task::Take | Task::Merge => behind_file(first_word(job), second_word(job)),
+        Task::Horizon { .. } | Task::Migrate => Names::File(first_word(job)),
+    }
+}
+
+/// The name of the file that a job writes, where it writes one.
+pub(crate) fn stored(job: &Job) -> Option<&str>
+    ensures { option_map (λ name. name.now) result ≡ stored_by job.now }
+{
+    match job.task() {
+        Task::New | Task::Take | Task::Merge | Task::Horizon { .. } | Task::Migrate => {
+            Some(first_word(job))
+        }
+        Task::Check | Task::Day { .. } | Task::Print { .. } | Task::Files => None,
+    }
+}
+
+/// A source that may be standard input.
+fn file_or_input(word: &str) -> Names<'_>
+    ensures { names_meant result ≡ file_or_input word.now }
+{
+    if word == STDIN {
+        return Names::Stdin;
+    }
+    Names::File(word)
+}
+
+/// The same behind a file.
+fn behind_file<'a>(name: &'a str, word: &'a str) -> Names<'a>
+    ensures { names_meant result ≡ behind_file name.now word.now }
+{
+    if word == STDIN {
+        return Names::FileAndStdin(name);
+    }
+    Names::Files(name, word)
+}
+
+/// The first word behind the subcommand.
+fn first_word(job: &Job) -> &str
+    ensures { result.now ≡ first_word job.now.words }
+{
+    match job.words() {
+        [word, ..] => word.as_str(),
+        [] => "",
+    }
+}
+
+/// The second word behind the subcommand.
+fn second_word(job: &Job) -> &str
+    ensures { result.now ≡ second_word job.now.words }
+{
+    match job.words() {
+        [_, word, ..] => word.as_str(),
+        _ => "",
+    }
+}

@@ -1,0 +1,91 @@
+//! The sources that a job reads.
+ghost use Rattle.std.specs.Prelude.{◌≡◌, ◌≢◌, ◌+◌, ◌-◌, ◌^◌, ◌<◌, ◌↔◌, OnOk, OnErr, Err};
+ghost use Rattle.docker_cmd.specs.Prepared.{DeviceBytes};
+ghost use Rattle.docker_program.specs.Devices.{AreOpened, FailsToOpen, IsCounted, device_of, given};
+ghost use Rattle.docker_program.specs.Names.{names_meant};
+ghost use Rattle.docker_program.specs.Program.{ReadsInOrder, ReadsNamed, result_status};
+
+use crate::files::{Files, OpenFault};
+use crate::job_names::names;
+use crate::names::Names;
+use cif_line::Source;
+use docker_cmd::{Job, OfficeFault, Prepared, prepare};
+use std::alloc::Global;
+
+/// Opens the files of these names, each before anything is read of one.
+fn open_files<F: Files>(names: &Names<'_>, first: &mut F, second: &mut F) -> Result<(), OpenFault>
+    requires first { F.failures first.old < 2 ^ 64 - 1 }
+    requires second { F.failures second.old < 2 ^ 64 - 1 }
+    ensures opened { OnOk result ((input rest : DeviceBytes) →
+        AreOpened (names_meant names.now) rest (given input rest
+        (device_of F.left F.held F.is_missing first.old first.new)
+        (device_of F.left F.held F.is_missing second.old second.new))) }
+    ensures unopened { OnErr result ((input rest : DeviceBytes) →
+        FailsToOpen (names_meant names.now) rest (given input rest
+        (device_of F.left F.held F.is_missing first.old first.new)
+        (device_of F.left F.held F.is_missing second.old second.new))) }
+    ensures counted { (result ≡ Err OpenFault.Failed)
+        ↔ (F.failures first.new + F.failures second.new
+        ≡ F.failures first.old + F.failures second.old + 1) }
+    ensures no_failure { result ≢ Err OpenFault.Failed
+        → F.failures first.new ≡ F.failures first.old }
+    ensures no_second_failure { result ≢ Err OpenFault.Failed
+        → F.failures second.new ≡ F.failures second.old }
+{
+    match names {
+        Names::None | Names::Stdin => Ok(()),
+        Names::File(name) | Names::FileAndStdin(name) => first.open(name),
+        Names::Files(name, other) => {
+            first.open(name)?;
+            second.open(other)
+        }
+    }
+}
+
+/// Reads two sources of a job.
+fn read_in_order<'a, S: Source, T: Source>(
+    alloc: Global,
+    job: &'a Job,
+    first: &mut S,
+    second: &mut T,
+) -> Result<Prepared<'a>, OfficeFault>
+    requires first { S.failures first.old < 2 ^ 64 - 1 }
+    requires second { T.failures second.old < 2 ^ 64 - 1 }
+    ensures reads { ReadsInOrder job.now (S.left first.old) (S.left first.new)
+        (T.left second.old) (T.left second.new) result }
+    ensures counted { IsCounted (result_status result)
+        (S.failures first.old + T.failures second.old)
+        (S.failures first.new + T.failures second.new) }
+{
+    prepare(alloc, job, first, second)
+}
+
+/// Opens the files that a job reads, in the order of its words, and then reads its sources. One of them may be what is left of standard input.
+pub(crate) fn read_sources<'a, S: Source, F: Files>(
+    alloc: Global,
+    job: &'a Job,
+    stdin: &mut S,
+    first: &mut F,
+    second: &mut F,
+) -> Result<Prepared<'a>, OfficeFault>
+    requires stdin { S.failures stdin.old < 2 ^ 64 - 1 }
+    requires first { F.failures first.old < 2 ^ 64 - 1 }
+    requires second { F.failures second.old < 2 ^ 64 - 1 }
+    ensures reads { (input : DeviceBytes) → ReadsNamed (given input (S.left stdin.new)
+        (device_of F.left F.held F.is_missing first.old first.new)
+        (device_of F.left F.held F.is_missing second.old second.new))
+        job.now (S.left stdin.old) result }
+    ensures counted { IsCounted (result_status result)
+        (S.failures stdin.old + F.failures first.old + F.failures second.old)
+        (S.failures stdin.new + F.failures first.new + F.failures second.new) }
+{
+    let names = names(job);
+    open_files(&names, first, second)?;
+    match names {
+        Names::Stdin => read_in_order(alloc, job, stdin, second),
+        Names::FileAndStdin(_) => read_in_order(alloc, job, first, stdin),
+        Names::None | Names::File(_) | Names::Files(..) => {
+            read_in_order(alloc, job, first, second)
+        }
+    }
+}

@@ -1,0 +1,64 @@
+//! Files that are written anew by their names.
+ghost use Rattle.std.specs.Prelude.{◌≡◌, ℕ, ◌+◌, ◌-◌, ◌^◌, ◌<◌, ◌↔◌, ◌≢◌, [], Some, List, Option, IfOk, IsErr, OnOk, OnErr, Err};
+ghost use Rattle.cif_file.specs.SourceRead.{Held};
+ghost use Rattle.docker_program.specs.Devices.{LeavesOtherFiles};
+
+use crate::files::OpenFault;
+use cif_line::{Failed, Sink};
+
+/// Where files are written anew. The new text of one is a draft, which takes the file's place once it is complete.
+pub trait Stores {
+    /// A new text, as far as it is written.
+    type Draft: Sink + Drop;
+
+    // The bytes that the file of a name holds, or None where they can't be told.
+    ghost held: { Self → List ℕ → Option (List ℕ) };
+
+    // The name of the file that a draft was made for.
+    ghost target: { Self → Option (List ℕ) };
+
+    // How often it has failed so far, together with the drafts that it took back.
+    ghost failures: { Self → ℕ };
+
+    /// Looks at the file of this name before it is read, so that a draft made from what it held then never takes the place of a text
+    /// that came since.
+    fn look(&mut self, name: &str)
+        ensures held { held self.new ≡ held self.old }
+        ensures no_failure { failures self.new ≡ failures self.old };
+
+    /// An empty draft for the file of this name. Where there is none, for a device that fails or for want of memory, every file is as it was.
+    fn create(&mut self, name: &str) -> Result<Self::Draft, OpenFault>
+        requires { failures self.old < 2 ^ 64 - 1 }
+        ensures target { OnOk result (target self.new ≡ Some name.now) }
+        ensures empty { IfOk result (λ draft. Held (Self.Draft.taken draft) []) }
+        ensures sound { IfOk result (λ draft. Self.Draft.failures draft ≡ 0) }
+        ensures others { LeavesOtherFiles name.now (held self.old) (held self.new) }
+        ensures unmade { OnErr result (held self.new ≡ held self.old) }
+        ensures counted { (result ≡ Err OpenFault.Failed)
+            ↔ (failures self.new ≡ failures self.old + 1) }
+        ensures no_failure { result ≢ Err OpenFault.Failed
+            → failures self.new ≡ failures self.old };
+
+    /// Puts a draft in the place of its file, which then holds what the draft took. Where that fails the file may hold anything.
+    fn complete(&mut self, draft: Self::Draft) -> Result<(), Failed>
+        requires { failures self.old + Self.Draft.failures draft < 2 ^ 64 - 1 }
+        ensures held { OnOk result ((name : List ℕ) → target self.old ≡ Some name
+            → held self.new name ≡ Self.Draft.taken draft) }
+        ensures others { (name : List ℕ) → target self.old ≡ Some name
+            → LeavesOtherFiles name (held self.old) (held self.new) }
+        ensures no_failure { OnOk result
+            (failures self.new ≡ failures self.old + Self.Draft.failures draft) }
+        ensures counted { OnErr result
+            (failures self.new ≡ failures self.old + Self.Draft.failures draft + 1) };
+
+    /// Takes a draft back that isn't to be completed.
+    fn discard(&mut self, draft: Self::Draft)
+        requires { failures self.old + Self.Draft.failures draft < 2 ^ 64 }
+        ensures others { (name : List ℕ) → target self.old ≡ Some name
+            → LeavesOtherFiles name (held self.old) (held self.new) }
+        ensures counted { failures self.new ≡ failures self.old + Self.Draft.failures draft };
+
+    /// How often it has failed so far.
+    fn failures(&self) -> u64
+        ensures { result ≡ failures self.now };
+}
