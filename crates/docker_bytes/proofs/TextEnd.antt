@@ -3,7 +3,7 @@ use Rattle.std.proofs.Common.{◌≡◌, ℕ, ◌<◌, ◌≤◌, List, [], ◌+
 use Rattle.docker_model.specs.state.State.{State}
 use Rattle.docker_model.specs.state.StateText.{Format, state_text}
 use Rattle.docker_model.specs.state.StatePart.{at_end, items_before, text_before, width, AreGood}
-use Rattle.docker_model.specs.state.StateFault.{too_short, IsStateText}
+use Rattle.docker_model.specs.state.StateFault.{too_short, IsShort, IsStateText}
 use Rattle.docker_laws.proofs.texts.TextOrFault.{end_or_part}
 use Rattle.docker_laws.proofs.texts.OneStateFault.{no_fault_of_state}
 use Rattle.docker_bytes.specs.declared.stage.Stage.{Stage}
@@ -61,6 +61,21 @@ pub wanting_at_end : (reading : Reading) → IsReading reading → width (before
 wanting_at_end reading is none =
     let whole = whole_text reading is none in
     ((reading.parts.told, whole), is.item_is ∙ ap length (ap (items_before (format_of reading)) (at_its_end reading is none) ∙ sym whole.is))
+
+-- where a part is next the text is too short, and that is told of its item
+pub short_at_end : (reading : Reading) → IsReading reading → 0 < width (before_of reading)
+    → IsShort (format_of reading) reading.limit (text_of reading) (record { at = reading.item_at; cause = too_short })
+short_at_end reading is some = record {
+  before = before_of reading;
+  good = is.ready.good;
+  rest = reading.partial.items;
+  whole = refl;
+  ends = (let short = is.short in omega arith);
+  within = (let size = length-append (text_before (format_of reading) (before_of reading)) reading.partial.items in let reached = is.reached_is in
+      let within = is.within in omega arith);
+  cause = refl;
+  item_at = is.item_is;
+}
 
 -- where a part is next the text is open
 pub open_reading : (reading : Reading) → IsReading reading → 0 < width (before_of reading) → IsOpen (format_of reading) reading.limit (text_of reading)

@@ -4,8 +4,14 @@ use Rattle.docker_model.specs.state.StatePart.{width}
 use Rattle.docker_bytes.specs.declared.fault.StateCause.{StateCause}
 use Rattle.docker_bytes.specs.FaultMeaning.{cause_meant}
 use Rattle.docker_bytes.specs.Reading.{format_of, before_of, text_of, IsToldAtEnd}
-use Rattle.docker_bytes.proofs.TextEnd.{whole_text, wanting_at_end}
+use Rattle.docker_bytes.proofs.TextEnd.{whole_text, wanting_at_end, short_at_end}
 use Rattle.docker_bytes.proofs.reading.Reading.join.Goals as goal
+
+pub returns-then-width-gt0-clause-err : goal.returns-then-width-gt0-clause-err
+returns-then-width-gt0-clause-err c =
+    let told = c.width.ensures.value c.args.self.parts.told c.args.self.lines in
+    let some = c.if-width-gt0.true in
+    short_at_end c.args.self c.requires.reading (omega arith)
 
 pub returns-in-Ok-clause-ok : goal.returns-in-Ok-clause-ok
 returns-in-Ok-clause-ok c = λ ok own is.
