@@ -1,4 +1,4 @@
-use crate::{Index, Mark, Moves, Room};
+use crate::{Index, Mark, Moves, Room, Standing};
 use cif_file::{AssocKey, Body, Key, Lines, ScheduleKey};
 use cif_line::{Day, Line, Stp, Tiploc, Uid};
 use docker_join::{Entry, FileStamp, Merge, Op, Stamp, Table};
@@ -152,7 +152,7 @@ fn places_of_a_timetable(rt: HostRuntime) -> Result<(), Fail> {
     ];
     check(&rt, &index, index.calls.as_slice(), &calls)?;
     check(&rt, &index, index.links.as_slice(), &[("COLWELL", 0)])?;
-    let mut standing = index.linked(table.as_slice(), &tiploc("COLWELL")?);
+    let mut standing = Standing::of(table.as_slice(), index.links.as_slice());
     let first = standing.next();
     assert!(rt; matches!(first, Some((Key::Assoc(_), Body::Assoc(_)))));
     assert!(rt; standing.next().is_none());
