@@ -116,7 +116,7 @@ pub fn table(program: &str, extract: &str, update: &str, folder: &str) -> Result
     let busy = jobs[1].lines.saturating_sub(2);
     println!("{}", machine());
     println!(
-        "\nextract {:.1} MB, its state {:.1} MB, the update's {:.1} MB; {place} on {date} has {busy} lines; best time and greatest memory of {ROUNDS}\n",
+        "\nextract {:.1} MB, its state {:.1} MB, the update's {:.1} MB; {place} on {date} has {busy} lines; medians of {ROUNDS}, and the greatest memory\n",
         size(extract)? as f64 / 1e6,
         full as f64 / 1e6,
         beside as f64 / 1e6
