@@ -1,15 +1,16 @@
 -- The rows of a UID's schedules are one piece of the rows, and what is live of it are the live schedules of the UID.
-use Rattle.std.proofs.Common.{◌≡◌, ℕ, zero, suc, ◌<◌, ◌≤◌, List, [], ◌∷◌, ◌++◌, map, take, drop, length, get_or, refl, ap, sym, ◌∙◌, subst, inl, inr, ◌⊎◌, Bool, true, false, Contains, Some, arith}
+use Rattle.std.proofs.Common.{◌≡◌, ℕ, zero, suc, ◌<◌, ◌≤◌, List, [], ◌∷◌, ◌++◌, map, take, drop, length, get_or, refl, ap, sym, ◌∙◌, subst, inl, inr, ◌⊎◌, Bool, true, false, not, cond, nat_lt, Contains, Some, None, arith}
 use Rattle.std.specs.Prelude.{◌↔◌}
-use Rattle.std.specs.List.{AllByRecursion, AllPairs}
+use Rattle.std.specs.List.{AllByRecursion, AllPairs, position, position_or_len}
 use Rattle.std.specs.List.Sorted.{IsPartitionedBy, IsPartitionPoint}
 use Rattle.std.specs.declared.cmp.Ordering.{Ordering}
 use Rattle.std.specs.declared.cmp.Ordering.TheVariants.{Less, Equal, Greater}
 use Rattle.std.specs.Ordering.{is_lt, is_le, ordering_then, ordering_reverse, nat_cmp}
 use Rattle.std.specs.Cmp.{tied_itself}
 use Rattle.std.specs.Cmp.Lexicographic.{nat_list_cmp_total}
-use Rattle.std.proofs.lemmas.Bool.{cases_lt}
+use Rattle.std.proofs.lemmas.Bool.{cases_lt, ltb-false}
 use Rattle.std.proofs.lemmas.List.{append_assoc, take-append-drop, map-append}
+use Rattle.std.proofs.lemmas.List.Sums.{fails_before_first, passes_at_first, prefix_len-le-length}
 use Rattle.std.proofs.lemmas.List.Elements.{All-contains, Contains-append_left, Contains-append_right, Contains-append_cases}
 use Rattle.std.proofs.lemmas.Map.Lookups.{exact_bytes}
 use Rattle.docker_model.specs.file.Change as model
@@ -90,6 +91,57 @@ parted_before uid rows up = parted is_lt (refl, λ same. refl) refl uid rows up
 -- and by the second
 pub parted_up_to : (uid : List ℕ) (rows : List (Key × Entry)) → AreAscending rows → IsPartitionedBy (is_up_to uid) rows
 parted_up_to uid rows up = parted is_le (refl, λ same. refl) refl uid rows up
+
+-- where the second test fails of no row, the walk goes over all
+pub walk_of_all : (uid : List ℕ) (rows : List (Key × Entry)) → position (λ row. not (is_up_to uid row)) rows ≡ None
+    → length rows ≡ position_or_len (λ row. not (is_up_to uid row)) rows
+walk_of_all uid rows none =
+    let place : ℕ = position_or_len (λ row. not (is_up_to uid row)) rows in
+    let past : length rows ≤ place = by (nat_lt place (length rows)) refl none in
+    let bound : place ≤ length rows = prefix_len-le-length (λ row. not (not (is_up_to uid row))) rows in
+    omega arith
+  where
+    by : (b : Bool) → nat_lt (position_or_len (λ row. not (is_up_to uid row)) rows) (length rows) ≡ b
+        → cond b (Some (position_or_len (λ row. not (is_up_to uid row)) rows)) None ≡ None
+        → length rows ≤ position_or_len (λ row. not (is_up_to uid row)) rows
+    by true h some = absurd cc
+    by false h some = ltb-false (position_or_len (λ row. not (is_up_to uid row)) rows) (length rows) h
+
+-- the walk ends within the rows
+pub walk_within : (uid : List ℕ) (rows : List (Key × Entry)) (end : ℕ) → end ≡ position_or_len (λ row. not (is_up_to uid row)) rows → end ≤ length rows
+walk_within uid rows end end_is = subst (λ n. n ≤ length rows) (sym end_is) (prefix_len-le-length (λ row. not (not (is_up_to uid row))) rows)
+
+-- the walk ends where the second test has its place
+pub walk_parts : (uid : List ℕ) (rows : List (Key × Entry)) (end : ℕ) → AreAscending rows → end ≡ position_or_len (λ row. not (is_up_to uid row)) rows
+    → IsPartitionPoint (λ row. is_up_to uid row ≡ true) (λ row. is_up_to uid row ≡ false) rows end
+walk_parts uid rows end up end_is = (front, back)
+  where
+    holds : (b : Bool) → not b ≡ false → b ≡ true
+    holds true h = refl
+    holds false h = absurd (let bad : true ≡ false = h in cc)
+
+    fails : (b : Bool) → not b ≡ true → b ≡ false
+    fails true h = absurd (let bad : false ≡ true = h in cc)
+    fails false h = refl
+
+    front : (k : ℕ) (d : Key × Entry) → 0 ≤ k → k < end → is_up_to uid (get_or rows k d) ≡ true
+    front k d low high = holds (is_up_to uid (get_or rows k d)) (fails_before_first (λ row. not (is_up_to uid row)) rows k d (subst (λ n. k < n) end_is high))
+
+    first_fails : (d : Key × Entry) → end < length rows → is_up_to uid (get_or rows end d) ≡ false
+    first_fails d within =
+        subst (λ n. is_up_to uid (get_or rows n d) ≡ false) (sym end_is)
+        (fails (is_up_to uid (get_or rows (position_or_len (λ row. not (is_up_to uid row)) rows) d))
+        (passes_at_first (λ row. not (is_up_to uid row)) rows d (subst (λ n. n < length rows) end_is within)))
+
+    by : (k : ℕ) (d : Key × Entry) (b : Bool) → is_up_to uid (get_or rows k d) ≡ b → end ≤ k → k < length rows → b ≡ false
+    by k d false is low high = refl
+    by k d true is low high =
+        absurd (let passes : is_up_to uid (get_or rows end d) ≡ true = parted_up_to uid rows up end k d low high is in
+        let never : is_up_to uid (get_or rows end d) ≡ false = first_fails d (omega arith) in
+        let bad : true ≡ false = sym passes ∙ never in cc)
+
+    back : (k : ℕ) (d : Key × Entry) → end ≤ k → k < length rows → is_up_to uid (get_or rows k d) ≡ false
+    back k d low high = by k d (is_up_to uid (get_or rows k d)) refl low high
 
 -- what is behind a front ascends
 pub behind_ascends : (rows : List (Key × Entry)) (n : ℕ) → AreAscending rows → AreAscending (drop n rows)
