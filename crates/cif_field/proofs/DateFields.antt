@@ -47,6 +47,7 @@ module _ (number year month day : ℕ) (h : IsDayOf number year month day) where
   year_read : full_year (two_digits (six_digits year month day) 0) ≡ year
   year_read = ap full_year (digits_are (year % 100)) ∙ year_is year h.low h.high
 
+  -- six digits of a day in the range are a date
   pub six_digits-is_date : is_date (six_digits year month day) ≡ true
   six_digits-is_date =
       let digits : list_all is_ascii_digit (six_digits year month day) ≡ true =
@@ -54,6 +55,7 @@ module _ (number year month day : ℕ) (h : IsDayOf number year month day) where
       (omega (arith, h.is_civil.1.1)) (omega arith) (omega (arith, h.is_civil.2.1, days_in_month_bounds (pos year) month)) (omega arith) in
       (λ i. digits i && is_calendar_day (year_read i) (digits_are month i) (digits_are day i)) ∙ on_calendar
 
+  -- and its number is the day's
   pub six_digits-date_number : date_number (six_digits year month day) ≡ number
   six_digits-date_number = (λ i. day_number (year_read i) (digits_are month i) (digits_are day i)) ∙ number_is number year month day h
 

@@ -4,26 +4,11 @@ use Rattle.std.specs.Prelude.{codes, ◌==◌, ◌||◌, nat_lt, slice_index}
 use Rattle.std.specs.List.{list_all}
 use Rattle.std.specs.Str.{bytes_eq}
 use Rattle.std.proofs.lemmas.Bool.{ltb-true}
-use Rattle.std.proofs.lemmas.Bool.Decides.{nat_tests}
 use Rattle.std.specs.Char.{is_ascii_digit}
 use Rattle.docker_model.specs.records.Date.{two_digits}
 use Rattle.docker_model.specs.records.Clock.{is_blank, is_clock, is_present_time}
-
--- the first of two tests that hold
-first_holds : (a b : Bool) → (a && b) ≡ true → a ≡ true
-first_holds true b both = refl
-first_holds false b both = cc
-
--- a digit is no space
-digit_not_space : (b : ℕ) → is_ascii_digit b ≡ true → (b == 32) ≡ false
-digit_not_space b digit = grind (arith, nat_tests)
-
--- the first byte of a clock is a digit
-first_digit : (b : ℕ) (field : List ℕ) → is_clock (b ∷ field) ≡ true → is_ascii_digit b ≡ true
-first_digit b field clock =
-    first_holds (is_ascii_digit b) (list_all is_ascii_digit (take 3 field))
-    (first_holds (list_all is_ascii_digit (take 4 (b ∷ field))) (nat_lt (two_digits (b ∷ field) 0) 24)
-    (first_holds (list_all is_ascii_digit (take 4 (b ∷ field)) && nat_lt (two_digits (b ∷ field) 0) 24) (nat_lt (two_digits (b ∷ field) 2) 60) clock))
+use Rattle.docker_laws.proofs.lists.Tests.{both}
+use Rattle.docker_laws.proofs.records.ScheduledTimes.{present_not_blank}
 
 -- four digits, one by one
 pub four_digits : (field : List ℕ) → 4 ≤ length field →
@@ -62,34 +47,22 @@ five_spaces (a ∷ b ∷ c ∷ d ∷ []) size = absurd (omega arith)
 five_spaces (a ∷ b ∷ c ∷ d ∷ e ∷ []) size = refl
 five_spaces (a ∷ b ∷ c ∷ d ∷ e ∷ f ∷ field) size = absurd (omega arith)
 
--- a time that is there is not blank
-pub present_not_blank : (field : List ℕ) → is_present_time field ≡ true → is_blank field ≡ false
-present_not_blank [] there = cc
-present_not_blank (b ∷ field) there =
-    let clock = first_holds (is_clock (b ∷ field)) ((slice_index (b ∷ field) 4 == 72) || (slice_index (b ∷ field) 4 == 32)) there in
-    λ i. digit_not_space b (first_digit b field clock) i && is_blank field
-
--- the second of two tests that hold
-second_holds : (a b : Bool) → (a && b) ≡ true → b ≡ true
-second_holds true b both = both
-second_holds false b both = absurd cc
-
 -- a field that begins HHMM tells an hour of a day
 pub hour_bound : (field : List ℕ) → is_clock field ≡ true → two_digits field 0 < 24
 hour_bound field clock =
     ltb-true (two_digits field 0) 24
-    (second_holds (list_all is_ascii_digit (take 4 field)) (nat_lt (two_digits field 0) 24)
-    (first_holds (list_all is_ascii_digit (take 4 field) && nat_lt (two_digits field 0) 24) (nat_lt (two_digits field 2) 60) clock))
+    (both (list_all is_ascii_digit (take 4 field)) (nat_lt (two_digits field 0) 24)
+    (both (list_all is_ascii_digit (take 4 field) && nat_lt (two_digits field 0) 24) (nat_lt (two_digits field 2) 60) clock).0).1
 
 -- and a minute of an hour
 pub minute_bound : (field : List ℕ) → is_clock field ≡ true → two_digits field 2 < 60
 minute_bound field clock =
     ltb-true (two_digits field 2) 60
-    (second_holds (list_all is_ascii_digit (take 4 field) && nat_lt (two_digits field 0) 24) (nat_lt (two_digits field 2) 60) clock)
+    (both (list_all is_ascii_digit (take 4 field) && nat_lt (two_digits field 0) 24) (nat_lt (two_digits field 2) 60) clock).1
 
 -- a scheduled time begins HHMM
 pub clock_of_present : (field : List ℕ) → is_present_time field ≡ true → is_clock field ≡ true
-clock_of_present field there = first_holds (is_clock field) ((slice_index field 4 == 72) || (slice_index field 4 == 32)) there
+clock_of_present field there = (both (is_clock field) ((slice_index field 4 == 72) || (slice_index field 4 == 32)) there).0
 
 -- the bounds of what a field tells that begins HHMM
 pub ruleset clock_bounds = (hour_bound, minute_bound, clock_of_present)

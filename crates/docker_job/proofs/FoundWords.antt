@@ -1,8 +1,8 @@
 -- The words at some ids, one after the other.
-use Rattle.std.proofs.Common.{◌≡◌, ◌∙◌, ◌<◌, ◌≤◌, ◌+◌, ℕ, List, [], ◌∷◌, ◌++◌, length, drop, Some, None, option_map, refl, sym, ap, append_assoc, append-nil, slice_index_or}
+use Rattle.std.proofs.Common.{◌≡◌, ◌∙◌, ◌<◌, ◌+◌, ℕ, List, [], ◌∷◌, ◌++◌, length, drop, Some, None, option_map, refl, sym, ap, append_assoc, slice_index_or}
 use Rattle.std.specs.Prelude.{Option, option_and_then}
 use Rattle.std.specs.Borrow.{Bor}
-use Rattle.std.proofs.lemmas.List.{drop_all, drop_more}
+use Rattle.std.proofs.lemmas.List.{drop_more}
 use Rattle.clap.specs.Walk.{Row, first_of}
 use Rattle.docker_job.specs.Words.{Text, texts}
 use Rattle.docker_job.specs.Grammar.{found_words}
@@ -45,9 +45,3 @@ one_more ids rows i d found word within here has =
 pub none_here : (ids : List (Bor Text)) (rows : List Row) (i : ℕ) (d : Bor Text) (found : List Text) → i < length ids
     → first_of (slice_index_or ids i d).now rows ≡ None → HasFound ids rows i found → found_words (texts ids) rows ≡ None
 none_here ids rows i d found within never has = one_on ids rows i d found within has ∙ ap (with_word ids rows i found) never
-
--- all words are there
-pub all_found : (ids : List (Bor Text)) (rows : List Row) (i : ℕ) (found : List Text) → length ids ≤ i → HasFound ids rows i found
-    → found_words (texts ids) rows ≡ Some found
-all_found ids rows i found done has =
-    has ∙ ap (λ left. option_map (λ rest. found ++ rest) (found_words (texts left) rows)) (drop_all i ids done) ∙ ap Some (append-nil found)

@@ -36,6 +36,7 @@ pub record Refuses (words : List Text) : Type 0 where
   pub fault : fault_of docker_app words ≡ [] → ⊥
   pub names_none : (s : Subcommand) (behind : List Text) → ¬ AreRequired words s behind
 
+-- one or the other
 abbrev pub Judged : List Text → Type 0
 Judged words = Takes words ⊎ Refuses words
 

@@ -5,11 +5,11 @@ use Rattle.std.specs.Str.{IsAscii}
 use Rattle.std.proofs.lemmas.Str.Ascii.{IsAscii-from_all}
 use Rattle.std.proofs.lemmas.Bool.Decides.{leb_tells}
 use Rattle.std.specs.List.{AllByRecursion, AllPass}
-use Rattle.std.proofs.lemmas.List.Elements.{recursion_from_All, All-from_recursion}
+use Rattle.std.proofs.lemmas.List.Elements.{recursion_from_All}
 use Rattle.docker_model.specs.records.Record.{is_printable}
 use Rattle.cif_line.specs.Device.{Reads, IsEnd}
 use Rattle.docker_job.specs.Job.{NameNoJob}
-use Rattle.docker_job.specs.JobLine.{IsLineText, ReadsLine, HasNoLine, HasNoJob, HasJob, ReadsAtMost, words_in}
+use Rattle.docker_job.specs.JobLine.{ReadsLine, HasNoLine, HasNoJob, HasJob, ReadsAtMost, words_in}
 
 -- each byte is printable
 abbrev pub ArePrintable : List ℕ → Type 0
@@ -56,19 +56,6 @@ printable_more (y ∷ line) b good here = (good.0, printable_more line b good.1 
 pub reads_on : (old now new : Option (List ℕ)) (line : List ℕ) (b : ℕ) → Reads old line now → Reads now (b ∷ []) new → Reads old (line ++ b ∷ []) new
 reads_on old now None line b first then_one = first ∙ ap (option_map (λ rest. line ++ rest)) then_one
 reads_on old now (Some rest) line b first then_one = first ∙ ap (option_map (λ rest. line ++ rest)) then_one ∙ ap Some (sym (append_assoc line (b ∷ []) rest))
-
--- the line and its line feed were read
-pub line_read : (old now new : Option (List ℕ)) (line : List ℕ) → Reads old line now → Reads now (10 ∷ []) new → ArePrintable line → length line ≤ 255
-    → ReadsLine old line new
-line_read old now new line first feed good short =
-    by old new (reads_on old now new line 10 first feed) (record { short = short; printable = All-from_recursion _ line good })
-  where
-    by : (old new : Option (List ℕ)) → Reads old (line ++ 10 ∷ []) new → IsLineText line → ReadsLine old line new
-    by None new read is = is
-    by (Some text) None read is = cc
-    by (Some text) (Some rest) read is =
-        let same : text ≡ (line ++ 10 ∷ []) ++ rest = cc in
-        (rest, (record { whole = same ∙ append_assoc line (10 ∷ []) rest; line_text = is }), refl)
 
 -- the text ends before a line feed
 pub no_line_at_end : (old now : Option (List ℕ)) (line : List ℕ) → Reads old line now → IsEnd now → ArePrintable line → HasNoLine old
@@ -127,11 +114,6 @@ one_line (y ∷ a) (z ∷ b) r s a_good b_good same =
     let rest : a ≡ b = one_line a b r s a_good.1 b_good.1 (cc) in
     cc
 
--- a text that begins with no line begins with none that names a job
-pub no_job_without_line : (old : Option (List ℕ)) → HasNoLine old → HasNoJob old
-no_job_without_line None none = tt
-no_job_without_line (Some text) none = λ line rest is. absurd (none line rest is)
-
 -- a line that names no job
 pub no_job_on_line : (old new : Option (List ℕ)) (line : List ℕ) → ReadsLine old line new → NameNoJob (words_in line) → HasNoJob old
 no_job_on_line None new line read none = tt
@@ -140,11 +122,6 @@ no_job_on_line (Some text) new line read none = λ other behind is.
     one_line line other read.0 behind (recursion_from_All _ line read.1.line_text.printable) (recursion_from_All _ other is.line_text.printable)
     (sym read.1.whole ∙ is.whole) in
     subst (λ (l : List ℕ). NameNoJob (words_in l)) same none
-
--- a line that was read is a line
-pub line_text_of : (old new : Option (List ℕ)) (line : List ℕ) → ReadsLine old line new → IsLineText line
-line_text_of None new line read = read
-line_text_of (Some text) new line read = read.1.line_text
 
 -- a printable byte is ASCII
 printable_small : (b : ℕ) → is_printable b ≡ true → b < 128

@@ -1,10 +1,9 @@
 -- The words of a line, piece by piece.
-use Rattle.std.proofs.Common.{◌≡◌, ℕ, ◌+◌, ◌<◌, List, [], ◌∷◌, ◌++◌, length, ap, ◌∙◌, refl, Bool, true, false, cond, suc, arith, append-nil, length-append, get_or}
+use Rattle.std.proofs.Common.{◌≡◌, ℕ, ◌+◌, ◌<◌, List, [], ◌∷◌, ◌++◌, length, ap, ◌∙◌, refl, Bool, true, false, cond, suc, arith, append-nil}
 use Rattle.std.specs.Prelude.{◌==◌, not, filter}
 use Rattle.std.specs.List.{slice_split, position_or_len, before_first, after_first, AllByRecursion}
 use Rattle.std.proofs.lemmas.List.Elements.{All-from_recursion}
 use Rattle.std.proofs.lemmas.List.Splits.{slice_split_first, slice_split_none}
-use Rattle.std.proofs.lemmas.List.Sums.{split_at_first}
 use Rattle.docker_job.specs.JobLine.{is_space, word_or_none, words_in}
 
 -- the words of pieces, the first apart
@@ -40,14 +39,3 @@ pub words_without_space : (text : List ℕ) → position_or_len is_space text �
 words_without_space text none =
     ap (filter (λ word. not (length word == 0))) (slice_split_none is_space text (All-from_recursion _ text (no_space text none)))
     ∙ first_apart text [] ∙ append-nil (word_or_none text)
-
--- the piece before the first space, that space and what stands behind it are the whole line
-pub pieces_length : (text : List ℕ) → position_or_len is_space text < length text
-    → length (before_first is_space text) + 1 + length (after_first is_space text) ≡ length text
-pieces_length text here =
-    let p : ℕ → Bool = is_space in
-    omega (
-      arith,
-      ap (λ (l : List ℕ). length l) (split_at_first p text 0 here),
-      length-append (before_first p text) (get_or text (position_or_len p text) 0 ∷ after_first p text),
-    )

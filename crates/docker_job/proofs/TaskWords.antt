@@ -1,5 +1,5 @@
 -- The words that a subcommand requires, and the task that they name.
-use Rattle.std.proofs.Common.{◌≡◌, ◌∙◌, ◌≤◌, ℕ, List, [], ◌∷◌, length, Bool, true, false, cond, Some, None, refl, sym, ap, subst, codes, arith, slice_index_or, true≢false}
+use Rattle.std.proofs.Common.{◌≡◌, ◌∙◌, ℕ, List, [], ◌∷◌, length, Bool, true, false, cond, Some, None, refl, sym, ap, subst, codes, arith, slice_index_or, true≢false}
 use Rattle.std.specs.Prelude.{Option, ⊤, option_map}
 use Rattle.std.specs.Str.{bytes_eq}
 use Rattle.std.specs.Borrow.{Bor}
@@ -66,18 +66,6 @@ name_back word s found =
     by_test word (codes "migrate") Migrate s None refl found (λ none. absurd (cc))))))))))
 
 -- ---- counts
-
--- no subcommand requires more than three words
-pub few_ids : (s : Subcommand) → length (ids_of s) ≤ 3
-few_ids New = omega arith
-few_ids Check = omega arith
-few_ids Day = omega arith
-few_ids Take = omega arith
-few_ids Merge = omega arith
-few_ids Print = omega arith
-few_ids Files = omega arith
-few_ids Horizon = omega arith
-few_ids Migrate = omega arith
 
 -- one word
 one_counted : (Holds : Text → Type 0) (words : List Text) → OfOne Holds words → length words ≡ 1

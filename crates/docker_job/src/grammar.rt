@@ -2,7 +2,7 @@
 ghost use Rattle.std.specs.Prelude.{◌≡◌, IfOk, [], false, map};
 ghost use Rattle.clap.specs.Words.{FailsBy, app_of, fault_of, rule_of, subcommand_of, subcommand_rows_of, with_subcommand};
 ghost use Rattle.clap.specs.declared.builder.Command.TheViews.{out-Command as fields_of};
-ghost use Rattle.docker_job.specs.Grammar.{docker_app, docker_shape, required_rule, shape_of, words_shape};
+ghost use Rattle.docker_job.specs.Grammar.{docker_app, docker_shape, required_rule, shape_of};
 
 use crate::subcommands::Subcommand;
 use clap::{Arg, ArgMatches, Command, Error};

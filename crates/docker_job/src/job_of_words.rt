@@ -1,5 +1,5 @@
 //! The job that words name.
-ghost use Rattle.std.specs.Prelude.{OnErr, ◌≡◌, ◌≢◌, ◌↔◌, ◌++◌, IfOk, IfSome, IsNone, IsSome, false, Err, if◌then◌else◌, codes, length, map, option_map, Some, None, string_bytes};
+ghost use Rattle.std.specs.Prelude.{◌≡◌, ◌≢◌, ◌↔◌, IfOk, IfSome, IsNone, false, Err, if◌then◌else◌, codes, length, map, option_map, Some, None, string_bytes};
 ghost use Rattle.std.specs.Str.{bytes_eq};
 ghost use Rattle.docker_job.specs.Subcommands.{ids_of};
 ghost use Rattle.docker_job.specs.Words.{NamesDay, NamesPlace, texts};
@@ -46,7 +46,7 @@ fn names_job(words: &[&str]) -> bool
     let [name, behind @ ..] = words else {
         return false;
     };
-    match Subcommand::named(name) {
+    match Subcommand::of_name(name) {
         Some(subcommand) => are_plain(words) && asks(subcommand, behind),
         None => false,
     }
@@ -69,14 +69,14 @@ fn task_of(subcommand: Subcommand, words: &[&str]) -> Option<Task>
     ensures { IsTaskOf subcommand (texts words.now) (option_map task_meant result) }
 {
     match subcommand {
-        Subcommand::New => stored(words[0], Task::New),
+        Subcommand::New => unless_stdin(words[0], Task::New),
         Subcommand::Check => Some(Task::Check),
         Subcommand::Day => {
             let (place, day) = place_and_day(words[1], words[2])?;
             Some(Task::Day { place, day })
         }
-        Subcommand::Take => stored(words[0], Task::Take),
-        Subcommand::Merge => stored(words[0], Task::Merge),
+        Subcommand::Take => unless_stdin(words[0], Task::Take),
+        Subcommand::Merge => unless_stdin(words[0], Task::Merge),
         Subcommand::Print => {
             let (place, day) = place_and_day(words[1], words[2])?;
             Some(Task::Print { place, day })
@@ -84,14 +84,14 @@ fn task_of(subcommand: Subcommand, words: &[&str]) -> Option<Task>
         Subcommand::Files => Some(Task::Files),
         Subcommand::Horizon => {
             let day = Day::from_iso(words[1])?;
-            stored(words[0], Task::Horizon { day })
+            unless_stdin(words[0], Task::Horizon { day })
         }
-        Subcommand::Migrate => stored(words[0], Task::Migrate),
+        Subcommand::Migrate => unless_stdin(words[0], Task::Migrate),
     }
 }
 
 /// The task, where its state can be written anew: standard input can't.
-fn stored(state: &str, task: Task) -> Option<Task>
+fn unless_stdin(state: &str, task: Task) -> Option<Task>
     ensures { result ≡ if bytes_eq state.now (codes "stdin") then None else Some task }
 {
     if state == "stdin" { None } else { Some(task) }

@@ -27,7 +27,7 @@ pub enum Subcommand {
 
 impl Subcommand {
     /// The subcommand of this name.
-    pub(crate) fn named(name: &str) -> Option<Subcommand>
+    pub(crate) fn of_name(name: &str) -> Option<Subcommand>
         ensures { result ≡ subcommand_named name.now }
     {
         match name {

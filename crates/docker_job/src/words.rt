@@ -71,7 +71,7 @@ fn found_subcommand<'a>(found: &ArgMatches<'a>) -> Option<(Subcommand, Behind<'a
         ≡ found_in (subcommand_rows_of found.now) }
 {
     let (name, words) = found.subcommand()?;
-    let subcommand = Subcommand::named(name)?;
+    let subcommand = Subcommand::of_name(name)?;
     let words = words_at(words, subcommand.ids())?;
     Some((subcommand, words))
 }

@@ -5,6 +5,7 @@ pub mod StartDays
 pub mod GoodBodies
 pub mod OneChoice
 pub mod OneDockerLine
+pub mod FirstOfRows
 pub mod TrainOfRows
 pub mod LinkOfRows
 pub mod BestSoFar

@@ -3,4 +3,5 @@ pub mod Columns
 pub mod RecordTests
 pub mod GoodFields
 pub mod RecordIdentity
+pub mod ScheduledTimes
 pub mod Builders

@@ -1,13 +1,25 @@
 -- Relations that several clauses of the laws state.
-use Rattle.std.specs.Prelude.{◌≡◌, ℕ, ◌+◌, ◌≤◌, List, ◌++◌, slice_set, Option, Contains}
+use Rattle.std.specs.Prelude.{◌≡◌, ◌==◌, ℕ, ◌+◌, ◌≤◌, List, ◌++◌, length, take, slice_set, Option, option_map, find, Contains}
+use Rattle.docker_model.specs.file.File.{BeginsFile}
+use Rattle.docker_model.specs.file.Text.{lines_of}
+use Rattle.docker_model.specs.file.FaultSoFar.{lines_told}
 use Rattle.docker_model.specs.file.Change.{Key}
-use Rattle.docker_model.specs.state.Stamp.{FileStamp, IsFloor}
+use Rattle.docker_model.specs.state.Stamp.{FileStamp, LedgerItem, IsFloor}
 use Rattle.docker_model.specs.state.Op.{Entry}
 use Rattle.docker_model.specs.state.State.{State, IsValid}
 use Rattle.docker_model.specs.state.Staging.{IsStaged, IsCommit}
 use Rattle.docker_model.specs.state.StateText.{Format}
 use Rattle.docker_model.specs.run.Run.{KnownSets, RunEvent, done, after_reply}
 use Rattle.docker_model.specs.run.Knowledge.{Holds}
+use Rattle.docker_laws.specs.LinesTold.{open_line}
+
+-- some file begins with the lines that a text tells, they are within the limit, and its open line has at most 81 bytes
+abbrev pub BeginsWithin : ℕ → List ℕ → Type 0
+BeginsWithin limit text = BeginsFile (take (lines_told text) (lines_of text)) × (lines_told text ≤ limit) × (length (open_line text) ≤ 81)
+
+-- the file stamp of the first full item of a ledger, if there is one
+abbrev pub first_full_stamp : List LedgerItem → Option FileStamp
+first_full_stamp ledger = option_map (λ (item : LedgerItem). item.stamp) (find (λ (item : LedgerItem). item.indicator == 70) ledger)
 
 -- the day is the start day or one of the two days behind it
 abbrev pub IsNear : ℕ → ℕ → Type 0

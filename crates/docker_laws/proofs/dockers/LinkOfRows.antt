@@ -1,5 +1,5 @@
 -- The rows of a live table tell its chosen associations.
-use Rattle.std.proofs.Common.{◌≡◌, ℕ, List, refl, ap, sym, ◌∙◌, Some, None, true, false, Contains, eqb-true, rules}
+use Rattle.std.proofs.Common.{◌≡◌, ℕ, List, refl, ap, sym, ◌∙◌, Some, None, true, Contains, eqb-true, rules}
 use Rattle.std.specs.Prelude.{Option, ◌&&◌, ◌==◌}
 use Rattle.std.specs.Str.{bytes_eq}
 use Rattle.std.specs.Ordering.{on}
@@ -11,10 +11,10 @@ use Rattle.docker_model.specs.state.Row.{Row, AreRowsOf}
 use Rattle.docker_model.specs.docker.Choice.{association_runs, association_choice_cmp, Group, group_of, IsAssociated}
 use Rattle.docker_model.specs.docker.LiveRows.{HasAssociationsOf, Link, association_of, associations_in, is_of_group, is_linked, link_in, IsLinkOn, TellsLinks}
 use Rattle.docker_model.specs.docker.ChoiceWalk.{IsLinkSoFar}
-use Rattle.docker_laws.proofs.lists.Tests.{both}
+use Rattle.docker_laws.proofs.lists.Tests.{both, none_some}
 use Rattle.docker_laws.proofs.lists.Members.{part_back, part_forth}
 use Rattle.docker_laws.proofs.dockers.OneChoice.{association_choice_total, one_link}
-use Rattle.docker_laws.proofs.orders.Least.{found_least, none_passes}
+use Rattle.docker_laws.proofs.dockers.FirstOfRows.{IsFirst, best_is_first, found_is_first}
 
 by_key : IsTotalOrder (on (λ (link : Link). link.key) association_choice_cmp)
 by_key = on_total (λ (link : Link). link.key) association_choice_total
@@ -26,22 +26,10 @@ row_is (association_key key) (association_body line) link is =
   where
     some_is : (a b : Link) → Some a ≡ Some b → a ≡ b
     some_is a b h = cc
-row_is (association_key key) (tiploc_body bytes) link is = absurd (none_some is)
-  where
-    none_some : None ≡ Some link → ⊥
-    none_some h = cc
-row_is (association_key key) (schedule_body lines) link is = absurd (none_some is)
-  where
-    none_some : None ≡ Some link → ⊥
-    none_some h = cc
-row_is (tiploc_key code) body link is = absurd (none_some is)
-  where
-    none_some : None ≡ Some link → ⊥
-    none_some h = cc
-row_is (schedule_key key) body link is = absurd (none_some is)
-  where
-    none_some : None ≡ Some link → ⊥
-    none_some h = cc
+row_is (association_key key) (tiploc_body bytes) link is = none_some link is
+row_is (association_key key) (schedule_body lines) link is = none_some link is
+row_is (tiploc_key code) body link is = none_some link is
+row_is (schedule_key key) body link is = none_some link is
 
 -- the test of a group
 group_forth : (group : Group) (key : AssociationKey) → is_of_group group key ≡ true → group_of key ≡ group
@@ -75,59 +63,40 @@ module _ (live : Table) (rows : List Row) (group : Group) (has : HasAssociations
       let there = has.each found.0.0 found.0.1 found.1 in
       ap live (sym told.0) ∙ there ∙ ap Some told.1
 
-  live_association : (link : Link) → group_of link.key ≡ group → live (association_key link.key) ≡ Some (association_body link.line)
-      → Contains (associations_in rows) link
-  live_association link same is =
-      part_forth (λ (row : Row). association_of row.0 row.1) rows (association_key link.key, association_body link.line) link
-      (has.all link.key link.line same is) refl
-
   module _ (day : ℕ) where
-    associated : (link : Link) → Contains (associations_in rows) link → is_linked group day link ≡ true → IsAssociated live group day link.key link.line
+    abbrev Runs : Link → Type 0
+    Runs link = IsAssociated live group day link.key link.line
+
+    associated : (link : Link) → Contains (associations_in rows) link → is_linked group day link ≡ true → Runs link
     associated link among passes =
         let parts = both (is_of_group group link.key) (association_runs link.line day) passes in
         record { group_is = group_forth group link.key parts.0; is_live = association_live link among; runs_then = parts.1 }
 
-    passes_linked : (link : Link) → IsAssociated live group day link.key link.line → is_linked group day link ≡ true
+    among_linked : (link : Link) → Runs link → Contains (associations_in rows) link
+    among_linked link is =
+        part_forth (λ (row : Row). association_of row.0 row.1) rows (association_key link.key, association_body link.line) link
+        (has.all link.key link.line is.group_is is.is_live) refl
+
+    passes_linked : (link : Link) → Runs link → is_linked group day link ≡ true
     passes_linked link is = λ i. group_back group link.key is.group_is i && is.runs_then i
 
-    among_linked : (key : AssociationKey) (line : List ℕ) → IsAssociated live group day key line → Contains (associations_in rows)
-        (record { key = key; line = line })
-    among_linked key line is = live_association (record { key = key; line = line }) is.group_is is.is_live
+    first_is_link : (found : Option Link) → IsFirst (on (λ (link : Link). link.key) association_choice_cmp) Runs found → IsLinkOn live group day found
+    first_is_link None none = λ key line is. none (record { key = key; line = line }) is.associated
+    first_is_link (Some link) first = record {
+      associated = first.0;
+      first = λ other others is. first.1 (record { key = other; line = others }) is;
+    }
 
     -- the best of the rows is the chosen association
     pub best_is_link : (found : Option Link) → IsLinkSoFar group day rows found → IsLinkOn live group day found
-    best_is_link None none = λ key line is.
-        let passes = passes_linked (record { key = key; line = line }) is.associated in
-        let fails = none (record { key = key; line = line }) (among_linked key line is.associated) in
-        let bad : true ≡ false = sym passes ∙ fails in cc
-    best_is_link (Some link) best = record {
-      associated = associated link best.0 best.1;
-      first =
-          λ other others is. best.2 (record { key = other; line = others }) (among_linked other others is)
-          (passes_linked (record { key = other; line = others }) is);
-    }
+    best_is_link found best =
+        first_is_link found (best_is_first by_key (is_linked group day) (associations_in rows) Runs associated among_linked passes_linked found best)
 
     -- what rows with each association of a group answer is the association that is chosen
     pub link_tells : IsLinkOn live group day (link_in rows group day)
-    link_tells = by (link_in rows group day) refl
-      where
-        by : (found : Option Link) → link_in rows group day ≡ found → IsLinkOn live group day found
-        by None h = λ key line is.
-            let fails = none_passes by_key (is_linked group day) (associations_in rows) h (record { key = key; line = line })
-            (among_linked key line is.associated) in
-            let passes = passes_linked (record { key = key; line = line }) is.associated in
-            true_is_not (sym passes ∙ fails)
-          where
-            true_is_not : true ≡ false → ⊥
-            true_is_not bad = cc
-        by (Some link) h =
-            let best = found_least by_key (is_linked group day) (associations_in rows) link h in
-            record {
-              associated = associated link best.among best.passes;
-              first =
-                  λ other others is. best.first (record { key = other; line = others }) (among_linked other others is)
-                  (passes_linked (record { key = other; line = others }) is);
-            }
+    link_tells =
+        first_is_link (link_in rows group day)
+        (found_is_first by_key (is_linked group day) (associations_in rows) Runs associated among_linked passes_linked)
 
 -- the rows of a table have each association of each group
 pub rows_have : (live : Table) (rows : List Row) → AreRowsOf live rows → (group : Group) → HasAssociationsOf live group rows

@@ -20,7 +20,7 @@ use Rattle.docker_model.specs.docker.Association.{category_occasion, partner_sta
 use Rattle.docker_model.specs.docker.DockerList.{IsEventLine}
 use Rattle.docker_model.specs.docker.Gathering.{IsDockerLine}
 use Rattle.docker_laws.proofs.orders.Orders.{then_equal}
-use Rattle.docker_laws.proofs.lists.Tests.{both}
+use Rattle.docker_laws.proofs.lists.Tests.{both, none_some}
 use Rattle.docker_laws.proofs.lists.Members.{find_some}
 use Rattle.docker_laws.proofs.dockers.OneChoice.{one_train, one_link}
 use Rattle.docker_laws.proofs.dockers.Events.{one_event, IsOfTrain, event_occasion}
@@ -94,10 +94,7 @@ category_is_of_link category occasion is = first (bytes_eq category (codes "JJ")
   where
     third : (b : Bool) → cond b (Some next_working) None ≡ Some occasion → IsOfLink occasion
     third true h = inr (inr (let e : next_working ≡ occasion = cc in sym e))
-    third false h = absurd (none_some h)
-      where
-        none_some : None ≡ Some occasion → ⊥
-        none_some bad = cc
+    third false h = none_some occasion h
 
     second : (b : Bool) → cond b (Some dividing) (cond (bytes_eq category (codes "NP")) (Some next_working) None) ≡ Some occasion → IsOfLink occasion
     second true h = inr (inl (let e : dividing ≡ occasion = cc in sym e))

@@ -12,10 +12,10 @@ use Rattle.docker_model.specs.state.Row.{Row, AreRowsOf}
 use Rattle.docker_model.specs.docker.Choice.{schedule_runs, schedule_choice_cmp, IsRunning, IsChosen}
 use Rattle.docker_model.specs.docker.LiveRows.{HasSchedulesOf, Train, schedule_of, schedules_in, is_running, chosen_in, unless_cancelled, train_in, IsChosenOn, IsTrainOn, TellsTrains}
 use Rattle.docker_model.specs.docker.ChoiceWalk.{IsChosenSoFar}
-use Rattle.docker_laws.proofs.lists.Tests.{both}
+use Rattle.docker_laws.proofs.lists.Tests.{both, none_some}
 use Rattle.docker_laws.proofs.lists.Members.{part_back, part_forth}
 use Rattle.docker_laws.proofs.dockers.OneChoice.{schedule_choice_total, one_chosen, one_train}
-use Rattle.docker_laws.proofs.orders.Least.{found_least, none_passes}
+use Rattle.docker_laws.proofs.dockers.FirstOfRows.{IsFirst, best_is_first, found_is_first}
 
 by_key : IsTotalOrder (on (λ (train : Train). train.key) schedule_choice_cmp)
 by_key = on_total (λ (train : Train). train.key) schedule_choice_total
@@ -28,22 +28,10 @@ row_is (schedule_key key) (schedule_body lines) train is =
   where
     some_is : (a b : Train) → Some a ≡ Some b → a ≡ b
     some_is a b h = cc
-row_is (schedule_key key) (tiploc_body bytes) train is = absurd (none_some is)
-  where
-    none_some : None ≡ Some train → ⊥
-    none_some h = cc
-row_is (schedule_key key) (association_body line) train is = absurd (none_some is)
-  where
-    none_some : None ≡ Some train → ⊥
-    none_some h = cc
-row_is (tiploc_key code) body train is = absurd (none_some is)
-  where
-    none_some : None ≡ Some train → ⊥
-    none_some h = cc
-row_is (association_key key) body train is = absurd (none_some is)
-  where
-    none_some : None ≡ Some train → ⊥
-    none_some h = cc
+row_is (schedule_key key) (tiploc_body bytes) train is = none_some train is
+row_is (schedule_key key) (association_body line) train is = none_some train is
+row_is (tiploc_key code) body train is = none_some train is
+row_is (association_key key) body train is = none_some train is
 
 module _ (live : Table) (rows : List Row) (uid : List ℕ) (has : HasSchedulesOf live uid rows) where
   schedule_live : (train : Train) → Contains (schedules_in rows) train → live (schedule_key train.key) ≡ Some (schedule_body train.lines)
@@ -53,57 +41,40 @@ module _ (live : Table) (rows : List Row) (uid : List ℕ) (has : HasSchedulesOf
       let there = has.each found.0.0 found.0.1 found.1 in
       ap live (sym told.0) ∙ there ∙ ap Some told.1
 
-  live_schedule : (train : Train) → train.key.uid ≡ uid → live (schedule_key train.key) ≡ Some (schedule_body train.lines) → Contains (schedules_in rows) train
-  live_schedule train same is =
-      part_forth (λ (row : Row). schedule_of row.0 row.1) rows (schedule_key train.key, schedule_body train.lines) train
-      (has.all train.key train.lines same is) refl
-
   module _ (day : ℕ) where
-    running : (train : Train) → Contains (schedules_in rows) train → is_running uid day train ≡ true → IsRunning live uid day train.key train.lines
+    abbrev Runs : Train → Type 0
+    Runs train = IsRunning live uid day train.key train.lines
+
+    running : (train : Train) → Contains (schedules_in rows) train → is_running uid day train ≡ true → Runs train
     running train among passes =
         let parts = both (bytes_eq train.key.uid uid) (schedule_runs (first_record train.lines) day) passes in
         record { uid_is = (bytes_eq-Decides train.key.uid uid).0 parts.0; is_live = schedule_live train among; runs_then = parts.1 }
 
-    passes_running : (train : Train) → IsRunning live uid day train.key train.lines → is_running uid day train ≡ true
+    among_running : (train : Train) → Runs train → Contains (schedules_in rows) train
+    among_running train is =
+        part_forth (λ (row : Row). schedule_of row.0 row.1) rows (schedule_key train.key, schedule_body train.lines) train
+        (has.all train.key train.lines is.uid_is is.is_live) refl
+
+    passes_running : (train : Train) → Runs train → is_running uid day train ≡ true
     passes_running train is = λ i. (bytes_eq-Decides train.key.uid uid).1 is.uid_is i && is.runs_then i
 
-    among_running : (key : ScheduleKey) (lines : List (List ℕ)) → IsRunning live uid day key lines
-        → Contains (schedules_in rows) (record { key = key; lines = lines })
-    among_running key lines is = live_schedule (record { key = key; lines = lines }) is.uid_is is.is_live
+    first_is_chosen : (found : Option Train) → IsFirst (on (λ (train : Train). train.key) schedule_choice_cmp) Runs found → IsChosenOn live uid day found
+    first_is_chosen None none = λ key lines is. none (record { key = key; lines = lines }) is
+    first_is_chosen (Some train) first = record {
+      running = first.0;
+      first = λ other others is. first.1 (record { key = other; lines = others }) is;
+    }
 
     -- the best of the rows is the chosen schedule
     pub best_is_chosen : (found : Option Train) → IsChosenSoFar uid day rows found → IsChosenOn live uid day found
-    best_is_chosen None none = λ key lines is.
-        let passes = passes_running (record { key = key; lines = lines }) is in
-        let fails = none (record { key = key; lines = lines }) (among_running key lines is) in
-        let bad : true ≡ false = sym passes ∙ fails in cc
-    best_is_chosen (Some train) best = record {
-      running = running train best.0 best.1;
-      first =
-          λ other others is. best.2 (record { key = other; lines = others }) (among_running other others is)
-          (passes_running (record { key = other; lines = others }) is);
-    }
+    best_is_chosen found best =
+        first_is_chosen found (best_is_first by_key (is_running uid day) (schedules_in rows) Runs running among_running passes_running found best)
 
     -- what rows with each schedule of a UID answer is the schedule that is chosen
     pub chosen_tells : IsChosenOn live uid day (chosen_in rows uid day)
-    chosen_tells = by (chosen_in rows uid day) refl
-      where
-        by : (found : Option Train) → chosen_in rows uid day ≡ found → IsChosenOn live uid day found
-        by None h = λ key lines is.
-            let fails = none_passes by_key (is_running uid day) (schedules_in rows) h (record { key = key; lines = lines }) (among_running key lines is) in
-            let passes = passes_running (record { key = key; lines = lines }) is in
-            true_is_not (sym passes ∙ fails)
-          where
-            true_is_not : true ≡ false → ⊥
-            true_is_not bad = cc
-        by (Some train) h =
-            let best = found_least by_key (is_running uid day) (schedules_in rows) train h in
-            record {
-              running = running train best.among best.passes;
-              first =
-                  λ other others is. best.first (record { key = other; lines = others }) (among_running other others is)
-                  (passes_running (record { key = other; lines = others }) is);
-            }
+    chosen_tells =
+        first_is_chosen (chosen_in rows uid day)
+        (found_is_first by_key (is_running uid day) (schedules_in rows) Runs running among_running passes_running)
 
     -- and it is the train, where one runs
     pub train_tells : IsTrainOn live uid day (train_in rows uid day)

@@ -9,12 +9,10 @@ use Rattle.docker_model.specs.state.Table.{Table}
 use Rattle.docker_model.specs.state.Lapse.{lapse, lapse_entry, unlapsed, lapse_table}
 use Rattle.docker_model.specs.state.State.{State, AreAscending, IsJoin, entry_at, live_table}
 use Rattle.docker_model.specs.state.Index.{CallingRow, LinkedRow, calling_cmp, linked_cmp, IsCalling, IsLinked, IsCallingIndex, IsLinkedIndex, IsFromEither, IsCallingFromEither, IsLinkedFromEither}
+use Rattle.docker_laws.proofs.lists.Tests.{none_some}
 use Rattle.docker_laws.proofs.states.Lapse.{below_or, put_lapses, put_stays}
 use Rattle.docker_laws.proofs.states.TableLapsed.{body_gone, live_stays}
 use Rattle.docker_laws.proofs.joins.StagedEntry.{entry_at_iff}
-
-none_some : {A : Type 0} (a : A) → None ≡ Some a → ⊥
-none_some a h = cc
 
 -- the lapse of an op has the same body, or none
 lapsed_body : (horizon : ℕ) (op : Op) → (body_of (lapse horizon op) ≡ body_of op) ⊎ (body_of (lapse horizon op) ≡ None)
@@ -95,7 +93,7 @@ module _ (one two live : Table) (from : IsFromEither one two live) where
           → IsCallingFromEither one two live first second (place, key)
       back place key lines made (inl e) = inl ((is_first.members place key).1 (lines, record { is_live = sym e ∙ made.is_live; calls = made.calls }), e)
       back place key lines made (inr (inl e)) = inr ((is_second.members place key).1 (lines, record { is_live = sym e ∙ made.is_live; calls = made.calls }), e)
-      back place key lines made (inr (inr none)) = absurd (none_some (schedule_body lines) (sym none ∙ made.is_live))
+      back place key lines made (inr (inr none)) = none_some (schedule_body lines) (sym none ∙ made.is_live)
 
   -- the index of associations from two
   pub linked_from_either : (first second index : List LinkedRow) → IsLinkedIndex one first → IsLinkedIndex two second → IsStrictlyAscending linked_cmp index
@@ -123,4 +121,4 @@ module _ (one two live : Table) (from : IsFromEither one two live) where
           → IsLinkedFromEither one two live first second (place, key)
       back place key line made (inl e) = inl ((is_first.members place key).1 (line, record { is_live = sym e ∙ made.is_live; here = made.here }), e)
       back place key line made (inr (inl e)) = inr ((is_second.members place key).1 (line, record { is_live = sym e ∙ made.is_live; here = made.here }), e)
-      back place key line made (inr (inr none)) = absurd (none_some (association_body line) (sym none ∙ made.is_live))
+      back place key line made (inr (inr none)) = none_some (association_body line) (sym none ∙ made.is_live)

@@ -1,15 +1,15 @@
--- Setting a horizon: one that is not greater changes nothing; what was joined before it was set is joined after; and a join, as the union of the two lapsed.
-use Rattle.std.proofs.Common.{◌≡◌, ℕ, ◌≤◌, List, [], ◌∷◌, ◌++◌, Contains, subst, ap, sym, ◌∙◌, arith}
+-- Setting a horizon: one that is not greater changes nothing, and what was joined before it was set is joined after. Without a horizon nothing lapses.
+use Rattle.std.proofs.Common.{◌≡◌, ℕ, ◌≤◌, List, [], ◌∷◌, Contains, subst, ap, sym, ◌∙◌, arith}
 use Rattle.std.specs.Prelude.{Option, ◌↔◌, max}
 use Rattle.std.proofs.Math.Nat.{le-max_left, max-eq_left, max-zero, zero-max}
 use Rattle.std.proofs.lemmas.List.Elements.{All-contains, recursion_from_All, All-from_recursion}
 use Rattle.std.specs.List.{AllByRecursion}
 use Rattle.docker_model.specs.file.Change.{Key}
 use Rattle.docker_model.specs.state.Order.{IsStrictlyAscending}
-use Rattle.docker_model.specs.state.Stamp.{FileStamp, LedgerItem, ledger_item_cmp, ledger_item_of, IsFloor, IsKept}
+use Rattle.docker_model.specs.state.Stamp.{FileStamp, LedgerItem, ledger_item_cmp, ledger_item_of}
 use Rattle.docker_model.specs.state.Op.{Op, deleted, lapsed, put_with, Entry}
-use Rattle.docker_model.specs.state.Lapse.{lapse_entry, lapse_entries, HasNotToLapse}
-use Rattle.docker_model.specs.state.State.{State, AreAscending, HaveLapsed, IsValid, IsGreatestAmong, IsJoin, lapse_state, raise_horizon, without_horizon}
+use Rattle.docker_model.specs.state.Lapse.{lapse_entry, HasNotToLapse}
+use Rattle.docker_model.specs.state.State.{State, AreAscending, HaveLapsed, IsValid, IsJoin, lapse_state, raise_horizon, without_horizon}
 use Rattle.docker_model.specs.state.Summary.{IsFloorOf, IsKeptFile, IsSummary, IsGreatestEntryOf}
 use Rattle.docker_laws.proofs.states.PlainTable.{Keyed}
 use Rattle.docker_laws.proofs.states.Lapse.{entry_twice, entry_stays, lapse_none}
@@ -71,38 +71,6 @@ join_then_set a b c is = record {
     twofold : (entry : Entry) → lapse_entry (max c.horizon b.horizon) (lapse_entry c.horizon entry) ≡ lapse_entry (max c.horizon b.horizon) entry
     twofold entry = entry_twice (max c.horizon b.horizon) c.horizon entry ∙ ap (λ h. lapse_entry h entry) (max-eq_left (le-max_left c.horizon b.horizon))
 
--- ---- a union, lapsed
-
--- the union of two states: the union of the ledgers, and of each key the greater entry, both kept under the floor of the union, with the greater horizon
-pub record IsUnion (first second joined : State) : Type 0 where
-  pub horizon : joined.horizon ≡ max first.horizon second.horizon
-  pub floor : Option FileStamp
-  pub is_floor : IsFloor (first.ledger ++ second.ledger) floor
-  pub ledger_ascends : IsStrictlyAscending ledger_item_cmp joined.ledger
-  pub ledger : (item : LedgerItem) → Contains joined.ledger item ↔ (Contains (first.ledger ++ second.ledger) item × IsKept floor item.stamp)
-  pub entries_ascend : AreAscending joined.entries
-  pub entries : (key : Key) (entry : Entry) → Contains joined.entries (key, entry)
-      ↔ (IsGreatestAmong (first.entries ++ second.entries) key entry × IsKept floor entry.stamp.file)
-
--- lapsed under its horizon it is the join
-pub union_lapsed : (first second union : State) → IsUnion first second union → IsJoin first second (lapse_state union.horizon union)
-union_lapsed first second union is = record {
-  horizon = is.horizon;
-  floor = is.floor;
-  is_floor = is.is_floor;
-  ledger_ascends = is.ledger_ascends;
-  ledger = is.ledger;
-  entries_ascend = lapse_ascends union.horizon union.entries is.entries_ascend;
-  entries = λ key entry. (
-    λ among.
-        let before = lapsed_from union.horizon union.entries key entry among in
-        let told = (is.entries key before.0).0 before.1 in
-        (before.0, told.0, told.1, before.2),
-    λ told. subst (λ e. Contains (lapse_entries union.horizon union.entries) (key, e)) told.3
-        (lapsed_to union.horizon union.entries key told.0 ((is.entries key told.0).1 (told.1, told.2))),
-  );
-}
-
 -- without a horizon nothing has to lapse
 pub none_has_to : (op : Op) → HasNotToLapse 0 op
 none_has_to deleted = tt
@@ -116,10 +84,6 @@ none_to_lapse entries = All-from_recursion (λ (entry : Keyed). HasNotToLapse 0 
     each : (xs : List Keyed) → AllByRecursion (λ (entry : Keyed). HasNotToLapse 0 entry.1.op) xs
     each [] = tt
     each (x ∷ xs) = (none_has_to x.1.op, each xs)
-
--- a union that has lapsed already is the join
-pub union_joined : (first second union : State) → IsUnion first second union → HaveLapsed union.horizon union.entries → IsJoin first second union
-union_joined first second union is all = subst (IsJoin first second) (lapsed_already union.horizon union all) (union_lapsed first second union is)
 
 -- the summary of files without a horizon, in the words of the greatest entries themselves
 pub record IsPlainSummary (files : List (List (List ℕ))) (state : State) : Type 0 where

@@ -10,6 +10,7 @@ use Rattle.docker_model.specs.state.Stamp.{FileStamp, IsFloor, IsKept}
 use Rattle.docker_model.specs.state.Op.{Entry, entry_cmp, key_cmp}
 use Rattle.docker_model.specs.state.State.{State, without_horizon, AreAscending, IsValid, IsJoin, raise_horizon, entry_at}
 use Rattle.docker_model.specs.state.Staging.{IsGreaterThan, IsToStage, IsStaged, IsCommit}
+use Rattle.docker_laws.proofs.lists.Tests.{none_some}
 use Rattle.docker_laws.proofs.lists.Membership.{nil-Contains, Contains-single}
 use Rattle.docker_laws.proofs.orders.Ascending.{irreflexive, later_of, ascending_of}
 use Rattle.docker_laws.proofs.orders.Orders.{entry_total}
@@ -25,9 +26,6 @@ use Rattle.docker_laws.proofs.joins.StagedJoin.{commit_is_join}
 Some_is : {A : Type 0} (a b : A) → Some a ≡ Some b → a ≡ b
 Some_is a b h = cc
 
-none_some : {A : Type 0} (a : A) → None ≡ Some a → ⊥
-none_some a h = cc
-
 -- the entry at a key is the one that stands among the entries
 pub entry_at_iff : (state : State) → AreAscending state.entries → (key : Key) (entry : Entry) → (entry_at state key ≡ Some entry) ↔ Contains state.entries
     (key, entry)
@@ -41,7 +39,7 @@ entry_at_iff state up key entry = by (find_in state.entries key)
         )
     by (inr (missing, none)) =
         let at : entry_at state key ≡ None = ap (option_and_then (λ (e : Keyed). Some e.1)) missing in (
-          λ is. absurd (none_some entry (sym at ∙ is)),
+          λ is. none_some entry (sym at ∙ is),
           λ among. absurd (none entry among),
         )
 
@@ -53,7 +51,7 @@ to_stage_by_get own up floor key entry = by (entry_at own key) refl
     by : (mine : Option Entry) → entry_at own key ≡ mine → IsToStage own floor key entry ↔ (IsKept floor entry.stamp.file × IsGreaterThan mine entry)
     by None h = (
       λ to. (to.kept, tt),
-      λ told. record { kept = told.0; greater = λ other among. absurd (none_some other (sym h ∙ (entry_at_iff own up key other).1 among)) },
+      λ told. record { kept = told.0; greater = λ other among. none_some other (sym h ∙ (entry_at_iff own up key other).1 among) },
     )
     by (Some mine) h = (
       λ to. (to.kept, to.greater mine ((entry_at_iff own up key mine).0 h)),

@@ -3,7 +3,7 @@ use Rattle.std.proofs.Common.{◌≡◌, List, [], ◌∷◌, refl, ap, sym, ◌
 use Rattle.std.specs.Prelude.{Option, filter, find, ◌&&◌}
 use Rattle.std.specs.List.{list_all, filter_map, cons_option}
 use Rattle.docker_laws.proofs.lists.Membership.{Contains-cons, cons-Contains, cons-Contains-first, nil-Contains}
-use Rattle.docker_laws.proofs.lists.Tests.{both}
+use Rattle.docker_laws.proofs.lists.Tests.{both, none_some}
 
 -- the members of what is filtered are those that pass
 module _ {A : Type 0} (test : A → Bool) where
@@ -39,10 +39,7 @@ module _ {A : Type 0} (test : A → Bool) where
 
   -- what is found is a member that passes
   pub find_some : (xs : List A) (z : A) → find test xs ≡ Some z → Contains xs z × (test z ≡ true)
-  find_some [] z found = absurd (none_some found)
-    where
-      none_some : None ≡ Some z → ⊥
-      none_some h = cc
+  find_some [] z found = none_some z found
   find_some (x ∷ xs) z found = by (test x) refl (find_some xs z) found
     where
       by : (b : Bool) → test x ≡ b → (find test xs ≡ Some z → Contains xs z × (test z ≡ true)) → cond b (Some x) (find test xs) ≡ Some z

@@ -45,3 +45,11 @@ some_then (Some x) = refl
 pub some_by_test : {A : Type 0} (o : Option A) → is_some o ≡ true → (x : A) × (o ≡ Some x)
 some_by_test None h = cc
 some_by_test (Some x) h = (x, refl)
+
+-- true isn't false
+pub true_is_not : true ≡ false → ⊥
+true_is_not same = cc
+
+-- none is nothing that is there
+pub none_some : {A B : Type 0} (x : A) → None ≡ Some x → B
+none_some x same = absurd cc

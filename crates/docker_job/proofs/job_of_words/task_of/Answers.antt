@@ -13,27 +13,27 @@ no_word : Bor (List ℕ)
 no_word = record { ref_ptr = (0, 0); now = [] }
 
 pub returns-in-New : goal.returns-in-New
-returns-in-New c = asked New c.args.subcommand (texts c.args.words.now) _ _ c.in-New.is c.stored.ensures
+returns-in-New c = asked New c.args.subcommand (texts c.args.words.now) _ _ c.in-New.is c.unless_stdin.ensures
     (state_alone New task.New refl (λ s is. is) (λ s is. is) c.args.words.now _ (c.requires ∙ ap (λ s. length (ids_of s)) c.in-New.is))
 
 pub returns-in-Migrate : goal.returns-in-Migrate
-returns-in-Migrate c = asked Migrate c.args.subcommand (texts c.args.words.now) _ _ c.in-Migrate.is c.stored-in-Migrate.ensures
+returns-in-Migrate c = asked Migrate c.args.subcommand (texts c.args.words.now) _ _ c.in-Migrate.is c.unless_stdin-in-Migrate.ensures
     (state_alone Migrate task.Migrate refl (λ s is. is) (λ s is. is) c.args.words.now _ (c.requires ∙ ap (λ s. length (ids_of s)) c.in-Migrate.is))
 
 pub returns-in-Take : goal.returns-in-Take
-returns-in-Take c = asked Take c.args.subcommand (texts c.args.words.now) _ _ c.in-Take.is c.stored-in-Take.ensures
+returns-in-Take c = asked Take c.args.subcommand (texts c.args.words.now) _ _ c.in-Take.is c.unless_stdin-in-Take.ensures
     (state_first Take task.Take c.args.words.now _ no_word refl (λ s is. is) (λ s o is. is)
     (c.requires ∙ ap (λ s. length (ids_of s)) c.in-Take.is))
 
 pub returns-in-Merge : goal.returns-in-Merge
-returns-in-Merge c = asked Merge c.args.subcommand (texts c.args.words.now) _ _ c.in-Merge.is c.stored-in-Merge.ensures
+returns-in-Merge c = asked Merge c.args.subcommand (texts c.args.words.now) _ _ c.in-Merge.is c.unless_stdin-in-Merge.ensures
     (state_first Merge task.Merge c.args.words.now _ no_word refl (λ s is. is) (λ s o is. is)
     (c.requires ∙ ap (λ s. length (ids_of s)) c.in-Merge.is))
 
 pub returns-in_ok-day-in-Horizon : goal.returns-in_ok-day-in-Horizon
 returns-in_ok-day-in-Horizon c =
     let day = c.in_ok-day-in-Horizon in
-    asked Horizon c.args.subcommand (texts c.args.words.now) _ _ c.in-Horizon.is c.stored-in-Horizon.ensures
+    asked Horizon c.args.subcommand (texts c.args.words.now) _ _ c.in-Horizon.is c.unless_stdin-in-Horizon.ensures
     (state_first Horizon (task.Horizon day.day) c.args.words.now _ _ refl (λ s is. (is, record { within = search rules; written = day.ensures.value }))
     (λ s o is. is.stored) (c.requires ∙ ap (λ s. length (ids_of s)) c.in-Horizon.is))
 

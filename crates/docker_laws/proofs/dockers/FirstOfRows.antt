@@ -1,0 +1,29 @@
+-- The first, in an order, of what a table has: told by a list with each of it, of which a test passes only that.
+use Rattle.std.proofs.Common.{◌≡◌, List, refl, sym, ◌∙◌, Some, None, Bool, true, Contains}
+use Rattle.std.specs.Prelude.{Option, find}
+use Rattle.std.specs.declared.cmp.Ordering.{Ordering}
+use Rattle.std.specs.Cmp.{IsTotalOrder}
+use Rattle.docker_model.specs.state.Order.{IsAtMost}
+use Rattle.docker_model.specs.docker.Best.{IsBest}
+use Rattle.docker_laws.proofs.lists.Tests.{true_is_not}
+use Rattle.docker_laws.proofs.orders.Least.{is_least, found_least, none_passes}
+
+-- what is found holds, and comes behind nothing that does; where nothing is found, nothing holds
+abbrev pub IsFirst : {A : Type 0} → (A → A → Ordering) → (A → Type 0) → Option A → Type 0
+IsFirst {A} cmp Is None = (x : A) → ¬ Is x
+IsFirst {A} cmp Is (Some x) = Is x × ((other : A) → Is other → IsAtMost cmp x other)
+
+module _ {A : Type 0} {cmp : A → A → Ordering} (total : IsTotalOrder cmp) (test : A → Bool) (xs : List A) (Is : A → Type 0)
+    (holds : (x : A) → Contains xs x → test x ≡ true → Is x) (among : (x : A) → Is x → Contains xs x) (passes : (x : A) → Is x → test x ≡ true) where
+  -- the best of the list is the first
+  pub best_is_first : (found : Option A) → IsBest cmp test xs found → IsFirst cmp Is found
+  best_is_first None none = λ x is. true_is_not (sym (passes x is) ∙ none x (among x is))
+  best_is_first (Some x) best = (holds x best.0 best.1, λ other is. best.2 other (among other is) (passes other is))
+
+  -- and so is what is found in it
+  pub found_is_first : IsFirst cmp Is (find (is_least total test xs) xs)
+  found_is_first = by (find (is_least total test xs) xs) refl
+    where
+      by : (found : Option A) → find (is_least total test xs) xs ≡ found → IsFirst cmp Is found
+      by None h = best_is_first None (none_passes total test xs h)
+      by (Some x) h = let best = found_least total test xs x h in best_is_first (Some x) (best.among, best.passes, best.first)
