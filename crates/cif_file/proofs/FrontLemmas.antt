@@ -633,12 +633,12 @@ not_whole keeps front opened records line kind has at open_end is known stops =
     none_stage false o h = refl
 
 -- a line that a schedule does not go on with
-pub bad_line : {K : Type 0} (keeps : Keeps K) (front : Front K) (opened : Opened) (records : Lines) (line : List ℕ) (cause : Option fault.FileCause) → HasRecords keeps front records
+pub bad_line : {K : Type 0} (keeps : Keeps K) (wants : Type 0) (front : Front K) (opened : Opened) (records : Lines) (line : List ℕ) (cause : Option fault.FileCause) → HasRecords keeps front records
     → front.stage ≡ InSchedule opened → IsRecord line
     → follows_basic (kind_of line) ≡ true → ((lines : Lines) → HasLines (progress_meant opened.progress) lines → IsScheduleCause lines line cause)
-    → IsNoNextCause records line cause
-bad_line keeps front opened records line None has at is follow told = let here = opened_of keeps front opened records has at in absurd (told here.lines here.progress_is)
-bad_line keeps front opened records line (Some cause) has at is follow told =
+    → IsNoNextCause wants records line cause
+bad_line keeps wants front opened records line None has at is follow told = let here = opened_of keeps front opened records has at in absurd (told here.lines here.progress_is)
+bad_line keeps wants front opened records line (Some cause) has at is follow told =
     let here = opened_of keeps front opened records has at in
     let found : IsPlaceOf records (in_schedule here.stage here.lines) = has.at ∙ ap Some here.place_is in
     let of = inr (no_unit_by_kind (kind_of line) line follow) in

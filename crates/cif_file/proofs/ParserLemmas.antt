@@ -1,6 +1,6 @@
 -- The lines that a parser has taken, and the faults that it tells.
 use Rattle.std.proofs.Common.{◌≡◌, ℕ, ◌+◌, ◌-◌, ◌≤◌, ◌<◌, inl, inr, Bool, true, false, cond, List, [], ◌∷◌, ◌++◌, length, subst, refl, ap, sym, ◌∙◌, Some, None, arith, append_assoc, length-append, eqb-true, take, drop, get_or, suc, drop-cons}
-use Rattle.std.specs.Prelude.{Option, ◌↔◌, ◌==◌, ◌&&◌, IfOk, IfErr, Result, Ok, Err, nat_le}
+use Rattle.std.specs.Prelude.{⊤, Option, ◌↔◌, ◌==◌, ◌&&◌, IfOk, IfErr, Result, Ok, Err, nat_le}
 use Rattle.std.specs.Str.Lines.{strip_carriage_return}
 use Rattle.std.specs.Prelude.{position}
 use Rattle.std.proofs.Math.Seq.{take-append_seam}
@@ -25,6 +25,7 @@ use Rattle.docker_laws.specs.LinesTold.{HasNoFeed, told_lines, open_line, line_l
 use Rattle.docker_laws.proofs.files.ToldLines.{lines_of_told, lines_of_ended, lines_of_open, told_lines_plain, open_line_plain, told_lines_ended, open_line_ended, told_lines_stay, lines_told_grow}
 use Rattle.docker_laws.proofs.files.ToldFaults.{cause_of_length, not_80, no_next_place, lines_told_short, length_at_end, fault_at_feed, fault_at_long, fault_at_end, fault_stays, no_fault_told}
 use Rattle.cif_file.specs.declared.fault.FileCause.{FileCause}
+use Rattle.cif_file.specs.declared.fault.FileCause.TheVariants.{Memory}
 use Rattle.cif_file.specs.declared.fault.FileFault.{FileFault}
 use Rattle.cif_file.specs.declared.front.Front.{Front}
 use Rattle.cif_file.specs.declared.ended.Ended.{Ended}
@@ -98,11 +99,11 @@ after_cause keeps limit front records line has is under = record {
     none false = refl
 
 -- a line that is no record
-pub line_cause : {K : Type 0} (keeps : Keeps K) (limit : ℕ) (front : Front K) (records : Lines) (line : List ℕ) (cause : Option model.FileCause) → HasRecords keeps front records → ¬ IsFile records
+pub line_cause : {K : Type 0} (keeps : Keeps K) (wants : Type 0) (limit : ℕ) (front : Front K) (records : Lines) (line : List ℕ) (cause : Option model.FileCause) → HasRecords keeps front records → ¬ IsFile records
     → length records < limit → ¬ IsRecord line
-    → ((place : Place) → cause ≡ Some (length_cause place line)) → IsCauseBehind limit records line cause
-line_cause keeps limit front records line None has unended under bad told = absurd (let never = told has.place in cc)
-line_cause keeps limit front records line (Some cause) has unended under bad told = record {
+    → ((place : Place) → cause ≡ Some (length_cause place line)) → IsCauseBehind wants limit records line cause
+line_cause keeps wants limit front records line None has unended under bad told = absurd (let never = told has.place in cc)
+line_cause keeps wants limit front records line (Some cause) has unended under bad told = record {
   place = has.place;
   at = has.at;
   here = inr (by (next_place has.place line) refl);
@@ -123,12 +124,12 @@ line_cause keeps limit front records line (Some cause) has unended under bad tol
         test true h = absurd (unended ((file_iff_place records).1 (has.at ∙ ap Some (end_by_test has.place h))))
 
 -- a record that the front refuses
-pub front_cause : (limit : ℕ) (records : Lines) (line : List ℕ) (cause : FileCause) → length records < limit → IsNoNextCause records line (cause_meant cause)
-    → IsCauseBehind limit records line (cause_meant cause)
-front_cause limit records line cause under told = by (cause_meant cause) told
+pub front_cause : (wants : Type 0) (limit : ℕ) (records : Lines) (line : List ℕ) (cause : FileCause) → length records < limit → IsNoNextCause wants records line (cause_meant cause)
+    → IsCauseBehind wants limit records line (cause_meant cause)
+front_cause wants limit records line cause under told = by (cause_meant cause) told
   where
-    by : (meant : Option model.FileCause) → IsNoNextCause records line meant → IsCauseBehind limit records line meant
-    by None goes_on = (under, goes_on)
+    by : (meant : Option model.FileCause) → IsNoNextCause wants records line meant → IsCauseBehind wants limit records line meant
+    by None goes_on = (goes_on.0, under, goes_on.1)
     by (Some c) told_no = record { place = told_no.place; at = told_no.at; here = inr told_no.nowhere; is = told_no.is limit under }
 
 -- ---- a line that ends
@@ -144,15 +145,15 @@ ended_read keeps old new limit text front reading plain counted none = record {
 }
 
 -- and so is its fault told
-pub ended_fault : {K : Type 0} (keeps : Keeps K) (old : Reading K) (limit : ℕ) (text front : List ℕ) (fault : FileFault) → IsReading keeps old limit text → HasNoFeed front
-    → IsFaultNext limit (told_lines text) (strip_carriage_return (open_line text ++ front)) fault → IsFaultTold limit (text ++ (front ++ 10 ∷ [])) fault
-ended_fault keeps old limit text front fault reading plain next = by (cause_meant fault.cause) next.cause
+pub ended_fault : {K : Type 0} (keeps : Keeps K) (wants : Type 0) (old : Reading K) (limit : ℕ) (text front : List ℕ) (fault : FileFault) → IsReading keeps old limit text → HasNoFeed front
+    → IsFaultNext wants limit (told_lines text) (strip_carriage_return (open_line text ++ front)) fault → IsFaultTold limit (text ++ (front ++ 10 ∷ [])) fault
+ended_fault keeps wants old limit text front fault reading plain next = by (cause_meant fault.cause) next.cause
   where
-    by : (meant : Option model.FileCause) → IsCauseBehind limit (told_lines text) (strip_carriage_return (open_line text ++ front)) meant
+    by : (meant : Option model.FileCause) → IsCauseBehind wants limit (told_lines text) (strip_carriage_return (open_line text ++ front)) meant
         → IsToldSoFar limit (text ++ (front ++ 10 ∷ [])) fault.number meant
     by None told =
         memory_told limit (told_lines text) (strip_carriage_return (open_line text ++ front)) fault.number
-        (told_lines (text ++ (front ++ 10 ∷ []))) told.0 told.1 next.number (told_lines_ended text front plain)
+        (told_lines (text ++ (front ++ 10 ∷ []))) told.1 told.2 next.number (told_lines_ended text front plain)
     by (Some cause) told =
         subst (λ f. IsFaultSoFar limit (text ++ (front ++ 10 ∷ [])) f) (λ i. record { number = sym next.number i; cause = told.is i })
         (fault_at_feed limit text front [] told.place plain told.at reading.counted.within told.here)
@@ -231,14 +232,14 @@ pub counted_ended : {K : Type 0} (keeps : Keeps K) (reading : Reading K) (limit 
 counted_ended keeps reading limit text is none = subst (HasCounted keeps reading.records limit) (sym (lines_of_ended text (sym is.partial_is ∙ none))) is.counted
 
 -- a fault of the open line at the end is the text's
-pub end_fault : {K : Type 0} (keeps : Keeps K) (reading : Reading K) (limit : ℕ) (text : List ℕ) (fault : FileFault) → IsReading keeps reading limit text → 0 < length (open_line text)
-    → IsFaultNext limit (told_lines text) (strip_carriage_return (open_line text)) fault → IsRefused limit text fault
-end_fault keeps reading limit text fault is some next = by (cause_meant fault.cause) next.cause
+pub end_fault : {K : Type 0} (keeps : Keeps K) (wants : Type 0) (reading : Reading K) (limit : ℕ) (text : List ℕ) (fault : FileFault) → IsReading keeps reading limit text → 0 < length (open_line text)
+    → IsFaultNext wants limit (told_lines text) (strip_carriage_return (open_line text)) fault → IsRefused limit text fault
+end_fault keeps wants reading limit text fault is some next = by (cause_meant fault.cause) next.cause
   where
-    by : (meant : Option model.FileCause) → IsCauseBehind limit (told_lines text) (strip_carriage_return (open_line text)) meant
+    by : (meant : Option model.FileCause) → IsCauseBehind wants limit (told_lines text) (strip_carriage_return (open_line text)) meant
         → IsCauseOf limit text fault.number meant
     by None told =
-        memory_told limit (told_lines text) (strip_carriage_return (open_line text)) fault.number (lines_of text) told.0 told.1 next.number
+        memory_told limit (told_lines text) (strip_carriage_return (open_line text)) fault.number (lines_of text) told.1 told.2 next.number
         (lines_of_open text some)
     by (Some cause) told =
         subst (λ f. IsFileFault limit text f) (λ i. record { number = sym next.number i; cause = told.is i })
@@ -344,11 +345,11 @@ ended_ok keeps old new limit text front line reading plain same counted none =
     ended_read keeps old new limit text front reading plain (subst (λ l. HasCounted keeps new.records limit (told_lines text ++ l ∷ [])) same counted) none
 
 -- a fault of the line that ends is the text's
-pub ended_err : {K : Type 0} (keeps : Keeps K) (old : Reading K) (limit : ℕ) (text front line : List ℕ) (fault : FileFault) → IsReading keeps old limit text → HasNoFeed front
-    → line ≡ strip_carriage_return (open_line text ++ front) → FaultsNext keeps old.records line fault → IsFaultTold limit (text ++ (front ++ 10 ∷ [])) fault
-ended_err keeps old limit text front line fault reading plain same told =
-    ended_fault keeps old limit text front fault reading plain
-    (subst (λ l. IsFaultNext limit (told_lines text) l fault) same (told limit (told_lines text) reading.counted))
+pub ended_err : {K : Type 0} (keeps : Keeps K) (wants : Type 0) (old : Reading K) (limit : ℕ) (text front line : List ℕ) (fault : FileFault) → IsReading keeps old limit text → HasNoFeed front
+    → line ≡ strip_carriage_return (open_line text ++ front) → FaultsNext keeps wants old.records line fault → IsFaultTold limit (text ++ (front ++ 10 ∷ [])) fault
+ended_err keeps wants old limit text front line fault reading plain same told =
+    ended_fault keeps wants old limit text front fault reading plain
+    (subst (λ l. IsFaultNext wants limit (told_lines text) l fault) same (told limit (told_lines text) reading.counted))
 
 -- no bytes of the line came before
 pub empty_is : {K : Type 0} (old : Reading K) → true ≡ (length old.partial.items == 0) → old.partial.items ≡ []
@@ -498,32 +499,47 @@ later_than : {K : Type 0} (keeps : Keeps K) (reading : Reading K) (limit : ℕ) 
     → lines_told text < fault.number
 later_than keeps reading limit text fault is number = let same = lines_told_short text is.short in omega arith
 
+-- memory was wanting only where it may be
+wants_of : (wants : Type 0) (limit : ℕ) (records : Lines) (line : List ℕ) (fault : FileFault) → IsFaultNext wants limit records line fault
+    → fault.cause ≡ Memory → wants
+wants_of wants limit records line fault next memory = (subst (λ cause. IsCauseBehind wants limit records line (cause_meant cause)) memory next.cause).0
+
+-- and not where another cause is told
+no_want : (wants : Type 0) (fault : FileFault) (cause : model.FileCause) → cause_meant fault.cause ≡ Some cause → fault.cause ≡ Memory → wants
+no_want wants fault cause told memory = let bad : ◌≡◌ {A = Option model.FileCause} None (Some cause) = sym (ap cause_meant memory) ∙ told in absurd cc
+
 -- that of a line behind the text
-pub later_next : {K : Type 0} (keeps : Keeps K) (reading : Reading K) (line : List ℕ) (fault : FileFault) → FaultsNext keeps reading.records line fault → IsLater keeps reading fault
-later_next keeps reading line fault told = λ limit text is. later_than keeps reading limit text fault is (told limit (told_lines text) is.counted).number
+pub later_next : {K : Type 0} (keeps : Keeps K) (wants : Type 0) (reading : Reading K) (line : List ℕ) (fault : FileFault)
+    → FaultsNext keeps wants reading.records line fault → IsLater keeps wants reading fault
+later_next keeps wants reading line fault told = λ limit text is.
+    let next = told limit (told_lines text) is.counted in
+    (later_than keeps reading limit text fault is next.number, wants_of wants limit (told_lines text) line fault next)
 
 -- that of a line that is too long
-pub later_long : {K : Type 0} (keeps : Keeps K) (reading : Reading K) (fault : FileFault) → ((limit : ℕ) (text : List ℕ) → IsReading keeps reading limit text → IsLongNext limit
-    (told_lines text) fault) → IsLater keeps reading fault
-later_long keeps reading fault told = λ limit text is. later_than keeps reading limit text fault is (told limit text is).number
+pub later_long : {K : Type 0} (keeps : Keeps K) (wants : Type 0) (reading : Reading K) (fault : FileFault)
+    → ((limit : ℕ) (text : List ℕ) → IsReading keeps reading limit text → IsLongNext limit (told_lines text) fault) → IsLater keeps wants reading fault
+later_long keeps wants reading fault told = λ limit text is.
+    let next = told limit text is in
+    (later_than keeps reading limit text fault is next.number, no_want wants fault (cause_of_long limit (length (told_lines text)) next.place) next.cause)
 
 -- what a longer text doesn't tell, its front doesn't
 later_front : (text more : List ℕ) (fault : FileFault) → lines_told (text ++ more) < fault.number → lines_told text < fault.number
 later_front text more fault later = let grown = lines_told_grow text more in omega arith
 
 -- what is behind a front that was read is behind what was read before it
-pub later_piece : {K : Type 0} (keeps : Keeps K) (old new : Reading K) (front : List ℕ) (fault : FileFault) → GoesOn (IsReading keeps old) front (IsReading keeps new) → IsLater keeps new fault
-    → IsLater keeps old fault
-later_piece keeps old new front fault read later = λ limit text is. later_front text front fault (later limit (text ++ front) (read limit text is))
+pub later_piece : {K : Type 0} (keeps : Keeps K) (wants : Type 0) (old new : Reading K) (front : List ℕ) (fault : FileFault) → GoesOn (IsReading keeps old) front (IsReading keeps new) → IsLater keeps wants new fault
+    → IsLater keeps wants old fault
+later_piece keeps wants old new front fault read later = λ limit text is.
+    let behind = later limit (text ++ front) (read limit text is) in (later_front text front fault behind.0, behind.1)
 
 -- such a fault is behind what the text tells
-pub later_end : {K : Type 0} (keeps : Keeps K) (reading : Reading K) (fault : FileFault) → ((limit : ℕ) (text : List ℕ) → IsReading keeps reading limit text → IsNoEndOf (lines_of text) fault)
-    → IsLater keeps reading fault
-later_end keeps reading fault told = λ limit text is.
+pub later_end : {K : Type 0} (keeps : Keeps K) (wants : Type 0) (reading : Reading K) (fault : FileFault) → ((limit : ℕ) (text : List ℕ) → IsReading keeps reading limit text → IsNoEndOf (lines_of text) fault)
+    → IsLater keeps wants reading fault
+later_end keeps wants reading fault told = λ limit text is.
     let same = lines_told_short text is.short in
     let size = ap (λ (l : Lines). length l) (lines_of_told text) ∙ length-append (told_lines text) (line_left (open_line text)) in
     let number = (told limit text is).0 in
-    omega arith
+    (omega arith, no_want wants fault no_end (told limit text is).1)
 
 -- and is no want of memory
 pub last_end : {K : Type 0} (keeps : Keeps K) (reading : Reading K) (fault : FileFault) → ((limit : ℕ) (text : List ℕ) → IsReading keeps reading limit text → IsNoEndOf (lines_of text) fault)
@@ -532,15 +548,15 @@ last_end keeps reading fault told = λ memory limit text is.
     let bad : ◌≡◌ {A = Option model.FileCause} None (Some no_end) = sym (ap cause_meant memory) ∙ (told limit text is).1 in absurd cc
 
 -- the open line is the last
-pub last_open : {K : Type 0} (keeps : Keeps K) (reading : Reading K) (line : List ℕ) (fault : FileFault) → false ≡ (length reading.partial.items == 0) → FaultsNext keeps reading.records line fault
+pub last_open : {K : Type 0} (keeps : Keeps K) (wants : Type 0) (reading : Reading K) (line : List ℕ) (fault : FileFault) → false ≡ (length reading.partial.items == 0) → FaultsNext keeps wants reading.records line fault
     → IsLast keeps reading fault
-last_open keeps reading line fault some told =
+last_open keeps wants reading line fault some told =
     λ _ limit text is. (told limit (told_lines text) is.counted).number ∙ sym (length_at_end text (some_is_open keeps reading limit text is some))
 
 -- what is later than what was read is later than what a parser was fed that told no fault
-pub names_later : (parser : ParserState) (reading : Reading Kept) (fault : FileFault) → parser.fault ≡ None → parser.reading ≡ reading → IsLater KeepsAll reading fault
+pub names_later : (parser : ParserState) (reading : Reading Kept) (fault : FileFault) → parser.fault ≡ None → parser.reading ≡ reading → IsLater KeepsAll ⊤ reading fault
     → NamesLater parser fault
-names_later parser reading fault none same told = λ _ limit text has. told limit text (reading_of parser reading limit text none same has)
+names_later parser reading fault none same told = λ _ limit text has. (told limit text (reading_of parser reading limit text none same has)).0
 
 -- and of the last record
 pub names_last : (parser : ParserState) (reading : Reading Kept) (fault : FileFault) → parser.fault ≡ None → parser.reading ≡ reading → IsLast KeepsAll reading fault

@@ -22,7 +22,7 @@ use Rattle.cif_file.specs.FileRead.{IsRead}
 use Rattle.cif_file.specs.KeeperRead.{Keeps, KeepsAll}
 use Rattle.cif_file.specs.EndedRead.{file_ended}
 use Rattle.cif_file.specs.ParserRead.{IsReading, IsLater, IsLast, IsOfFileText, IsEndedText, WantsMemoryAt, IsToldSoFar, IsFaultTold, IsCauseOf, IsRefused}
-use Rattle.cif_file.specs.SourceRead.{Held, IsFaultOf, ReadsEnded, ReadsText, RefusesText, ReadsNoFurther, WantsMemory}
+use Rattle.cif_file.specs.SourceRead.{Held, IsFaultOf, ReadsEnded, ReadsText, RefusesText, ReadsNoFurther, WantsMemory, WantsMemoryBy}
 
 -- ---- turns
 
@@ -98,8 +98,8 @@ pub nothing_read : (limit : ℕ) (left : Option (List ℕ)) → ReadsNoFurther 6
 nothing_read limit left = record { before = []; piece = []; sound = sound_at_start limit; at_once = omega arith; read = unread left }
 
 -- memory was wanting before
-pub wants_at_start : (limit : ℕ) (left : Option (List ℕ)) → WantsMemory 65536 limit left left
-wants_at_start limit left = inl (unread left)
+pub wants_at_start : (wants : Type 0) (limit : ℕ) (left : Option (List ℕ)) → WantsMemoryBy wants 65536 limit left left
+wants_at_start wants limit left = inl (unread left)
 
 -- what one read gives is no longer than what it was read into
 pub at_once : (n len : ℕ) (into : List ℕ) → length into ≡ len → len ≡ 65536 → n ≤ length into → length (take n into) ≤ 65536
@@ -198,14 +198,16 @@ fault_at_end limit text fault told result refused memory file is =
     subst (IsFaultOf limit text) as_file.0 (refused_of limit text fault refused as_file.1)
 
 -- want of memory at the end is at the last record
-pub memory_at_end : {K : Type 0} (keeps : Keeps K) {A : Type 0} (limit : ℕ) (text : List ℕ) (reading : Reading K) (fault : FileFault) (result : ReadFault) → IsReading keeps reading limit text
-    → IsRefused limit text fault → IsLast keeps reading fault → (fault.cause ≢ Memory → result ≡ read.File fault)
+pub memory_at_end : {K : Type 0} (keeps : Keeps K) (wants : Type 0) {A : Type 0} (limit : ℕ) (text : List ℕ) (reading : Reading K) (fault : FileFault) (result : ReadFault) → IsReading keeps reading limit text
+    → IsRefused limit text fault → IsLater keeps wants reading fault → IsLast keeps reading fault → (fault.cause ≢ Memory → result ≡ read.File fault)
     → ◌≡◌ {A = Result A ReadFault} (Err result) (Err read.Memory)
-    → WantsMemoryAt limit (lines_of text) (length (lines_of text))
-memory_at_end keeps limit text reading fault result has refused last file is =
-    let wanting = told_as_memory fault result file is in
-    subst (WantsMemoryAt limit (lines_of text)) (last wanting limit text has)
-    (subst (λ cause. IsCauseOf limit text fault.number (cause_meant cause)) wanting refused)
+    → wants × WantsMemoryAt limit (lines_of text) (length (lines_of text))
+memory_at_end keeps wants limit text reading fault result has refused later last file is =
+    let wanting = told_as_memory fault result file is in (
+      (later limit text has).1 wanting,
+      subst (WantsMemoryAt limit (lines_of text)) (last wanting limit text has)
+          (subst (λ cause. IsCauseOf limit text fault.number (cause_meant cause)) wanting refused),
+    )
 
 -- it is that of what the source held
 pub refused_at_end : {K : Type 0} (keeps : Keeps K) (limit : ℕ) (initial now : Option (List ℕ)) (reading : Reading K) (turn : ℕ) (fault : FileFault)
@@ -214,11 +216,11 @@ pub refused_at_end : {K : Type 0} (keeps : Keeps K) (limit : ℕ) (initial now :
 refused_at_end keeps limit initial now reading turn fault at end is = record { text = at.text; held = held_all initial now at.text at.lost end; is = is }
 
 -- and so is want of memory at the end
-pub wants_at_end : {K : Type 0} (keeps : Keeps K) (limit : ℕ) (initial now next : Option (List ℕ)) (reading : Reading K) (turn : ℕ) → (at : IsAtTurn keeps limit initial reading now turn)
+pub wants_at_end : {K : Type 0} (keeps : Keeps K) (wants : Type 0) (limit : ℕ) (initial now next : Option (List ℕ)) (reading : Reading K) (turn : ℕ) → (at : IsAtTurn keeps limit initial reading now turn)
     → IsEnd now
-    → WantsMemoryAt limit (lines_of at.text) (length (lines_of at.text)) → WantsMemory 65536 limit initial next
-wants_at_end keeps limit initial now next reading turn at end wanting =
-    inr (inr (record { text = at.text; held = held_all initial now at.text at.lost end; wanting = wanting }))
+    → wants × WantsMemoryAt limit (lines_of at.text) (length (lines_of at.text)) → WantsMemoryBy wants 65536 limit initial next
+wants_at_end keeps wants limit initial now next reading turn at end wanting =
+    inr (wanting.0, inr (record { text = at.text; held = held_all initial now at.text at.lost end; wanting = wanting.1 }))
 
 -- and a fault that was told before
 pub refused_before : {K : Type 0} (keeps : Keeps K) {A : Type 0} (limit : ℕ) (initial now next : Option (List ℕ)) (reading : Reading K) (turn : ℕ) (piece : List ℕ) (fault told : FileFault)
@@ -240,22 +242,26 @@ refused_before keeps limit initial now next reading turn piece fault told result
     by (Some bytes) (Some rest) lost = record { text = (at.text ++ piece) ++ rest; held = cc; is = of rest }
 
 -- want of memory before the end is at a record that the piece is the first to tell
-pub wants_before : {K : Type 0} (keeps : Keeps K) {A : Type 0} (limit : ℕ) (initial now next : Option (List ℕ)) (reading : Reading K) (turn : ℕ) (piece : List ℕ) (fault : FileFault)
+pub wants_before : {K : Type 0} (keeps : Keeps K) (wants : Type 0) {A : Type 0} (limit : ℕ) (initial now next : Option (List ℕ)) (reading : Reading K) (turn : ℕ) (piece : List ℕ) (fault : FileFault)
     (result : ReadFault)
     → (at : IsAtTurn keeps limit initial reading now turn) → Reads now piece next → length piece ≤ 65536 → IsFaultTold limit (at.text ++ piece) fault
-    → IsLater keeps reading fault
-    → (fault.cause ≢ Memory → result ≡ read.File fault) → ◌≡◌ {A = Result A ReadFault} (Err result) (Err read.Memory) → WantsMemory 65536 limit initial next
-wants_before keeps limit initial now next reading turn piece fault result at more few so_far later file is =
+    → IsLater keeps wants reading fault
+    → (fault.cause ≢ Memory → result ≡ read.File fault) → ◌≡◌ {A = Result A ReadFault} (Err result) (Err read.Memory) → WantsMemoryBy wants 65536 limit initial next
+wants_before keeps wants limit initial now next reading turn piece fault result at more few so_far later file is =
     let wanting = told_as_memory fault result file is in
-    inr (inl (record {
-      before = at.text;
-      piece = piece;
-      read = lost_more initial now next at.text piece at.lost more;
-      at_once = few;
-      number = fault.number;
-      first = later limit at.text at.read;
-      wanting = subst (λ cause. IsToldSoFar limit (at.text ++ piece) fault.number (cause_meant cause)) wanting so_far;
-    }))
+    let new = later limit at.text at.read in
+    inr (
+      new.1 wanting,
+      inl (record {
+        before = at.text;
+        piece = piece;
+        read = lost_more initial now next at.text piece at.lost more;
+        at_once = few;
+        number = fault.number;
+        first = new.0;
+        wanting = subst (λ cause. IsToldSoFar limit (at.text ++ piece) fault.number (cause_meant cause)) wanting so_far;
+      }),
+    )
 
 -- a fault is told as itself
 pub told_apart : {A : Type 0} (result other : ReadFault) → result ≢ other → ◌≡◌ {A = Result A ReadFault} (Err result) (Err other) → ⊥
@@ -271,3 +277,29 @@ pub same_front : (n len : ℕ) (piece into items : List ℕ) → piece ≡ take 
     → take n piece ≡ take n into
 same_front n len piece into items is whole within =
     ap (take n) (is ∙ take-append-le len into (drop (length into) items) (omega arith)) ∙ take-take n len into (omega arith)
+
+-- ---- want of memory
+
+-- a fault that is told is told as itself
+same_fault : {A B : Type 0} (fault told : ReadFault) → ◌≡◌ {A = Result A ReadFault} (Err fault) (Err told) → ◌≡◌ {A = Result B ReadFault} (Err fault) (Err told)
+same_fault fault told is = let same : fault ≡ told = cc in ap Err same
+
+-- where it may be wanting
+pub wants_any : {A B : Type 0} (wants : Type 0) (limit : ℕ) (old new : Option (List ℕ)) (fault : ReadFault)
+    → (◌≡◌ {A = Result A ReadFault} (Err fault) (Err read.Memory) → WantsMemoryBy wants 65536 limit old new)
+    → ◌≡◌ {A = Result B ReadFault} (Err fault) (Err read.Memory) → WantsMemory 65536 limit old new
+wants_any wants limit old new fault told is = by (told (same_fault fault read.Memory is))
+  where
+    by : WantsMemoryBy wants 65536 limit old new → WantsMemory 65536 limit old new
+    by (inl unread_yet) = inl unread_yet
+    by (inr wanting) = inr wanting.1
+
+-- and where it may not
+pub wants_none : {A B : Type 0} (limit : ℕ) (old new : Option (List ℕ)) (fault : ReadFault)
+    → (◌≡◌ {A = Result A ReadFault} (Err fault) (Err read.Memory) → WantsMemoryBy ⊥ 65536 limit old new)
+    → ◌≡◌ {A = Result B ReadFault} (Err fault) (Err read.Memory) → Reads old [] new
+wants_none limit old new fault told is = by (told (same_fault fault read.Memory is))
+  where
+    by : WantsMemoryBy ⊥ 65536 limit old new → Reads old [] new
+    by (inl unread_yet) = unread_yet
+    by (inr wanting) = absurd wanting.0

@@ -40,15 +40,15 @@ pub record IsCauseNext (limit : ℕ) (records : Lines) (line : List ℕ) (cause 
   pub here : (limit ≤ length records) ⊎ (next_place place line ≡ None)
   pub is : cause_of limit (length records) place line ≡ cause
 
--- a cause that was told of a record; memory was wanting only within the limit, and for a record that goes on
-abbrev pub IsCauseBehind : ℕ → Lines → List ℕ → Option model.FileCause → Type 0
-IsCauseBehind limit records line None = (length records < limit) × GoesOnWith records line
-IsCauseBehind limit records line (Some cause) = IsCauseNext limit records line cause
+-- a cause that was told of a record; memory was wanting only where it may be, within the limit, and for a record that goes on
+abbrev pub IsCauseBehind : Type 0 → ℕ → Lines → List ℕ → Option model.FileCause → Type 0
+IsCauseBehind wants limit records line None = wants × (length records < limit) × GoesOnWith records line
+IsCauseBehind wants limit records line (Some cause) = IsCauseNext limit records line cause
 
 -- a fault that was told of the record behind these
-pub record IsFaultNext (limit : ℕ) (records : Lines) (line : List ℕ) (fault : FileFault) : Type 0 where
+pub record IsFaultNext (wants : Type 0) (limit : ℕ) (records : Lines) (line : List ℕ) (fault : FileFault) : Type 0 where
   pub number : fault.number ≡ length records + 1
-  pub cause : IsCauseBehind limit records line (cause_meant fault.cause)
+  pub cause : IsCauseBehind wants limit records line (cause_meant fault.cause)
 
 -- a fault that was told of a record of more than 81 bytes behind these
 pub record IsLongNext (limit : ℕ) (records : Lines) (fault : FileFault) : Type 0 where
@@ -62,17 +62,17 @@ abbrev pub IsNoEndOf : Lines → FileFault → Type 0
 IsNoEndOf records fault = (fault.number ≡ length records + 1) × (cause_meant fault.cause ≡ Some no_end) × (¬ IsFile records)
 
 -- a cause that was told of a line, within the limit
-abbrev pub RefusesWithin : {K : Type 0} → Keeps K → Front K → List ℕ → FileCause → Type 0
-RefusesWithin keeps front line cause =
-    (limit : ℕ) (records : Lines) → HasRecords keeps front records → length records < limit → IsCauseBehind limit records line (cause_meant cause)
+abbrev pub RefusesWithin : {K : Type 0} → Keeps K → Type 0 → Front K → List ℕ → FileCause → Type 0
+RefusesWithin keeps wants front line cause =
+    (limit : ℕ) (records : Lines) → HasRecords keeps front records → length records < limit → IsCauseBehind wants limit records line (cause_meant cause)
 
 -- the line was taken, and counted
 abbrev pub CountsNext : {K : Type 0} → Keeps K → Records K → List ℕ → Records K → Type 0
 CountsNext keeps old line new = (limit : ℕ) (records : Lines) → HasCounted keeps old limit records → HasCounted keeps new limit (records ++ line ∷ [])
 
 -- a fault that was told of the line
-abbrev pub FaultsNext : {K : Type 0} → Keeps K → Records K → List ℕ → FileFault → Type 0
-FaultsNext keeps state line fault = (limit : ℕ) (records : Lines) → HasCounted keeps state limit records → IsFaultNext limit records line fault
+abbrev pub FaultsNext : {K : Type 0} → Keeps K → Type 0 → Records K → List ℕ → FileFault → Type 0
+FaultsNext keeps wants state line fault = (limit : ℕ) (records : Lines) → HasCounted keeps state limit records → IsFaultNext wants limit records line fault
 
 -- the records that were counted are a file, which this is
 abbrev pub EndsCounted : {K : Type 0} → Keeps K → Records K → Ended K → Type 0
@@ -161,9 +161,10 @@ HasFailed parser fault = parser.fault ≡ Some fault
 abbrev pub HasNotFailed : ParserState → Type 0
 HasNotFailed parser = (fault : FileFault) → ¬ HasFailed parser fault
 
--- no text that was read tells the record of the fault
-abbrev pub IsLater : {K : Type 0} → Keeps K → Reading K → FileFault → Type 0
-IsLater keeps reading fault = (limit : ℕ) (text : List ℕ) → IsReading keeps reading limit text → lines_told text < fault.number
+-- no text that was read tells the record of the fault; and it is no want of memory but where memory may be wanting
+abbrev pub IsLater : {K : Type 0} → Keeps K → Type 0 → Reading K → FileFault → Type 0
+IsLater keeps wants reading fault =
+    (limit : ℕ) (text : List ℕ) → IsReading keeps reading limit text → (lines_told text < fault.number) × (fault.cause ≡ Memory → wants)
 
 -- the same of a parser that told no fault: the record is none of those that the texts before this call told
 abbrev pub NamesLater : ParserState → FileFault → Type 0

@@ -79,10 +79,10 @@ pub record IsNoNext (records : Lines) (line : List ℕ) (cause : fault.FileCause
 abbrev pub GoesOnWith : Lines → List ℕ → Type 0
 GoesOnWith records line = (next : law.Place) × IsPlaceOf (records ++ line ∷ []) next
 
--- a cause that was told; memory was wanting only for a line that goes on
-abbrev pub IsNoNextCause : Lines → List ℕ → Option fault.FileCause → Type 0
-IsNoNextCause records line None = GoesOnWith records line
-IsNoNextCause records line (Some cause) = IsNoNext records line cause
+-- a cause that was told; memory was wanting only where it may be, and for a line that goes on
+abbrev pub IsNoNextCause : Type 0 → Lines → List ℕ → Option fault.FileCause → Type 0
+IsNoNextCause wants records line None = wants × GoesOnWith records line
+IsNoNextCause wants records line (Some cause) = IsNoNext records line cause
 
 -- the lines are a whole schedule, as far as its progress tells
 abbrev pub IsWholeBy : Opened → Type 0
@@ -122,10 +122,10 @@ BeginsAnew keeps old number line new =
     (records : Lines) → IsOver keeps old records → number ≡ length records + 1 → HasRecords keeps new (records ++ line ∷ [])
 
 -- it told this cause of a line, which is why the line does not go on with the records that it has
-abbrev pub RefusesLine : {K : Type 0} → Keeps K → Front K → List ℕ → FileCause → Type 0
-RefusesLine keeps front line cause = (records : Lines) → HasRecords keeps front records → IsNoNextCause records line (cause_meant cause)
+abbrev pub RefusesLine : {K : Type 0} → Keeps K → Type 0 → Front K → List ℕ → FileCause → Type 0
+RefusesLine keeps wants front line cause = (records : Lines) → HasRecords keeps front records → IsNoNextCause wants records line (cause_meant cause)
 
 -- the same where those records are no file
-abbrev pub RefusesUnended : {K : Type 0} → Keeps K → Front K → List ℕ → FileCause → Type 0
-RefusesUnended keeps front line cause =
-    (records : Lines) → HasRecords keeps front records → ¬ IsFile records → IsNoNextCause records line (cause_meant cause)
+abbrev pub RefusesUnended : {K : Type 0} → Keeps K → Type 0 → Front K → List ℕ → FileCause → Type 0
+RefusesUnended keeps wants front line cause =
+    (records : Lines) → HasRecords keeps front records → ¬ IsFile records → IsNoNextCause wants records line (cause_meant cause)

@@ -1,5 +1,5 @@
 //! The records of a file so far.
-ghost use Rattle.std.specs.Prelude.{◌≡◌, ℕ, ◌+◌, ◌↔◌, List, [], ◌∷◌, ◌++◌, length, map, IsOk, IfErr, IsErr, OnOk, MatchOption, Some, true, is_some, IsTrue};
+ghost use Rattle.std.specs.Prelude.{◌≡◌, ℕ, ◌+◌, ◌↔◌, List, [], ◌∷◌, ◌++◌, length, map, IsOk, IfErr, IsErr, OnOk, OnErr, MatchOption, Some, true, is_some, IsTrue};
 ghost use Rattle.docker_model.specs.records.Record.{HasKind, IsRecord, kind_of, basic_schedule};
 ghost use Rattle.docker_model.specs.records.Field.{HasGoodFields};
 ghost use Rattle.docker_model.specs.file.File.{follows_basic, IsFile};
@@ -110,7 +110,7 @@ impl<K: Keeper> Front<K> {
     /// Takes the next record, which has this number.
     pub(crate) fn take(&mut self, number: u32, line: &Line) -> Result<(), FileCause>
         ensures read { OnOk result (TakesNext K.keeps self.old number line.now self.new) }
-        ensures err { IfErr result (RefusesUnended K.keeps self.old line.now) }
+        ensures err { IfErr result (RefusesUnended K.keeps K.wants self.old line.now) }
     {
         let _record = line.bytes();
         let Some(kind) = kind(line) else {
@@ -130,7 +130,7 @@ impl<K: Keeper> Front<K> {
         requires record { IsRecord line.now }
         requires kind { HasKind (meaning kind) line.now }
         ensures read { OnOk result (TakesLine K.keeps self.old line.now self.new) }
-        ensures err { IfErr result (RefusesLine K.keeps self.old line.now) }
+        ensures err { IfErr result (RefusesLine K.keeps K.wants self.old line.now) }
     {
         let Kind::Header = kind else {
             return Err(FileCause::Place);
@@ -147,7 +147,7 @@ impl<K: Keeper> Front<K> {
         requires record { IsRecord line.now }
         requires kind { HasKind (meaning kind) line.now }
         ensures read { OnOk result (TakesNext K.keeps self.old number line.now self.new) }
-        ensures err { IfErr result (RefusesLine K.keeps self.old line.now) }
+        ensures err { IfErr result (RefusesLine K.keeps K.wants self.old line.now) }
     {
         if let Some(cause) = unit_cause(kind, line) {
             return Err(cause);
@@ -168,7 +168,7 @@ impl<K: Keeper> Front<K> {
         requires record { IsRecord line.now }
         requires kind { HasKind (meaning kind) line.now }
         ensures read { OnOk result (TakesNext K.keeps self.old number line.now self.new) }
-        ensures err { IfErr result (RefusesLine K.keeps self.old line.now) }
+        ensures err { IfErr result (RefusesLine K.keeps K.wants self.old line.now) }
     {
         if follows_basic(kind) {
             return self.follow(opened, kind, line);
@@ -190,7 +190,7 @@ impl<K: Keeper> Front<K> {
         requires kind { HasKind (meaning kind) line.now }
         requires follows { follows_basic (Some (meaning kind)) ≡ true }
         ensures read { OnOk result (TakesLine K.keeps self.old line.now self.new) }
-        ensures err { IfErr result (RefusesLine K.keeps self.old line.now) }
+        ensures err { IfErr result (RefusesLine K.keeps K.wants self.old line.now) }
     {
         let progress = match opened.progress.with_kind(kind, line) {
             Ok(progress) => progress,
@@ -204,8 +204,10 @@ impl<K: Keeper> Front<K> {
 
     /// Adds a line of the schedule, behind which it stands so.
     fn add_line(&mut self, opened: Opened, line: &Line) -> Result<(), AllocError>
-        ensures { (records : List (List ℕ)) → StandsBefore K.keeps self.old opened line.now records →
+        ensures read { (records : List (List ℕ)) →
+            StandsBefore K.keeps self.old opened line.now records →
             OnOk result (HasRecords K.keeps self.new (records ++ line.now ∷ [])) }
+        ensures wants { OnErr result K.wants }
     {
         self.keeper.add_line(line)?;
         if opened.progress.is_over() {
@@ -218,6 +220,7 @@ impl<K: Keeper> Front<K> {
     /// Makes the change of a schedule whose lines are whole.
     fn close(&mut self, opened: Opened) -> Result<(), AllocError>
         ensures kept { OnOk result (Closes K.keeps self.old.keeper opened self.new.keeper) }
+        ensures wants { OnErr result K.wants }
         ensures stage { OnOk result (self.new.stage ≡ FileStage.BetweenUnits) }
         ensures header { self.new.header ≡ self.old.header }
     {
@@ -239,7 +242,9 @@ impl<K: Keeper> Front<K> {
         requires kind { HasKind (meaning kind) line.now }
         requires begins { is_some (unit_by_kind (kind_of line.now) line.now) ≡ true }
         requires fields { HasGoodFields line.now }
-        ensures { IsWholeBy opened → OnOk result (TakesNext K.keeps self.old number line.now self.new) }
+        ensures read { IsWholeBy opened →
+            OnOk result (TakesNext K.keeps self.old number line.now self.new) }
+        ensures wants { OnErr result K.wants }
     {
         self.close(opened)?;
         self.add_unit(number, kind, line)
@@ -251,7 +256,8 @@ impl<K: Keeper> Front<K> {
         requires kind { HasKind (meaning kind) line.now }
         requires begins { is_some (unit_by_kind (kind_of line.now) line.now) ≡ true }
         requires fields { HasGoodFields line.now }
-        ensures { OnOk result (BeginsAnew K.keeps self.old number line.now self.new) }
+        ensures read { OnOk result (BeginsAnew K.keeps self.old number line.now self.new) }
+        ensures wants { OnErr result K.wants }
     {
         match kind {
             Kind::BasicSchedule => self.open(number, line),
@@ -271,7 +277,8 @@ impl<K: Keeper> Front<K> {
         requires record { IsRecord line.now }
         requires kind { HasKind basic_schedule line.now }
         requires fields { HasGoodFields line.now }
-        ensures { OnOk result (BeginsAnew K.keeps self.old number line.now self.new) }
+        ensures read { OnOk result (BeginsAnew K.keeps self.old number line.now self.new) }
+        ensures wants { OnErr result K.wants }
     {
         let opened = opened_schedule(number, line);
         self.keeper.add_line(&line.as_new())?;

@@ -1,7 +1,7 @@
 //! The counts of the file that a source holds.
-ghost use Rattle.std.specs.Prelude.{◌≡◌, ◌≢◌, ◌+◌, ◌-◌, ◌^◌, ◌<◌, ◌≤◌, ◌↔◌, IfOk, IsOk, Err};
-ghost use Rattle.cif_line.specs.Device.{IsEnd};
-ghost use Rattle.cif_file.specs.SourceRead.{CountsText, RefusesText, ReadsNoFurther, WantsMemory};
+ghost use Rattle.std.specs.Prelude.{◌≡◌, ◌≢◌, ◌+◌, ◌-◌, ◌^◌, ◌<◌, ◌≤◌, ◌↔◌, [], IfOk, IsOk, Err};
+ghost use Rattle.cif_line.specs.Device.{IsEnd, Reads};
+ghost use Rattle.cif_file.specs.SourceRead.{CountsText, RefusesText, ReadsNoFurther};
 
 use crate::count::FileCount;
 use crate::fault::ReadFault;
@@ -12,7 +12,7 @@ use cif_line::Source;
 use std::alloc::Global;
 
 /// Reads a source to its end as [`read_file`](crate::read_file) does, and answers how many records and changes the file has whose text it held. It keeps none
-/// of them.
+/// of them, so that memory is wanting before it reads, or never.
 pub fn judge_file<S: Source>(
     alloc: Global,
     source: &mut S,
@@ -24,7 +24,7 @@ pub fn judge_file<S: Source>(
     ensures file { (fault : _) → result ≡ Err (ReadFault.File fault) →
         RefusesText limit (S.left source.old) fault }
     ensures memory { result ≡ Err ReadFault.Memory →
-        WantsMemory 65536 limit (S.left source.old) (S.left source.new) }
+        Reads (S.left source.old) [] (S.left source.new) }
     ensures end { IsOk result → IsEnd (S.left source.new) }
     ensures no_further { ReadsNoFurther 65536 limit (S.left source.old) (S.left source.new) }
     ensures source { (result ≡ Err ReadFault.Source) ↔

@@ -33,7 +33,7 @@ pub(crate) fn take_within<K: Keeper>(
     bytes: &[u8],
 ) -> Result<(), FileCause>
     ensures read { OnOk result (TakesNext K.keeps front.old number bytes.now front.new) }
-    ensures err { IfErr result (RefusesWithin K.keeps front.old bytes.now) }
+    ensures err { IfErr result (RefusesWithin K.keeps K.wants front.old bytes.now) }
 {
     if front.is_ended() {
         return Err(FileCause::After);

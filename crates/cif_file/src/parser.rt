@@ -51,7 +51,7 @@ impl<K: Keeper> Reading<K> {
         ensures read { OnOk result
             (GoesOn (IsReading K.keeps self.old) (front.now ++ 10 ∷ []) (IsReading K.keeps self.new)) }
         ensures err { IfErr result (TellsFault (IsReading K.keeps self.old) (front.now ++ 10 ∷ [])) }
-        ensures later { IfErr result (IsLater K.keeps self.old) }
+        ensures later { IfErr result (IsLater K.keeps K.wants self.old) }
     {
         if self.partial.is_empty() {
             return self.records.take(without_return(front));
@@ -69,7 +69,7 @@ impl<K: Keeper> Reading<K> {
         requires { HasNoFeed more.now }
         ensures read { OnOk result (GoesOn (IsReading K.keeps self.old) more.now (IsReading K.keeps self.new)) }
         ensures err { IfErr result (TellsFault (IsReading K.keeps self.old) more.now) }
-        ensures later { IfErr result (IsLater K.keeps self.old) }
+        ensures later { IfErr result (IsLater K.keeps K.wants self.old) }
     {
         if !extend(&mut self.partial, more) {
             return Err(self.records.too_long());
@@ -81,7 +81,7 @@ impl<K: Keeper> Reading<K> {
     pub(crate) fn feed(&mut self, piece: &[u8]) -> Result<(), FileFault>
         ensures read { OnOk result (GoesOn (IsReading K.keeps self.old) piece.now (IsReading K.keeps self.new)) }
         ensures err { IfErr result (TellsFault (IsReading K.keeps self.old) piece.now) }
-        ensures later { IfErr result (IsLater K.keeps self.old) }
+        ensures later { IfErr result (IsLater K.keeps K.wants self.old) }
     {
         let mut rest = piece;
         while let Some((front, behind)) = split_line(rest) {
@@ -95,7 +95,7 @@ impl<K: Keeper> Reading<K> {
     pub(crate) fn end(self) -> Result<Ended<K>, FileFault>
         ensures ok { IfOk result (EndsBy K.keeps self) }
         ensures err { IfErr result (EndsInFault (IsReading K.keeps self)) }
-        ensures later { IfErr result (IsLater K.keeps self) }
+        ensures later { IfErr result (IsLater K.keeps K.wants self) }
         ensures last { IfErr result (IsLast K.keeps self) }
     {
         let Reading {

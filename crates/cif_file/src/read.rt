@@ -3,7 +3,7 @@ ghost use Rattle.std.specs.Prelude.{◌≡◌, ◌≢◌, ℕ, ◌+◌, ◌-◌,
 ghost use Rattle.docker_model.specs.file.Text.{lines_of};
 ghost use Rattle.cif_line.specs.Device.{IsEnd};
 ghost use Rattle.cif_file.specs.ParserRead.{IsReading, WantsMemoryAt, EndsBy};
-ghost use Rattle.cif_file.specs.SourceRead.{IsFaultOf, ReadsEnded, ReadsText, RefusesText, ReadsNoFurther, WantsMemory};
+ghost use Rattle.cif_file.specs.SourceRead.{IsFaultOf, ReadsEnded, ReadsText, RefusesText, ReadsNoFurther, WantsMemory, WantsMemoryBy};
 
 use crate::ended::Ended;
 use crate::fault::{FileCause, FileFault, ReadFault};
@@ -58,7 +58,7 @@ pub(crate) fn read_source<S: Source, K: Keeper>(
     ensures file { (fault : _) → result ≡ Err (ReadFault.File fault) →
         RefusesText limit (S.left source.old) fault }
     ensures memory { result ≡ Err ReadFault.Memory →
-        WantsMemory 65536 limit (S.left source.old) (S.left source.new) }
+        WantsMemoryBy K.wants 65536 limit (S.left source.old) (S.left source.new) }
     ensures end { IsOk result → IsEnd (S.left source.new) }
     ensures no_further { ReadsNoFurther 65536 limit (S.left source.old) (S.left source.new) }
     ensures source { (result ≡ Err ReadFault.Source) ↔
@@ -91,7 +91,7 @@ fn ended_of<K: Keeper>(reading: Reading<K>) -> Result<Ended<K>, ReadFault>
         (fault : _) → result ≡ Err (ReadFault.File fault) → IsFaultOf limit text fault }
     ensures memory { (limit : ℕ) (text : List ℕ) → IsReading K.keeps reading limit text →
         result ≡ Err ReadFault.Memory →
-        WantsMemoryAt limit (lines_of text) (length (lines_of text)) }
+        K.wants × WantsMemoryAt limit (lines_of text) (length (lines_of text)) }
     ensures source { result ≢ Err ReadFault.Source }
 {
     match reading.end() {

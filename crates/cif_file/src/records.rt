@@ -43,7 +43,7 @@ impl<K: Keeper> Records<K> {
     /// Takes the next record, a line without its line end.
     pub(crate) fn take(&mut self, bytes: &[u8]) -> Result<(), FileFault>
         ensures read { OnOk result (CountsNext K.keeps self.old bytes.now self.new) }
-        ensures err { IfErr result (FaultsNext K.keeps self.old bytes.now) }
+        ensures err { IfErr result (FaultsNext K.keeps K.wants self.old bytes.now) }
     {
         let number = self.next;
         if number > self.limit {

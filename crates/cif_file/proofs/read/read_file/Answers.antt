@@ -1,7 +1,9 @@
 -- The file of what was read, whose changes were kept.
 use Rattle.std.proofs.Common.{sym, subst}
+use Rattle.std.specs.Prelude.{⊤}
 use Rattle.cif_file.specs.SourceRead.{ReadsText}
 use Rattle.cif_file.proofs.EndedLemmas.{reads_text, reads_read}
+use Rattle.cif_file.proofs.ReadLemmas.{wants_any}
 use Rattle.cif_file.proofs.read.read_file.Goals as goal
 
 pub into_file-requires : goal.into_file-requires
@@ -11,3 +13,8 @@ pub returns-in-Ok-clause-ok : goal.returns-in-Ok-clause-ok
 returns-in-Ok-clause-ok g c =
     subst (ReadsText c.args.limit (g.S.Source.left c.args.source.now)) (sym c.into_file.ensures)
     (reads_text c.args.limit (g.S.Source.left c.args.source.now) c.in-Ok.ended c.in-Ok.ensures.ok)
+
+pub returns-in-Err-clause-memory : goal.returns-in-Err-clause-memory
+returns-in-Err-clause-memory g c =
+    wants_any ⊤ c.args.limit (g.S.Source.left c.args.source.now) (g.S.Source.left c.read_source.new.source) c.in-Err.fault
+    c.in-Err.ensures.memory

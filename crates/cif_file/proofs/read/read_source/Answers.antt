@@ -18,7 +18,7 @@ loop-init g c = record {
 }
 
 pub returns-in_default-clause-memory : goal.returns-in_default-clause-memory
-returns-in_default-clause-memory g c = λ is. wants_at_start c.args.limit (g.S.Source.left c.args.source.now)
+returns-in_default-clause-memory g c = λ is. wants_at_start g.K.Keeper.wants c.args.limit (g.S.Source.left c.args.source.now)
 
 pub returns-in_default-clause-no_further : goal.returns-in_default-clause-no_further
 returns-in_default-clause-no_further g c = nothing_read c.args.limit (g.S.Source.left c.args.source.now)
@@ -51,7 +51,7 @@ returns-then-n-eq0-clause-memory g c = λ is.
     let at = c.loop.invariant.turn in
     let room : 0 < length c.read.new.into = omega (arith, c.loop.invariant.room, c.as_mut_slice.ensures.len, c.read.auto.into) in
     let end : IsEnd (g.S.Source.left c.loop.source) = c.in-Ok-read.ensures.end c.if-n-eq0.true room in
-    wants_at_end g.K.Keeper.keeps c.args.limit (g.S.Source.left c.args.source.now) (g.S.Source.left c.loop.source)
+    wants_at_end g.K.Keeper.keeps g.K.Keeper.wants c.args.limit (g.S.Source.left c.args.source.now) (g.S.Source.left c.loop.source)
     (g.S.Source.left c.read.new.self) c.loop.reading c.loop.counter at end
     (c.ended_of.ensures.memory c.args.limit at.text at.read is)
 
@@ -88,7 +88,7 @@ returns-in-Err-clause-memory g c = λ is.
     same_front c.in-Ok-read.n c.loop.piece.len c.deref.result.now c.read.new.into c.loop.piece.items c.deref.ensures.value long c.in-Ok-read.ensures.within in
     let told : IsFaultTold c.args.limit (at.text ++ take c.in-Ok-read.n c.read.new.into) c.in-Err.fault =
     subst (λ piece. IsFaultTold c.args.limit (at.text ++ piece) c.in-Err.fault) same (c.in-Err.ensures.err c.args.limit at.text at.read) in
-    wants_before g.K.Keeper.keeps c.args.limit (g.S.Source.left c.args.source.now) (g.S.Source.left c.loop.source) (g.S.Source.left c.read.new.self) c.loop.reading c.loop.counter
+    wants_before g.K.Keeper.keeps g.K.Keeper.wants c.args.limit (g.S.Source.left c.args.source.now) (g.S.Source.left c.loop.source) (g.S.Source.left c.read.new.self) c.loop.reading c.loop.counter
     (take c.in-Ok-read.n c.read.new.into) c.in-Err.fault c.fault_of.result at c.in-Ok-read.ensures.moved
     (at_once c.in-Ok-read.n c.loop.piece.len c.read.new.into long c.loop.invariant.room c.in-Ok-read.ensures.within) told c.in-Err.ensures.later
     c.fault_of.ensures.file is

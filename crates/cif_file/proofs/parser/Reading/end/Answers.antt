@@ -25,8 +25,8 @@ returns-then-is_empty-clause-err g c =
 
 pub returns-in-Err-clause-err : goal.returns-in-Err-clause-err
 returns-in-Err-clause-err g c = λ limit text reading.
-    end_fault g.K.Keeper.keeps c.args.self limit text c.in-Err.fault reading (some_is_open g.K.Keeper.keeps c.args.self limit text reading c.if-is_empty.ensures)
-    (subst (λ line. IsFaultNext limit (told_lines text) line c.in-Err.fault)
+    end_fault g.K.Keeper.keeps g.K.Keeper.wants c.args.self limit text c.in-Err.fault reading (some_is_open g.K.Keeper.keeps c.args.self limit text reading c.if-is_empty.ensures)
+    (subst (λ line. IsFaultNext g.K.Keeper.wants limit (told_lines text) line c.in-Err.fault)
     (c.without_return.ensures.line ∙ ap strip_carriage_return (c.as_slice.ensures.value ∙ reading.partial_is))
     (c.in-Err.ensures.err limit (told_lines text) reading.counted))
 
@@ -53,7 +53,7 @@ returns-in-Ok-clause-err g c =
 pub returns-then-is_empty-clause-later : goal.returns-then-is_empty-clause-later
 returns-then-is_empty-clause-later g c =
     if_err_by c.finish.result
-    (λ fault told. later_end g.K.Keeper.keeps c.args.self fault
+    (λ fault told. later_end g.K.Keeper.keeps g.K.Keeper.wants c.args.self fault
     (λ limit text reading. told limit (lines_of text) (counted_ended g.K.Keeper.keeps c.args.self limit text reading (empty_is c.args.self c.if-is_empty.ensures))))
     c.finish.ensures.err
 
@@ -65,15 +65,15 @@ returns-then-is_empty-clause-last g c =
     c.finish.ensures.err
 
 pub returns-in-Err-clause-later : goal.returns-in-Err-clause-later
-returns-in-Err-clause-later g c = later_next g.K.Keeper.keeps c.args.self c.without_return.result.now c.in-Err.fault c.in-Err.ensures.err
+returns-in-Err-clause-later g c = later_next g.K.Keeper.keeps g.K.Keeper.wants c.args.self c.without_return.result.now c.in-Err.fault c.in-Err.ensures.err
 
 pub returns-in-Err-clause-last : goal.returns-in-Err-clause-last
-returns-in-Err-clause-last g c = last_open g.K.Keeper.keeps c.args.self c.without_return.result.now c.in-Err.fault c.if-is_empty.ensures c.in-Err.ensures.err
+returns-in-Err-clause-last g c = last_open g.K.Keeper.keeps g.K.Keeper.wants c.args.self c.without_return.result.now c.in-Err.fault c.if-is_empty.ensures c.in-Err.ensures.err
 
 pub returns-in-Ok-clause-later : goal.returns-in-Ok-clause-later
 returns-in-Ok-clause-later g c =
     if_err_by c.finish-in-Ok.result
-    (λ fault told. later_end g.K.Keeper.keeps c.args.self fault
+    (λ fault told. later_end g.K.Keeper.keeps g.K.Keeper.wants c.args.self fault
     (λ limit text reading. told limit (lines_of text)
     (counted_last g.K.Keeper.keeps c.args.self c.take.new.self limit text c.as_slice.result.now c.without_return.result.now reading c.if-is_empty.ensures
     c.as_slice.ensures.value

@@ -21,7 +21,7 @@ returns-then-is_empty-clause-err g c =
     let none = empty_is c.args.self.now c.if-is_empty.ensures in
     if_err_by c.take.result
     (λ fault told. λ limit text reading.
-    ended_err g.K.Keeper.keeps c.args.self.now limit text c.args.front.now c.without_return.result.now fault reading c.requires
+    ended_err g.K.Keeper.keeps g.K.Keeper.wants c.args.self.now limit text c.args.front.now c.without_return.result.now fault reading c.requires
     (taken_is g.K.Keeper.keeps c.args.self.now limit text c.args.front.now c.args.front.now c.without_return.result.now reading (ap (λ l. l ++ c.args.front.now) (sym none))
     c.without_return.ensures.line) told)
     c.take.ensures.err
@@ -45,17 +45,17 @@ pub returns-clause-err : goal.returns-clause-err
 returns-clause-err g c =
     if_err_by c.take-taken.result
     (λ fault told. λ limit text reading.
-    ended_err g.K.Keeper.keeps c.args.self.now limit text c.args.front.now c.without_return-2.result.now fault reading c.requires
+    ended_err g.K.Keeper.keeps g.K.Keeper.wants c.args.self.now limit text c.args.front.now c.without_return-2.result.now fault reading c.requires
     (taken_is g.K.Keeper.keeps c.args.self.now limit text c.args.front.now c.as_slice.result.now c.without_return-2.result.now reading
     (c.as_slice.ensures.value ∙ c.extend.ensures.items c.if-not-extend.false) c.without_return-2.ensures.line) told)
     c.take-taken.ensures.err
 
 pub returns-then-is_empty-clause-later : goal.returns-then-is_empty-clause-later
-returns-then-is_empty-clause-later g c = if_err_by c.take.result (later_next g.K.Keeper.keeps c.args.self.now c.without_return.result.now) c.take.ensures.err
+returns-then-is_empty-clause-later g c = if_err_by c.take.result (later_next g.K.Keeper.keeps g.K.Keeper.wants c.args.self.now c.without_return.result.now) c.take.ensures.err
 
 pub returns-then-not-extend-clause-later : goal.returns-then-not-extend-clause-later
 returns-then-not-extend-clause-later g c =
-    later_long g.K.Keeper.keeps c.args.self.now c.too_long.result (λ limit text reading. c.too_long.ensures limit (told_lines text) reading.counted)
+    later_long g.K.Keeper.keeps g.K.Keeper.wants c.args.self.now c.too_long.result (λ limit text reading. c.too_long.ensures limit (told_lines text) reading.counted)
 
 pub returns-clause-later : goal.returns-clause-later
-returns-clause-later g c = if_err_by c.take-taken.result (later_next g.K.Keeper.keeps c.args.self.now c.without_return-2.result.now) c.take-taken.ensures.err
+returns-clause-later g c = if_err_by c.take-taken.result (later_next g.K.Keeper.keeps g.K.Keeper.wants c.args.self.now c.without_return-2.result.now) c.take-taken.ensures.err

@@ -52,11 +52,11 @@ pub returns-in_err-end_line-clause-later : goal.returns-in_err-end_line-clause-l
 returns-in_err-end_line-clause-later g c =
     let same = err_from_is_err_and c.from_residual.result c.from_residual.ensures.1 in
     rw same.1
-    (later_piece g.K.Keeper.keeps c.args.self.now c.loop-front.self (before_rest c.args.piece.now c.loop-front.rest.now) same.0 c.loop-front.invariant.are
-    (subst (IsLater g.K.Keeper.keeps c.loop-front.self) (sym same.2) c.in_err-end_line.ensures.later))
+    (later_piece g.K.Keeper.keeps g.K.Keeper.wants c.args.self.now c.loop-front.self (before_rest c.args.piece.now c.loop-front.rest.now) same.0 c.loop-front.invariant.are
+    (subst (IsLater g.K.Keeper.keeps g.K.Keeper.wants c.loop-front.self) (sym same.2) c.in_err-end_line.ensures.later))
 
 pub returns-clause-later : goal.returns-clause-later
 returns-clause-later g c =
     if_err_by c.keep.result
-    (λ fault. later_piece g.K.Keeper.keeps c.args.self.now c.loop-front.self (before_rest c.args.piece.now c.loop-front.rest.now) fault c.loop-front.invariant.are)
+    (λ fault. later_piece g.K.Keeper.keeps g.K.Keeper.wants c.args.self.now c.loop-front.self (before_rest c.args.piece.now c.loop-front.rest.now) fault c.loop-front.invariant.are)
     c.keep.ensures.later
