@@ -26,10 +26,12 @@ use Rattle.cif_file.specs.declared.key.Key.TheVariants as key
 use Rattle.cif_file.specs.declared.opened.Opened.{Opened}
 use Rattle.cif_file.specs.declared.front.Front.{Front}
 use Rattle.cif_file.specs.declared.front.FileStage.TheVariants.{BeforeHeader, BetweenUnits, InSchedule, AfterEnd}
-use Rattle.cif_file.specs.Meaning.{key_meant, change_meant}
-use Rattle.cif_file.specs.FileRead.{FileRead, IsOfRecords}
+use Rattle.cif_file.specs.Meaning.{key_meant}
+use Rattle.cif_file.specs.declared.ended.Ended.{Ended}
+use Rattle.cif_file.specs.KeeperRead.{Keeps, change_opened, AddsLine, AddsSingle, Closes}
+use Rattle.cif_file.specs.EndedRead.{IsEnded}
 use Rattle.cif_file.specs.JourneyRead.{progress_meant, HasLines, IsScheduleCause, is_over_by}
-use Rattle.cif_file.specs.RecordsRead.{with_new_first, header_of, IsOpen, IsKept, HasRecords, IsOver, GoesOnWith, IsNoNext, IsNoNextCause, change_opened, IsWholeBy, StandsBefore}
+use Rattle.cif_file.specs.RecordsRead.{with_new_first, header_of, IsOpen, IsKept, HasRecords, IsOver, GoesOnWith, IsNoNext, IsNoNextCause, IsWholeBy, StandsBefore}
 use Rattle.cif_file.proofs.JourneyLemmas.{whole_iff, first_line_is}
 
 abbrev Lines : Type 0
@@ -125,6 +127,14 @@ changes_closed opened (basic ∷ others) before has number named is =
     kind : HasKind basic_schedule basic
     kind = subst (HasKind basic_schedule) (sym (ap first_record is.whole)) is.kind
 
+-- ---- what is kept
+
+-- where the keeper and the changes stay, they are still kept
+same_keeper : {K : Type 0} (keeps : Keeps K) (old new : K) (lines : Lines) (made more : List Change) → new ≡ old → made ≡ more → keeps old lines made
+    → keeps new lines more
+same_keeper keeps old new lines made more same equal kept =
+    subst (λ k. keeps k lines more) (sym same) (subst (keeps old lines) equal kept)
+
 -- ---- records that begin anew
 
 -- a record that begins a unit follows no basic schedule
@@ -136,10 +146,10 @@ anew_by_unit line begins = by (follows_basic (kind_of line)) refl
     by true h = let bad : false ≡ true = (λ i. is_some (sym (no_unit_by_kind (kind_of line) line h) i)) ∙ begins in cc
 
 -- they lead from whole units to their place
-pub place_over : (front : Front) (records : Lines) (line : List ℕ) (next : Place) → (over : IsOver front records) → IsRecord line → HasGoodFields line
+pub place_over : {K : Type 0} (keeps : Keeps K) (front : Front K) (records : Lines) (line : List ℕ) (next : Place) → (over : IsOver keeps front records) → IsRecord line → HasGoodFields line
     → unit_by_kind (kind_of line) line ≡ Some next
     → IsPlaceOf (records ++ line ∷ []) next
-place_over front records line next over is fields begins =
+place_over keeps front records line next over is fields begins =
     place_of_more records over.place line over.at
     ∙ over.anew line (anew_by_unit line (λ i. is_some (begins i)))
     ∙ test_by_next between_units line next (record { is = is; sound = test_by_none (leftmost_bad_field line) fields; place_is = begins })
@@ -147,48 +157,50 @@ place_over front records line next over is fields begins =
 -- ---- one more unit
 
 -- the trailer
-pub trailer_added : (old new : Front) (records : Lines) (line : List ℕ) → IsOver old records → IsRecord line → HasKind trailer line → HasGoodFields line
-    → new.header ≡ old.header → new.stage ≡ AfterEnd → new.changes.items ≡ old.changes.items → HasRecords new (records ++ line ∷ [])
-trailer_added old new records line over is kind fields same_header place made = record {
+pub trailer_added : {K : Type 0} (keeps : Keeps K) (old new : Front K) (records : Lines) (line : List ℕ) → IsOver keeps old records → IsRecord line → HasKind trailer line → HasGoodFields line
+    → new.header ≡ old.header → new.stage ≡ AfterEnd → new.keeper ≡ old.keeper → HasRecords keeps new (records ++ line ∷ [])
+trailer_added keeps old new records line over is kind fields same_header place made = record {
   place = after_end;
-  at = place_over old records line after_end over is fields (ap (λ k. unit_by_kind k line) kind);
+  at = place_over keeps old records line after_end over is fields (ap (λ k. unit_by_kind k line) kind);
   header_is = same_header ∙ over.header_is ∙ sym (header_stays records (line ∷ []) over.some);
-  kept_are = subst (λ p. IsKept p new.lines.items (map change_meant new.changes.items) after_end (records ++ line ∷ [])) (sym place) (
+  kept_are = subst (λ p. IsKept keeps p new.keeper after_end (records ++ line ∷ [])) (sym place) (
     refl,
-    ap (map change_meant) made ∙ over.made_are ∙ sym (append-nil (changes records))
+    same_keeper keeps old.keeper new.keeper [] (changes records) (changes (records ++ line ∷ [])) made (
+        sym (append-nil (changes records))
         ∙ ap (λ acts. changes records ++ map (as_change (length records + 1)) acts) (sym (ap (λ k. acts_by_kind k line []) kind))
-        ∙ sym (changes_anew records line (ap follows_basic kind)),
+        ∙ sym (changes_anew records line (ap follows_basic kind))) over.kept,
   );
 }
 
 -- a single record
-pub single_added : (old new : Front) (records : Lines) (line : List ℕ) (number : ℕ) → IsOver old records → IsRecord line → HasGoodFields line
+pub single_added : {K : Type 0} (keeps : Keeps K) (old new : Front K) (records : Lines) (line : List ℕ) (number : ℕ) → IsOver keeps old records → IsRecord line → HasGoodFields line
     → unit_by_kind (kind_of line) line ≡ Some between_units
     → number ≡ length records + 1 → new.header ≡ old.header → new.stage ≡ BetweenUnits
-    → map change_meant new.changes.items ≡ map change_meant old.changes.items ++ changes_of_record number line [] → HasRecords new (records ++ line ∷ [])
-single_added old new records line number over is fields begins counted same_header place made = record {
+    → AddsSingle keeps old.keeper number line new.keeper → HasRecords keeps new (records ++ line ∷ [])
+single_added keeps old new records line number over is fields begins counted same_header place made = record {
   place = between_units;
-  at = place_over old records line between_units over is fields begins;
+  at = place_over keeps old records line between_units over is fields begins;
   header_is = same_header ∙ over.header_is ∙ sym (header_stays records (line ∷ []) over.some);
-  kept_are = subst (λ p. IsKept p new.lines.items (map change_meant new.changes.items) between_units (records ++ line ∷ [])) (sym place) (
+  kept_are = subst (λ p. IsKept keeps p new.keeper between_units (records ++ line ∷ [])) (sym place) (
     refl,
-    made ∙ (λ i. over.made_are i ++ changes_of_record (counted i) line [])
-        ∙ sym (changes_anew records line (anew_by_unit line (λ i. is_some (begins i)))),
+    subst (keeps new.keeper []) (
+        (λ i. changes records ++ changes_of_record (counted i) line [])
+        ∙ sym (changes_anew records line (anew_by_unit line (λ i. is_some (begins i))))) (made [] (changes records) over.kept),
   );
 }
 
 -- a basic schedule
-pub basic_added : (old new : Front) (opened : Opened) (records : Lines) (line : List ℕ) → IsOver old records → IsRecord line → HasKind basic_schedule line
+pub basic_added : {K : Type 0} (keeps : Keeps K) (old new : Front K) (opened : Opened) (records : Lines) (line : List ℕ) → IsOver keeps old records → IsRecord line → HasKind basic_schedule line
     → HasGoodFields line
     → opened.number ≡ length records + 1 → key_meant (key.Schedule opened.key) ≡ schedule_named line → HasLines (progress_meant opened.progress) (line ∷ [])
-    → new.header ≡ old.header → new.stage ≡ InSchedule opened → new.lines.items ≡ as_new line ∷ [] → new.changes.items ≡ old.changes.items
-    → HasRecords new (records ++ line ∷ [])
-basic_added old new opened records line over is kind fields number named has same_header place lines made = record {
+    → new.header ≡ old.header → new.stage ≡ InSchedule opened → AddsLine keeps old.keeper (as_new line) new.keeper
+    → HasRecords keeps new (records ++ line ∷ [])
+basic_added keeps old new opened records line over is kind fields number named has same_header place added = record {
   place = in_schedule after_basic (line ∷ []);
-  at = place_over old records line (in_schedule after_basic (line ∷ [])) over is fields (ap (λ k. unit_by_kind k line) kind);
+  at = place_over keeps old records line (in_schedule after_basic (line ∷ [])) over is fields (ap (λ k. unit_by_kind k line) kind);
   header_is = same_header ∙ over.header_is ∙ sym (header_stays records (line ∷ []) over.some);
   kept_are =
-      subst (λ p. IsKept p new.lines.items (map change_meant new.changes.items) (in_schedule after_basic (line ∷ [])) (records ++ line ∷ [])) (sym place)
+      subst (λ p. IsKept keeps p new.keeper (in_schedule after_basic (line ∷ [])) (records ++ line ∷ [])) (sym place)
       (record {
         stage = after_basic;
         lines = line ∷ [];
@@ -199,8 +211,7 @@ basic_added old new opened records line over is kind fields number named has sam
         number_is = number;
         key_is = named;
         progress_is = has;
-        lines_are = lines;
-        made_are = ap (map change_meant) made ∙ over.made_are;
+        kept = added [] (changes records) over.kept;
       });
 }
 
@@ -210,29 +221,29 @@ between_some : (records : Lines) → IsPlaceOf records between_units → 0 < len
 between_some records at = let told = at_of_place records between_units at in let size = ap (λ (l : Lines). length l) told.whole in omega arith
 
 -- between units all units are whole
-pub over_of_between : (front : Front) (records : Lines) → HasRecords front records → front.stage ≡ BetweenUnits → IsOver front records
-over_of_between front records has place =
-    let told = subst (λ p. IsKept p front.lines.items (map change_meant front.changes.items) has.place records) place has.kept_are in
+pub over_of_between : {K : Type 0} (keeps : Keeps K) (front : Front K) (records : Lines) → HasRecords keeps front records → front.stage ≡ BetweenUnits → IsOver keeps front records
+over_of_between keeps front records has place =
+    let told = subst (λ p. IsKept keeps p front.keeper has.place records) place has.kept_are in
     record {
       place = has.place;
       at = has.at;
       header_is = has.header_is;
       some = between_some records (has.at ∙ ap Some told.0);
-      made_are = told.1;
+      kept = told.1;
       anew = λ line _. ap (λ p. next_place p line) told.0;
     }
 
 -- what is kept of a schedule being read
-pub opened_of : (front : Front) (opened : Opened) (records : Lines) (has : HasRecords front records) → front.stage ≡ InSchedule opened
-    → IsOpen opened front.lines.items (map change_meant front.changes.items) has.place records
-opened_of front opened records has place = subst (λ p. IsKept p front.lines.items (map change_meant front.changes.items) has.place records) place has.kept_are
+pub opened_of : {K : Type 0} (keeps : Keeps K) (front : Front K) (opened : Opened) (records : Lines) (has : HasRecords keeps front records) → front.stage ≡ InSchedule opened
+    → IsOpen keeps opened front.keeper has.place records
+opened_of keeps front opened records has place = subst (λ p. IsKept keeps p front.keeper has.place records) place has.kept_are
 
 -- behind a whole schedule all units are whole once its change is made
-pub over_of_closed : (old new : Front) (opened : Opened) (records : Lines) → HasRecords old records → old.stage ≡ InSchedule opened → IsWholeBy opened
+pub over_of_closed : {K : Type 0} (keeps : Keeps K) (old new : Front K) (opened : Opened) (records : Lines) → HasRecords keeps old records → old.stage ≡ InSchedule opened → IsWholeBy opened
     → new.header ≡ old.header
-    → map change_meant new.changes.items ≡ map change_meant old.changes.items ++ change_opened opened old.lines.items ∷ [] → IsOver new records
-over_of_closed old new opened records has place whole same_header made =
-    let told = opened_of old opened records has place in
+    → Closes keeps old.keeper opened new.keeper → IsOver keeps new records
+over_of_closed keeps old new opened records has place whole same_header closed =
+    let told = opened_of keeps old opened records has place in
     let is = whole told.lines told.progress_is in
     let some = some_lines told.lines told.stage told.stage_is in
     let size = ap (λ (l : Lines). length l) told.whole ∙ length-append told.before told.lines in
@@ -241,9 +252,10 @@ over_of_closed old new opened records has place whole same_header made =
       at = has.at;
       header_is = same_header ∙ has.header_is;
       some = omega arith;
-      made_are =
-          made ∙ (λ i. told.made_are i ++ change_opened opened (told.lines_are i) ∷ [])
-          ∙ sym (changes_closed opened told.lines told.before told.progress_is told.number_is told.key_is is) ∙ ap changes (sym told.whole);
+      kept =
+          subst (keeps new.keeper [])
+          (sym (changes_closed opened told.lines told.before told.progress_is told.number_is told.key_is is) ∙ ap changes (sym told.whole))
+          (closed (with_new_first told.lines) (changes told.before) told.kept);
       anew =
           λ line stops. ap (λ p. next_place p line) told.place_is ∙ next_behind told.stage told.lines line
           ((whole_iff told.lines told.stage told.stage_is).0 is) stops;
@@ -252,14 +264,14 @@ over_of_closed old new opened records has place whole same_header made =
 -- ---- one more line of a schedule
 
 -- a line that goes on with the schedule that is being read
-pub stands_before : (front : Front) (opened later : Opened) (records : Lines) (line : List ℕ) → HasRecords front records → front.stage ≡ InSchedule opened
+pub stands_before : {K : Type 0} (keeps : Keeps K) (front : Front K) (opened later : Opened) (records : Lines) (line : List ℕ) → HasRecords keeps front records → front.stage ≡ InSchedule opened
     → IsRecord line
     → follows_basic (kind_of line) ≡ true → later.number ≡ opened.number → later.key ≡ opened.key
     → ((lines : Lines) → HasLines (progress_meant opened.progress) lines → HasLines (progress_meant later.progress) (lines ++ line ∷ []))
     → ((lines : Lines) → HasLines (progress_meant opened.progress) lines → BeginsSchedule (lines ++ line ∷ []))
-    → StandsBefore front later line records
-stands_before front opened later records line has place is follow number keys read begins =
-    let told = opened_of front opened records has place in
+    → StandsBefore keeps front later line records
+stands_before keeps front opened later records line has place is follow number keys read begins =
+    let told = opened_of keeps front opened records has place in
     record {
       is = is;
       follows = follow;
@@ -274,8 +286,7 @@ stands_before front opened later records line has place is follow number keys re
       key_is = ap (λ k. key_meant (key.Schedule k)) keys ∙ told.key_is;
       progress_is = read told.lines told.progress_is;
       goes_on = begins told.lines told.progress_is;
-      lines_are = told.lines_are;
-      made_are = told.made_are;
+      kept = told.kept;
     }
 
 stage_begun : (lines : Lines) (line : List ℕ) → BeginsSchedule (lines ++ line ∷ []) → (next : Stage) × (stage_of (lines ++ line ∷ []) ≡ Some next)
@@ -283,9 +294,9 @@ stage_begun [] line begins = (begins_iff_stage line []).0 begins
 stage_begun (basic ∷ others) line begins = (begins_iff_stage basic (others ++ line ∷ [])).0 begins
 
 -- the place with the line is that of the schedule's next stage
-place_followed : (front : Front) (opened : Opened) (line : List ℕ) (records : Lines) (before : StandsBefore front opened line records) (next : Stage)
+place_followed : {K : Type 0} (keeps : Keeps K) (front : Front K) (opened : Opened) (line : List ℕ) (records : Lines) (before : StandsBefore keeps front opened line records) (next : Stage)
     → stage_of (before.lines ++ line ∷ []) ≡ Some next → IsPlaceOf (records ++ line ∷ []) (place_in next (before.lines ++ line ∷ []))
-place_followed front opened line records before next at =
+place_followed keeps front opened line records before next at =
     place_of_more records (in_schedule before.stage before.lines) line before.at
     ∙ next_place_of_stage before.stage before.lines line (inr (no_unit_by_kind (kind_of line) line before.follows))
     ∙ ap (option_map (λ n. place_in n (before.lines ++ line ∷ []))) (sym (stage_of_more before.lines before.stage line before.stage_is) ∙ at)
@@ -302,28 +313,28 @@ goes_out after_details lines h = absurd cc
 goes_out in_journey lines h = absurd cc
 goes_out after_journey lines h = (refl, refl)
 
-header_followed : (front : Front) (opened : Opened) (line : List ℕ) (records : Lines) → StandsBefore front opened line records
+header_followed : {K : Type 0} (keeps : Keeps K) (front : Front K) (opened : Opened) (line : List ℕ) (records : Lines) → StandsBefore keeps front opened line records
     → front.header ≡ header_of (records ++ line ∷ [])
-header_followed front opened line records before =
+header_followed keeps front opened line records before =
     let some = some_lines before.lines before.stage before.stage_is in
     let size = ap (λ (l : Lines). length l) before.whole ∙ length-append before.before before.lines in
     before.header_is ∙ sym (header_stays records (line ∷ []) (omega arith))
 
 -- a line that leaves the schedule open
-pub line_added : (old new : Front) (opened : Opened) (line : List ℕ) (records : Lines) → StandsBefore old opened line records
+pub line_added : {K : Type 0} (keeps : Keeps K) (old new : Front K) (opened : Opened) (line : List ℕ) (records : Lines) → StandsBefore keeps old opened line records
     → is_over_by (progress_meant opened.progress).stage ≡ false
-    → new.header ≡ old.header → new.stage ≡ InSchedule opened → new.lines.items ≡ old.lines.items ++ line ∷ [] → new.changes.items ≡ old.changes.items
-    → HasRecords new (records ++ line ∷ [])
-line_added old new opened line records before inside same_header place lines made =
+    → new.header ≡ old.header → new.stage ≡ InSchedule opened → AddsLine keeps old.keeper line new.keeper
+    → HasRecords keeps new (records ++ line ∷ [])
+line_added keeps old new opened line records before inside same_header place added =
     let next = stage_begun before.lines line before.goes_on in
     let some = some_lines before.lines before.stage before.stage_is in
     let here : is_over_by (Some next.0) ≡ false = ap is_over_by (sym next.1) ∙ ap is_over_by (sym before.progress_is.stage_is) ∙ inside in
     record {
       place = in_schedule next.0 (before.lines ++ line ∷ []);
-      at = place_followed old opened line records before next.0 next.1 ∙ ap Some (stays_inside next.0 (before.lines ++ line ∷ []) here);
-      header_is = same_header ∙ header_followed old opened line records before;
+      at = place_followed keeps old opened line records before next.0 next.1 ∙ ap Some (stays_inside next.0 (before.lines ++ line ∷ []) here);
+      header_is = same_header ∙ header_followed keeps old opened line records before;
       kept_are =
-          subst (λ p. IsKept p new.lines.items (map change_meant new.changes.items) (in_schedule next.0 (before.lines ++ line ∷ [])) (records ++ line ∷ []))
+          subst (λ p. IsKept keeps p new.keeper (in_schedule next.0 (before.lines ++ line ∷ [])) (records ++ line ∷ []))
           (sym place) (record {
             stage = next.0;
             lines = before.lines ++ line ∷ [];
@@ -334,33 +345,35 @@ line_added old new opened line records before inside same_header place lines mad
             number_is = before.number_is;
             key_is = before.key_is ∙ ap schedule_named (sym (first_stays before.lines line some));
             progress_is = before.progress_is;
-            lines_are = lines ∙ ap (λ l. l ++ line ∷ []) before.lines_are ∙ new_first_stays before.lines line some;
-            made_are = ap (map change_meant) made ∙ before.made_are;
+            kept =
+                subst (λ l. keeps new.keeper l (changes before.before)) (new_first_stays before.lines line some)
+                (added (with_new_first before.lines) (changes before.before) before.kept);
           });
     }
 
 -- a line that ends the schedule
-pub line_closed : (old new : Front) (opened : Opened) (line : List ℕ) (records : Lines) → StandsBefore old opened line records
+pub line_closed : {K : Type 0} (keeps : Keeps K) (old new : Front K) (opened : Opened) (line : List ℕ) (records : Lines) → StandsBefore keeps old opened line records
     → is_over_by (progress_meant opened.progress).stage ≡ true
-    → new.header ≡ old.header → new.stage ≡ BetweenUnits → map change_meant new.changes.items ≡ map change_meant old.changes.items ++ change_opened opened
-    (old.lines.items ++ line ∷ []) ∷ []
-    → HasRecords new (records ++ line ∷ [])
-line_closed old new opened line records before outside same_header place made =
+    → new.header ≡ old.header → new.stage ≡ BetweenUnits
+    → ((lines : Lines) (made : List Change) → keeps old.keeper lines made → keeps new.keeper [] (made ++ change_opened opened (lines ++ line ∷ []) ∷ []))
+    → HasRecords keeps new (records ++ line ∷ [])
+line_closed keeps old new opened line records before outside same_header place closed =
     let next = stage_begun before.lines line before.goes_on in
     let some = some_lines before.lines before.stage before.stage_is in
     let out = goes_out next.0 (before.lines ++ line ∷ []) (ap is_over_by (sym next.1) ∙ ap is_over_by (sym before.progress_is.stage_is) ∙ outside) in
     let is = (whole_iff (before.lines ++ line ∷ []) after_journey (next.1 ∙ ap Some out.0)).1 refl in
     record {
       place = between_units;
-      at = place_followed old opened line records before next.0 next.1 ∙ ap Some out.1;
-      header_is = same_header ∙ header_followed old opened line records before;
-      kept_are = subst (λ p. IsKept p new.lines.items (map change_meant new.changes.items) between_units (records ++ line ∷ [])) (sym place) (
+      at = place_followed keeps old opened line records before next.0 next.1 ∙ ap Some out.1;
+      header_is = same_header ∙ header_followed keeps old opened line records before;
+      kept_are = subst (λ p. IsKept keeps p new.keeper between_units (records ++ line ∷ [])) (sym place) (
         refl,
-        made
-            ∙ (λ i. before.made_are i ++ change_opened opened ((ap (λ l. l ++ line ∷ []) before.lines_are ∙ new_first_stays before.lines line some) i) ∷ [])
+        subst (keeps new.keeper []) (
+            (λ i. changes before.before ++ change_opened opened (new_first_stays before.lines line some i) ∷ [])
             ∙ sym (changes_closed opened (before.lines ++ line ∷ []) before.before before.progress_is before.number_is
             (before.key_is ∙ ap schedule_named (sym (first_stays before.lines line some))) is)
-            ∙ ap changes (sym ((λ i. before.whole i ++ line ∷ []) ∙ append_assoc before.before before.lines (line ∷ []))),
+            ∙ ap changes (sym ((λ i. before.whole i ++ line ∷ []) ∙ append_assoc before.before before.lines (line ∷ []))))
+            (closed (with_new_first before.lines) (changes before.before) before.kept),
       );
     }
 
@@ -374,19 +387,19 @@ next_of_unit line begins = by (unit_by_kind (kind_of line) line) refl
     by (Some next) h = (next, h)
 
 -- behind whole units
-pub unit_goes_on : (front : Front) (records : Lines) (line : List ℕ) → HasRecords front records → front.stage ≡ BetweenUnits → IsRecord line
+pub unit_goes_on : {K : Type 0} (keeps : Keeps K) (front : Front K) (records : Lines) (line : List ℕ) → HasRecords keeps front records → front.stage ≡ BetweenUnits → IsRecord line
     → HasGoodFields line
     → is_some (unit_by_kind (kind_of line) line) ≡ true → GoesOnWith records line
-unit_goes_on front records line has place is fields begins =
+unit_goes_on keeps front records line has place is fields begins =
     let next = next_of_unit line begins in
-    (next.0, place_over front records line next.0 (over_of_between front records has place) is fields next.1)
+    (next.0, place_over keeps front records line next.0 (over_of_between keeps front records has place) is fields next.1)
 
 -- behind a whole schedule
-pub anew_goes_on : (front : Front) (opened : Opened) (records : Lines) (line : List ℕ) → HasRecords front records → front.stage ≡ InSchedule opened
+pub anew_goes_on : {K : Type 0} (keeps : Keeps K) (front : Front K) (opened : Opened) (records : Lines) (line : List ℕ) → HasRecords keeps front records → front.stage ≡ InSchedule opened
     → IsWholeBy opened → IsRecord line → HasGoodFields line
     → is_some (unit_by_kind (kind_of line) line) ≡ true → GoesOnWith records line
-anew_goes_on front opened records line has place whole is fields begins =
-    let told = opened_of front opened records has place in
+anew_goes_on keeps front opened records line has place whole is fields begins =
+    let told = opened_of keeps front opened records has place in
     let next = next_of_unit line begins in (
       next.0,
       place_of_more records has.place line has.at
@@ -397,10 +410,10 @@ anew_goes_on front opened records line has place whole is fields begins =
     )
 
 -- in a schedule
-pub line_goes_on : (front : Front) (opened : Opened) (line : List ℕ) (records : Lines) → StandsBefore front opened line records → GoesOnWith records line
-line_goes_on front opened line records before =
+pub line_goes_on : {K : Type 0} (keeps : Keeps K) (front : Front K) (opened : Opened) (line : List ℕ) (records : Lines) → StandsBefore keeps front opened line records → GoesOnWith records line
+line_goes_on keeps front opened line records before =
     let next = stage_begun before.lines line before.goes_on in
-    (place_in next.0 (before.lines ++ line ∷ []), place_followed front opened line records before next.0 next.1)
+    (place_in next.0 (before.lines ++ line ∷ []), place_followed keeps front opened line records before next.0 next.1)
 
 -- ---- the end
 
@@ -409,38 +422,38 @@ end_by_test after_end h = refl
 end_by_test _ h = absurd cc
 
 -- records are a file exactly where the reader stands behind the trailer
-pub ended_iff : (front : Front) (records : Lines) (ended : Bool) → HasRecords front records
-    → ((place : Place) → IsKept front.stage front.lines.items (map change_meant front.changes.items) place records → is_after_end place ≡ ended)
+pub ended_iff : {K : Type 0} (keeps : Keeps K) (front : Front K) (records : Lines) (ended : Bool) → HasRecords keeps front records
+    → ((place : Place) → IsKept keeps front.stage front.keeper place records → is_after_end place ≡ ended)
     → IsTrue ended ↔ IsFile records
-ended_iff front records ended has tells = (
+ended_iff keeps front records ended has tells = (
   λ is. (file_iff_place records).1 (has.at ∙ ap Some (end_by_test has.place (tells has.place has.kept_are ∙ is))),
   λ file. let same =
       one_place records after_end has.place ((file_iff_place records).0 file) has.at in sym (tells has.place has.kept_are) ∙ ap is_after_end (sym same),
 )
 
 -- it stands elsewhere before the header
-pub tells_before : (front : Front) (records : Lines) (place : Place) → front.stage ≡ BeforeHeader
-    → IsKept front.stage front.lines.items (map change_meant front.changes.items) place records → is_after_end place ≡ false
-tells_before front records place at told =
-    ap is_after_end (subst (λ p. IsKept p front.lines.items (map change_meant front.changes.items) place records) at told).0
+pub tells_before : {K : Type 0} (keeps : Keeps K) (front : Front K) (records : Lines) (place : Place) → front.stage ≡ BeforeHeader
+    → IsKept keeps front.stage front.keeper place records → is_after_end place ≡ false
+tells_before keeps front records place at told =
+    ap is_after_end (subst (λ p. IsKept keeps p front.keeper place records) at told).0
 
 -- between units
-pub tells_between : (front : Front) (records : Lines) (place : Place) → front.stage ≡ BetweenUnits
-    → IsKept front.stage front.lines.items (map change_meant front.changes.items) place records → is_after_end place ≡ false
-tells_between front records place at told =
-    ap is_after_end (subst (λ p. IsKept p front.lines.items (map change_meant front.changes.items) place records) at told).0
+pub tells_between : {K : Type 0} (keeps : Keeps K) (front : Front K) (records : Lines) (place : Place) → front.stage ≡ BetweenUnits
+    → IsKept keeps front.stage front.keeper place records → is_after_end place ≡ false
+tells_between keeps front records place at told =
+    ap is_after_end (subst (λ p. IsKept keeps p front.keeper place records) at told).0
 
 -- and in a schedule
-pub tells_inside : (front : Front) (opened : Opened) (records : Lines) (place : Place) → front.stage ≡ InSchedule opened
-    → IsKept front.stage front.lines.items (map change_meant front.changes.items) place records → is_after_end place ≡ false
-tells_inside front opened records place at told =
-    ap is_after_end (subst (λ p. IsKept p front.lines.items (map change_meant front.changes.items) place records) at told).place_is
+pub tells_inside : {K : Type 0} (keeps : Keeps K) (front : Front K) (opened : Opened) (records : Lines) (place : Place) → front.stage ≡ InSchedule opened
+    → IsKept keeps front.stage front.keeper place records → is_after_end place ≡ false
+tells_inside keeps front opened records place at told =
+    ap is_after_end (subst (λ p. IsKept keeps p front.keeper place records) at told).place_is
 
 -- it stands there behind the trailer
-pub tells_ended : (front : Front) (records : Lines) (place : Place) → front.stage ≡ AfterEnd
-    → IsKept front.stage front.lines.items (map change_meant front.changes.items) place records → is_after_end place ≡ true
-tells_ended front records place at told =
-    ap is_after_end (subst (λ p. IsKept p front.lines.items (map change_meant front.changes.items) place records) at told).0
+pub tells_ended : {K : Type 0} (keeps : Keeps K) (front : Front K) (records : Lines) (place : Place) → front.stage ≡ AfterEnd
+    → IsKept keeps front.stage front.keeper place records → is_after_end place ≡ true
+tells_ended keeps front records place at told =
+    ap is_after_end (subst (λ p. IsKept keeps p front.keeper place records) at told).0
 
 -- ---- why a record does not go on
 
@@ -463,9 +476,9 @@ no_place (in_schedule stage lines) line =
 no_place after_end line = refl
 
 -- a record of no kind does not go on
-pub no_kind : (front : Front) (records : Lines) (line : List ℕ) → HasRecords front records → ¬ IsFile records → IsRecord line → kind_of line ≡ None
+pub no_kind : {K : Type 0} (keeps : Keeps K) (front : Front K) (records : Lines) (line : List ℕ) → HasRecords keeps front records → ¬ IsFile records → IsRecord line → kind_of line ≡ None
     → IsNoNext records line bad_kind
-no_kind front records line has unended is none = record {
+no_kind keeps front records line has unended is none = record {
   place = has.place;
   at = has.at;
   nowhere =
@@ -479,11 +492,11 @@ no_kind front records line has unended is none = record {
     by true h = absurd (unended ((file_iff_place records).1 (has.at ∙ ap Some (end_by_test has.place h))))
 
 -- before the header
-pub no_header : (front : Front) (records : Lines) (line : List ℕ) (kind : Kind) → HasRecords front records → front.stage ≡ BeforeHeader → IsRecord line
+pub no_header : {K : Type 0} (keeps : Keeps K) (front : Front K) (records : Lines) (line : List ℕ) (kind : Kind) → HasRecords keeps front records → front.stage ≡ BeforeHeader → IsRecord line
     → HasKind kind line → is_header_kind (Some kind) ≡ false
     → IsNoNext records line bad_place
-no_header front records line kind has at is known other =
-    let here = (subst (λ p. IsKept p front.lines.items (map change_meant front.changes.items) has.place records) at has.kept_are).0 in
+no_header keeps front records line kind has at is known other =
+    let here = (subst (λ p. IsKept keeps p front.keeper has.place records) at has.kept_are).0 in
     let none : place_by_kind before_header (kind_of line) line ≡ None = (λ i. cond (is_header_kind (known i)) (Some between_units) None)
     ∙ (λ i. cond (other i) (Some between_units) None) in
     record {
@@ -503,11 +516,11 @@ both_false true c h = h
 both_false false c h = refl
 
 -- nor a header with a bad field
-pub bad_header : (front : Front) (records : Lines) (line : List ℕ) (column : ℕ) → HasRecords front records → front.stage ≡ BeforeHeader → IsRecord line
+pub bad_header : {K : Type 0} (keeps : Keeps K) (front : Front K) (records : Lines) (line : List ℕ) (column : ℕ) → HasRecords keeps front records → front.stage ≡ BeforeHeader → IsRecord line
     → HasKind header line → leftmost_bad_field line ≡ Some column
     → IsNoNext records line (bad_field column)
-bad_header front records line column has at is known bad =
-    let here = (subst (λ p. IsKept p front.lines.items (map change_meant front.changes.items) has.place records) at has.kept_are).0 in
+bad_header keeps front records line column has at is known bad =
+    let here = (subst (λ p. IsKept keeps p front.keeper has.place records) at has.kept_are).0 in
     record {
       place = before_header;
       at = has.at ∙ ap Some here;
@@ -520,11 +533,11 @@ bad_header front records line column has at is known bad =
     }
 
 -- a good header is the first record
-pub header_added : (old new : Front) (records : Lines) (line : List ℕ) → HasRecords old records → old.stage ≡ BeforeHeader → IsRecord line
+pub header_added : {K : Type 0} (keeps : Keeps K) (old new : Front K) (records : Lines) (line : List ℕ) → HasRecords keeps old records → old.stage ≡ BeforeHeader → IsRecord line
     → HasKind header line → HasGoodFields line
-    → new.header ≡ Some line → new.stage ≡ BetweenUnits → new.changes.items ≡ old.changes.items → HasRecords new (records ++ line ∷ [])
-header_added old new records line has at is kind fields same_header place made =
-    let told = subst (λ p. IsKept p old.lines.items (map change_meant old.changes.items) has.place records) at has.kept_are in
+    → new.header ≡ Some line → new.stage ≡ BetweenUnits → new.keeper ≡ old.keeper → HasRecords keeps new (records ++ line ∷ [])
+header_added keeps old new records line has at is kind fields same_header place made =
+    let told = subst (λ p. IsKept keeps p old.keeper has.place records) at has.kept_are in
     let none : records ≡ [] = at_of_place records before_header (has.at ∙ ap Some told.0) in
     record {
       place = between_units;
@@ -536,11 +549,12 @@ header_added old new records line has at is kind fields same_header place made =
                 (is_header_kind (kind i)) (Some between_units) None;
           });
       header_is = same_header ∙ ap (λ r. header_of (r ++ line ∷ [])) (sym none);
-      kept_are = subst (λ p. IsKept p new.lines.items (map change_meant new.changes.items) between_units (records ++ line ∷ [])) (sym place) (
+      kept_are = subst (λ p. IsKept keeps p new.keeper between_units (records ++ line ∷ [])) (sym place) (
         refl,
-        ap (map change_meant) made ∙ told.1 ∙ sym (append-nil (changes records))
+        same_keeper keeps old.keeper new.keeper [] (changes records) (changes (records ++ line ∷ [])) made (
+            sym (append-nil (changes records))
             ∙ ap (λ acts. changes records ++ map (as_change (length records + 1)) acts) (sym (ap (λ k. acts_by_kind k line []) kind))
-            ∙ sym (changes_anew records line (ap follows_basic kind)),
+            ∙ sym (changes_anew records line (ap follows_basic kind))) told.1,
       );
     }
 
@@ -558,11 +572,11 @@ cause_between : (line : List ℕ) (kind : Kind) → HasKind kind line → kind_c
 cause_between line kind known = λ i. cond (is_none (known i)) bad_kind (place_cause between_units line)
 
 -- a record that begins no unit, or whose fields are not good, does not go on between units
-pub bad_between : (front : Front) (records : Lines) (line : List ℕ) (kind : Kind) → HasRecords front records → front.stage ≡ BetweenUnits → IsRecord line
+pub bad_between : {K : Type 0} (keeps : Keeps K) (front : Front K) (records : Lines) (line : List ℕ) (kind : Kind) → HasRecords keeps front records → front.stage ≡ BetweenUnits → IsRecord line
     → HasKind kind line
     → ¬ ((is_some (unit_by_kind (kind_of line) line) ≡ true) × HasGoodFields line) → IsNoNext records line (place_cause between_units line)
-bad_between front records line kind has at is known bad =
-    let here = (subst (λ p. IsKept p front.lines.items (map change_meant front.changes.items) has.place records) at has.kept_are).0 in
+bad_between keeps front records line kind has at is known bad =
+    let here = (subst (λ p. IsKept keeps p front.keeper has.place records) at has.kept_are).0 in
     record {
       place = between_units;
       at = has.at ∙ ap Some here;
@@ -571,12 +585,12 @@ bad_between front records line kind has at is known bad =
     }
 
 -- nor behind a whole schedule
-pub bad_behind : (front : Front) (opened : Opened) (records : Lines) (line : List ℕ) (kind : Kind) → HasRecords front records
+pub bad_behind : {K : Type 0} (keeps : Keeps K) (front : Front K) (opened : Opened) (records : Lines) (line : List ℕ) (kind : Kind) → HasRecords keeps front records
     → front.stage ≡ InSchedule opened → IsWholeBy opened → IsRecord line → HasKind kind line
     → follows_basic (kind_of line) ≡ false → ¬ ((is_some (unit_by_kind (kind_of line) line) ≡ true) × HasGoodFields line)
     → IsNoNext records line (place_cause between_units line)
-bad_behind front opened records line kind has at whole is known stops bad =
-    let told = opened_of front opened records has at in
+bad_behind keeps front opened records line kind has at whole is known stops bad =
+    let told = opened_of keeps front opened records has at in
     let may = (whole_iff told.lines told.stage told.stage_is).0 (whole told.lines told.progress_is) in
     record {
       place = in_schedule told.stage told.lines;
@@ -595,11 +609,11 @@ not_may stage lines bad = by (may_end stage lines) refl
     by true h = absurd (bad h)
 
 -- nor does what begins anew, behind a schedule that is not whole
-pub not_whole : (front : Front) (opened : Opened) (records : Lines) (line : List ℕ) (kind : Kind) → HasRecords front records → front.stage ≡ InSchedule opened
+pub not_whole : {K : Type 0} (keeps : Keeps K) (front : Front K) (opened : Opened) (records : Lines) (line : List ℕ) (kind : Kind) → HasRecords keeps front records → front.stage ≡ InSchedule opened
     → ((lines : Lines) → HasLines (progress_meant opened.progress) lines → ¬ IsSchedule lines) → IsRecord line → HasKind kind line
     → follows_basic (kind_of line) ≡ false → IsNoNext records line bad_place
-not_whole front opened records line kind has at open_end is known stops =
-    let told = opened_of front opened records has at in
+not_whole keeps front opened records line kind has at open_end is known stops =
+    let told = opened_of keeps front opened records has at in
     let may = not_may told.stage told.lines (λ m. open_end told.lines told.progress_is ((whole_iff told.lines told.stage told.stage_is).1 m)) in
     let none = stage_stops told.stage (kind_of line) stops in
     let nowhere : next_stage told.stage told.lines line ≡ None = none_stage (is_record line && is_sound_next told.lines line)
@@ -619,13 +633,13 @@ not_whole front opened records line kind has at open_end is known stops =
     none_stage false o h = refl
 
 -- a line that a schedule does not go on with
-pub bad_line : (front : Front) (opened : Opened) (records : Lines) (line : List ℕ) (cause : Option fault.FileCause) → HasRecords front records
+pub bad_line : {K : Type 0} (keeps : Keeps K) (wants : Type 0) (front : Front K) (opened : Opened) (records : Lines) (line : List ℕ) (cause : Option fault.FileCause) → HasRecords keeps front records
     → front.stage ≡ InSchedule opened → IsRecord line
     → follows_basic (kind_of line) ≡ true → ((lines : Lines) → HasLines (progress_meant opened.progress) lines → IsScheduleCause lines line cause)
-    → IsNoNextCause records line cause
-bad_line front opened records line None has at is follow told = let here = opened_of front opened records has at in absurd (told here.lines here.progress_is)
-bad_line front opened records line (Some cause) has at is follow told =
-    let here = opened_of front opened records has at in
+    → IsNoNextCause wants records line cause
+bad_line keeps wants front opened records line None has at is follow told = let here = opened_of keeps front opened records has at in absurd (told here.lines here.progress_is)
+bad_line keeps wants front opened records line (Some cause) has at is follow told =
+    let here = opened_of keeps front opened records has at in
     let found : IsPlaceOf records (in_schedule here.stage here.lines) = has.at ∙ ap Some here.place_is in
     let of = inr (no_unit_by_kind (kind_of line) line follow) in
     record {
@@ -673,27 +687,27 @@ single_kind kind line known begins no_basic no_trailer =
     by _ h basic last = absurd cc
 
 -- no file goes on behind its trailer
-pub file_at_end : (front : Front) (records : Lines) → HasRecords front records → front.stage ≡ AfterEnd → IsFile records
-file_at_end front records has at =
-    (file_iff_place records).1 (has.at ∙ ap Some (subst (λ p. IsKept p front.lines.items
-    (map change_meant front.changes.items) has.place records) at has.kept_are).0)
+pub file_at_end : {K : Type 0} (keeps : Keeps K) (front : Front K) (records : Lines) → HasRecords keeps front records → front.stage ≡ AfterEnd → IsFile records
+file_at_end keeps front records has at =
+    (file_iff_place records).1 (has.at ∙ ap Some (subst (λ p. IsKept keeps p front.keeper has.place records) at has.kept_are).0)
 
 -- ---- the file
 
--- the file of the records, behind the trailer
-pub file_made : (front : Front) (records : Lines) (count : ℕ) (told line : List ℕ) (file : FileRead) → HasRecords front records → front.stage ≡ AfterEnd
-    → front.header ≡ Some told → line ≡ told
-    → count ≡ length records → file ≡ record { header_line = line; record_count = count; changes_made = map change_meant front.changes.items }
-    → IsFile records × IsOfRecords file records
-file_made front records count told line file has at head same counted made = (
-  file_at_end front records has at,
-  subst (λ f. IsOfRecords f records) (sym made) (record {
-    header_is = same ∙ first records (sym head ∙ has.header_is);
+-- what is told of the records, behind the trailer
+pub file_ended : {K : Type 0} (keeps : Keeps K) (front : Front K) (records : Lines) (ended : Ended K) → HasRecords keeps front records
+    → front.stage ≡ AfterEnd → front.header ≡ Some ended.header → ended.records ≡ length records → ended.keeper ≡ front.keeper
+    → IsFile records × IsEnded keeps records ended
+file_ended keeps front records ended has at head counted same = (
+  file_at_end keeps front records has at,
+  record {
+    header_is = first records (sym head ∙ has.header_is);
     count_is = counted;
-    changes_are = (subst (λ p. IsKept p front.lines.items (map change_meant front.changes.items) has.place records) at has.kept_are).1;
-  }),
+    kept =
+        subst (λ k. keeps k [] (changes records)) (sym same)
+        (subst (λ p. IsKept keeps p front.keeper has.place records) at has.kept_are).1;
+  },
 )
   where
-    first : (some : Lines) → Some told ≡ header_of some → told ≡ slice_index_or some 0 []
+    first : (some : Lines) → Some ended.header ≡ header_of some → ended.header ≡ slice_index_or some 0 []
     first [] none = absurd cc
     first (line_first ∷ rest) same_first = cc

@@ -5,3 +5,4 @@ pub mod TextLemmas
 pub mod PiecesLemmas
 pub mod ReadLemmas
 pub mod AnswerLemmas
+pub mod EndedLemmas

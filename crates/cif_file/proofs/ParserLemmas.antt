@@ -1,6 +1,6 @@
 -- The lines that a parser has taken, and the faults that it tells.
 use Rattle.std.proofs.Common.{◌≡◌, ℕ, ◌+◌, ◌-◌, ◌≤◌, ◌<◌, inl, inr, Bool, true, false, cond, List, [], ◌∷◌, ◌++◌, length, subst, refl, ap, sym, ◌∙◌, Some, None, arith, append_assoc, length-append, eqb-true, take, drop, get_or, suc, drop-cons}
-use Rattle.std.specs.Prelude.{Option, ◌↔◌, ◌==◌, ◌&&◌, IfOk, IfErr, Result, Ok, Err, nat_le}
+use Rattle.std.specs.Prelude.{⊤, Option, ◌↔◌, ◌==◌, ◌&&◌, IfOk, IfErr, Result, Ok, Err, nat_le}
 use Rattle.std.specs.Str.Lines.{strip_carriage_return}
 use Rattle.std.specs.Prelude.{position}
 use Rattle.std.proofs.Math.Seq.{take-append_seam}
@@ -25,15 +25,18 @@ use Rattle.docker_laws.specs.LinesTold.{HasNoFeed, told_lines, open_line, line_l
 use Rattle.docker_laws.proofs.files.ToldLines.{lines_of_told, lines_of_ended, lines_of_open, told_lines_plain, open_line_plain, told_lines_ended, open_line_ended, told_lines_stay, lines_told_grow}
 use Rattle.docker_laws.proofs.files.ToldFaults.{cause_of_length, not_80, no_next_place, lines_told_short, length_at_end, fault_at_feed, fault_at_long, fault_at_end, fault_stays, no_fault_told}
 use Rattle.cif_file.specs.declared.fault.FileCause.{FileCause}
+use Rattle.cif_file.specs.declared.fault.FileCause.TheVariants.{Memory}
 use Rattle.cif_file.specs.declared.fault.FileFault.{FileFault}
 use Rattle.cif_file.specs.declared.front.Front.{Front}
+use Rattle.cif_file.specs.declared.ended.Ended.{Ended}
+use Rattle.cif_file.specs.declared.kept.Kept.{Kept}
 use Rattle.cif_file.specs.declared.records.Records.{Records}
 use Rattle.cif_file.specs.declared.parser.Reading.{Reading}
 use Rattle.cif_file.specs.Cut.{IsCut}
 use Rattle.cif_file.specs.Meaning.{cause_meant}
-use Rattle.cif_file.specs.FileRead.{FileRead, IsOfRecords}
+use Rattle.cif_file.specs.KeeperRead.{Keeps, KeepsAll}
 use Rattle.cif_file.specs.RecordsRead.{HasRecords, GoesOnWith, IsNoNextCause}
-use Rattle.cif_file.specs.ParserRead.{IsOfFileText, ParserState, HasRead, IsReadingOrFault, HasCounted, IsCauseNext, IsCauseBehind, IsFaultNext, IsNoEndOf, FaultsNext, EndsCounted, EndsUnended, IsLongNext, IsReading, WantsMemoryAt, IsToldSoFar, IsFaultTold, IsCauseOf, IsRefused, HasNotFailed, IsLater, NamesLater, IsLast, NamesLast, GoesOn}
+use Rattle.cif_file.specs.ParserRead.{IsEndedText, ParserState, HasRead, IsReadingOrFault, HasCounted, IsCauseNext, IsCauseBehind, IsFaultNext, IsNoEndOf, FaultsNext, EndsCounted, EndsUnended, IsLongNext, IsReading, WantsMemoryAt, IsToldSoFar, IsFaultTold, IsCauseOf, IsRefused, HasNotFailed, IsLater, NamesLater, IsLast, NamesLast, GoesOn}
 
 abbrev Lines : Type 0
 Lines = List (List ℕ)
@@ -82,9 +85,9 @@ end_by_test _ h = absurd cc
 -- ---- the next record
 
 -- behind the trailer
-pub after_cause : (limit : ℕ) (front : Front) (records : Lines) (line : List ℕ) → HasRecords front records → IsFile records → length records < limit
+pub after_cause : {K : Type 0} (keeps : Keeps K) (limit : ℕ) (front : Front K) (records : Lines) (line : List ℕ) → HasRecords keeps front records → IsFile records → length records < limit
     → IsCauseNext limit records line after_trailer
-after_cause limit front records line has is under = record {
+after_cause keeps limit front records line has is under = record {
   place = after_end;
   at = (file_iff_place records).0 is;
   here = inr (none (is_record line && has_good_fields line));
@@ -96,11 +99,11 @@ after_cause limit front records line has is under = record {
     none false = refl
 
 -- a line that is no record
-pub line_cause : (limit : ℕ) (front : Front) (records : Lines) (line : List ℕ) (cause : Option model.FileCause) → HasRecords front records → ¬ IsFile records
+pub line_cause : {K : Type 0} (keeps : Keeps K) (wants : Type 0) (limit : ℕ) (front : Front K) (records : Lines) (line : List ℕ) (cause : Option model.FileCause) → HasRecords keeps front records → ¬ IsFile records
     → length records < limit → ¬ IsRecord line
-    → ((place : Place) → cause ≡ Some (length_cause place line)) → IsCauseBehind limit records line cause
-line_cause limit front records line None has unended under bad told = absurd (let never = told has.place in cc)
-line_cause limit front records line (Some cause) has unended under bad told = record {
+    → ((place : Place) → cause ≡ Some (length_cause place line)) → IsCauseBehind wants limit records line cause
+line_cause keeps wants limit front records line None has unended under bad told = absurd (let never = told has.place in cc)
+line_cause keeps wants limit front records line (Some cause) has unended under bad told = record {
   place = has.place;
   at = has.at;
   here = inr (by (next_place has.place line) refl);
@@ -121,45 +124,45 @@ line_cause limit front records line (Some cause) has unended under bad told = re
         test true h = absurd (unended ((file_iff_place records).1 (has.at ∙ ap Some (end_by_test has.place h))))
 
 -- a record that the front refuses
-pub front_cause : (limit : ℕ) (records : Lines) (line : List ℕ) (cause : FileCause) → length records < limit → IsNoNextCause records line (cause_meant cause)
-    → IsCauseBehind limit records line (cause_meant cause)
-front_cause limit records line cause under told = by (cause_meant cause) told
+pub front_cause : (wants : Type 0) (limit : ℕ) (records : Lines) (line : List ℕ) (cause : FileCause) → length records < limit → IsNoNextCause wants records line (cause_meant cause)
+    → IsCauseBehind wants limit records line (cause_meant cause)
+front_cause wants limit records line cause under told = by (cause_meant cause) told
   where
-    by : (meant : Option model.FileCause) → IsNoNextCause records line meant → IsCauseBehind limit records line meant
-    by None goes_on = (under, goes_on)
+    by : (meant : Option model.FileCause) → IsNoNextCause wants records line meant → IsCauseBehind wants limit records line meant
+    by None goes_on = (goes_on.0, under, goes_on.1)
     by (Some c) told_no = record { place = told_no.place; at = told_no.at; here = inr told_no.nowhere; is = told_no.is limit under }
 
 -- ---- a line that ends
 
 -- the line is taken with the bytes of it that came before
-pub ended_read : (old new : Reading) (limit : ℕ) (text front : List ℕ) → IsReading old limit text → HasNoFeed front
-    → HasCounted new.records limit (told_lines text ++ strip_carriage_return (open_line text ++ front) ∷ []) → new.partial.items ≡ []
-    → IsReading new limit (text ++ (front ++ 10 ∷ []))
-ended_read old new limit text front reading plain counted none = record {
-  counted = subst (HasCounted new.records limit) (sym (told_lines_ended text front plain)) counted;
+pub ended_read : {K : Type 0} (keeps : Keeps K) (old new : Reading K) (limit : ℕ) (text front : List ℕ) → IsReading keeps old limit text → HasNoFeed front
+    → HasCounted keeps new.records limit (told_lines text ++ strip_carriage_return (open_line text ++ front) ∷ []) → new.partial.items ≡ []
+    → IsReading keeps new limit (text ++ (front ++ 10 ∷ []))
+ended_read keeps old new limit text front reading plain counted none = record {
+  counted = subst (HasCounted keeps new.records limit) (sym (told_lines_ended text front plain)) counted;
   partial_is = none ∙ sym (open_line_ended text front plain);
   short = let size = ap (λ (l : List ℕ). length l) (open_line_ended text front plain) in omega arith;
 }
 
 -- and so is its fault told
-pub ended_fault : (old : Reading) (limit : ℕ) (text front : List ℕ) (fault : FileFault) → IsReading old limit text → HasNoFeed front
-    → IsFaultNext limit (told_lines text) (strip_carriage_return (open_line text ++ front)) fault → IsFaultTold limit (text ++ (front ++ 10 ∷ [])) fault
-ended_fault old limit text front fault reading plain next = by (cause_meant fault.cause) next.cause
+pub ended_fault : {K : Type 0} (keeps : Keeps K) (wants : Type 0) (old : Reading K) (limit : ℕ) (text front : List ℕ) (fault : FileFault) → IsReading keeps old limit text → HasNoFeed front
+    → IsFaultNext wants limit (told_lines text) (strip_carriage_return (open_line text ++ front)) fault → IsFaultTold limit (text ++ (front ++ 10 ∷ [])) fault
+ended_fault keeps wants old limit text front fault reading plain next = by (cause_meant fault.cause) next.cause
   where
-    by : (meant : Option model.FileCause) → IsCauseBehind limit (told_lines text) (strip_carriage_return (open_line text ++ front)) meant
+    by : (meant : Option model.FileCause) → IsCauseBehind wants limit (told_lines text) (strip_carriage_return (open_line text ++ front)) meant
         → IsToldSoFar limit (text ++ (front ++ 10 ∷ [])) fault.number meant
     by None told =
         memory_told limit (told_lines text) (strip_carriage_return (open_line text ++ front)) fault.number
-        (told_lines (text ++ (front ++ 10 ∷ []))) told.0 told.1 next.number (told_lines_ended text front plain)
+        (told_lines (text ++ (front ++ 10 ∷ []))) told.1 told.2 next.number (told_lines_ended text front plain)
     by (Some cause) told =
         subst (λ f. IsFaultSoFar limit (text ++ (front ++ 10 ∷ [])) f) (λ i. record { number = sym next.number i; cause = told.is i })
         (fault_at_feed limit text front [] told.place plain told.at reading.counted.within told.here)
 
 -- or it is too long
-pub ended_long : (old : Reading) (limit : ℕ) (text front : List ℕ) (fault : FileFault) → IsReading old limit text → HasNoFeed front
+pub ended_long : {K : Type 0} (keeps : Keeps K) (old : Reading K) (limit : ℕ) (text front : List ℕ) (fault : FileFault) → IsReading keeps old limit text → HasNoFeed front
     → 82 ≤ length (open_line text ++ front)
     → IsLongNext limit (told_lines text) fault → IsFaultTold limit (text ++ (front ++ 10 ∷ [])) fault
-ended_long old limit text front fault reading plain many next =
+ended_long keeps old limit text front fault reading plain many next =
     let bad = not_80 (open_line text ++ front) many in
     subst (IsToldSoFar limit (text ++ (front ++ 10 ∷ [])) fault.number) (sym next.cause)
     (subst (λ f. IsFaultSoFar limit (text ++ (front ++ 10 ∷ [])) f) (λ i. record {
@@ -173,13 +176,13 @@ ended_long old limit text front fault reading plain many next =
 -- ---- more of a line
 
 -- more bytes of a line are kept
-pub kept_read : (old new : Reading) (limit : ℕ) (text more : List ℕ) → IsReading old limit text → HasNoFeed more
+pub kept_read : {K : Type 0} (keeps : Keeps K) (old new : Reading K) (limit : ℕ) (text more : List ℕ) → IsReading keeps old limit text → HasNoFeed more
     → length old.partial.items + length more ≤ 81 → new.records ≡ old.records
-    → new.partial.items ≡ old.partial.items ++ more → IsReading new limit (text ++ more)
-kept_read old new limit text more reading plain few records kept = record {
+    → new.partial.items ≡ old.partial.items ++ more → IsReading keeps new limit (text ++ more)
+kept_read keeps old new limit text more reading plain few records kept = record {
   counted =
-      subst (λ r. HasCounted r limit (told_lines (text ++ more))) (sym records)
-      (subst (HasCounted old.records limit) (sym (told_lines_plain text more plain)) reading.counted);
+      subst (λ r. HasCounted keeps r limit (told_lines (text ++ more))) (sym records)
+      (subst (HasCounted keeps old.records limit) (sym (told_lines_plain text more plain)) reading.counted);
   partial_is = kept ∙ (λ i. reading.partial_is i ++ more) ∙ sym (open_line_plain text more plain);
   short =
       let size = ap (λ (l : List ℕ). length l) (open_line_plain text more plain) ∙ length-append (open_line text) more in
@@ -187,10 +190,10 @@ kept_read old new limit text more reading plain few records kept = record {
 }
 
 -- or it is too long
-pub kept_long : (old : Reading) (limit : ℕ) (text more : List ℕ) (fault : FileFault) → IsReading old limit text → HasNoFeed more
+pub kept_long : {K : Type 0} (keeps : Keeps K) (old : Reading K) (limit : ℕ) (text more : List ℕ) (fault : FileFault) → IsReading keeps old limit text → HasNoFeed more
     → ¬ (length old.partial.items + length more ≤ 81)
     → IsLongNext limit (told_lines text) fault → IsFaultTold limit (text ++ more) fault
-kept_long old limit text more fault reading plain many next =
+kept_long keeps old limit text more fault reading plain many next =
     let size = ap (λ (l : List ℕ). length l) (open_line_plain text more plain) ∙ length-append (open_line text) more in
     let same = ap (λ (l : List ℕ). length l) reading.partial_is in
     let told = told_lines_plain text more plain in
@@ -219,40 +222,40 @@ told_stays limit text more fault told = by (cause_meant fault.cause) told
 
 -- ---- the end
 
-counted_open : (records : Records) (limit : ℕ) (text : List ℕ) → 0 < length (open_line text)
-    → HasCounted records limit (told_lines text ++ strip_carriage_return (open_line text) ∷ []) → HasCounted records limit (lines_of text)
-counted_open records limit text some counted = subst (HasCounted records limit) (sym (lines_of_open text some)) counted
+counted_open : {K : Type 0} (keeps : Keeps K) (records : Records K) (limit : ℕ) (text : List ℕ) → 0 < length (open_line text)
+    → HasCounted keeps records limit (told_lines text ++ strip_carriage_return (open_line text) ∷ []) → HasCounted keeps records limit (lines_of text)
+counted_open keeps records limit text some counted = subst (HasCounted keeps records limit) (sym (lines_of_open text some)) counted
 
 -- where no line is open, all lines are told
-pub counted_ended : (reading : Reading) (limit : ℕ) (text : List ℕ) → IsReading reading limit text → reading.partial.items ≡ []
-    → HasCounted reading.records limit (lines_of text)
-counted_ended reading limit text is none = subst (HasCounted reading.records limit) (sym (lines_of_ended text (sym is.partial_is ∙ none))) is.counted
+pub counted_ended : {K : Type 0} (keeps : Keeps K) (reading : Reading K) (limit : ℕ) (text : List ℕ) → IsReading keeps reading limit text → reading.partial.items ≡ []
+    → HasCounted keeps reading.records limit (lines_of text)
+counted_ended keeps reading limit text is none = subst (HasCounted keeps reading.records limit) (sym (lines_of_ended text (sym is.partial_is ∙ none))) is.counted
 
 -- a fault of the open line at the end is the text's
-pub end_fault : (reading : Reading) (limit : ℕ) (text : List ℕ) (fault : FileFault) → IsReading reading limit text → 0 < length (open_line text)
-    → IsFaultNext limit (told_lines text) (strip_carriage_return (open_line text)) fault → IsRefused limit text fault
-end_fault reading limit text fault is some next = by (cause_meant fault.cause) next.cause
+pub end_fault : {K : Type 0} (keeps : Keeps K) (wants : Type 0) (reading : Reading K) (limit : ℕ) (text : List ℕ) (fault : FileFault) → IsReading keeps reading limit text → 0 < length (open_line text)
+    → IsFaultNext wants limit (told_lines text) (strip_carriage_return (open_line text)) fault → IsRefused limit text fault
+end_fault keeps wants reading limit text fault is some next = by (cause_meant fault.cause) next.cause
   where
-    by : (meant : Option model.FileCause) → IsCauseBehind limit (told_lines text) (strip_carriage_return (open_line text)) meant
+    by : (meant : Option model.FileCause) → IsCauseBehind wants limit (told_lines text) (strip_carriage_return (open_line text)) meant
         → IsCauseOf limit text fault.number meant
     by None told =
-        memory_told limit (told_lines text) (strip_carriage_return (open_line text)) fault.number (lines_of text) told.0 told.1 next.number
+        memory_told limit (told_lines text) (strip_carriage_return (open_line text)) fault.number (lines_of text) told.1 told.2 next.number
         (lines_of_open text some)
     by (Some cause) told =
         subst (λ f. IsFileFault limit text f) (λ i. record { number = sym next.number i; cause = told.is i })
         (fault_at_end limit text told.place told.at is.counted.within some told.here)
 
--- the file of the text, whose lines were counted
-pub file_at_end : (records : Records) (limit : ℕ) (text : List ℕ) (file : FileRead) → HasCounted records limit (lines_of text) → EndsCounted records file
-    → IsOfFileText file limit text
-file_at_end records limit text file counted told =
+-- what is told of the text, whose lines were counted
+pub file_at_end : {K : Type 0} (keeps : Keeps K) (records : Records K) (limit : ℕ) (text : List ℕ) (ended : Ended K)
+    → HasCounted keeps records limit (lines_of text) → EndsCounted keeps records ended → IsEndedText keeps limit text ended
+file_at_end keeps records limit text ended counted told =
     let is = told limit (lines_of text) counted in
     record { records = lines_of text; is_text = record { lines = refl; is = is.0; within = counted.within }; of_records = is.1 }
 
 -- the fault behind the last record of a text with no end is the text's
-pub no_end_at_end : (records : Records) (limit : ℕ) (text : List ℕ) (fault : FileFault) → HasCounted records limit (lines_of text) → EndsUnended records fault
+pub no_end_at_end : {K : Type 0} (keeps : Keeps K) (records : Records K) (limit : ℕ) (text : List ℕ) (fault : FileFault) → HasCounted keeps records limit (lines_of text) → EndsUnended keeps records fault
     → IsRefused limit text fault
-no_end_at_end records limit text fault counted ends =
+no_end_at_end keeps records limit text fault counted ends =
     let told = ends limit (lines_of text) counted in subst (IsCauseOf limit text fault.number) (sym told.1) (inr (record {
       within = counted.within;
       begin = (begins_iff_place (lines_of text)).1 (counted.has.place, counted.has.at);
@@ -262,9 +265,9 @@ no_end_at_end records limit text fault counted ends =
     }))
 
 -- no record that is told is at fault
-pub reading_tells_none : (reading : Reading) (limit : ℕ) (text : List ℕ) → IsReading reading limit text → (fault : model.FileFault)
+pub reading_tells_none : {K : Type 0} (keeps : Keeps K) (reading : Reading K) (limit : ℕ) (text : List ℕ) → IsReading keeps reading limit text → (fault : model.FileFault)
     → ¬ IsFaultSoFar limit text fault
-reading_tells_none reading limit text is = no_fault_told limit text is.counted.has.place is.counted.has.at is.counted.within is.short
+reading_tells_none keeps reading limit text is = no_fault_told limit text is.counted.has.place is.counted.has.at is.counted.within is.short
 
 -- a fault that is told is the text's in the end
 pub told_refused : (limit : ℕ) (text : List ℕ) (fault : FileFault) → IsFaultTold limit text fault → IsRefused limit text fault
@@ -279,10 +282,10 @@ told_refused limit text fault told = by (cause_meant fault.cause) told
 -- ---- a line that is too long
 
 -- a record that is too long, above the limit
-pub long_over : (records : Records) (limit : ℕ) (taken : Lines) (fault : FileFault) → HasCounted records limit taken → fault.number ≡ records.next
+pub long_over : {K : Type 0} (keeps : Keeps K) (records : Records K) (limit : ℕ) (taken : Lines) (fault : FileFault) → HasCounted keeps records limit taken → fault.number ≡ records.next
     → records.limit < records.next → cause_meant fault.cause ≡ Some too_many
     → IsLongNext limit taken fault
-long_over records limit taken fault counted number over told = record {
+long_over keeps records limit taken fault counted number over told = record {
   number = number ∙ counted.next_is;
   place = counted.has.place;
   at = counted.has.at;
@@ -292,10 +295,10 @@ long_over records limit taken fault counted number over told = record {
 }
 
 -- and within it
-pub long_within : (records : Records) (limit : ℕ) (taken : Lines) (fault : FileFault) (ended : Bool) → HasCounted records limit taken
+pub long_within : {K : Type 0} (keeps : Keeps K) (records : Records K) (limit : ℕ) (taken : Lines) (fault : FileFault) (ended : Bool) → HasCounted keeps records limit taken
     → fault.number ≡ records.next → records.next ≤ records.limit
     → (ended ≡ true) ↔ IsFile taken → cause_meant fault.cause ≡ Some (cond ended after_trailer bad_length) → IsLongNext limit taken fault
-long_within records limit taken fault ended counted number within iff told = record {
+long_within keeps records limit taken fault ended counted number within iff told = record {
   number = number ∙ counted.next_is;
   place = counted.has.place;
   at = counted.has.at;
@@ -321,35 +324,35 @@ long_within records limit taken fault ended counted number within iff told = rec
 -- ---- a line that ends, by what was taken of it
 
 -- bytes that do not fit are more than 81 with those that came before
-pub ended_many : (old : Reading) (limit : ℕ) (text front : List ℕ) → IsReading old limit text → ¬ (length old.partial.items + length front ≤ 81)
+pub ended_many : {K : Type 0} (keeps : Keeps K) (old : Reading K) (limit : ℕ) (text front : List ℕ) → IsReading keeps old limit text → ¬ (length old.partial.items + length front ≤ 81)
     → 82 ≤ length (open_line text ++ front)
-ended_many old limit text front reading many =
+ended_many keeps old limit text front reading many =
     let same = ap (λ (l : List ℕ). length l) reading.partial_is in
     let size = length-append (open_line text) front in
     above 81 (length (open_line text ++ front)) (λ few. many (omega arith))
 
 -- the line that was taken is that of the text
-pub taken_is : (old : Reading) (limit : ℕ) (text front raw line : List ℕ) → IsReading old limit text → raw ≡ old.partial.items ++ front
+pub taken_is : {K : Type 0} (keeps : Keeps K) (old : Reading K) (limit : ℕ) (text front raw line : List ℕ) → IsReading keeps old limit text → raw ≡ old.partial.items ++ front
     → line ≡ strip_carriage_return raw
     → line ≡ strip_carriage_return (open_line text ++ front)
-taken_is old limit text front raw line reading whole strip = strip ∙ ap strip_carriage_return (whole ∙ ap (λ l. l ++ front) reading.partial_is)
+taken_is keeps old limit text front raw line reading whole strip = strip ∙ ap strip_carriage_return (whole ∙ ap (λ l. l ++ front) reading.partial_is)
 
 -- the line that was taken is that which ended
-pub ended_ok : (old new : Reading) (limit : ℕ) (text front line : List ℕ) → IsReading old limit text → HasNoFeed front
+pub ended_ok : {K : Type 0} (keeps : Keeps K) (old new : Reading K) (limit : ℕ) (text front line : List ℕ) → IsReading keeps old limit text → HasNoFeed front
     → line ≡ strip_carriage_return (open_line text ++ front)
-    → HasCounted new.records limit (told_lines text ++ line ∷ []) → new.partial.items ≡ [] → IsReading new limit (text ++ (front ++ 10 ∷ []))
-ended_ok old new limit text front line reading plain same counted none =
-    ended_read old new limit text front reading plain (subst (λ l. HasCounted new.records limit (told_lines text ++ l ∷ [])) same counted) none
+    → HasCounted keeps new.records limit (told_lines text ++ line ∷ []) → new.partial.items ≡ [] → IsReading keeps new limit (text ++ (front ++ 10 ∷ []))
+ended_ok keeps old new limit text front line reading plain same counted none =
+    ended_read keeps old new limit text front reading plain (subst (λ l. HasCounted keeps new.records limit (told_lines text ++ l ∷ [])) same counted) none
 
 -- a fault of the line that ends is the text's
-pub ended_err : (old : Reading) (limit : ℕ) (text front line : List ℕ) (fault : FileFault) → IsReading old limit text → HasNoFeed front
-    → line ≡ strip_carriage_return (open_line text ++ front) → FaultsNext old.records line fault → IsFaultTold limit (text ++ (front ++ 10 ∷ [])) fault
-ended_err old limit text front line fault reading plain same told =
-    ended_fault old limit text front fault reading plain
-    (subst (λ l. IsFaultNext limit (told_lines text) l fault) same (told limit (told_lines text) reading.counted))
+pub ended_err : {K : Type 0} (keeps : Keeps K) (wants : Type 0) (old : Reading K) (limit : ℕ) (text front line : List ℕ) (fault : FileFault) → IsReading keeps old limit text → HasNoFeed front
+    → line ≡ strip_carriage_return (open_line text ++ front) → FaultsNext keeps wants old.records line fault → IsFaultTold limit (text ++ (front ++ 10 ∷ [])) fault
+ended_err keeps wants old limit text front line fault reading plain same told =
+    ended_fault keeps wants old limit text front fault reading plain
+    (subst (λ l. IsFaultNext wants limit (told_lines text) l fault) same (told limit (told_lines text) reading.counted))
 
 -- no bytes of the line came before
-pub empty_is : (old : Reading) → true ≡ (length old.partial.items == 0) → old.partial.items ≡ []
+pub empty_is : {K : Type 0} (old : Reading K) → true ≡ (length old.partial.items == 0) → old.partial.items ≡ []
 empty_is old none = by old.partial.items (eqb-true (length old.partial.items) 0 (sym none))
   where
     by : (bytes : List ℕ) → length bytes ≡ 0 → bytes ≡ []
@@ -357,20 +360,20 @@ empty_is old none = by old.partial.items (eqb-true (length old.partial.items) 0 
     by (byte ∷ bytes) h = absurd (omega arith)
 
 -- where bytes are kept a line is open
-pub some_is_open : (old : Reading) (limit : ℕ) (text : List ℕ) → IsReading old limit text → false ≡ (length old.partial.items == 0)
+pub some_is_open : {K : Type 0} (keeps : Keeps K) (old : Reading K) (limit : ℕ) (text : List ℕ) → IsReading keeps old limit text → false ≡ (length old.partial.items == 0)
     → 0 < length (open_line text)
-some_is_open old limit text reading some =
+some_is_open keeps old limit text reading some =
     let size = ap (λ (l : List ℕ). length l) reading.partial_is in
     let not_none = eqb-false (length old.partial.items) 0 (sym some) in
     above 0 (length (open_line text)) (λ none. not_none (omega (arith, size)))
 
 -- the last line, which no line feed ended, was taken
-pub counted_last : (old : Reading) (records : Records) (limit : ℕ) (text raw line : List ℕ) → IsReading old limit text
+pub counted_last : {K : Type 0} (keeps : Keeps K) (old : Reading K) (records : Records K) (limit : ℕ) (text raw line : List ℕ) → IsReading keeps old limit text
     → false ≡ (length old.partial.items == 0) → raw ≡ old.partial.items
-    → line ≡ strip_carriage_return raw → HasCounted records limit (told_lines text ++ line ∷ []) → HasCounted records limit (lines_of text)
-counted_last old records limit text raw line reading some same strip counted =
-    counted_open records limit text (some_is_open old limit text reading some)
-    (subst (λ l. HasCounted records limit (told_lines text ++ l ∷ [])) (strip ∙ ap strip_carriage_return (same ∙ reading.partial_is)) counted)
+    → line ≡ strip_carriage_return raw → HasCounted keeps records limit (told_lines text ++ line ∷ []) → HasCounted keeps records limit (lines_of text)
+counted_last keeps old records limit text raw line reading some same strip counted =
+    counted_open keeps records limit text (some_is_open keeps old limit text reading some)
+    (subst (λ l. HasCounted keeps records limit (told_lines text ++ l ∷ [])) (strip ∙ ap strip_carriage_return (same ∙ reading.partial_is)) counted)
 
 -- ---- bytes cut at a line feed
 
@@ -451,11 +454,11 @@ told_of_piece limit text piece rest front behind fault whole cut told =
     (subst (λ t. IsFaultTold limit t fault) here told))
 
 -- a line more was read
-pub read_on : (reading : Reading) (limit : ℕ) (text piece rest front behind : List ℕ) → before_rest piece rest ++ rest ≡ piece → IsCut rest front behind
-    → IsReading reading limit ((text ++ before_rest piece rest) ++ (front ++ 10 ∷ [])) → IsReading reading limit (text ++ before_rest piece behind)
-read_on reading limit text piece rest front behind whole cut is =
+pub read_on : {K : Type 0} (keeps : Keeps K) (reading : Reading K) (limit : ℕ) (text piece rest front behind : List ℕ) → before_rest piece rest ++ rest ≡ piece → IsCut rest front behind
+    → IsReading keeps reading limit ((text ++ before_rest piece rest) ++ (front ++ 10 ∷ [])) → IsReading keeps reading limit (text ++ before_rest piece behind)
+read_on keeps reading limit text piece rest front behind whole cut is =
     let more = cut_more piece rest front behind whole cut in
-    subst (IsReading reading limit) (append_assoc text (before_rest piece rest) (front ++ 10 ∷ []) ∙ ap (λ l. text ++ l) (sym more.0)) is
+    subst (IsReading keeps reading limit) (append_assoc text (before_rest piece rest) (front ++ 10 ∷ []) ∙ ap (λ l. text ++ l) (sym more.0)) is
 
 -- with the rest the whole piece was read
 pub whole_read : (text piece rest : List ℕ) → before_rest piece rest ++ rest ≡ piece → (text ++ before_rest piece rest) ++ rest ≡ text ++ piece
@@ -474,17 +477,17 @@ pub fault_at_read : (parser : ParserState) (limit : ℕ) (text : List ℕ) (faul
 fault_at_read parser limit text fault at has = subst (IsReadingOrFault parser.reading limit text) at has
 
 -- what a parser without a fault was fed, its reading has read
-pub reading_at_none : (parser : ParserState) (limit : ℕ) (text : List ℕ) → parser.fault ≡ None → HasRead parser limit text → IsReading parser.reading limit text
+pub reading_at_none : (parser : ParserState) (limit : ℕ) (text : List ℕ) → parser.fault ≡ None → HasRead parser limit text → IsReading KeepsAll parser.reading limit text
 reading_at_none parser limit text at has = subst (IsReadingOrFault parser.reading limit text) at has
 
 -- and the other way round
-pub none_at_reading : (parser : ParserState) (limit : ℕ) (text : List ℕ) → parser.fault ≡ None → IsReading parser.reading limit text → HasRead parser limit text
+pub none_at_reading : (parser : ParserState) (limit : ℕ) (text : List ℕ) → parser.fault ≡ None → IsReading KeepsAll parser.reading limit text → HasRead parser limit text
 none_at_reading parser limit text at is = subst (IsReadingOrFault parser.reading limit text) (sym at) is
 
 -- what a parser that told no fault was fed, its reading has read
-pub reading_of : (parser : ParserState) (reading : Reading) (limit : ℕ) (text : List ℕ) → parser.fault ≡ None → parser.reading ≡ reading
-    → HasRead parser limit text → IsReading reading limit text
-reading_of parser reading limit text none same has = subst (λ r. IsReading r limit text) same (reading_at_none parser limit text none has)
+pub reading_of : (parser : ParserState) (reading : Reading Kept) (limit : ℕ) (text : List ℕ) → parser.fault ≡ None → parser.reading ≡ reading
+    → HasRead parser limit text → IsReading KeepsAll reading limit text
+reading_of parser reading limit text none same has = subst (λ r. IsReading KeepsAll r limit text) same (reading_at_none parser limit text none has)
 
 -- a parser that told a fault is none that told no fault
 pub had_failed : (parser : ParserState) (fault : FileFault) → parser.fault ≡ Some fault → ¬ HasNotFailed parser
@@ -492,56 +495,71 @@ had_failed parser fault at none = none fault at
 
 -- ---- a fault of a record that wasn't told before
 
-later_than : (reading : Reading) (limit : ℕ) (text : List ℕ) (fault : FileFault) → IsReading reading limit text → fault.number ≡ length (told_lines text) + 1
+later_than : {K : Type 0} (keeps : Keeps K) (reading : Reading K) (limit : ℕ) (text : List ℕ) (fault : FileFault) → IsReading keeps reading limit text → fault.number ≡ length (told_lines text) + 1
     → lines_told text < fault.number
-later_than reading limit text fault is number = let same = lines_told_short text is.short in omega arith
+later_than keeps reading limit text fault is number = let same = lines_told_short text is.short in omega arith
+
+-- memory was wanting only where it may be
+wants_of : (wants : Type 0) (limit : ℕ) (records : Lines) (line : List ℕ) (fault : FileFault) → IsFaultNext wants limit records line fault
+    → fault.cause ≡ Memory → wants
+wants_of wants limit records line fault next memory = (subst (λ cause. IsCauseBehind wants limit records line (cause_meant cause)) memory next.cause).0
+
+-- and not where another cause is told
+no_want : (wants : Type 0) (fault : FileFault) (cause : model.FileCause) → cause_meant fault.cause ≡ Some cause → fault.cause ≡ Memory → wants
+no_want wants fault cause told memory = let bad : ◌≡◌ {A = Option model.FileCause} None (Some cause) = sym (ap cause_meant memory) ∙ told in absurd cc
 
 -- that of a line behind the text
-pub later_next : (reading : Reading) (line : List ℕ) (fault : FileFault) → FaultsNext reading.records line fault → IsLater reading fault
-later_next reading line fault told = λ limit text is. later_than reading limit text fault is (told limit (told_lines text) is.counted).number
+pub later_next : {K : Type 0} (keeps : Keeps K) (wants : Type 0) (reading : Reading K) (line : List ℕ) (fault : FileFault)
+    → FaultsNext keeps wants reading.records line fault → IsLater keeps wants reading fault
+later_next keeps wants reading line fault told = λ limit text is.
+    let next = told limit (told_lines text) is.counted in
+    (later_than keeps reading limit text fault is next.number, wants_of wants limit (told_lines text) line fault next)
 
 -- that of a line that is too long
-pub later_long : (reading : Reading) (fault : FileFault) → ((limit : ℕ) (text : List ℕ) → IsReading reading limit text → IsLongNext limit
-    (told_lines text) fault) → IsLater reading fault
-later_long reading fault told = λ limit text is. later_than reading limit text fault is (told limit text is).number
+pub later_long : {K : Type 0} (keeps : Keeps K) (wants : Type 0) (reading : Reading K) (fault : FileFault)
+    → ((limit : ℕ) (text : List ℕ) → IsReading keeps reading limit text → IsLongNext limit (told_lines text) fault) → IsLater keeps wants reading fault
+later_long keeps wants reading fault told = λ limit text is.
+    let next = told limit text is in
+    (later_than keeps reading limit text fault is next.number, no_want wants fault (cause_of_long limit (length (told_lines text)) next.place) next.cause)
 
 -- what a longer text doesn't tell, its front doesn't
 later_front : (text more : List ℕ) (fault : FileFault) → lines_told (text ++ more) < fault.number → lines_told text < fault.number
 later_front text more fault later = let grown = lines_told_grow text more in omega arith
 
 -- what is behind a front that was read is behind what was read before it
-pub later_piece : (old new : Reading) (front : List ℕ) (fault : FileFault) → GoesOn (IsReading old) front (IsReading new) → IsLater new fault
-    → IsLater old fault
-later_piece old new front fault read later = λ limit text is. later_front text front fault (later limit (text ++ front) (read limit text is))
+pub later_piece : {K : Type 0} (keeps : Keeps K) (wants : Type 0) (old new : Reading K) (front : List ℕ) (fault : FileFault) → GoesOn (IsReading keeps old) front (IsReading keeps new) → IsLater keeps wants new fault
+    → IsLater keeps wants old fault
+later_piece keeps wants old new front fault read later = λ limit text is.
+    let behind = later limit (text ++ front) (read limit text is) in (later_front text front fault behind.0, behind.1)
 
 -- such a fault is behind what the text tells
-pub later_end : (reading : Reading) (fault : FileFault) → ((limit : ℕ) (text : List ℕ) → IsReading reading limit text → IsNoEndOf (lines_of text) fault)
-    → IsLater reading fault
-later_end reading fault told = λ limit text is.
+pub later_end : {K : Type 0} (keeps : Keeps K) (wants : Type 0) (reading : Reading K) (fault : FileFault) → ((limit : ℕ) (text : List ℕ) → IsReading keeps reading limit text → IsNoEndOf (lines_of text) fault)
+    → IsLater keeps wants reading fault
+later_end keeps wants reading fault told = λ limit text is.
     let same = lines_told_short text is.short in
     let size = ap (λ (l : Lines). length l) (lines_of_told text) ∙ length-append (told_lines text) (line_left (open_line text)) in
     let number = (told limit text is).0 in
-    omega arith
+    (omega arith, no_want wants fault no_end (told limit text is).1)
 
 -- and is no want of memory
-pub last_end : (reading : Reading) (fault : FileFault) → ((limit : ℕ) (text : List ℕ) → IsReading reading limit text → IsNoEndOf (lines_of text) fault)
-    → IsLast reading fault
-last_end reading fault told = λ memory limit text is.
+pub last_end : {K : Type 0} (keeps : Keeps K) (reading : Reading K) (fault : FileFault) → ((limit : ℕ) (text : List ℕ) → IsReading keeps reading limit text → IsNoEndOf (lines_of text) fault)
+    → IsLast keeps reading fault
+last_end keeps reading fault told = λ memory limit text is.
     let bad : ◌≡◌ {A = Option model.FileCause} None (Some no_end) = sym (ap cause_meant memory) ∙ (told limit text is).1 in absurd cc
 
 -- the open line is the last
-pub last_open : (reading : Reading) (line : List ℕ) (fault : FileFault) → false ≡ (length reading.partial.items == 0) → FaultsNext reading.records line fault
-    → IsLast reading fault
-last_open reading line fault some told =
-    λ _ limit text is. (told limit (told_lines text) is.counted).number ∙ sym (length_at_end text (some_is_open reading limit text is some))
+pub last_open : {K : Type 0} (keeps : Keeps K) (wants : Type 0) (reading : Reading K) (line : List ℕ) (fault : FileFault) → false ≡ (length reading.partial.items == 0) → FaultsNext keeps wants reading.records line fault
+    → IsLast keeps reading fault
+last_open keeps wants reading line fault some told =
+    λ _ limit text is. (told limit (told_lines text) is.counted).number ∙ sym (length_at_end text (some_is_open keeps reading limit text is some))
 
 -- what is later than what was read is later than what a parser was fed that told no fault
-pub names_later : (parser : ParserState) (reading : Reading) (fault : FileFault) → parser.fault ≡ None → parser.reading ≡ reading → IsLater reading fault
+pub names_later : (parser : ParserState) (reading : Reading Kept) (fault : FileFault) → parser.fault ≡ None → parser.reading ≡ reading → IsLater KeepsAll ⊤ reading fault
     → NamesLater parser fault
-names_later parser reading fault none same told = λ _ limit text has. told limit text (reading_of parser reading limit text none same has)
+names_later parser reading fault none same told = λ _ limit text has. (told limit text (reading_of parser reading limit text none same has)).0
 
 -- and of the last record
-pub names_last : (parser : ParserState) (reading : Reading) (fault : FileFault) → parser.fault ≡ None → parser.reading ≡ reading → IsLast reading fault
+pub names_last : (parser : ParserState) (reading : Reading Kept) (fault : FileFault) → parser.fault ≡ None → parser.reading ≡ reading → IsLast KeepsAll reading fault
     → NamesLast parser fault
 names_last parser reading fault none same told =
     λ _ memory limit text has. told memory limit text (reading_of parser reading limit text none same has)

@@ -15,17 +15,21 @@ use Rattle.cif_file.specs.declared.fault.FileFault.{FileFault}
 use Rattle.cif_file.specs.declared.fault.ReadFault.{ReadFault}
 use Rattle.cif_file.specs.declared.fault.ReadFault.TheVariants as read
 use Rattle.cif_file.specs.Meaning.{cause_meant}
-use Rattle.cif_file.specs.FileRead.{FileRead}
-use Rattle.cif_file.specs.ParserRead.{ParserState, HasRead, HasNotFailed, IsReadingOrFault, NamesLater, NamesLast, IsOfFileText, WantsMemoryAt, IsToldSoFar, IsFaultTold, IsCauseOf, IsRefused}
-use Rattle.cif_file.specs.SourceRead.{Held, IsFaultOf, ReadsText, RefusesText, ReadsNoFurther, WantsMemory}
+use Rattle.cif_file.specs.declared.ended.Ended.{Ended}
+use Rattle.cif_file.specs.declared.kept.Kept.{Kept}
+use Rattle.cif_file.specs.declared.parser.Reading.{Reading}
+use Rattle.cif_file.specs.FileRead.{IsRead}
+use Rattle.cif_file.specs.KeeperRead.{Keeps, KeepsAll}
+use Rattle.cif_file.specs.EndedRead.{file_ended}
+use Rattle.cif_file.specs.ParserRead.{IsReading, IsLater, IsLast, IsOfFileText, IsEndedText, WantsMemoryAt, IsToldSoFar, IsFaultTold, IsCauseOf, IsRefused}
+use Rattle.cif_file.specs.SourceRead.{Held, IsFaultOf, ReadsEnded, ReadsText, RefusesText, ReadsNoFurther, WantsMemory, WantsMemoryBy}
 
 -- ---- turns
 
--- after so many turns the parser was fed a text without a fault, which is what the source lost, and told none
-pub record IsAtTurn (limit : ℕ) (initial : Option (List ℕ)) (parser : ParserState) (now : Option (List ℕ)) (turn : ℕ) : Type 0 where
+-- after so many turns the reading was fed a text without a fault, which is what the source lost, and told none
+pub record IsAtTurn {K : Type 0} (keeps : Keeps K) (limit : ℕ) (initial : Option (List ℕ)) (reading : Reading K) (now : Option (List ℕ)) (turn : ℕ) : Type 0 where
   pub text : List ℕ
-  pub read : HasRead parser limit text
-  pub clean : HasNotFailed parser
+  pub read : IsReading keeps reading limit text
   pub lost : Reads initial text now
   pub grown : turn ≤ length text
   pub within : length text ≤ 352187318189
@@ -40,20 +44,11 @@ unread (Some bytes) = refl
 sound_at_start : (limit : ℕ) (fault : model.FileFault) → ¬ IsFaultSoFar limit [] fault
 sound_at_start limit fault told = let number = told.is.number in let none : fault.number ≤ 0 = told.told in absurd (omega (arith, number, none))
 
--- and no want of memory is told of it
-unfailed_at_start : (limit : ℕ) (parser : ParserState) → HasRead parser limit [] → HasNotFailed parser
-unfailed_at_start limit parser has fault failed = by (cause_meant fault.cause) (subst (IsReadingOrFault parser.reading limit []) failed has)
-  where
-    by : (meant : Option model.FileCause) → IsToldSoFar limit [] fault.number meant → ⊥
-    by None told = let some = told.some in let one : fault.number ≤ 0 = told.one in absurd (omega (arith, some, one))
-    by (Some cause) told = sound_at_start limit (record { number = fault.number; cause = cause }) told
-
 -- at first
-pub at_start : (limit : ℕ) (left : Option (List ℕ)) (parser : ParserState) → HasRead parser limit [] → IsAtTurn limit left parser left 0
-at_start limit left parser has = record {
+pub at_start : {K : Type 0} (keeps : Keeps K) (limit : ℕ) (left : Option (List ℕ)) (reading : Reading K) → IsReading keeps reading limit [] → IsAtTurn keeps limit left reading left 0
+at_start keeps limit left reading has = record {
   text = [];
   read = has;
-  clean = unfailed_at_start limit parser has;
   lost = unread left;
   grown = omega arith;
   within = omega arith;
@@ -71,13 +66,12 @@ lost_more initial now (Some rest) text piece first more =
     first ∙ ap (option_map (λ r. text ++ r)) more ∙ ap Some (sym (append_assoc text piece rest))
 
 -- a piece more
-pub next_turn : (limit : ℕ) (initial now next : Option (List ℕ)) (before after : ParserState) (turn : ℕ) (piece : List ℕ) → limit ≤ 4294967294
-    → (at : IsAtTurn limit initial before now turn) → 0 < length piece → Reads now piece next → HasNotFailed after → HasRead after limit (at.text ++ piece)
-    → ((fault : model.FileFault) → ¬ IsFaultSoFar limit (at.text ++ piece) fault) → IsAtTurn limit initial after next (turn + 1)
-next_turn limit initial now next before after turn piece few at some more clean has sound = record {
+pub next_turn : {K : Type 0} (keeps : Keeps K) (limit : ℕ) (initial now next : Option (List ℕ)) (before after : Reading K) (turn : ℕ) (piece : List ℕ) → limit ≤ 4294967294
+    → (at : IsAtTurn keeps limit initial before now turn) → 0 < length piece → Reads now piece next → IsReading keeps after limit (at.text ++ piece)
+    → ((fault : model.FileFault) → ¬ IsFaultSoFar limit (at.text ++ piece) fault) → IsAtTurn keeps limit initial after next (turn + 1)
+next_turn keeps limit initial now next before after turn piece few at some more has sound = record {
   text = at.text ++ piece;
   read = has;
-  clean = clean;
   lost = lost_more initial now next at.text piece at.lost more;
   grown = (let grown = at.grown in omega (arith, length-append at.text piece));
   within = bounded limit (at.text ++ piece) few sound;
@@ -87,25 +81,25 @@ next_turn limit initial now next before after turn piece few at some more clean 
 -- ---- how far a source is read
 
 -- a source is left one piece further
-pub no_further : (limit : ℕ) (initial now next : Option (List ℕ)) (parser : ParserState) (turn : ℕ) (piece : List ℕ)
-    → (at : IsAtTurn limit initial parser now turn)
+pub no_further : {K : Type 0} (keeps : Keeps K) (limit : ℕ) (initial now next : Option (List ℕ)) (reading : Reading K) (turn : ℕ) (piece : List ℕ)
+    → (at : IsAtTurn keeps limit initial reading now turn)
     → Reads now piece next → length piece ≤ 65536 → ReadsNoFurther 65536 limit initial next
-no_further limit initial now next parser turn piece at more few =
+no_further keeps limit initial now next reading turn piece at more few =
     record { before = at.text; piece = piece; sound = at.sound; at_once = few; read = lost_more initial now next at.text piece at.lost more }
 
 -- or where it was
-pub not_further : (limit : ℕ) (initial now next : Option (List ℕ)) (parser : ParserState) (turn : ℕ) → IsAtTurn limit initial parser now turn → next ≡ now
+pub not_further : {K : Type 0} (keeps : Keeps K) (limit : ℕ) (initial now next : Option (List ℕ)) (reading : Reading K) (turn : ℕ) → IsAtTurn keeps limit initial reading now turn → next ≡ now
     → ReadsNoFurther 65536 limit initial next
-not_further limit initial now next parser turn at same =
-    no_further limit initial now next parser turn [] at (subst (λ left. Reads now [] left) (sym same) (unread now)) (omega arith)
+not_further keeps limit initial now next reading turn at same =
+    no_further keeps limit initial now next reading turn [] at (subst (λ left. Reads now [] left) (sym same) (unread now)) (omega arith)
 
 -- nothing was read of it
 pub nothing_read : (limit : ℕ) (left : Option (List ℕ)) → ReadsNoFurther 65536 limit left left
 nothing_read limit left = record { before = []; piece = []; sound = sound_at_start limit; at_once = omega arith; read = unread left }
 
 -- memory was wanting before
-pub wants_at_start : (limit : ℕ) (left : Option (List ℕ)) → WantsMemory 65536 limit left left
-wants_at_start limit left = inl (unread left)
+pub wants_at_start : (wants : Type 0) (limit : ℕ) (left : Option (List ℕ)) → WantsMemoryBy wants 65536 limit left left
+wants_at_start wants limit left = inl (unread left)
 
 -- what one read gives is no longer than what it was read into
 pub at_once : (n len : ℕ) (into : List ℕ) → length into ≡ len → len ≡ 65536 → n ≤ length into → length (take n into) ≤ 65536
@@ -126,11 +120,11 @@ held_all (Some told) (Some rest) text lost end =
     let same : told ≡ text ++ rest = cc in
     same ∙ ap (λ r. text ++ r) end ∙ append-nil text
 
--- the file of what was read to the end
-pub file_read : (limit : ℕ) (initial now : Option (List ℕ)) (parser : ParserState) (turn : ℕ) (file : FileRead)
-    → (at : IsAtTurn limit initial parser now turn) → IsEnd now
-    → IsOfFileText file limit at.text → ReadsText limit initial file
-file_read limit initial now parser turn file at end of = record { text = at.text; held = held_all initial now at.text at.lost end; of_text = of }
+-- what is told of the text that was read to the end
+pub file_read : {K : Type 0} (keeps : Keeps K) (limit : ℕ) (initial now : Option (List ℕ)) (reading : Reading K) (turn : ℕ) (ended : Ended K)
+    → (at : IsAtTurn keeps limit initial reading now turn) → IsEnd now
+    → IsEndedText keeps limit at.text ended → ReadsEnded keeps limit initial ended
+file_read keeps limit initial now reading turn ended at end of = record { text = at.text; held = held_all initial now at.text at.lost end; of_text = of }
 
 -- ---- causes
 
@@ -163,7 +157,7 @@ refused_of limit text fault refused other = by (cause_meant fault.cause) refl re
     by None h of = absurd (other (memory_meant fault.cause h))
     by (Some cause) h of = record { cause = cause; cause_is = h; is = of }
 
--- a fault that is told as a file's is the parser's, and no want of memory
+-- a fault that is told as a file's is the reading's, and no want of memory
 told_as_file : {A : Type 0} (fault told : FileFault) (result : ReadFault) → (fault.cause ≡ Memory → result ≡ read.Memory)
     → (fault.cause ≢ Memory → result ≡ read.File fault)
     → ◌≡◌ {A = Result A ReadFault} (Err result) (Err (read.File told)) → (fault ≡ told) × (fault.cause ≢ Memory)
@@ -184,7 +178,7 @@ memory_or_not After = inr (λ same. cc)
 memory_or_not TooMany = inr (λ same. cc)
 memory_or_not Memory = inl refl
 
--- want of memory is told where the parser told it
+-- want of memory is told where the reading told it
 told_as_memory : {A : Type 0} (fault : FileFault) (result : ReadFault) → (fault.cause ≢ Memory → result ≡ read.File fault)
     → ◌≡◌ {A = Result A ReadFault} (Err result) (Err read.Memory) → fault.cause ≡ Memory
 told_as_memory fault result file is = by (memory_or_not fault.cause)
@@ -195,7 +189,7 @@ told_as_memory fault result file is = by (memory_or_not fault.cause)
 
 -- ---- faults
 
--- the fault of a text that the parser refused at its end
+-- the fault of a text that the reading refused at its end
 pub fault_at_end : {A : Type 0} (limit : ℕ) (text : List ℕ) (fault told : FileFault) (result : ReadFault) → IsRefused limit text fault
     → (fault.cause ≡ Memory → result ≡ read.Memory) → (fault.cause ≢ Memory → result ≡ read.File fault)
     → ◌≡◌ {A = Result A ReadFault} (Err result) (Err (read.File told)) → IsFaultOf limit text told
@@ -204,35 +198,36 @@ fault_at_end limit text fault told result refused memory file is =
     subst (IsFaultOf limit text) as_file.0 (refused_of limit text fault refused as_file.1)
 
 -- want of memory at the end is at the last record
-pub memory_at_end : {A : Type 0} (limit : ℕ) (text : List ℕ) (parser : ParserState) (fault : FileFault) (result : ReadFault) → HasRead parser limit text
-    → HasNotFailed parser
-    → IsRefused limit text fault → NamesLast parser fault → (fault.cause ≢ Memory → result ≡ read.File fault)
+pub memory_at_end : {K : Type 0} (keeps : Keeps K) (wants : Type 0) {A : Type 0} (limit : ℕ) (text : List ℕ) (reading : Reading K) (fault : FileFault) (result : ReadFault) → IsReading keeps reading limit text
+    → IsRefused limit text fault → IsLater keeps wants reading fault → IsLast keeps reading fault → (fault.cause ≢ Memory → result ≡ read.File fault)
     → ◌≡◌ {A = Result A ReadFault} (Err result) (Err read.Memory)
-    → WantsMemoryAt limit (lines_of text) (length (lines_of text))
-memory_at_end limit text parser fault result has clean refused last file is =
-    let wanting = told_as_memory fault result file is in
-    subst (WantsMemoryAt limit (lines_of text)) (last clean wanting limit text has)
-    (subst (λ cause. IsCauseOf limit text fault.number (cause_meant cause)) wanting refused)
+    → wants × WantsMemoryAt limit (lines_of text) (length (lines_of text))
+memory_at_end keeps wants limit text reading fault result has refused later last file is =
+    let wanting = told_as_memory fault result file is in (
+      (later limit text has).1 wanting,
+      subst (WantsMemoryAt limit (lines_of text)) (last wanting limit text has)
+          (subst (λ cause. IsCauseOf limit text fault.number (cause_meant cause)) wanting refused),
+    )
 
 -- it is that of what the source held
-pub refused_at_end : (limit : ℕ) (initial now : Option (List ℕ)) (parser : ParserState) (turn : ℕ) (fault : FileFault)
-    → (at : IsAtTurn limit initial parser now turn)
+pub refused_at_end : {K : Type 0} (keeps : Keeps K) (limit : ℕ) (initial now : Option (List ℕ)) (reading : Reading K) (turn : ℕ) (fault : FileFault)
+    → (at : IsAtTurn keeps limit initial reading now turn)
     → IsEnd now → IsFaultOf limit at.text fault → RefusesText limit initial fault
-refused_at_end limit initial now parser turn fault at end is = record { text = at.text; held = held_all initial now at.text at.lost end; is = is }
+refused_at_end keeps limit initial now reading turn fault at end is = record { text = at.text; held = held_all initial now at.text at.lost end; is = is }
 
 -- and so is want of memory at the end
-pub wants_at_end : (limit : ℕ) (initial now next : Option (List ℕ)) (parser : ParserState) (turn : ℕ) → (at : IsAtTurn limit initial parser now turn)
+pub wants_at_end : {K : Type 0} (keeps : Keeps K) (wants : Type 0) (limit : ℕ) (initial now next : Option (List ℕ)) (reading : Reading K) (turn : ℕ) → (at : IsAtTurn keeps limit initial reading now turn)
     → IsEnd now
-    → WantsMemoryAt limit (lines_of at.text) (length (lines_of at.text)) → WantsMemory 65536 limit initial next
-wants_at_end limit initial now next parser turn at end wanting =
-    inr (inr (record { text = at.text; held = held_all initial now at.text at.lost end; wanting = wanting }))
+    → wants × WantsMemoryAt limit (lines_of at.text) (length (lines_of at.text)) → WantsMemoryBy wants 65536 limit initial next
+wants_at_end keeps wants limit initial now next reading turn at end wanting =
+    inr (wanting.0, inr (record { text = at.text; held = held_all initial now at.text at.lost end; wanting = wanting.1 }))
 
 -- and a fault that was told before
-pub refused_before : {A : Type 0} (limit : ℕ) (initial now next : Option (List ℕ)) (parser : ParserState) (turn : ℕ) (piece : List ℕ) (fault told : FileFault)
-    (result : ReadFault) → (at : IsAtTurn limit initial parser now turn) → Reads now piece next → IsFaultTold limit (at.text ++ piece) fault
+pub refused_before : {K : Type 0} (keeps : Keeps K) {A : Type 0} (limit : ℕ) (initial now next : Option (List ℕ)) (reading : Reading K) (turn : ℕ) (piece : List ℕ) (fault told : FileFault)
+    (result : ReadFault) → (at : IsAtTurn keeps limit initial reading now turn) → Reads now piece next → IsFaultTold limit (at.text ++ piece) fault
     → (fault.cause ≡ Memory → result ≡ read.Memory) → (fault.cause ≢ Memory → result ≡ read.File fault)
     → ◌≡◌ {A = Result A ReadFault} (Err result) (Err (read.File told)) → RefusesText limit initial told
-refused_before limit initial now next parser turn piece fault told result at more so_far memory file is =
+refused_before keeps limit initial now next reading turn piece fault told result at more so_far memory file is =
     by initial next (lost_more initial now next at.text piece at.lost more)
   where
     as_file : (fault ≡ told) × (fault.cause ≢ Memory)
@@ -247,22 +242,26 @@ refused_before limit initial now next parser turn piece fault told result at mor
     by (Some bytes) (Some rest) lost = record { text = (at.text ++ piece) ++ rest; held = cc; is = of rest }
 
 -- want of memory before the end is at a record that the piece is the first to tell
-pub wants_before : {A : Type 0} (limit : ℕ) (initial now next : Option (List ℕ)) (parser : ParserState) (turn : ℕ) (piece : List ℕ) (fault : FileFault)
+pub wants_before : {K : Type 0} (keeps : Keeps K) (wants : Type 0) {A : Type 0} (limit : ℕ) (initial now next : Option (List ℕ)) (reading : Reading K) (turn : ℕ) (piece : List ℕ) (fault : FileFault)
     (result : ReadFault)
-    → (at : IsAtTurn limit initial parser now turn) → Reads now piece next → length piece ≤ 65536 → IsFaultTold limit (at.text ++ piece) fault
-    → NamesLater parser fault
-    → (fault.cause ≢ Memory → result ≡ read.File fault) → ◌≡◌ {A = Result A ReadFault} (Err result) (Err read.Memory) → WantsMemory 65536 limit initial next
-wants_before limit initial now next parser turn piece fault result at more few so_far later file is =
+    → (at : IsAtTurn keeps limit initial reading now turn) → Reads now piece next → length piece ≤ 65536 → IsFaultTold limit (at.text ++ piece) fault
+    → IsLater keeps wants reading fault
+    → (fault.cause ≢ Memory → result ≡ read.File fault) → ◌≡◌ {A = Result A ReadFault} (Err result) (Err read.Memory) → WantsMemoryBy wants 65536 limit initial next
+wants_before keeps wants limit initial now next reading turn piece fault result at more few so_far later file is =
     let wanting = told_as_memory fault result file is in
-    inr (inl (record {
-      before = at.text;
-      piece = piece;
-      read = lost_more initial now next at.text piece at.lost more;
-      at_once = few;
-      number = fault.number;
-      first = later at.clean limit at.text at.read;
-      wanting = subst (λ cause. IsToldSoFar limit (at.text ++ piece) fault.number (cause_meant cause)) wanting so_far;
-    }))
+    let new = later limit at.text at.read in
+    inr (
+      new.1 wanting,
+      inl (record {
+        before = at.text;
+        piece = piece;
+        read = lost_more initial now next at.text piece at.lost more;
+        at_once = few;
+        number = fault.number;
+        first = new.0;
+        wanting = subst (λ cause. IsToldSoFar limit (at.text ++ piece) fault.number (cause_meant cause)) wanting so_far;
+      }),
+    )
 
 -- a fault is told as itself
 pub told_apart : {A : Type 0} (result other : ReadFault) → result ≢ other → ◌≡◌ {A = Result A ReadFault} (Err result) (Err other) → ⊥
@@ -278,3 +277,29 @@ pub same_front : (n len : ℕ) (piece into items : List ℕ) → piece ≡ take 
     → take n piece ≡ take n into
 same_front n len piece into items is whole within =
     ap (take n) (is ∙ take-append-le len into (drop (length into) items) (omega arith)) ∙ take-take n len into (omega arith)
+
+-- ---- want of memory
+
+-- a fault that is told is told as itself
+same_fault : {A B : Type 0} (fault told : ReadFault) → ◌≡◌ {A = Result A ReadFault} (Err fault) (Err told) → ◌≡◌ {A = Result B ReadFault} (Err fault) (Err told)
+same_fault fault told is = let same : fault ≡ told = cc in ap Err same
+
+-- where it may be wanting
+pub wants_any : {A B : Type 0} (wants : Type 0) (limit : ℕ) (old new : Option (List ℕ)) (fault : ReadFault)
+    → (◌≡◌ {A = Result A ReadFault} (Err fault) (Err read.Memory) → WantsMemoryBy wants 65536 limit old new)
+    → ◌≡◌ {A = Result B ReadFault} (Err fault) (Err read.Memory) → WantsMemory 65536 limit old new
+wants_any wants limit old new fault told is = by (told (same_fault fault read.Memory is))
+  where
+    by : WantsMemoryBy wants 65536 limit old new → WantsMemory 65536 limit old new
+    by (inl unread_yet) = inl unread_yet
+    by (inr wanting) = inr wanting.1
+
+-- and where it may not
+pub wants_none : {A B : Type 0} (limit : ℕ) (old new : Option (List ℕ)) (fault : ReadFault)
+    → (◌≡◌ {A = Result A ReadFault} (Err fault) (Err read.Memory) → WantsMemoryBy ⊥ 65536 limit old new)
+    → ◌≡◌ {A = Result B ReadFault} (Err fault) (Err read.Memory) → Reads old [] new
+wants_none limit old new fault told is = by (told (same_fault fault read.Memory is))
+  where
+    by : WantsMemoryBy ⊥ 65536 limit old new → Reads old [] new
+    by (inl unread_yet) = unread_yet
+    by (inr wanting) = absurd wanting.0

@@ -21,3 +21,22 @@ pub record IsRead (file : FileRead) : Type 0 where
   pub of_records : IsOfRecords file records
   pub is_file : IsFile records
   pub few : length records ≤ 4_294_967_294
+
+-- the header's line, how many records there are, and how many changes they make
+pub record FileCounted : Type 0 where
+  pub header_line : List ℕ
+  pub record_count : ℕ
+  pub change_count : ℕ
+
+-- it tells of these records
+pub record IsCountOfRecords (count : FileCounted) (records : List (List ℕ)) : Type 0 where
+  pub header_is : count.header_line ≡ slice_index_or records 0 []
+  pub count_is : count.record_count ≡ length records
+  pub changes_are : count.change_count ≡ length (changes records)
+
+-- it tells of some records, which are a file; their numbers are at most 4,294,967,294
+pub record IsCounted (count : FileCounted) : Type 0 where
+  pub records : List (List ℕ)
+  pub of_records : IsCountOfRecords count records
+  pub is_file : IsFile records
+  pub few : length records ≤ 4_294_967_294

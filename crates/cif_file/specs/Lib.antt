@@ -4,6 +4,8 @@ pub mod Joined
 pub mod Acts
 pub mod JourneyRead
 pub mod UnitRead
+pub mod KeeperRead
+pub mod EndedRead
 pub mod RecordsRead
 pub mod ParserRead
 pub mod Cut

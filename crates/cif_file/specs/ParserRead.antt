@@ -12,28 +12,26 @@ use Rattle.docker_laws.specs.LinesTold.{told_lines, open_line}
 use Rattle.cif_file.specs.declared.fault.FileFault.{FileFault}
 use Rattle.cif_file.specs.declared.fault.FileCause.{FileCause}
 use Rattle.cif_file.specs.declared.fault.FileCause.TheVariants.{Memory}
+use Rattle.cif_file.specs.declared.ended.Ended.{Ended}
 use Rattle.cif_file.specs.declared.front.Front.{Front}
+use Rattle.cif_file.specs.declared.kept.Kept.{Kept}
 use Rattle.cif_file.specs.declared.records.Records.{Records}
 use Rattle.cif_file.specs.declared.parser.Reading.{Reading}
 use Rattle.cif_file.specs.Meaning.{cause_meant}
-use Rattle.cif_file.specs.FileRead.{FileRead, IsOfRecords}
+use Rattle.cif_file.specs.FileRead.{FileRead, FileCounted, IsOfRecords, IsCountOfRecords}
+use Rattle.cif_file.specs.KeeperRead.{Keeps, KeepsAll}
+use Rattle.cif_file.specs.EndedRead.{IsEnded}
 use Rattle.cif_file.specs.RecordsRead.{HasRecords, GoesOnWith}
 
 abbrev Lines : Type 0
 Lines = List (List ℕ)
 
 -- these records were taken, within the limit
-pub record HasCounted (state : Records) (limit : ℕ) (records : Lines) : Type 0 where
+pub record HasCounted {K : Type 0} (keeps : Keeps K) (state : Records K) (limit : ℕ) (records : Lines) : Type 0 where
   pub limit_is : state.limit ≡ limit
   pub next_is : state.next ≡ length records + 1
   pub within : length records ≤ limit
-  pub has : HasRecords state.front records
-
--- some records were taken, within some limit
-pub record HasCountedSome (state : Records) : Type 0 where
-  pub limit : ℕ
-  pub records : Lines
-  pub has : HasCounted state limit records
+  pub has : HasRecords keeps state.front records
 
 -- a record is at fault behind these, for this cause
 pub record IsCauseNext (limit : ℕ) (records : Lines) (line : List ℕ) (cause : model.FileCause) : Type 0 where
@@ -42,15 +40,15 @@ pub record IsCauseNext (limit : ℕ) (records : Lines) (line : List ℕ) (cause 
   pub here : (limit ≤ length records) ⊎ (next_place place line ≡ None)
   pub is : cause_of limit (length records) place line ≡ cause
 
--- a cause that was told of a record; memory was wanting only within the limit, and for a record that goes on
-abbrev pub IsCauseBehind : ℕ → Lines → List ℕ → Option model.FileCause → Type 0
-IsCauseBehind limit records line None = (length records < limit) × GoesOnWith records line
-IsCauseBehind limit records line (Some cause) = IsCauseNext limit records line cause
+-- a cause that was told of a record; memory was wanting only where it may be, within the limit, and for a record that goes on
+abbrev pub IsCauseBehind : Type 0 → ℕ → Lines → List ℕ → Option model.FileCause → Type 0
+IsCauseBehind wants limit records line None = wants × (length records < limit) × GoesOnWith records line
+IsCauseBehind wants limit records line (Some cause) = IsCauseNext limit records line cause
 
 -- a fault that was told of the record behind these
-pub record IsFaultNext (limit : ℕ) (records : Lines) (line : List ℕ) (fault : FileFault) : Type 0 where
+pub record IsFaultNext (wants : Type 0) (limit : ℕ) (records : Lines) (line : List ℕ) (fault : FileFault) : Type 0 where
   pub number : fault.number ≡ length records + 1
-  pub cause : IsCauseBehind limit records line (cause_meant fault.cause)
+  pub cause : IsCauseBehind wants limit records line (cause_meant fault.cause)
 
 -- a fault that was told of a record of more than 81 bytes behind these
 pub record IsLongNext (limit : ℕ) (records : Lines) (fault : FileFault) : Type 0 where
@@ -64,37 +62,41 @@ abbrev pub IsNoEndOf : Lines → FileFault → Type 0
 IsNoEndOf records fault = (fault.number ≡ length records + 1) × (cause_meant fault.cause ≡ Some no_end) × (¬ IsFile records)
 
 -- a cause that was told of a line, within the limit
-abbrev pub RefusesWithin : Front → List ℕ → FileCause → Type 0
-RefusesWithin front line cause =
-    (limit : ℕ) (records : Lines) → HasRecords front records → length records < limit → IsCauseBehind limit records line (cause_meant cause)
+abbrev pub RefusesWithin : {K : Type 0} → Keeps K → Type 0 → Front K → List ℕ → FileCause → Type 0
+RefusesWithin keeps wants front line cause =
+    (limit : ℕ) (records : Lines) → HasRecords keeps front records → length records < limit → IsCauseBehind wants limit records line (cause_meant cause)
 
 -- the line was taken, and counted
-abbrev pub CountsNext : Records → List ℕ → Records → Type 0
-CountsNext old line new = (limit : ℕ) (records : Lines) → HasCounted old limit records → HasCounted new limit (records ++ line ∷ [])
+abbrev pub CountsNext : {K : Type 0} → Keeps K → Records K → List ℕ → Records K → Type 0
+CountsNext keeps old line new = (limit : ℕ) (records : Lines) → HasCounted keeps old limit records → HasCounted keeps new limit (records ++ line ∷ [])
 
 -- a fault that was told of the line
-abbrev pub FaultsNext : Records → List ℕ → FileFault → Type 0
-FaultsNext state line fault = (limit : ℕ) (records : Lines) → HasCounted state limit records → IsFaultNext limit records line fault
+abbrev pub FaultsNext : {K : Type 0} → Keeps K → Type 0 → Records K → List ℕ → FileFault → Type 0
+FaultsNext keeps wants state line fault = (limit : ℕ) (records : Lines) → HasCounted keeps state limit records → IsFaultNext wants limit records line fault
 
 -- the records that were counted are a file, which this is
-abbrev pub EndsCounted : Records → FileRead → Type 0
-EndsCounted state file = (limit : ℕ) (records : Lines) → HasCounted state limit records → IsFile records × IsOfRecords file records
+abbrev pub EndsCounted : {K : Type 0} → Keeps K → Records K → Ended K → Type 0
+EndsCounted keeps state ended = (limit : ℕ) (records : Lines) → HasCounted keeps state limit records → IsFile records × IsEnded keeps records ended
 
 -- they are none, which is told behind them
-abbrev pub EndsUnended : Records → FileFault → Type 0
-EndsUnended state fault = (limit : ℕ) (records : Lines) → HasCounted state limit records → IsNoEndOf records fault
+abbrev pub EndsUnended : {K : Type 0} → Keeps K → Records K → FileFault → Type 0
+EndsUnended keeps state fault = (limit : ℕ) (records : Lines) → HasCounted keeps state limit records → IsNoEndOf records fault
 
 -- no fault was told: the lines that are told were taken, and the line behind them is open
-pub record IsReading (reading : Reading) (limit : ℕ) (text : List ℕ) : Type 0 where
-  pub counted : HasCounted reading.records limit (told_lines text)
+pub record IsReading {K : Type 0} (keeps : Keeps K) (reading : Reading K) (limit : ℕ) (text : List ℕ) : Type 0 where
+  pub counted : HasCounted keeps reading.records limit (told_lines text)
   pub partial_is : reading.partial.items ≡ open_line text
   pub short : length (open_line text) ≤ 81
 
--- the same, of some text under some limit
-pub record IsReadingSome (reading : Reading) : Type 0 where
-  pub limit : ℕ
-  pub text : List ℕ
-  pub is : IsReading reading limit text
+-- the text is one of a file of at most so many records, of which this is told
+pub record IsEndedText {K : Type 0} (keeps : Keeps K) (limit : ℕ) (text : List ℕ) (ended : Ended K) : Type 0 where
+  pub records : Lines
+  pub is_text : IsFileText limit text records
+  pub of_records : IsEnded keeps records ended
+
+-- what was read is the text of a file, of which this is told
+abbrev pub EndsBy : {K : Type 0} → Keeps K → Reading K → Ended K → Type 0
+EndsBy keeps reading ended = (limit : ℕ) (text : List ℕ) → IsReading keeps reading limit text → IsEndedText keeps limit text ended
 
 -- memory was wanting at the record of this number: one of these, within the limit, and some file begins with those up to it
 pub record WantsMemoryAt (limit : ℕ) (records : Lines) (number : ℕ) : Type 0 where
@@ -122,11 +124,11 @@ IsRefused limit text fault = IsCauseOf limit text fault.number (cause_meant faul
 
 -- what a parser keeps
 pub record ParserState : Type 0 where
-  pub reading : Reading
+  pub reading : Reading Kept
   pub fault : Option FileFault
 
-abbrev pub IsReadingOrFault : Reading → ℕ → List ℕ → Option FileFault → Type 0
-IsReadingOrFault reading limit text None = IsReading reading limit text
+abbrev pub IsReadingOrFault : Reading Kept → ℕ → List ℕ → Option FileFault → Type 0
+IsReadingOrFault reading limit text None = IsReading KeepsAll reading limit text
 IsReadingOrFault reading limit text (Some fault) = IsFaultTold limit text fault
 
 -- the parser was fed this text, under this limit on records
@@ -145,6 +147,12 @@ pub record IsOfFileText (file : FileRead) (limit : ℕ) (text : List ℕ) : Type
   pub is_text : IsFileText limit text records
   pub of_records : IsOfRecords file records
 
+-- the text is one of a file of at most so many records, and the counts are those of the file
+pub record IsCountOfFileText (count : FileCounted) (limit : ℕ) (text : List ℕ) : Type 0 where
+  pub records : List (List ℕ)
+  pub is_text : IsFileText limit text records
+  pub of_records : IsCountOfRecords count records
+
 -- the parser told this fault
 abbrev pub HasFailed : ParserState → FileFault → Type 0
 HasFailed parser fault = parser.fault ≡ Some fault
@@ -153,17 +161,18 @@ HasFailed parser fault = parser.fault ≡ Some fault
 abbrev pub HasNotFailed : ParserState → Type 0
 HasNotFailed parser = (fault : FileFault) → ¬ HasFailed parser fault
 
--- no text that was read tells the record of the fault
-abbrev pub IsLater : Reading → FileFault → Type 0
-IsLater reading fault = (limit : ℕ) (text : List ℕ) → IsReading reading limit text → lines_told text < fault.number
+-- no text that was read tells the record of the fault; and it is no want of memory but where memory may be wanting
+abbrev pub IsLater : {K : Type 0} → Keeps K → Type 0 → Reading K → FileFault → Type 0
+IsLater keeps wants reading fault =
+    (limit : ℕ) (text : List ℕ) → IsReading keeps reading limit text → (lines_told text < fault.number) × (fault.cause ≡ Memory → wants)
 
 -- the same of a parser that told no fault: the record is none of those that the texts before this call told
 abbrev pub NamesLater : ParserState → FileFault → Type 0
 NamesLater parser fault = HasNotFailed parser → (limit : ℕ) (text : List ℕ) → HasRead parser limit text → lines_told text < fault.number
 
 -- where memory was wanting, it was at the last record of the text that was read
-abbrev pub IsLast : Reading → FileFault → Type 0
-IsLast reading fault = fault.cause ≡ Memory → (limit : ℕ) (text : List ℕ) → IsReading reading limit text → fault.number ≡ length (lines_of text)
+abbrev pub IsLast : {K : Type 0} → Keeps K → Reading K → FileFault → Type 0
+IsLast keeps reading fault = fault.cause ≡ Memory → (limit : ℕ) (text : List ℕ) → IsReading keeps reading limit text → fault.number ≡ length (lines_of text)
 
 -- the same of a parser that told no fault
 abbrev pub NamesLast : ParserState → FileFault → Type 0

@@ -1,10 +1,9 @@
 -- What the reader of a file's records has read.
-use Rattle.std.specs.Prelude.{◌≡◌, ℕ, ◌+◌, ◌<◌, ◌≤◌, true, false, List, [], ◌∷◌, ◌++◌, length, map, Option, Some, None, if◌then◌else◌}
+use Rattle.std.specs.Prelude.{◌≡◌, ℕ, ◌+◌, ◌<◌, true, false, List, [], ◌∷◌, ◌++◌, length, Option, Some, None}
 use Rattle.docker_model.specs.records.Record.{IsRecord, kind_of}
 use Rattle.docker_model.specs.file.File.{first_record, follows_basic, IsFile, IsSchedule, BeginsSchedule}
-use Rattle.docker_model.specs.file.Change.{changes, schedule_named, schedule_body, delete, put}
+use Rattle.docker_model.specs.file.Change.{changes, schedule_named}
 use Rattle.docker_model.specs.records.Field.{as_new}
-use Rattle.docker_model.specs.file.Change as model
 use Rattle.docker_model.specs.file.FileFault as fault
 use Rattle.docker_laws.specs.ScheduleStage.{Stage, stage_of}
 use Rattle.docker_laws.specs.FileStage.{before_header, between_units, in_schedule, after_end, next_place, IsPlaceOf}
@@ -16,8 +15,9 @@ use Rattle.cif_file.specs.declared.front.FileStage.{FileStage}
 use Rattle.cif_file.specs.declared.front.FileStage.TheVariants.{BeforeHeader, BetweenUnits, InSchedule, AfterEnd}
 use Rattle.cif_file.specs.declared.front.Front.{Front}
 use Rattle.cif_file.specs.declared.fault.FileCause.{FileCause}
-use Rattle.cif_file.specs.Meaning.{key_meant, change_meant, cause_meant}
+use Rattle.cif_file.specs.Meaning.{key_meant, cause_meant}
 use Rattle.cif_file.specs.JourneyRead.{progress_meant, HasLines}
+use Rattle.cif_file.specs.KeeperRead.{Keeps}
 
 abbrev Lines : Type 0
 Lines = List (List ℕ)
@@ -32,8 +32,8 @@ abbrev pub header_of : Lines → Option (List ℕ)
 header_of [] = None
 header_of (first ∷ records) = Some first
 
--- a schedule is being read: its lines, which the reader keeps with the first as new, and what stands before them, whose changes were made
-pub record IsOpen (opened : Opened) (lines_kept : Lines) (made : List model.Change) (place : law.Place) (records : Lines) : Type 0 where
+-- a schedule is being read: its lines, which are kept with the first as new, and what stands before them, whose changes were made
+pub record IsOpen {K : Type 0} (keeps : Keeps K) (opened : Opened) (keeper : K) (place : law.Place) (records : Lines) : Type 0 where
   pub stage : Stage
   pub lines : Lines
   pub before : Lines
@@ -43,37 +43,29 @@ pub record IsOpen (opened : Opened) (lines_kept : Lines) (made : List model.Chan
   pub number_is : opened.number ≡ length before + 1
   pub key_is : key_meant (key.Schedule opened.key) ≡ schedule_named (first_record lines)
   pub progress_is : HasLines (progress_meant opened.progress) lines
-  pub lines_are : lines_kept ≡ with_new_first lines
-  pub made_are : made ≡ changes before
+  pub kept : keeps keeper (with_new_first lines) (changes before)
 
 -- the place of the code is that of the records, and the changes were made
-abbrev pub IsKept : FileStage → Lines → List model.Change → law.Place → Lines → Type 0
-IsKept BeforeHeader lines_kept made place records = (place ≡ before_header) × (made ≡ changes records)
-IsKept BetweenUnits lines_kept made place records = (place ≡ between_units) × (made ≡ changes records)
-IsKept (InSchedule opened) lines_kept made place records = IsOpen opened lines_kept made place records
-IsKept AfterEnd lines_kept made place records = (place ≡ after_end) × (made ≡ changes records)
+abbrev pub IsKept : {K : Type 0} → Keeps K → FileStage → K → law.Place → Lines → Type 0
+IsKept keeps BeforeHeader keeper place records = (place ≡ before_header) × keeps keeper [] (changes records)
+IsKept keeps BetweenUnits keeper place records = (place ≡ between_units) × keeps keeper [] (changes records)
+IsKept keeps (InSchedule opened) keeper place records = IsOpen keeps opened keeper place records
+IsKept keeps AfterEnd keeper place records = (place ≡ after_end) × keeps keeper [] (changes records)
 
 -- the reader has taken these records, with which some file begins
-pub record HasRecords (front : Front) (records : Lines) : Type 0 where
+pub record HasRecords {K : Type 0} (keeps : Keeps K) (front : Front K) (records : Lines) : Type 0 where
   pub place : law.Place
   pub at : IsPlaceOf records place
   pub header_is : front.header ≡ header_of records
-  pub kept_are : IsKept front.stage front.lines.items (map change_meant front.changes.items) place records
-
--- the reader has taken so many records, and no more than can be numbered
-pub record HasRecordsCounted (front : Front) (count : ℕ) : Type 0 where
-  pub records : Lines
-  pub has : HasRecords front records
-  pub counted : count ≡ length records
-  pub few : count ≤ 4_294_967_294
+  pub kept_are : IsKept keeps front.stage front.keeper place records
 
 -- all units of the records are whole, and their changes were made: what begins anew may follow
-pub record IsOver (front : Front) (records : Lines) : Type 0 where
+pub record IsOver {K : Type 0} (keeps : Keeps K) (front : Front K) (records : Lines) : Type 0 where
   pub place : law.Place
   pub at : IsPlaceOf records place
   pub header_is : front.header ≡ header_of records
   pub some : 0 < length records
-  pub made_are : map change_meant front.changes.items ≡ changes records
+  pub kept : keeps front.keeper [] (changes records)
   pub anew : (line : List ℕ) → follows_basic (kind_of line) ≡ false → next_place place line ≡ next_place between_units line
 
 -- a line does not go on with a file that begins with the records, for this cause
@@ -87,25 +79,17 @@ pub record IsNoNext (records : Lines) (line : List ℕ) (cause : fault.FileCause
 abbrev pub GoesOnWith : Lines → List ℕ → Type 0
 GoesOnWith records line = (next : law.Place) × IsPlaceOf (records ++ line ∷ []) next
 
--- a cause that was told; memory was wanting only for a line that goes on
-abbrev pub IsNoNextCause : Lines → List ℕ → Option fault.FileCause → Type 0
-IsNoNextCause records line None = GoesOnWith records line
-IsNoNextCause records line (Some cause) = IsNoNext records line cause
-
--- the change of a schedule with these lines
-abbrev pub change_opened : Opened → Lines → model.Change
-change_opened opened lines_kept = record {
-  number = opened.number;
-  key = key_meant (key.Schedule opened.key);
-  act = if opened.progress.deletion then delete else put (schedule_body lines_kept);
-}
+-- a cause that was told; memory was wanting only where it may be, and for a line that goes on
+abbrev pub IsNoNextCause : Type 0 → Lines → List ℕ → Option fault.FileCause → Type 0
+IsNoNextCause wants records line None = wants × GoesOnWith records line
+IsNoNextCause wants records line (Some cause) = IsNoNext records line cause
 
 -- the lines are a whole schedule, as far as its progress tells
 abbrev pub IsWholeBy : Opened → Type 0
 IsWholeBy opened = (lines : Lines) → HasLines (progress_meant opened.progress) lines → IsSchedule lines
 
 -- the records end in lines of a schedule that goes on with this one, and then stands as told
-pub record StandsBefore (front : Front) (opened : Opened) (line : List ℕ) (records : Lines) : Type 0 where
+pub record StandsBefore {K : Type 0} (keeps : Keeps K) (front : Front K) (opened : Opened) (line : List ℕ) (records : Lines) : Type 0 where
   pub is : IsRecord line
   pub follows : follows_basic (kind_of line) ≡ true
   pub stage : Stage
@@ -119,30 +103,29 @@ pub record StandsBefore (front : Front) (opened : Opened) (line : List ℕ) (rec
   pub key_is : key_meant (key.Schedule opened.key) ≡ schedule_named (first_record lines)
   pub progress_is : HasLines (progress_meant opened.progress) (lines ++ line ∷ [])
   pub goes_on : BeginsSchedule (lines ++ line ∷ [])
-  pub lines_are : front.lines.items ≡ with_new_first lines
-  pub made_are : map change_meant front.changes.items ≡ changes before
+  pub kept : keeps front.keeper (with_new_first lines) (changes before)
 
 -- ---- what the reader does with a line
 
 -- it has the line behind the records that it had
-abbrev pub TakesLine : Front → List ℕ → Front → Type 0
-TakesLine old line new = (records : Lines) → HasRecords old records → HasRecords new (records ++ line ∷ [])
+abbrev pub TakesLine : {K : Type 0} → Keeps K → Front K → List ℕ → Front K → Type 0
+TakesLine keeps old line new = (records : Lines) → HasRecords keeps old records → HasRecords keeps new (records ++ line ∷ [])
 
 -- the same of a line whose number counts those records and it
-abbrev pub TakesNext : Front → ℕ → List ℕ → Front → Type 0
-TakesNext old number line new =
-    (records : Lines) → HasRecords old records → number ≡ length records + 1 → HasRecords new (records ++ line ∷ [])
+abbrev pub TakesNext : {K : Type 0} → Keeps K → Front K → ℕ → List ℕ → Front K → Type 0
+TakesNext keeps old number line new =
+    (records : Lines) → HasRecords keeps old records → number ≡ length records + 1 → HasRecords keeps new (records ++ line ∷ [])
 
 -- the same of a line that begins anew behind whole units
-abbrev pub BeginsAnew : Front → ℕ → List ℕ → Front → Type 0
-BeginsAnew old number line new =
-    (records : Lines) → IsOver old records → number ≡ length records + 1 → HasRecords new (records ++ line ∷ [])
+abbrev pub BeginsAnew : {K : Type 0} → Keeps K → Front K → ℕ → List ℕ → Front K → Type 0
+BeginsAnew keeps old number line new =
+    (records : Lines) → IsOver keeps old records → number ≡ length records + 1 → HasRecords keeps new (records ++ line ∷ [])
 
 -- it told this cause of a line, which is why the line does not go on with the records that it has
-abbrev pub RefusesLine : Front → List ℕ → FileCause → Type 0
-RefusesLine front line cause = (records : Lines) → HasRecords front records → IsNoNextCause records line (cause_meant cause)
+abbrev pub RefusesLine : {K : Type 0} → Keeps K → Type 0 → Front K → List ℕ → FileCause → Type 0
+RefusesLine keeps wants front line cause = (records : Lines) → HasRecords keeps front records → IsNoNextCause wants records line (cause_meant cause)
 
 -- the same where those records are no file
-abbrev pub RefusesUnended : Front → List ℕ → FileCause → Type 0
-RefusesUnended front line cause =
-    (records : Lines) → HasRecords front records → ¬ IsFile records → IsNoNextCause records line (cause_meant cause)
+abbrev pub RefusesUnended : {K : Type 0} → Keeps K → Type 0 → Front K → List ℕ → FileCause → Type 0
+RefusesUnended keeps wants front line cause =
+    (records : Lines) → HasRecords keeps front records → ¬ IsFile records → IsNoNextCause wants records line (cause_meant cause)

@@ -6,10 +6,12 @@ use Rattle.docker_model.specs.file.FileFault.{FileCause, IsFileFault}
 use Rattle.docker_model.specs.file.FileFault as model
 use Rattle.docker_laws.specs.LinesTold.{told_lines}
 use Rattle.cif_line.specs.Device.{Reads}
+use Rattle.cif_file.specs.declared.ended.Ended.{Ended}
 use Rattle.cif_file.specs.declared.fault.FileFault.{FileFault}
 use Rattle.cif_file.specs.Meaning.{cause_meant}
-use Rattle.cif_file.specs.FileRead.{FileRead}
-use Rattle.cif_file.specs.ParserRead.{IsOfFileText, WantsMemoryAt}
+use Rattle.cif_file.specs.FileRead.{FileRead, FileCounted}
+use Rattle.cif_file.specs.KeeperRead.{Keeps}
+use Rattle.cif_file.specs.ParserRead.{IsOfFileText, IsCountOfFileText, IsEndedText, WantsMemoryAt}
 
 -- a source that tells its bytes held this text
 abbrev pub Held : Option (List ℕ) → List ℕ → Type 0
@@ -21,6 +23,18 @@ pub record ReadsText (limit : ℕ) (left : Option (List ℕ)) (file : FileRead) 
   pub text : List ℕ
   pub held : Held left text
   pub of_text : IsOfFileText file limit text
+
+-- the counts are those of a file of which the source held a text, within the limit on records
+pub record CountsText (limit : ℕ) (left : Option (List ℕ)) (count : FileCounted) : Type 0 where
+  pub text : List ℕ
+  pub held : Held left text
+  pub of_text : IsCountOfFileText count limit text
+
+-- the same of what a reader tells of a file
+pub record ReadsEnded {K : Type 0} (keeps : Keeps K) (limit : ℕ) (left : Option (List ℕ)) (ended : Ended K) : Type 0 where
+  pub text : List ℕ
+  pub held : Held left text
+  pub of_text : IsEndedText keeps limit text ended
 
 -- the fault is this text's, and no want of memory
 pub record IsFaultOf (limit : ℕ) (text : List ℕ) (fault : FileFault) : Type 0 where
@@ -57,6 +71,11 @@ pub record WantsLast (limit : ℕ) (left : Option (List ℕ)) : Type 0 where
   pub text : List ℕ
   pub held : Held left text
   pub wanting : WantsMemoryAt limit (lines_of text) (length (lines_of text))
+
+-- memory was wanting: before a byte was read; or, where memory may be wanting for a record, for one up to which none is at fault, or for the last one of such
+-- a text
+abbrev pub WantsMemoryBy : Type 0 → ℕ → ℕ → Option (List ℕ) → Option (List ℕ) → Type 0
+WantsMemoryBy wants most limit old new = Reads old [] new ⊎ (wants × (WantsRecord most limit old new ⊎ WantsLast limit old))
 
 -- memory was wanting: before a byte was read, for a record up to which none is at fault, or for the last one of such a text
 abbrev pub WantsMemory : ℕ → ℕ → Option (List ℕ) → Option (List ℕ) → Type 0

@@ -1,24 +1,24 @@
 //! The records of a file so far.
-ghost use Rattle.std.specs.Prelude.{◌≡◌, ℕ, ◌+◌, ◌↔◌, List, [], ◌∷◌, ◌++◌, length, map, IsOk, IfErr, IsErr, OnOk, MatchOption, Some, true, is_some, IsTrue};
+ghost use Rattle.std.specs.Prelude.{◌≡◌, ℕ, ◌+◌, ◌↔◌, List, [], ◌∷◌, ◌++◌, length, map, IsOk, IfErr, IsErr, OnOk, OnErr, MatchOption, Some, true, is_some, IsTrue};
 ghost use Rattle.docker_model.specs.records.Record.{HasKind, IsRecord, kind_of, basic_schedule};
 ghost use Rattle.docker_model.specs.records.Field.{HasGoodFields};
 ghost use Rattle.docker_model.specs.file.File.{follows_basic, IsFile};
 ghost use Rattle.docker_model.specs.file.Change.{changes};
 ghost use Rattle.docker_laws.specs.FileStage.{unit_by_kind};
 ghost use Rattle.cif_line.specs.Kind.{meaning};
-ghost use Rattle.cif_file.specs.Meaning.{cause_meant, change_meant};
-ghost use Rattle.cif_file.specs.FileRead.{IsOfRecords};
-ghost use Rattle.cif_file.specs.UnitRead.{AppendsChanges};
-ghost use Rattle.cif_file.specs.RecordsRead.{HasRecords, HasRecordsCounted, StandsBefore, IsWholeBy, change_opened, TakesLine, TakesNext, BeginsAnew, RefusesLine, RefusesUnended};
+ghost use Rattle.cif_file.specs.Meaning.{cause_meant};
+ghost use Rattle.cif_file.specs.KeeperRead.{Closes};
+ghost use Rattle.cif_file.specs.EndedRead.{IsEnded};
+ghost use Rattle.cif_file.specs.RecordsRead.{HasRecords, StandsBefore, IsWholeBy, TakesLine, TakesNext, BeginsAnew, RefusesLine, RefusesUnended};
 
-use crate::change::Change;
+use crate::ended::Ended;
 use crate::fault::FileCause;
-use crate::file::CifFile;
 use crate::header_line::HeaderLine;
+use crate::keeper::Keeper;
 use crate::opened::{Opened, opened_schedule};
-use crate::unit::{push, push_changes, unit_cause};
+use crate::unit::unit_cause;
 use cif_line::{Kind, Line, header, kind};
-use std::alloc::{AllocError, Global};
+use std::alloc::AllocError;
 
 /// Where a file is behind its records so far.
 #[derive(Clone, Copy, PartialEq, Eq, Debug)]
@@ -33,14 +33,12 @@ pub(crate) enum FileStage {
     AfterEnd,
 }
 
-/// What a reader keeps of a file's records so far.
+/// What a reader has of a file's records so far.
 #[derive(Debug, Drop)]
-pub(crate) struct Front {
-    alloc: Global,
+pub(crate) struct Front<K> {
     header: Option<HeaderLine>,
     stage: FileStage,
-    lines: Vec<Line>,
-    changes: Vec<Change>,
+    keeper: K,
 }
 
 /// Whether a record of this kind stands in a schedule, behind its basic schedule.
@@ -57,23 +55,22 @@ fn follows_basic(kind: Kind) -> bool
     }
 }
 
-impl Front {
+impl<K: Keeper> Front<K> {
     /// Before the first record.
-    pub(crate) fn new(alloc: Global) -> Front
-        ensures { HasRecords result [] }
+    pub(crate) fn new(keeper: K) -> Front<K>
+        requires { K.keeps keeper [] [] }
+        ensures { HasRecords K.keeps result [] }
     {
         Front {
-            alloc,
             header: None,
             stage: FileStage::BeforeHeader,
-            lines: Vec::new(alloc),
-            changes: Vec::new(alloc),
+            keeper,
         }
     }
 
     /// Whether the trailer was read.
     pub(crate) fn is_ended(&self) -> bool
-        ensures { (records : List (List ℕ)) → HasRecords self.now records →
+        ensures { (records : List (List ℕ)) → HasRecords K.keeps self.now records →
             IsTrue result ↔ IsFile records }
     {
         match self.stage {
@@ -85,21 +82,23 @@ impl Front {
     }
 
     /// The file that the records are, if the trailer was read; `count` is how many there are.
-    pub(crate) fn into_file(self, count: u32) -> Option<CifFile>
-        requires { HasRecordsCounted self count }
-        ensures { (records : List (List ℕ)) → HasRecords self records → count ≡ length records →
-            MatchOption result (¬ IsFile records)
-            (λ file. IsFile records × IsOfRecords file records) }
+    pub(crate) fn into_ended(self, count: u32) -> Option<Ended<K>>
+        ensures { (records : List (List ℕ)) → HasRecords K.keeps self records →
+            count ≡ length records → MatchOption result (¬ IsFile records)
+            (λ ended. IsFile records × IsEnded K.keeps records ended) }
     {
         let Front {
             header,
             stage,
-            changes,
-            ..
+            keeper,
         } = self;
         match stage {
             FileStage::AfterEnd => match header {
-                Some(header) => Some(CifFile::of(header.into_line(), count, changes)),
+                Some(header) => Some(Ended {
+                    header,
+                    records: count,
+                    keeper,
+                }),
                 None => None,
             },
             FileStage::BeforeHeader => None,
@@ -110,8 +109,8 @@ impl Front {
 
     /// Takes the next record, which has this number.
     pub(crate) fn take(&mut self, number: u32, line: &Line) -> Result<(), FileCause>
-        ensures read { OnOk result (TakesNext self.old number line.now self.new) }
-        ensures err { IfErr result (RefusesUnended self.old line.now) }
+        ensures read { OnOk result (TakesNext K.keeps self.old number line.now self.new) }
+        ensures err { IfErr result (RefusesUnended K.keeps K.wants self.old line.now) }
     {
         let _record = line.bytes();
         let Some(kind) = kind(line) else {
@@ -130,8 +129,8 @@ impl Front {
         requires stage { self.old.stage ≡ FileStage.BeforeHeader }
         requires record { IsRecord line.now }
         requires kind { HasKind (meaning kind) line.now }
-        ensures read { OnOk result (TakesLine self.old line.now self.new) }
-        ensures err { IfErr result (RefusesLine self.old line.now) }
+        ensures read { OnOk result (TakesLine K.keeps self.old line.now self.new) }
+        ensures err { IfErr result (RefusesLine K.keeps K.wants self.old line.now) }
     {
         let Kind::Header = kind else {
             return Err(FileCause::Place);
@@ -147,8 +146,8 @@ impl Front {
         requires stage { self.old.stage ≡ FileStage.BetweenUnits }
         requires record { IsRecord line.now }
         requires kind { HasKind (meaning kind) line.now }
-        ensures read { OnOk result (TakesNext self.old number line.now self.new) }
-        ensures err { IfErr result (RefusesLine self.old line.now) }
+        ensures read { OnOk result (TakesNext K.keeps self.old number line.now self.new) }
+        ensures err { IfErr result (RefusesLine K.keeps K.wants self.old line.now) }
     {
         if let Some(cause) = unit_cause(kind, line) {
             return Err(cause);
@@ -168,8 +167,8 @@ impl Front {
         requires stage { self.old.stage ≡ FileStage.InSchedule opened }
         requires record { IsRecord line.now }
         requires kind { HasKind (meaning kind) line.now }
-        ensures read { OnOk result (TakesNext self.old number line.now self.new) }
-        ensures err { IfErr result (RefusesLine self.old line.now) }
+        ensures read { OnOk result (TakesNext K.keeps self.old number line.now self.new) }
+        ensures err { IfErr result (RefusesLine K.keeps K.wants self.old line.now) }
     {
         if follows_basic(kind) {
             return self.follow(opened, kind, line);
@@ -190,8 +189,8 @@ impl Front {
         requires record { IsRecord line.now }
         requires kind { HasKind (meaning kind) line.now }
         requires follows { follows_basic (Some (meaning kind)) ≡ true }
-        ensures read { OnOk result (TakesLine self.old line.now self.new) }
-        ensures err { IfErr result (RefusesLine self.old line.now) }
+        ensures read { OnOk result (TakesLine K.keeps self.old line.now self.new) }
+        ensures err { IfErr result (RefusesLine K.keeps K.wants self.old line.now) }
     {
         let progress = match opened.progress.with_kind(kind, line) {
             Ok(progress) => progress,
@@ -205,10 +204,12 @@ impl Front {
 
     /// Adds a line of the schedule, behind which it stands so.
     fn add_line(&mut self, opened: Opened, line: &Line) -> Result<(), AllocError>
-        ensures { (records : List (List ℕ)) → StandsBefore self.old opened line.now records →
-            OnOk result (HasRecords self.new (records ++ line.now ∷ [])) }
+        ensures read { (records : List (List ℕ)) →
+            StandsBefore K.keeps self.old opened line.now records →
+            OnOk result (HasRecords K.keeps self.new (records ++ line.now ∷ [])) }
+        ensures wants { OnErr result K.wants }
     {
-        self.lines.push(*line)?;
+        self.keeper.add_line(line)?;
         if opened.progress.is_over() {
             return self.close(opened);
         }
@@ -218,15 +219,12 @@ impl Front {
 
     /// Makes the change of a schedule whose lines are whole.
     fn close(&mut self, opened: Opened) -> Result<(), AllocError>
-        ensures changes { OnOk result (AppendsChanges self.old.changes.items
-            (change_opened opened self.old.lines.items ∷ []) self.new.changes.items) }
+        ensures kept { OnOk result (Closes K.keeps self.old.keeper opened self.new.keeper) }
+        ensures wants { OnErr result K.wants }
         ensures stage { OnOk result (self.new.stage ≡ FileStage.BetweenUnits) }
-        ensures lines { OnOk result (self.new.lines.items ≡ []) }
         ensures header { self.new.header ≡ self.old.header }
     {
-        let change = opened.change(self.alloc, self.lines.as_slice())?;
-        push(&mut self.changes, change)?;
-        self.lines.clear();
+        self.keeper.close(opened)?;
         self.stage = FileStage::BetweenUnits;
         Ok(())
     }
@@ -244,7 +242,9 @@ impl Front {
         requires kind { HasKind (meaning kind) line.now }
         requires begins { is_some (unit_by_kind (kind_of line.now) line.now) ≡ true }
         requires fields { HasGoodFields line.now }
-        ensures { IsWholeBy opened → OnOk result (TakesNext self.old number line.now self.new) }
+        ensures read { IsWholeBy opened →
+            OnOk result (TakesNext K.keeps self.old number line.now self.new) }
+        ensures wants { OnErr result K.wants }
     {
         self.close(opened)?;
         self.add_unit(number, kind, line)
@@ -256,7 +256,8 @@ impl Front {
         requires kind { HasKind (meaning kind) line.now }
         requires begins { is_some (unit_by_kind (kind_of line.now) line.now) ≡ true }
         requires fields { HasGoodFields line.now }
-        ensures { OnOk result (BeginsAnew self.old number line.now self.new) }
+        ensures read { OnOk result (BeginsAnew K.keeps self.old number line.now self.new) }
+        ensures wants { OnErr result K.wants }
     {
         match kind {
             Kind::BasicSchedule => self.open(number, line),
@@ -266,7 +267,7 @@ impl Front {
             }
             _ => {
                 self.stage = FileStage::BetweenUnits;
-                push_changes(&mut self.changes, number, kind, line)
+                self.keeper.add_single(number, kind, line)
             }
         }
     }
@@ -276,11 +277,11 @@ impl Front {
         requires record { IsRecord line.now }
         requires kind { HasKind basic_schedule line.now }
         requires fields { HasGoodFields line.now }
-        ensures { OnOk result (BeginsAnew self.old number line.now self.new) }
+        ensures read { OnOk result (BeginsAnew K.keeps self.old number line.now self.new) }
+        ensures wants { OnErr result K.wants }
     {
         let opened = opened_schedule(number, line);
-        self.lines.clear();
-        self.lines.push((*line).as_new())?;
+        self.keeper.add_line(&line.as_new())?;
         self.stage = FileStage::InSchedule(opened);
         Ok(())
     }

@@ -9,6 +9,7 @@ ghost use Rattle.cif_file.specs.ParserRead.{RefusesWithin};
 
 use crate::fault::FileCause;
 use crate::front::Front;
+use crate::keeper::Keeper;
 use cif_line::{Line, LineFault};
 
 /// The line that bytes are.
@@ -26,9 +27,13 @@ fn line_of(bytes: &[u8]) -> Result<Line, FileCause>
 }
 
 /// Takes the next record, which has this number within the limit.
-pub(crate) fn take_within(front: &mut Front, number: u32, bytes: &[u8]) -> Result<(), FileCause>
-    ensures read { OnOk result (TakesNext front.old number bytes.now front.new) }
-    ensures err { IfErr result (RefusesWithin front.old bytes.now) }
+pub(crate) fn take_within<K: Keeper>(
+    front: &mut Front<K>,
+    number: u32,
+    bytes: &[u8],
+) -> Result<(), FileCause>
+    ensures read { OnOk result (TakesNext K.keeps front.old number bytes.now front.new) }
+    ensures err { IfErr result (RefusesWithin K.keeps K.wants front.old bytes.now) }
 {
     if front.is_ended() {
         return Err(FileCause::After);

@@ -1,10 +1,13 @@
 //! A parser that is fed a file piece by piece.
 ghost use Rattle.std.specs.Prelude.{◌≡◌, ℕ, ◌+◌, ◌≤◌, ◌↔◌, length, IsTrue, List, [], ◌∷◌, ◌++◌, IsOk, IfOk, IfErr, OnOk, Err};
 ghost use Rattle.docker_laws.specs.LinesTold.{HasNoFeed};
-ghost use Rattle.cif_file.specs.ParserRead.{HasRead, HasFailed, HasNotFailed, IsReading, IsReadingSome, IsLater, NamesLater, IsLast, NamesLast, GoesOn, TellsFault, TellsNoFault, EndsAs, EndsInFault};
+ghost use Rattle.cif_file.specs.ParserRead.{HasRead, HasFailed, HasNotFailed, IsReading, EndsBy, IsLater, NamesLater, IsLast, NamesLast, GoesOn, TellsFault, TellsNoFault, EndsAs, EndsInFault};
 
+use crate::ended::Ended;
 use crate::fault::FileFault;
 use crate::file::CifFile;
+use crate::keeper::Keeper;
+use crate::kept::Kept;
 use crate::records::{MOST_RECORDS, Records};
 use crate::text::{split_line, without_return};
 use arrayvec::ArrayVec;
@@ -16,8 +19,8 @@ const MOST_PARTIAL: usize = 81;
 
 /// The records of a file so far, and the bytes of a line whose end didn't come yet.
 #[derive(Debug, Drop)]
-pub(crate) struct Reading {
-    records: Records,
+pub(crate) struct Reading<K> {
+    records: Records<K>,
     partial: ArrayVec<u8, MOST_PARTIAL>,
 }
 
@@ -29,14 +32,26 @@ fn extend(partial: &mut ArrayVec<u8, MOST_PARTIAL>, more: &[u8]) -> bool
     partial.try_extend_from_slice(more).is_ok()
 }
 
-impl Reading {
+impl<K: Keeper> Reading<K> {
+    /// Before the first byte of a file of at most `limit` records.
+    pub(crate) fn new(keeper: K, limit: u32) -> Reading<K>
+        requires limit { limit ≤ MOST_RECORDS }
+        requires none { K.keeps keeper [] [] }
+        ensures { IsReading K.keeps result limit [] }
+    {
+        Reading {
+            records: Records::new(keeper, limit),
+            partial: ArrayVec::new(),
+        }
+    }
+
     /// Takes the bytes of a line up to its line feed.
     fn end_line(&mut self, front: &[u8]) -> Result<(), FileFault>
         requires { HasNoFeed front.now }
         ensures read { OnOk result
-            (GoesOn (IsReading self.old) (front.now ++ 10 ∷ []) (IsReading self.new)) }
-        ensures err { IfErr result (TellsFault (IsReading self.old) (front.now ++ 10 ∷ [])) }
-        ensures later { IfErr result (IsLater self.old) }
+            (GoesOn (IsReading K.keeps self.old) (front.now ++ 10 ∷ []) (IsReading K.keeps self.new)) }
+        ensures err { IfErr result (TellsFault (IsReading K.keeps self.old) (front.now ++ 10 ∷ [])) }
+        ensures later { IfErr result (IsLater K.keeps K.wants self.old) }
     {
         if self.partial.is_empty() {
             return self.records.take(without_return(front));
@@ -52,9 +67,9 @@ impl Reading {
     /// Takes more bytes of a line.
     fn keep(&mut self, more: &[u8]) -> Result<(), FileFault>
         requires { HasNoFeed more.now }
-        ensures read { OnOk result (GoesOn (IsReading self.old) more.now (IsReading self.new)) }
-        ensures err { IfErr result (TellsFault (IsReading self.old) more.now) }
-        ensures later { IfErr result (IsLater self.old) }
+        ensures read { OnOk result (GoesOn (IsReading K.keeps self.old) more.now (IsReading K.keeps self.new)) }
+        ensures err { IfErr result (TellsFault (IsReading K.keeps self.old) more.now) }
+        ensures later { IfErr result (IsLater K.keeps K.wants self.old) }
     {
         if !extend(&mut self.partial, more) {
             return Err(self.records.too_long());
@@ -63,10 +78,10 @@ impl Reading {
     }
 
     /// Takes the next bytes of the file.
-    fn read(&mut self, piece: &[u8]) -> Result<(), FileFault>
-        ensures read { OnOk result (GoesOn (IsReading self.old) piece.now (IsReading self.new)) }
-        ensures err { IfErr result (TellsFault (IsReading self.old) piece.now) }
-        ensures later { IfErr result (IsLater self.old) }
+    pub(crate) fn feed(&mut self, piece: &[u8]) -> Result<(), FileFault>
+        ensures read { OnOk result (GoesOn (IsReading K.keeps self.old) piece.now (IsReading K.keeps self.new)) }
+        ensures err { IfErr result (TellsFault (IsReading K.keeps self.old) piece.now) }
+        ensures later { IfErr result (IsLater K.keeps K.wants self.old) }
     {
         let mut rest = piece;
         while let Some((front, behind)) = split_line(rest) {
@@ -77,12 +92,11 @@ impl Reading {
     }
 
     /// The file that the bytes are.
-    fn end(self) -> Result<CifFile, FileFault>
-        requires { IsReadingSome self }
-        ensures ok { IfOk result (EndsAs (IsReading self)) }
-        ensures err { IfErr result (EndsInFault (IsReading self)) }
-        ensures later { IfErr result (IsLater self) }
-        ensures last { IfErr result (IsLast self) }
+    pub(crate) fn end(self) -> Result<Ended<K>, FileFault>
+        ensures ok { IfOk result (EndsBy K.keeps self) }
+        ensures err { IfErr result (EndsInFault (IsReading K.keeps self)) }
+        ensures later { IfErr result (IsLater K.keeps K.wants self) }
+        ensures last { IfErr result (IsLast K.keeps self) }
     {
         let Reading {
             mut records,
@@ -101,7 +115,7 @@ impl Reading {
 /// A parser of one file, which comes in pieces of any length. It keeps the changes of the records so far, and a line whose end didn't come yet.
 #[derive(Debug, Drop)]
 pub struct FileParser {
-    reading: Reading,
+    reading: Reading<Kept>,
     fault: Option<FileFault>,
 }
 
@@ -123,10 +137,7 @@ impl FileParser {
         ensures { HasRead result limit [] }
     {
         FileParser {
-            reading: Reading {
-                records: Records::new(alloc, limit),
-                partial: ArrayVec::new(),
-            },
+            reading: Reading::new(Kept::new(alloc), limit),
             fault: None,
         }
     }
@@ -147,7 +158,7 @@ impl FileParser {
         if let Some(fault) = self.fault {
             return Err(fault);
         }
-        match self.reading.read(piece) {
+        match self.reading.feed(piece) {
             Ok(()) => Ok(()),
             Err(fault) => {
                 self.fault = Some(fault);
@@ -166,7 +177,10 @@ impl FileParser {
     {
         match self.fault {
             Some(fault) => Err(fault),
-            None => self.reading.end(),
+            None => match self.reading.end() {
+                Ok(ended) => Ok(ended.into_file()),
+                Err(fault) => Err(fault),
+            },
         }
     }
 }

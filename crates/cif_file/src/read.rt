@@ -1,13 +1,16 @@
 //! The file that a source holds.
-ghost use Rattle.std.specs.Prelude.{◌≡◌, ◌≢◌, ℕ, ◌+◌, ◌-◌, ◌^◌, ◌<◌, ◌≤◌, ◌↔◌, List, length, IfOk, IsOk, Err};
+ghost use Rattle.std.specs.Prelude.{◌≡◌, ◌≢◌, ℕ, ◌+◌, ◌-◌, ◌^◌, ◌<◌, ◌≤◌, ◌↔◌, List, [], length, IfOk, IsOk, Err};
 ghost use Rattle.docker_model.specs.file.Text.{lines_of};
 ghost use Rattle.cif_line.specs.Device.{IsEnd};
-ghost use Rattle.cif_file.specs.ParserRead.{HasRead, HasNotFailed, WantsMemoryAt, EndsAs};
-ghost use Rattle.cif_file.specs.SourceRead.{IsFaultOf, ReadsText, RefusesText, ReadsNoFurther, WantsMemory};
+ghost use Rattle.cif_file.specs.ParserRead.{IsReading, WantsMemoryAt, EndsBy};
+ghost use Rattle.cif_file.specs.SourceRead.{IsFaultOf, ReadsEnded, ReadsText, RefusesText, ReadsNoFurther, WantsMemory, WantsMemoryBy};
 
+use crate::ended::Ended;
 use crate::fault::{FileCause, FileFault, ReadFault};
 use crate::file::CifFile;
-use crate::parser::FileParser;
+use crate::keeper::Keeper;
+use crate::kept::Kept;
+use crate::parser::Reading;
 use crate::records::MOST_RECORDS;
 use cif_line::Source;
 use std::alloc::Global;
@@ -35,36 +38,64 @@ pub fn read_file<S: Source>(alloc: Global, source: &mut S, limit: u32) -> Result
     ensures no_failure { result ≢ Err ReadFault.Source →
         S.failures source.new ≡ S.failures source.old }
 {
+    match read_source(alloc, source, Kept::new(alloc), limit) {
+        Ok(ended) => Ok(ended.into_file()),
+        Err(fault) => Err(fault),
+    }
+}
+
+/// Reads a source to its end, or to the piece that tells the first fault, and answers what is told of the file whose text it held.
+pub(crate) fn read_source<S: Source, K: Keeper>(
+    alloc: Global,
+    source: &mut S,
+    keeper: K,
+    limit: u32,
+) -> Result<Ended<K>, ReadFault>
+    requires failures { S.failures source.old < 2 ^ 64 - 1 }
+    requires limit { limit ≤ MOST_RECORDS }
+    requires none { K.keeps keeper [] [] }
+    ensures ok { IfOk result (ReadsEnded K.keeps limit (S.left source.old)) }
+    ensures file { (fault : _) → result ≡ Err (ReadFault.File fault) →
+        RefusesText limit (S.left source.old) fault }
+    ensures memory { result ≡ Err ReadFault.Memory →
+        WantsMemoryBy K.wants 65536 limit (S.left source.old) (S.left source.new) }
+    ensures end { IsOk result → IsEnd (S.left source.new) }
+    ensures no_further { ReadsNoFurther 65536 limit (S.left source.old) (S.left source.new) }
+    ensures source { (result ≡ Err ReadFault.Source) ↔
+        (S.failures source.new ≡ S.failures source.old + 1) }
+    ensures no_failure { result ≢ Err ReadFault.Source →
+        S.failures source.new ≡ S.failures source.old }
+{
     let Ok(mut piece) = vec![in alloc; 0u8; PIECE] else {
         return Err(ReadFault::Memory);
     };
-    let mut parser = FileParser::new(alloc, limit);
+    let mut reading = Reading::new(keeper, limit);
     for _ in 0..=MOST_BYTES {
         let Ok(n) = source.read(piece.as_mut_slice()) else {
             return Err(ReadFault::Source);
         };
         if n == 0 {
-            return file_of(parser);
+            return ended_of(reading);
         }
-        if let Err(fault) = parser.feed(&piece[..n]) {
+        if let Err(fault) = reading.feed(&piece[..n]) {
             return Err(fault_of(fault));
         }
     }
     unreachable!()
 }
 
-/// The file that a parser was fed.
-fn file_of(parser: FileParser) -> Result<CifFile, ReadFault>
-    ensures ok { IfOk result (EndsAs (HasRead parser)) }
-    ensures file { (limit : ℕ) (text : List ℕ) → HasRead parser limit text → (fault : _) →
-        result ≡ Err (ReadFault.File fault) → IsFaultOf limit text fault }
-    ensures memory { HasNotFailed parser → (limit : ℕ) (text : List ℕ) →
-        HasRead parser limit text → result ≡ Err ReadFault.Memory →
-        WantsMemoryAt limit (lines_of text) (length (lines_of text)) }
+/// What is told of the file that was read.
+fn ended_of<K: Keeper>(reading: Reading<K>) -> Result<Ended<K>, ReadFault>
+    ensures ok { IfOk result (EndsBy K.keeps reading) }
+    ensures file { (limit : ℕ) (text : List ℕ) → IsReading K.keeps reading limit text →
+        (fault : _) → result ≡ Err (ReadFault.File fault) → IsFaultOf limit text fault }
+    ensures memory { (limit : ℕ) (text : List ℕ) → IsReading K.keeps reading limit text →
+        result ≡ Err ReadFault.Memory →
+        K.wants × WantsMemoryAt limit (lines_of text) (length (lines_of text)) }
     ensures source { result ≢ Err ReadFault.Source }
 {
-    match parser.finish() {
-        Ok(file) => Ok(file),
+    match reading.end() {
+        Ok(ended) => Ok(ended),
         Err(fault) => Err(fault_of(fault)),
     }
 }

@@ -1,49 +1,49 @@
 //! The numbered records of a file.
 ghost use Rattle.std.specs.Prelude.{◌≤◌};
 
+use crate::ended::Ended;
 use crate::fault::{FileCause, FileFault};
-use crate::file::CifFile;
 use crate::front::Front;
+use crate::keeper::Keeper;
 use crate::next_record::take_within;
-use std::alloc::Global;
 
 /// The most records that a file may have.
 pub const MOST_RECORDS: u32 = 4_294_967_294;
 
 /// The records of a file so far, the number of the next one, and the most that there may be.
 #[derive(Debug, Drop)]
-pub(crate) struct Records {
+pub(crate) struct Records<K> {
     limit: u32,
     next: u32,
-    front: Front,
+    front: Front<K>,
     ghost room: { limit ≤ 4294967294 },
     ghost first: { 1 ≤ next },
 }
 
-impl Records {
+impl<K: Keeper> Records<K> {
     ghost use Rattle.std.specs.Prelude.{◌≡◌, ℕ, ◌+◌, ◌≤◌, ◌<◌, List, [], ◌∷◌, ◌++◌, length, IsOk, IfOk, IfErr, OnOk, Some};
     ghost use Rattle.docker_model.specs.file.File.{IsFile};
     ghost use Rattle.docker_model.specs.file.FileFault.{no_end};
     ghost use Rattle.cif_file.specs.Meaning.{cause_meant};
-    ghost use Rattle.cif_file.specs.FileRead.{IsOfRecords};
-    ghost use Rattle.cif_file.specs.ParserRead.{HasCounted, HasCountedSome, CountsNext, FaultsNext, IsLongNext, EndsCounted, EndsUnended};
+    ghost use Rattle.cif_file.specs.ParserRead.{HasCounted, CountsNext, FaultsNext, IsLongNext, EndsCounted, EndsUnended};
 
     /// Before the first record, of `limit` at most.
-    pub(crate) fn new(alloc: Global, limit: u32) -> Records
-        requires { limit ≤ MOST_RECORDS }
-        ensures { HasCounted result limit [] }
+    pub(crate) fn new(keeper: K, limit: u32) -> Records<K>
+        requires limit { limit ≤ MOST_RECORDS }
+        requires none { K.keeps keeper [] [] }
+        ensures { HasCounted K.keeps result limit [] }
     {
         Records {
             limit,
             next: 1,
-            front: Front::new(alloc),
+            front: Front::new(keeper),
         }
     }
 
     /// Takes the next record, a line without its line end.
     pub(crate) fn take(&mut self, bytes: &[u8]) -> Result<(), FileFault>
-        ensures read { OnOk result (CountsNext self.old bytes.now self.new) }
-        ensures err { IfErr result (FaultsNext self.old bytes.now) }
+        ensures read { OnOk result (CountsNext K.keeps self.old bytes.now self.new) }
+        ensures err { IfErr result (FaultsNext K.keeps K.wants self.old bytes.now) }
     {
         let number = self.next;
         if number > self.limit {
@@ -63,7 +63,7 @@ impl Records {
 
     /// The fault of a next record of more than 81 bytes.
     pub(crate) fn too_long(&self) -> FileFault
-        ensures { (limit : ℕ) (records : List (List ℕ)) → HasCounted self.now limit records →
+        ensures { (limit : ℕ) (records : List (List ℕ)) → HasCounted K.keeps self.now limit records →
             IsLongNext limit records result }
     {
         let cause = if self.next > self.limit {
@@ -80,14 +80,13 @@ impl Records {
     }
 
     /// The file that the records are, if they end in a trailer.
-    pub(crate) fn finish(self) -> Result<CifFile, FileFault>
-        requires { HasCountedSome self }
-        ensures ok { IfOk result (EndsCounted self) }
-        ensures err { IfErr result (EndsUnended self) }
+    pub(crate) fn finish(self) -> Result<Ended<K>, FileFault>
+        ensures ok { IfOk result (EndsCounted K.keeps self) }
+        ensures err { IfErr result (EndsUnended K.keeps self) }
     {
         let Records { next, front, .. } = self;
-        match front.into_file(next - 1) {
-            Some(file) => Ok(file),
+        match front.into_ended(next - 1) {
+            Some(ended) => Ok(ended),
             None => Err(FileFault {
                 number: next,
                 cause: FileCause::NoEnd,

@@ -1,5 +1,5 @@
 //! Records that stand between header and trailer by themselves, and those that begin a schedule or end the file.
-ghost use Rattle.std.specs.Prelude.{◌≡◌, ◌↔◌, ◌++◌, [], ◌∷◌, map, true, is_some, Some, IsNone, IfSome, OnOk, MatchOption, ◌⊎◌, false, if◌then◌else◌};
+ghost use Rattle.std.specs.Prelude.{◌≡◌, ℕ, length, ◌↔◌, ◌++◌, [], ◌∷◌, map, true, is_some, Some, IsNone, IfSome, OnOk, MatchOption, ◌⊎◌, false, if◌then◌else◌};
 ghost use Rattle.docker_model.specs.records.Record.{HasKind, kind_of, columns, tiploc_insert, tiploc_amend, tiploc_delete, association};
 ghost use Rattle.docker_model.specs.records.Field.{HasGoodFields, is_deletion, as_new};
 ghost use Rattle.docker_model.specs.file.Change.{changes_of_record, keeps_code, tiploc_key, association_named, tiploc_named, tiploc_details, association_body, delete, put};
@@ -67,6 +67,22 @@ pub(crate) fn push_changes(
             }
         },
         _ => unreachable!(),
+    }
+}
+
+/// How many changes a single record makes.
+pub(crate) fn count_changes(kind: Kind, line: &Line) -> u64
+    requires kind { HasKind (meaning kind) line.now }
+    requires single { IsSingleKind line.now }
+    requires fields { HasGoodFields line.now }
+    ensures { (number : ℕ) → result ≡ length (changes_of_record number line.now []) }
+{
+    match kind {
+        Kind::TiplocAmend => match other_code(line) {
+            None => 1,
+            Some(_) => 2,
+        },
+        _ => 1,
     }
 }
 

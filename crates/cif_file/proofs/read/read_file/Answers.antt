@@ -1,127 +1,20 @@
--- Each piece is read behind those before it.
-use Rattle.std.proofs.Common.{◌≡◌, ◌<◌, ◌≤◌, ◌++◌, length, take, refl, arith, ◌∙◌, ap, subst}
-use Rattle.std.specs.Prelude.{is_ok}
-use Rattle.std.proofs.lemmas.List.{length-take-le}
-use Rattle.std.proofs.lemmas.Result.{IfOk-weaker}
-use Rattle.docker_model.specs.file.FaultSoFar.{IsFaultSoFar}
-use Rattle.docker_model.specs.file.FileFault.{FileFault}
-use Rattle.cif_line.specs.Device.{IsEnd}
-use Rattle.cif_file.specs.ParserRead.{HasRead, IsFaultTold}
-use Rattle.cif_file.proofs.AnswerLemmas.{at_ok}
-use Rattle.cif_file.proofs.ReadLemmas.{at_start, next_turn, file_read, refused_at_end, refused_before, wants_at_start, wants_at_end, wants_before, same_front, at_once, end_stays, no_further, not_further, nothing_read, told_apart_from_source}
+-- The file of what was read, whose changes were kept.
+use Rattle.std.proofs.Common.{sym, subst}
+use Rattle.std.specs.Prelude.{⊤}
+use Rattle.cif_file.specs.SourceRead.{ReadsText}
+use Rattle.cif_file.proofs.EndedLemmas.{reads_text, reads_read}
+use Rattle.cif_file.proofs.ReadLemmas.{wants_any}
 use Rattle.cif_file.proofs.read.read_file.Goals as goal
 
-pub loop-init : goal.loop-init
-loop-init g c = record {
-  turn = at_start c.args.limit (g.S.Source.left c.args.source.now) c.new-parser.result c.new-parser.ensures;
-  no_failure = refl;
-  room = c.in-Ok.ensures.len;
-}
+pub into_file-requires : goal.into_file-requires
+into_file-requires g c = reads_read c.args.limit (g.S.Source.left c.args.source.now) c.in-Ok.ended c.requires.limit c.in-Ok.ensures.ok
 
-pub returns-in_default-clause-memory : goal.returns-in_default-clause-memory
-returns-in_default-clause-memory g c = λ is. wants_at_start c.args.limit (g.S.Source.left c.args.source.now)
-
-pub returns-in_default-clause-no_further : goal.returns-in_default-clause-no_further
-returns-in_default-clause-no_further g c = nothing_read c.args.limit (g.S.Source.left c.args.source.now)
-
-pub returns-in_default-read-clause-no_further : goal.returns-in_default-read-clause-no_further
-returns-in_default-read-clause-no_further g c =
-    not_further c.args.limit (g.S.Source.left c.args.source.now) (g.S.Source.left c.loop.source) (g.S.Source.left c.read.new.self) c.loop.parser c.loop.counter
-    c.loop.invariant.turn c.in_default-read.ensures.unmoved
-
-pub returns-then-n-eq0-clause-ok : goal.returns-then-n-eq0-clause-ok
-returns-then-n-eq0-clause-ok g c =
-    let at = c.loop.invariant.turn in
-    let room : 0 < length c.read.new.into = omega (arith, c.loop.invariant.room, c.as_mut_slice.ensures.len, c.read.auto.into) in
-    let end : IsEnd (g.S.Source.left c.loop.source) = c.in-Ok-read.ensures.end c.if-n-eq0.true room in
-    IfOk-weaker c.file_of.result _ _
-    (λ file of. file_read c.args.limit (g.S.Source.left c.args.source.now) (g.S.Source.left c.loop.source) c.loop.parser c.loop.counter file at end
-    (of c.args.limit at.text at.read))
-    c.file_of.ensures.ok
-
-pub returns-then-n-eq0-clause-file : goal.returns-then-n-eq0-clause-file
-returns-then-n-eq0-clause-file g c = λ fault is.
-    let at = c.loop.invariant.turn in
-    let room : 0 < length c.read.new.into = omega (arith, c.loop.invariant.room, c.as_mut_slice.ensures.len, c.read.auto.into) in
-    let end : IsEnd (g.S.Source.left c.loop.source) = c.in-Ok-read.ensures.end c.if-n-eq0.true room in
-    refused_at_end c.args.limit (g.S.Source.left c.args.source.now) (g.S.Source.left c.loop.source) c.loop.parser c.loop.counter fault at end
-    (c.file_of.ensures.file c.args.limit at.text at.read fault is)
-
-pub returns-then-n-eq0-clause-memory : goal.returns-then-n-eq0-clause-memory
-returns-then-n-eq0-clause-memory g c = λ is.
-    let at = c.loop.invariant.turn in
-    let room : 0 < length c.read.new.into = omega (arith, c.loop.invariant.room, c.as_mut_slice.ensures.len, c.read.auto.into) in
-    let end : IsEnd (g.S.Source.left c.loop.source) = c.in-Ok-read.ensures.end c.if-n-eq0.true room in
-    wants_at_end c.args.limit (g.S.Source.left c.args.source.now) (g.S.Source.left c.loop.source)
-    (g.S.Source.left c.read.new.self) c.loop.parser c.loop.counter at end
-    (c.file_of.ensures.memory at.clean c.args.limit at.text at.read is)
-
-pub returns-then-n-eq0-clause-end : goal.returns-then-n-eq0-clause-end
-returns-then-n-eq0-clause-end g c = λ ok.
-    let room : 0 < length c.read.new.into = omega (arith, c.loop.invariant.room, c.as_mut_slice.ensures.len, c.read.auto.into) in
-    let end : IsEnd (g.S.Source.left c.loop.source) = c.in-Ok-read.ensures.end c.if-n-eq0.true room in
-    end_stays (g.S.Source.left c.loop.source) (g.S.Source.left c.read.new.self) (take c.in-Ok-read.n c.read.new.into) c.in-Ok-read.ensures.moved end
-
-pub returns-then-n-eq0-clause-no_further : goal.returns-then-n-eq0-clause-no_further
-returns-then-n-eq0-clause-no_further g c =
-    no_further c.args.limit (g.S.Source.left c.args.source.now) (g.S.Source.left c.loop.source) (g.S.Source.left c.read.new.self) c.loop.parser c.loop.counter
-    (take c.in-Ok-read.n c.read.new.into) c.loop.invariant.turn c.in-Ok-read.ensures.moved
-    (at_once c.in-Ok-read.n c.loop.piece.len c.read.new.into (c.read.auto.into ∙ c.as_mut_slice.ensures.len) c.loop.invariant.room c.in-Ok-read.ensures.within)
-
-pub returns-in-Err-clause-file : goal.returns-in-Err-clause-file
-returns-in-Err-clause-file g c = λ fault is.
-    let at = c.loop.invariant.turn in
-    let long : length c.read.new.into ≡ c.loop.piece.len = c.read.auto.into ∙ c.as_mut_slice.ensures.len in
-    let same : take c.in-Ok-read.n c.deref.result.now ≡ take c.in-Ok-read.n c.read.new.into =
-    same_front c.in-Ok-read.n c.loop.piece.len c.deref.result.now c.read.new.into c.loop.piece.items c.deref.ensures.value long c.in-Ok-read.ensures.within in
-    let told : IsFaultTold c.args.limit (at.text ++ take c.in-Ok-read.n c.read.new.into) c.in-Err.fault =
-    subst (λ piece. IsFaultTold c.args.limit (at.text ++ piece) c.in-Err.fault) same (c.in-Err.ensures.err c.args.limit at.text at.read) in
-    refused_before c.args.limit (g.S.Source.left c.args.source.now) (g.S.Source.left c.loop.source)
-    (g.S.Source.left c.read.new.self) c.loop.parser c.loop.counter
-    (take c.in-Ok-read.n c.read.new.into) c.in-Err.fault fault c.fault_of.result at c.in-Ok-read.ensures.moved told c.fault_of.ensures.memory
-    c.fault_of.ensures.file is
+pub returns-in-Ok-clause-ok : goal.returns-in-Ok-clause-ok
+returns-in-Ok-clause-ok g c =
+    subst (ReadsText c.args.limit (g.S.Source.left c.args.source.now)) (sym c.into_file.ensures)
+    (reads_text c.args.limit (g.S.Source.left c.args.source.now) c.in-Ok.ended c.in-Ok.ensures.ok)
 
 pub returns-in-Err-clause-memory : goal.returns-in-Err-clause-memory
-returns-in-Err-clause-memory g c = λ is.
-    let at = c.loop.invariant.turn in
-    let long : length c.read.new.into ≡ c.loop.piece.len = c.read.auto.into ∙ c.as_mut_slice.ensures.len in
-    let same : take c.in-Ok-read.n c.deref.result.now ≡ take c.in-Ok-read.n c.read.new.into =
-    same_front c.in-Ok-read.n c.loop.piece.len c.deref.result.now c.read.new.into c.loop.piece.items c.deref.ensures.value long c.in-Ok-read.ensures.within in
-    let told : IsFaultTold c.args.limit (at.text ++ take c.in-Ok-read.n c.read.new.into) c.in-Err.fault =
-    subst (λ piece. IsFaultTold c.args.limit (at.text ++ piece) c.in-Err.fault) same (c.in-Err.ensures.err c.args.limit at.text at.read) in
-    wants_before c.args.limit (g.S.Source.left c.args.source.now) (g.S.Source.left c.loop.source) (g.S.Source.left c.read.new.self) c.loop.parser c.loop.counter
-    (take c.in-Ok-read.n c.read.new.into) c.in-Err.fault c.fault_of.result at c.in-Ok-read.ensures.moved
-    (at_once c.in-Ok-read.n c.loop.piece.len c.read.new.into long c.loop.invariant.room c.in-Ok-read.ensures.within) told c.in-Err.ensures.later
-    c.fault_of.ensures.file is
-
-pub returns-in-Err-clause-source : goal.returns-in-Err-clause-source
-returns-in-Err-clause-source g c =
-    told_apart_from_source c.fault_of.result _ _ c.fault_of.ensures.source (c.in-Ok-read.ensures.no_failure ∙ c.loop.invariant.no_failure)
-
-pub returns-in-Err-clause-no_further : goal.returns-in-Err-clause-no_further
-returns-in-Err-clause-no_further g c =
-    no_further c.args.limit (g.S.Source.left c.args.source.now) (g.S.Source.left c.loop.source) (g.S.Source.left c.read.new.self) c.loop.parser c.loop.counter
-    (take c.in-Ok-read.n c.read.new.into) c.loop.invariant.turn c.in-Ok-read.ensures.moved
-    (at_once c.in-Ok-read.n c.loop.piece.len c.read.new.into (c.read.auto.into ∙ c.as_mut_slice.ensures.len) c.loop.invariant.room c.in-Ok-read.ensures.within)
-
-pub loop-preserved : goal.loop-preserved
-loop-preserved g c =
-    let at = c.loop.invariant.turn in
-    let long : length c.read.new.into ≡ c.loop.piece.len = c.read.auto.into ∙ c.as_mut_slice.ensures.len in
-    let same : take c.in-Ok-read.n c.deref.result.now ≡ take c.in-Ok-read.n c.read.new.into =
-    same_front c.in-Ok-read.n c.loop.piece.len c.deref.result.now c.read.new.into c.loop.piece.items c.deref.ensures.value long c.in-Ok-read.ensures.within in
-    let size : length (take c.in-Ok-read.n c.read.new.into) ≡ c.in-Ok-read.n = length-take-le c.in-Ok-read.n c.read.new.into c.in-Ok-read.ensures.within in
-    let some : 0 < length (take c.in-Ok-read.n c.read.new.into) = omega (arith, size, c.if-n-eq0.false) in
-    let sound : (fault : FileFault) → ¬ IsFaultSoFar c.args.limit (at.text ++ take c.in-Ok-read.n c.read.new.into) fault =
-    subst (λ piece. (fault : FileFault) → ¬ IsFaultSoFar c.args.limit (at.text ++ piece) fault) same
-    (at_ok c.feed.result c.feed.ensures.ok (ap is_ok c.in_default-feed.is) c.args.limit at.text at.read) in
-    record {
-      turn =
-          next_turn c.args.limit (g.S.Source.left c.args.source.now) (g.S.Source.left c.loop.source)
-          (g.S.Source.left c.read.new.self) c.loop.parser c.feed.new.self
-          c.loop.counter (take c.in-Ok-read.n c.read.new.into) c.requires.limit at some c.in-Ok-read.ensures.moved
-          (c.feed.ensures.clean (ap is_ok c.in_default-feed.is))
-          (subst (λ piece. HasRead c.feed.new.self c.args.limit (at.text ++ piece)) same (c.feed.ensures.read c.args.limit at.text at.read)) sound;
-      no_failure = c.in-Ok-read.ensures.no_failure ∙ c.loop.invariant.no_failure;
-      room = c.loop.invariant.room;
-    }
+returns-in-Err-clause-memory g c =
+    wants_any ⊤ c.args.limit (g.S.Source.left c.args.source.now) (g.S.Source.left c.read_source.new.source) c.in-Err.fault
+    c.in-Err.ensures.memory

@@ -7,21 +7,23 @@ use Rattle.cif_file.proofs.FrontLemmas.{bad_line, stands_before, line_goes_on}
 use Rattle.cif_file.proofs.front.Front.follow.Goals as goal
 
 pub returns-in-Err-clause-err : goal.returns-in-Err-clause-err
-returns-in-Err-clause-err c = λ records has.
-    bad_line c.args.self.now c.args.opened records c.args.line.now (cause_meant c.in-Err.cause) has c.requires.stage c.requires.«record»
+returns-in-Err-clause-err g c = λ records has.
+    bad_line g.K.Keeper.keeps g.K.Keeper.wants c.args.self.now c.args.opened records c.args.line.now (cause_meant c.in-Err.cause) has c.requires.stage c.requires.«record»
     (ap follows_basic c.requires.kind ∙ c.requires.follows) c.in-Err.ensures.err
 
 pub returns-in-Err-add_line-clause-err : goal.returns-in-Err-add_line-clause-err
-returns-in-Err-add_line-clause-err c = λ records has.
-    let later : Opened = record { number = c.args.opened.number; key = c.args.opened.key; progress = c.in-Ok.progress } in
-    line_goes_on c.args.self.now later c.args.line.now records
-    (stands_before c.args.self.now c.args.opened later records c.args.line.now has c.requires.stage c.requires.«record»
-    (ap follows_basic c.requires.kind ∙ c.requires.follows) refl refl
-    c.in-Ok.ensures.read (λ lines read. (c.in-Ok.ensures.ok lines read).0 refl))
+returns-in-Err-add_line-clause-err g c = λ records has.
+    let later : Opened = record { number = c.args.opened.number; key = c.args.opened.key; progress = c.in-Ok.progress } in (
+      c.in-Err-add_line.ensures.wants,
+      line_goes_on g.K.Keeper.keeps c.args.self.now later c.args.line.now records
+          (stands_before g.K.Keeper.keeps c.args.self.now c.args.opened later records c.args.line.now has c.requires.stage c.requires.«record»
+          (ap follows_basic c.requires.kind ∙ c.requires.follows) refl refl
+          c.in-Ok.ensures.read (λ lines read. (c.in-Ok.ensures.ok lines read).0 refl)),
+    )
 
 pub returns-in-Ok-add_line-clause-read : goal.returns-in-Ok-add_line-clause-read
-returns-in-Ok-add_line-clause-read c = λ records has.
+returns-in-Ok-add_line-clause-read g c = λ records has.
     let later : Opened = record { number = c.args.opened.number; key = c.args.opened.key; progress = c.in-Ok.progress } in
-    c.in-Ok-add_line.ensures records
-    (stands_before c.args.self.now c.args.opened later records c.args.line.now has c.requires.stage c.requires.«record»
+    c.in-Ok-add_line.ensures.read records
+    (stands_before g.K.Keeper.keeps c.args.self.now c.args.opened later records c.args.line.now has c.requires.stage c.requires.«record»
     (ap follows_basic c.requires.kind ∙ c.requires.follows) refl refl c.in-Ok.ensures.read (λ lines read. (c.in-Ok.ensures.ok lines read).0 refl))

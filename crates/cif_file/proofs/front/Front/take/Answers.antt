@@ -7,20 +7,20 @@ use Rattle.cif_file.proofs.FrontLemmas.{no_kind, file_at_end, on_ok_one}
 use Rattle.cif_file.proofs.front.Front.take.Goals as goal
 
 pub returns-in_default-clause-err : goal.returns-in_default-clause-err
-returns-in_default-clause-err c = λ records has unended.
-    no_kind c.args.self.now records c.args.line.now has unended c.bytes-record.ensures.«record» (sym c.kind.ensures ∙ ap (option_map meaning) c.in_default.is)
+returns-in_default-clause-err g c = λ records has unended.
+    no_kind g.K.Keeper.keeps c.args.self.now records c.args.line.now has unended c.bytes-record.ensures.«record» (sym c.kind.ensures ∙ ap (option_map meaning) c.in_default.is)
 
 pub returns-in-BeforeHeader-clause-err : goal.returns-in-BeforeHeader-clause-err
-returns-in-BeforeHeader-clause-err c = if_err_by c.take_header.result (λ cause told. λ records has unended. told records has) c.take_header.ensures.err
+returns-in-BeforeHeader-clause-err g c = if_err_by c.take_header.result (λ cause told. λ records has unended. told records has) c.take_header.ensures.err
 
 pub returns-in-BetweenUnits-clause-err : goal.returns-in-BetweenUnits-clause-err
-returns-in-BetweenUnits-clause-err c = if_err_by c.take_unit.result (λ cause told. λ records has unended. told records has) c.take_unit.ensures.err
+returns-in-BetweenUnits-clause-err g c = if_err_by c.take_unit.result (λ cause told. λ records has unended. told records has) c.take_unit.ensures.err
 
 pub returns-in-InSchedule-clause-err : goal.returns-in-InSchedule-clause-err
-returns-in-InSchedule-clause-err c = if_err_by c.take_behind.result (λ cause told. λ records has unended. told records has) c.take_behind.ensures.err
+returns-in-InSchedule-clause-err g c = if_err_by c.take_behind.result (λ cause told. λ records has unended. told records has) c.take_behind.ensures.err
 
 pub returns-in-AfterEnd-clause-err : goal.returns-in-AfterEnd-clause-err
-returns-in-AfterEnd-clause-err c = λ records has unended. absurd (unended (file_at_end c.args.self.now records has c.in-AfterEnd.is))
+returns-in-AfterEnd-clause-err g c = λ records has unended. absurd (unended (file_at_end g.K.Keeper.keeps c.args.self.now records has c.in-AfterEnd.is))
 
 pub returns-in-BeforeHeader-clause-read : goal.returns-in-BeforeHeader-clause-read
-returns-in-BeforeHeader-clause-read c = on_ok_one c.take_header.result c.take_header.ensures.read (λ taken. λ records has counted. taken records has)
+returns-in-BeforeHeader-clause-read g c = on_ok_one c.take_header.result c.take_header.ensures.read (λ taken. λ records has counted. taken records has)

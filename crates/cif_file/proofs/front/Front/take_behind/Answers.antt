@@ -9,25 +9,28 @@ use Rattle.cif_file.proofs.FrontLemmas.{bad_behind, not_whole, anew_goes_on}
 use Rattle.cif_file.proofs.front.Front.take_behind.Goals as goal
 
 pub returns-then-not-complete-clause-err : goal.returns-then-not-complete-clause-err
-returns-then-not-complete-clause-err c = λ records has.
-    not_whole c.args.self.now c.args.opened records c.args.line.now (meaning c.args.kind) has c.requires.stage
+returns-then-not-complete-clause-err g c = λ records has.
+    not_whole g.K.Keeper.keeps c.args.self.now c.args.opened records c.args.line.now (meaning c.args.kind) has c.requires.stage
     (λ lines read is. false≢true (sym c.if-not-complete.true ∙ (c.complete.ensures lines read).1 is)) c.requires.«record» c.requires.kind
     (ap follows_basic c.requires.kind ∙ sym c.if-follows_basic.ensures)
 
 pub returns-in-Some-clause-err : goal.returns-in-Some-clause-err
-returns-in-Some-clause-err c = λ records has.
-    subst (IsNoNextCause records c.args.line.now) (sym c.in-Some.ensures.some)
-    (bad_behind c.args.self.now c.args.opened records c.args.line.now (meaning c.args.kind) has c.requires.stage
+returns-in-Some-clause-err g c = λ records has.
+    subst (IsNoNextCause g.K.Keeper.wants records c.args.line.now) (sym c.in-Some.ensures.some)
+    (bad_behind g.K.Keeper.keeps c.args.self.now c.args.opened records c.args.line.now (meaning c.args.kind) has c.requires.stage
     (λ lines read. (c.complete.ensures lines read).0 c.if-not-complete.false) c.requires.«record»
     c.requires.kind (ap follows_basic c.requires.kind ∙ sym c.if-follows_basic.ensures) (λ good. false≢true (sym (c.in-Some.ensures.none.1 good))))
 
 pub returns-clause-read : goal.returns-clause-read
-returns-clause-read c = c.in_ok-begin_anew.ensures (λ lines read. (c.complete.ensures lines read).0 c.if-not-complete.false)
+returns-clause-read g c = c.in_ok-begin_anew.ensures.read (λ lines read. (c.complete.ensures lines read).0 c.if-not-complete.false)
 
 pub returns-in_err-begin_anew-clause-err : goal.returns-in_err-begin_anew-clause-err
-returns-in_err-begin_anew-clause-err c =
+returns-in_err-begin_anew-clause-err g c =
     let same = err_from_is_err_and c.from_residual.result c.from_residual.ensures.1 in
     let good = c.in_default.ensures.none.0 refl in
     rw (same.1, same.2)
-    (λ records has. anew_goes_on c.args.self.now c.args.opened records c.args.line.now has c.requires.stage
-    (λ lines read. (c.complete.ensures lines read).0 c.if-not-complete.false) c.requires.«record» good.1 good.0)
+    (λ records has. (
+      c.in_err-begin_anew.ensures.wants,
+      anew_goes_on g.K.Keeper.keeps c.args.self.now c.args.opened records c.args.line.now has c.requires.stage
+          (λ lines read. (c.complete.ensures lines read).0 c.if-not-complete.false) c.requires.«record» good.1 good.0,
+    ))

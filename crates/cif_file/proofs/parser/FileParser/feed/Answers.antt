@@ -1,5 +1,6 @@
 -- A fault stays, and else the piece is read.
 use Rattle.std.proofs.Common.{◌++◌, sym, ap, subst, ◌∙◌, refl}
+use Rattle.cif_file.specs.KeeperRead.{KeepsAll}
 use Rattle.cif_file.specs.ParserRead.{ParserState, IsReading}
 use Rattle.cif_file.proofs.ParserLemmas.{told_stays, reading_tells_none, read_at_fault, fault_at_read, reading_at_none, none_at_reading, had_failed, names_later}
 use Rattle.cif_file.proofs.parser.FileParser.feed.Goals as goal
@@ -19,26 +20,26 @@ pub returns-in-Ok-clause-read : goal.returns-in-Ok-clause-read
 returns-in-Ok-clause-read c = λ limit text has.
     none_at_reading _ limit (text ++ c.args.piece.now) c.in_default.is
     (c.in-Ok.ensures.read limit text
-    (subst (λ r. IsReading r limit text) (ap (λ (p : ParserState). p.reading) (sym c.self.view_is))
+    (subst (λ r. IsReading KeepsAll r limit text) (ap (λ (p : ParserState). p.reading) (sym c.self.view_is))
     (reading_at_none c.args.self.now limit text (ap (λ (p : ParserState). p.fault) (sym c.self.view_is) ∙ c.in_default.is) has)))
 
 pub returns-in-Ok-clause-ok : goal.returns-in-Ok-clause-ok
 returns-in-Ok-clause-ok c = λ limit text has.
-    reading_tells_none c.read.new.self limit (text ++ c.args.piece.now)
+    reading_tells_none KeepsAll c.feed.new.self limit (text ++ c.args.piece.now)
     (c.in-Ok.ensures.read limit text
-    (subst (λ r. IsReading r limit text) (ap (λ (p : ParserState). p.reading) (sym c.self.view_is))
+    (subst (λ r. IsReading KeepsAll r limit text) (ap (λ (p : ParserState). p.reading) (sym c.self.view_is))
     (reading_at_none c.args.self.now limit text (ap (λ (p : ParserState). p.fault) (sym c.self.view_is) ∙ c.in_default.is) has)))
 
 pub returns-in-Err-clause-read : goal.returns-in-Err-clause-read
 returns-in-Err-clause-read c = λ limit text has.
     c.in-Err.ensures.err limit text
-    (subst (λ r. IsReading r limit text) (ap (λ (p : ParserState). p.reading) (sym c.self.view_is))
+    (subst (λ r. IsReading KeepsAll r limit text) (ap (λ (p : ParserState). p.reading) (sym c.self.view_is))
     (reading_at_none c.args.self.now limit text (ap (λ (p : ParserState). p.fault) (sym c.self.view_is) ∙ c.in_default.is) has))
 
 pub returns-in-Err-clause-err : goal.returns-in-Err-clause-err
 returns-in-Err-clause-err c = λ limit text has.
     c.in-Err.ensures.err limit text
-    (subst (λ r. IsReading r limit text) (ap (λ (p : ParserState). p.reading) (sym c.self.view_is))
+    (subst (λ r. IsReading KeepsAll r limit text) (ap (λ (p : ParserState). p.reading) (sym c.self.view_is))
     (reading_at_none c.args.self.now limit text (ap (λ (p : ParserState). p.fault) (sym c.self.view_is) ∙ c.in_default.is) has))
 
 pub invariant_of-self : goal.invariant_of-self
@@ -48,7 +49,7 @@ invariant_of-self c =
       limit = fed.limit;
       text = fed.text ++ c.args.piece.now;
       read =
-          none_at_reading (record { reading = c.read.new.self; fault = c.self.inside.fault }) fed.limit (fed.text ++ c.args.piece.now) c.in_default.is
+          none_at_reading (record { reading = c.feed.new.self; fault = c.self.inside.fault }) fed.limit (fed.text ++ c.args.piece.now) c.in_default.is
           (c.in-Ok.ensures.read fed.limit fed.text
           (reading_at_none (record { reading = c.self.inside.reading; fault = c.self.inside.fault }) fed.limit fed.text c.in_default.is fed.read));
     }

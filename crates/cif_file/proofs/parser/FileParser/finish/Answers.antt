@@ -1,8 +1,7 @@
 -- A fault that was told is the text's.
 use Rattle.std.proofs.Common.{sym, ap, subst, ◌∙◌}
-use Rattle.cif_file.specs.ParserRead.{ParserState, IsReadingOrFault}
-use Rattle.std.proofs.lemmas.Result.{IfOk-weaker}
-use Rattle.cif_file.proofs.AnswerLemmas.{if_err_by}
+use Rattle.cif_file.specs.ParserRead.{ParserState, IsReadingOrFault, IsOfFileText}
+use Rattle.cif_file.proofs.EndedLemmas.{of_file, is_read_some}
 use Rattle.cif_file.proofs.ParserLemmas.{told_refused, had_failed, reading_of, names_later, names_last}
 use Rattle.cif_file.proofs.parser.FileParser.finish.Goals as goal
 
@@ -19,32 +18,31 @@ pub returns-in-Some-clause-last : goal.returns-in-Some-clause-last
 returns-in-Some-clause-last c =
     λ none. absurd (had_failed c.args.self c.in-Some.fault (ap (λ (p : ParserState). p.fault) (sym c.self.view_is) ∙ c.in-Some.is) none)
 
-pub returns-in-None-clause-later : goal.returns-in-None-clause-later
-returns-in-None-clause-later c =
-    if_err_by c.end.result
-    (λ fault. names_later c.args.self c.self.inside.reading fault (ap (λ (p : ParserState). p.fault) (sym c.self.view_is) ∙ c.in-None.is)
-    (ap (λ (p : ParserState). p.reading) (sym c.self.view_is)))
-    c.end.ensures.later
+pub into_file-requires : goal.into_file-requires
+into_file-requires c =
+    let fed = c.self.invariant in
+    is_read_some (record { reading = c.self.inside.reading; fault = c.self.inside.fault }) c.in-Ok.ended fed c.in-None.is c.in-Ok.ensures.ok
 
-pub returns-in-None-clause-last : goal.returns-in-None-clause-last
-returns-in-None-clause-last c =
-    if_err_by c.end.result
-    (λ fault. names_last c.args.self c.self.inside.reading fault (ap (λ (p : ParserState). p.fault) (sym c.self.view_is) ∙ c.in-None.is)
-    (ap (λ (p : ParserState). p.reading) (sym c.self.view_is)))
-    c.end.ensures.last
-
-pub returns-in-None-clause-ok : goal.returns-in-None-clause-ok
-returns-in-None-clause-ok c =
-    IfOk-weaker c.end.result _ _
-    (λ file told. λ limit text has. told limit text
+pub returns-in-Ok-clause-ok : goal.returns-in-Ok-clause-ok
+returns-in-Ok-clause-ok c = λ limit text has.
+    subst (λ file. IsOfFileText file limit text) (sym c.into_file.ensures)
+    (of_file limit text c.in-Ok.ended
+    (c.in-Ok.ensures.ok limit text
     (reading_of c.args.self c.self.inside.reading limit text (ap (λ (p : ParserState). p.fault) (sym c.self.view_is) ∙ c.in-None.is)
-    (ap (λ (p : ParserState). p.reading) (sym c.self.view_is)) has))
-    c.end.ensures.ok
+    (ap (λ (p : ParserState). p.reading) (sym c.self.view_is)) has)))
 
-pub returns-in-None-clause-err : goal.returns-in-None-clause-err
-returns-in-None-clause-err c =
-    if_err_by c.end.result
-    (λ fault told. λ limit text has. told limit text
+pub returns-in-Err-clause-err : goal.returns-in-Err-clause-err
+returns-in-Err-clause-err c = λ limit text has.
+    c.in-Err.ensures.err limit text
     (reading_of c.args.self c.self.inside.reading limit text (ap (λ (p : ParserState). p.fault) (sym c.self.view_is) ∙ c.in-None.is)
-    (ap (λ (p : ParserState). p.reading) (sym c.self.view_is)) has))
-    c.end.ensures.err
+    (ap (λ (p : ParserState). p.reading) (sym c.self.view_is)) has)
+
+pub returns-in-Err-clause-later : goal.returns-in-Err-clause-later
+returns-in-Err-clause-later c =
+    names_later c.args.self c.self.inside.reading c.in-Err.fault (ap (λ (p : ParserState). p.fault) (sym c.self.view_is) ∙ c.in-None.is)
+    (ap (λ (p : ParserState). p.reading) (sym c.self.view_is)) c.in-Err.ensures.later
+
+pub returns-in-Err-clause-last : goal.returns-in-Err-clause-last
+returns-in-Err-clause-last c =
+    names_last c.args.self c.self.inside.reading c.in-Err.fault (ap (λ (p : ParserState). p.fault) (sym c.self.view_is) ∙ c.in-None.is)
+    (ap (λ (p : ParserState). p.reading) (sym c.self.view_is)) c.in-Err.ensures.last

@@ -10,91 +10,82 @@ use Rattle.cif_file.proofs.ParserLemmas.{counted_last, counted_ended, end_fault,
 use Rattle.cif_file.proofs.parser.Reading.end.Goals as goal
 
 pub returns-then-is_empty-clause-ok : goal.returns-then-is_empty-clause-ok
-returns-then-is_empty-clause-ok c =
+returns-then-is_empty-clause-ok g c =
     IfOk-weaker c.finish.result _ _
     (λ file told. λ limit text reading.
-    file_at_end c.args.self.records limit text file (counted_ended c.args.self limit text reading (empty_is c.args.self c.if-is_empty.ensures)) told)
+    file_at_end g.K.Keeper.keeps c.args.self.records limit text file (counted_ended g.K.Keeper.keeps c.args.self limit text reading (empty_is c.args.self c.if-is_empty.ensures)) told)
     c.finish.ensures.ok
 
 pub returns-then-is_empty-clause-err : goal.returns-then-is_empty-clause-err
-returns-then-is_empty-clause-err c =
+returns-then-is_empty-clause-err g c =
     if_err_by c.finish.result
     (λ fault told. λ limit text reading.
-    no_end_at_end c.args.self.records limit text fault (counted_ended c.args.self limit text reading (empty_is c.args.self c.if-is_empty.ensures)) told)
+    no_end_at_end g.K.Keeper.keeps c.args.self.records limit text fault (counted_ended g.K.Keeper.keeps c.args.self limit text reading (empty_is c.args.self c.if-is_empty.ensures)) told)
     c.finish.ensures.err
 
 pub returns-in-Err-clause-err : goal.returns-in-Err-clause-err
-returns-in-Err-clause-err c = λ limit text reading.
-    end_fault c.args.self limit text c.in-Err.fault reading (some_is_open c.args.self limit text reading c.if-is_empty.ensures)
-    (subst (λ line. IsFaultNext limit (told_lines text) line c.in-Err.fault)
+returns-in-Err-clause-err g c = λ limit text reading.
+    end_fault g.K.Keeper.keeps g.K.Keeper.wants c.args.self limit text c.in-Err.fault reading (some_is_open g.K.Keeper.keeps c.args.self limit text reading c.if-is_empty.ensures)
+    (subst (λ line. IsFaultNext g.K.Keeper.wants limit (told_lines text) line c.in-Err.fault)
     (c.without_return.ensures.line ∙ ap strip_carriage_return (c.as_slice.ensures.value ∙ reading.partial_is))
     (c.in-Err.ensures.err limit (told_lines text) reading.counted))
 
 pub returns-in-Ok-clause-ok : goal.returns-in-Ok-clause-ok
-returns-in-Ok-clause-ok c =
+returns-in-Ok-clause-ok g c =
     IfOk-weaker c.finish-in-Ok.result _ _
     (λ file told. λ limit text reading.
-    file_at_end c.take.new.self limit text file
-    (counted_last c.args.self c.take.new.self limit text c.as_slice.result.now c.without_return.result.now reading c.if-is_empty.ensures
+    file_at_end g.K.Keeper.keeps c.take.new.self limit text file
+    (counted_last g.K.Keeper.keeps c.args.self c.take.new.self limit text c.as_slice.result.now c.without_return.result.now reading c.if-is_empty.ensures
     c.as_slice.ensures.value
     c.without_return.ensures.line (c.in-Ok.ensures.read limit (told_lines text) reading.counted)) told)
     c.finish-in-Ok.ensures.ok
 
 pub returns-in-Ok-clause-err : goal.returns-in-Ok-clause-err
-returns-in-Ok-clause-err c =
+returns-in-Ok-clause-err g c =
     if_err_by c.finish-in-Ok.result
     (λ fault told. λ limit text reading.
-    no_end_at_end c.take.new.self limit text fault
-    (counted_last c.args.self c.take.new.self limit text c.as_slice.result.now c.without_return.result.now reading c.if-is_empty.ensures
+    no_end_at_end g.K.Keeper.keeps c.take.new.self limit text fault
+    (counted_last g.K.Keeper.keeps c.args.self c.take.new.self limit text c.as_slice.result.now c.without_return.result.now reading c.if-is_empty.ensures
     c.as_slice.ensures.value
     c.without_return.ensures.line (c.in-Ok.ensures.read limit (told_lines text) reading.counted)) told)
     c.finish-in-Ok.ensures.err
 
-pub finish-requires-in-Ok : goal.finish-requires-in-Ok
-finish-requires-in-Ok c =
-    let some = c.requires in
-    record {
-      limit = some.limit;
-      records = told_lines some.text ++ c.without_return.result.now ∷ [];
-      has = c.in-Ok.ensures.read some.limit (told_lines some.text) some.is.counted;
-    }
-
 pub returns-then-is_empty-clause-later : goal.returns-then-is_empty-clause-later
-returns-then-is_empty-clause-later c =
+returns-then-is_empty-clause-later g c =
     if_err_by c.finish.result
-    (λ fault told. later_end c.args.self fault
-    (λ limit text reading. told limit (lines_of text) (counted_ended c.args.self limit text reading (empty_is c.args.self c.if-is_empty.ensures))))
+    (λ fault told. later_end g.K.Keeper.keeps g.K.Keeper.wants c.args.self fault
+    (λ limit text reading. told limit (lines_of text) (counted_ended g.K.Keeper.keeps c.args.self limit text reading (empty_is c.args.self c.if-is_empty.ensures))))
     c.finish.ensures.err
 
 pub returns-then-is_empty-clause-last : goal.returns-then-is_empty-clause-last
-returns-then-is_empty-clause-last c =
+returns-then-is_empty-clause-last g c =
     if_err_by c.finish.result
-    (λ fault told. last_end c.args.self fault
-    (λ limit text reading. told limit (lines_of text) (counted_ended c.args.self limit text reading (empty_is c.args.self c.if-is_empty.ensures))))
+    (λ fault told. last_end g.K.Keeper.keeps c.args.self fault
+    (λ limit text reading. told limit (lines_of text) (counted_ended g.K.Keeper.keeps c.args.self limit text reading (empty_is c.args.self c.if-is_empty.ensures))))
     c.finish.ensures.err
 
 pub returns-in-Err-clause-later : goal.returns-in-Err-clause-later
-returns-in-Err-clause-later c = later_next c.args.self c.without_return.result.now c.in-Err.fault c.in-Err.ensures.err
+returns-in-Err-clause-later g c = later_next g.K.Keeper.keeps g.K.Keeper.wants c.args.self c.without_return.result.now c.in-Err.fault c.in-Err.ensures.err
 
 pub returns-in-Err-clause-last : goal.returns-in-Err-clause-last
-returns-in-Err-clause-last c = last_open c.args.self c.without_return.result.now c.in-Err.fault c.if-is_empty.ensures c.in-Err.ensures.err
+returns-in-Err-clause-last g c = last_open g.K.Keeper.keeps g.K.Keeper.wants c.args.self c.without_return.result.now c.in-Err.fault c.if-is_empty.ensures c.in-Err.ensures.err
 
 pub returns-in-Ok-clause-later : goal.returns-in-Ok-clause-later
-returns-in-Ok-clause-later c =
+returns-in-Ok-clause-later g c =
     if_err_by c.finish-in-Ok.result
-    (λ fault told. later_end c.args.self fault
+    (λ fault told. later_end g.K.Keeper.keeps g.K.Keeper.wants c.args.self fault
     (λ limit text reading. told limit (lines_of text)
-    (counted_last c.args.self c.take.new.self limit text c.as_slice.result.now c.without_return.result.now reading c.if-is_empty.ensures
+    (counted_last g.K.Keeper.keeps c.args.self c.take.new.self limit text c.as_slice.result.now c.without_return.result.now reading c.if-is_empty.ensures
     c.as_slice.ensures.value
     c.without_return.ensures.line (c.in-Ok.ensures.read limit (told_lines text) reading.counted))))
     c.finish-in-Ok.ensures.err
 
 pub returns-in-Ok-clause-last : goal.returns-in-Ok-clause-last
-returns-in-Ok-clause-last c =
+returns-in-Ok-clause-last g c =
     if_err_by c.finish-in-Ok.result
-    (λ fault told. last_end c.args.self fault
+    (λ fault told. last_end g.K.Keeper.keeps c.args.self fault
     (λ limit text reading. told limit (lines_of text)
-    (counted_last c.args.self c.take.new.self limit text c.as_slice.result.now c.without_return.result.now reading c.if-is_empty.ensures
+    (counted_last g.K.Keeper.keeps c.args.self c.take.new.self limit text c.as_slice.result.now c.without_return.result.now reading c.if-is_empty.ensures
     c.as_slice.ensures.value
     c.without_return.ensures.line (c.in-Ok.ensures.read limit (told_lines text) reading.counted))))
     c.finish-in-Ok.ensures.err

@@ -3,7 +3,7 @@ use Rattle.std.proofs.Common.{arith}
 use Rattle.cif_file.proofs.records.Records.take.Goals as goal
 
 pub returns-in-Err-clause-err : goal.returns-in-Err-clause-err
-returns-in-Err-clause-err c = λ limit records counted.
+returns-in-Err-clause-err g c = λ limit records counted.
     let next = counted.next_is in
     let limits = counted.limit_is in
     let within = c.if-number-self.false in

@@ -8,13 +8,13 @@ use Rattle.cif_file.proofs.records.Records.too_long.Goals as goal
 use Rattle.cif_file.proofs.records.Records.too_long.Goals.{then-self, else-self+then-is_ended, else-self+else-is_ended}
 
 pub returns : goal.returns
-returns c = λ limit records counted.
+returns g c = λ limit records counted.
     elim c.if-self.branch [
-      | then-self w ↦ long_over c.args.self.now limit records _ counted refl w.if-self.true (ap cause_meant w.cause-is)
+      | then-self w ↦ long_over g.K.Keeper.keeps c.args.self.now limit records _ counted refl w.if-self.true (ap cause_meant w.cause-is)
       | else-self+then-is_ended w ↦
-          long_within c.args.self.now limit records _ true counted refl w.if-self.false
+          long_within g.K.Keeper.keeps c.args.self.now limit records _ true counted refl w.if-self.false
           (subst (λ b. (b ≡ true) ↔ IsFile records) w.if-is_ended.true (w.is_ended.ensures records counted.has)) (ap cause_meant w.cause-is)
       | else-self+else-is_ended w ↦
-          long_within c.args.self.now limit records _ false counted refl w.if-self.false
+          long_within g.K.Keeper.keeps c.args.self.now limit records _ false counted refl w.if-self.false
           (subst (λ b. (b ≡ true) ↔ IsFile records) w.if-is_ended.false (w.is_ended.ensures records counted.has)) (ap cause_meant w.cause-is)
     ]

@@ -1,0 +1,111 @@
+-- What is told of a file that was read: its changes, or how many there are.
+use Rattle.std.proofs.Common.{◌≡◌, ℕ, ◌+◌, ◌*◌, ◌<◌, ◌≤◌, Bool, true, false, cond, List, [], ◌∷◌, ◌++◌, length, map, Some, None, refl, sym, arith, length-append}
+use Rattle.std.proofs.lemmas.List.{length-map}
+use Rattle.std.specs.Prelude.{Option}
+use Rattle.docker_model.specs.records.Record.{Kind, kind_of, tiploc_insert, tiploc_amend, tiploc_delete, association, basic_schedule}
+use Rattle.docker_model.specs.file.Change.{Change, Key, Act, acts_by_kind, changes_of_record, changes_from, changes, keeps_code}
+use Rattle.docker_model.specs.file.FileFault.{IsFileText}
+use Rattle.cif_file.specs.declared.ended.Ended.{Ended}
+use Rattle.cif_file.specs.declared.kept.Kept.{Kept}
+use Rattle.cif_file.specs.declared.tally.Tally.{Tally}
+use Rattle.cif_file.specs.KeeperRead.{KeepsAll, CountsChanges}
+use Rattle.cif_file.specs.EndedRead.{IsEnded, file_ended, count_ended}
+use Rattle.cif_file.specs.FileRead.{IsOfRecords, IsRead, IsCountOfRecords, IsCounted}
+use Rattle.cif_file.specs.ParserRead.{IsOfFileText, IsCountOfFileText, IsEndedText, ParserState, WasFed, IsReading, EndsBy}
+use Rattle.cif_file.specs.SourceRead.{ReadsText, CountsText, ReadsEnded}
+use Rattle.cif_file.specs.declared.parser.Reading.{Reading}
+use Rattle.cif_file.proofs.ParserLemmas.{reading_at_none}
+
+-- ---- how many changes there are
+
+few_acts : (kind : Option Kind) (line : List ℕ) (following : List (List ℕ)) → length (acts_by_kind kind line following) ≤ 2
+few_acts (Some tiploc_insert) line following = omega arith
+few_acts (Some tiploc_amend) line following = by (keeps_code line) refl
+  where
+    by : (b : Bool) → keeps_code line ≡ b → length (acts_by_kind (Some tiploc_amend) line following) ≤ 2
+    by true h = rw h (omega arith)
+    by false h = rw h (omega arith)
+few_acts (Some tiploc_delete) line following = omega arith
+few_acts (Some association) line following = omega arith
+few_acts (Some basic_schedule) line following = omega arith
+few_acts _ line following = omega arith
+
+as_change : ℕ → Key × Act → Change
+as_change n act = record { number = n; key = act.0; act = act.1 }
+
+-- a record makes two at most
+few_changes : (n : ℕ) (records : List (List ℕ)) → length (changes_from n records) ≤ 2 * length records
+unfolding as_change
+few_changes n [] = omega arith
+few_changes n (line ∷ following) =
+    let more = few_changes (n + 1) following in
+    let size = length-append (changes_of_record n line following) (changes_from (n + 1) following) in
+    let same = length-map (acts_by_kind (kind_of line) line following) (as_change n) in
+    let few = few_acts (kind_of line) line following in
+    omega arith
+
+-- ---- the file
+
+pub of_file : (limit : ℕ) (text : List ℕ) (ended : Ended Kept) → IsEndedText KeepsAll limit text ended → IsOfFileText (file_ended ended) limit text
+of_file limit text ended is = record {
+  records = is.records;
+  is_text = is.is_text;
+  of_records = record { header_is = is.of_records.header_is; count_is = is.of_records.count_is; changes_are = is.of_records.kept.1 };
+}
+
+-- it is read
+pub is_read : (limit : ℕ) (text : List ℕ) (ended : Ended Kept) → limit ≤ 4_294_967_294 → IsEndedText KeepsAll limit text ended → IsRead (file_ended ended)
+unfolding of_file
+is_read limit text ended few is =
+    let file = of_file limit text ended is in
+    let within = is.is_text.within in
+    record { records = is.records; of_records = file.of_records; is_file = is.is_text.is; few = omega arith }
+
+-- no limit is more than what records can be numbered with
+limit_at : (reading : Reading Kept) (limit : ℕ) (text : List ℕ) → IsReading KeepsAll reading limit text → limit ≤ 4_294_967_294
+limit_at reading limit text at = let room = reading.records.room in let same = at.counted.limit_is in omega arith
+
+-- and so it is by what a parser was fed, which told no fault
+pub is_read_some : (parser : ParserState) (ended : Ended Kept) → WasFed parser → parser.fault ≡ None → EndsBy KeepsAll parser.reading ended
+    → IsRead (file_ended ended)
+is_read_some parser ended fed none ends =
+    let at = reading_at_none parser fed.limit fed.text none fed.read in
+    is_read fed.limit fed.text ended (limit_at parser.reading fed.limit fed.text at) (ends fed.limit fed.text at)
+
+-- from a source
+pub reads_text : (limit : ℕ) (left : Option (List ℕ)) (ended : Ended Kept) → ReadsEnded KeepsAll limit left ended → ReadsText limit left (file_ended ended)
+reads_text limit left ended reads = record { text = reads.text; held = reads.held; of_text = of_file limit reads.text ended reads.of_text }
+
+pub reads_read : (limit : ℕ) (left : Option (List ℕ)) (ended : Ended Kept) → limit ≤ 4_294_967_294 → ReadsEnded KeepsAll limit left ended
+    → IsRead (file_ended ended)
+reads_read limit left ended few reads = is_read limit reads.text ended few reads.of_text
+
+-- ---- its counts
+
+pub of_count : (limit : ℕ) (text : List ℕ) (ended : Ended Tally) → limit ≤ 4_294_967_294 → IsEndedText CountsChanges limit text ended
+    → IsCountOfFileText (count_ended ended) limit text
+of_count limit text ended few is =
+    let within = is.is_text.within in
+    let most : length (changes is.records) ≤ 2 * length is.records = few_changes 1 is.records in
+    record {
+      records = is.records;
+      is_text = is.is_text;
+      of_records = record {
+        header_is = is.of_records.header_is;
+        count_is = is.of_records.count_is;
+        changes_are = is.of_records.kept (omega arith);
+      };
+    }
+
+pub reads_count : (limit : ℕ) (left : Option (List ℕ)) (ended : Ended Tally) → limit ≤ 4_294_967_294 → ReadsEnded CountsChanges limit left ended
+    → CountsText limit left (count_ended ended)
+reads_count limit left ended few reads =
+    record { text = reads.text; held = reads.held; of_text = of_count limit reads.text ended few reads.of_text }
+
+pub reads_counted : (limit : ℕ) (left : Option (List ℕ)) (ended : Ended Tally) → limit ≤ 4_294_967_294 → ReadsEnded CountsChanges limit left ended
+    → IsCounted (count_ended ended)
+unfolding of_count
+reads_counted limit left ended few reads =
+    let is = of_count limit reads.text ended few reads.of_text in
+    let within = is.is_text.within in
+    record { records = is.records; of_records = is.of_records; is_file = is.is_text.is; few = omega arith }

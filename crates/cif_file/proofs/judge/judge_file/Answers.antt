@@ -1,0 +1,19 @@
+-- The counts of what was read.
+use Rattle.std.proofs.Common.{sym, subst}
+use Rattle.cif_file.specs.SourceRead.{CountsText}
+use Rattle.cif_file.proofs.EndedLemmas.{reads_count, reads_counted}
+use Rattle.cif_file.proofs.ReadLemmas.{wants_none}
+use Rattle.cif_file.proofs.judge.judge_file.Goals as goal
+
+pub into_count-requires : goal.into_count-requires
+into_count-requires g c = reads_counted c.args.limit (g.S.Source.left c.args.source.now) c.in-Ok.ended c.requires.limit c.in-Ok.ensures.ok
+
+pub returns-in-Ok-clause-ok : goal.returns-in-Ok-clause-ok
+returns-in-Ok-clause-ok g c =
+    subst (CountsText c.args.limit (g.S.Source.left c.args.source.now)) (sym c.into_count.ensures)
+    (reads_count c.args.limit (g.S.Source.left c.args.source.now) c.in-Ok.ended c.requires.limit c.in-Ok.ensures.ok)
+
+pub returns-in-Err-clause-memory : goal.returns-in-Err-clause-memory
+returns-in-Err-clause-memory g c =
+    wants_none c.args.limit (g.S.Source.left c.args.source.now) (g.S.Source.left c.read_source.new.source) c.in-Err.fault
+    c.in-Err.ensures.memory

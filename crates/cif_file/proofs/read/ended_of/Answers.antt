@@ -1,0 +1,12 @@
+-- What the parser answers at its end.
+use Rattle.cif_file.proofs.ReadLemmas.{fault_at_end, memory_at_end}
+use Rattle.cif_file.proofs.read.ended_of.Goals as goal
+
+pub returns-in-Err-clause-file : goal.returns-in-Err-clause-file
+returns-in-Err-clause-file g c = λ limit text has fault is.
+    fault_at_end limit text c.in-Err.fault fault c.fault_of.result (c.in-Err.ensures.err limit text has) c.fault_of.ensures.memory c.fault_of.ensures.file is
+
+pub returns-in-Err-clause-memory : goal.returns-in-Err-clause-memory
+returns-in-Err-clause-memory g c = λ limit text has is.
+    memory_at_end g.K.Keeper.keeps g.K.Keeper.wants limit text c.args.reading c.in-Err.fault c.fault_of.result has
+    (c.in-Err.ensures.err limit text has) c.in-Err.ensures.later c.in-Err.ensures.last c.fault_of.ensures.file is

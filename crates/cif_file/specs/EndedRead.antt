@@ -1,0 +1,27 @@
+-- What a reader tells of a file whose trailer was read.
+use Rattle.std.specs.Prelude.{◌≡◌, ℕ, List, [], length, map, slice_index_or}
+use Rattle.docker_model.specs.file.Change.{changes}
+use Rattle.cif_file.specs.declared.ended.Ended.{Ended}
+use Rattle.cif_file.specs.declared.kept.Kept.{Kept}
+use Rattle.cif_file.specs.declared.tally.Tally.{Tally}
+use Rattle.cif_file.specs.KeeperRead.{Keeps}
+use Rattle.cif_file.specs.FileRead.{FileRead, FileCounted}
+use Rattle.cif_file.specs.Meaning.{change_meant}
+
+-- the header and the number of these records are told, and their changes were kept
+pub record IsEnded {K : Type 0} (keeps : Keeps K) (records : List (List ℕ)) (ended : Ended K) : Type 0 where
+  pub header_is : ended.header ≡ slice_index_or records 0 []
+  pub count_is : ended.records ≡ length records
+  pub kept : keeps ended.keeper [] (changes records)
+
+-- the file, where the changes themselves were kept
+abbrev pub file_ended : Ended Kept → FileRead
+file_ended ended = record {
+  header_line = ended.header;
+  record_count = ended.records;
+  changes_made = map change_meant ended.keeper.changes.items;
+}
+
+-- the counts of the file, where the changes were counted
+abbrev pub count_ended : Ended Tally → FileCounted
+count_ended ended = record { header_line = ended.header; record_count = ended.records; change_count = ended.keeper.changes }

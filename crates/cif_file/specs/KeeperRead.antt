@@ -1,0 +1,45 @@
+-- What keeps of a file's records what its reader is to tell of them.
+use Rattle.std.specs.Prelude.{◌≡◌, ℕ, ◌<◌, List, [], ◌∷◌, ◌++◌, length, map, if◌then◌else◌}
+use Rattle.docker_model.specs.file.Change.{Change, changes_of_record, schedule_body, delete, put}
+use Rattle.cif_file.specs.declared.key.Key.TheVariants as key
+use Rattle.cif_file.specs.declared.opened.Opened.{Opened}
+use Rattle.cif_file.specs.declared.kept.Kept.{Kept}
+use Rattle.cif_file.specs.declared.tally.Tally.{Tally}
+use Rattle.cif_file.specs.Meaning.{key_meant, change_meant}
+
+abbrev Lines : Type 0
+Lines = List (List ℕ)
+
+-- what says that such lines of the schedule that is being read, and such changes, are kept
+abbrev pub Keeps : Type 0 → Type 1
+Keeps K = K → Lines → List Change → Type 0
+
+-- the change of a schedule with these lines
+abbrev pub change_opened : Opened → Lines → Change
+change_opened opened lines = record {
+  number = opened.number;
+  key = key_meant (key.Schedule opened.key);
+  act = if opened.progress.deletion then delete else put (schedule_body lines);
+}
+
+-- a line was added
+abbrev pub AddsLine : {K : Type 0} → Keeps K → K → List ℕ → K → Type 0
+AddsLine keeps old line new = (lines : Lines) (made : List Change) → keeps old lines made → keeps new (lines ++ line ∷ []) made
+
+-- the change of the schedule was made, of the lines that were kept
+abbrev pub Closes : {K : Type 0} → Keeps K → K → Opened → K → Type 0
+Closes keeps old opened new =
+    (lines : Lines) (made : List Change) → keeps old lines made → keeps new [] (made ++ change_opened opened lines ∷ [])
+
+-- the changes of a single record were made
+abbrev pub AddsSingle : {K : Type 0} → Keeps K → K → ℕ → List ℕ → K → Type 0
+AddsSingle keeps old number line new =
+    (lines : Lines) (made : List Change) → keeps old lines made → keeps new lines (made ++ changes_of_record number line [])
+
+-- the lines and the changes themselves are kept
+abbrev pub KeepsAll : Kept → Lines → List Change → Type 0
+KeepsAll kept lines made = (kept.lines.items ≡ lines) × (map change_meant kept.changes.items ≡ made)
+
+-- the changes are counted, as far as they can be
+abbrev pub CountsChanges : Tally → Lines → List Change → Type 0
+CountsChanges tally lines made = length made < 18_446_744_073_709_551_616 → tally.changes ≡ length made

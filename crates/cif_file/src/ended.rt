@@ -1,0 +1,51 @@
+//! A file whose trailer was read.
+ghost use Rattle.cif_file.specs.FileRead.{IsRead, IsCounted};
+ghost use Rattle.cif_file.specs.EndedRead.{file_ended, count_ended};
+
+use crate::count::FileCount;
+use crate::file::CifFile;
+use crate::header_line::HeaderLine;
+use crate::kept::Kept;
+use crate::tally::Tally;
+
+/// A file whose trailer was read: its header, how many records there are, and what was kept of them.
+#[derive(Debug, Drop)]
+pub(crate) struct Ended<K> {
+    pub(crate) header: HeaderLine,
+    pub(crate) records: u32,
+    pub(crate) keeper: K,
+}
+
+impl Ended<Kept> {
+    ghost use Rattle.std.specs.Prelude.{◌≡◌};
+
+    /// The file with the changes that were kept.
+    pub(crate) fn into_file(self) -> CifFile
+        requires { IsRead (file_ended self) }
+        ensures { result ≡ file_ended self }
+    {
+        let Ended {
+            header,
+            records,
+            keeper,
+        } = self;
+        CifFile::of(header.into_line(), records, keeper.into_changes())
+    }
+}
+
+impl Ended<Tally> {
+    ghost use Rattle.std.specs.Prelude.{◌≡◌};
+
+    /// The counts of the file.
+    pub(crate) fn into_count(self) -> FileCount
+        requires { IsCounted (count_ended self) }
+        ensures { result ≡ count_ended self }
+    {
+        let Ended {
+            header,
+            records,
+            keeper,
+        } = self;
+        FileCount::of(header.into_line(), records, keeper.count())
+    }
+}

@@ -1,0 +1,39 @@
+//! The counts of the file that a source holds.
+ghost use Rattle.std.specs.Prelude.{◌≡◌, ◌≢◌, ◌+◌, ◌-◌, ◌^◌, ◌<◌, ◌≤◌, ◌↔◌, [], IfOk, IsOk, Err};
+ghost use Rattle.cif_line.specs.Device.{IsEnd, Reads};
+ghost use Rattle.cif_file.specs.SourceRead.{CountsText, RefusesText, ReadsNoFurther};
+
+use crate::count::FileCount;
+use crate::fault::ReadFault;
+use crate::read::read_source;
+use crate::records::MOST_RECORDS;
+use crate::tally::Tally;
+use cif_line::Source;
+use std::alloc::Global;
+
+/// Reads a source to its end as [`read_file`](crate::read_file) does, and answers how many records and changes the file has whose text it held. It keeps none
+/// of them, so that memory is wanting before it reads, or never.
+pub fn judge_file<S: Source>(
+    alloc: Global,
+    source: &mut S,
+    limit: u32,
+) -> Result<FileCount, ReadFault>
+    requires failures { S.failures source.old < 2 ^ 64 - 1 }
+    requires limit { limit ≤ MOST_RECORDS }
+    ensures ok { IfOk result (CountsText limit (S.left source.old)) }
+    ensures file { (fault : _) → result ≡ Err (ReadFault.File fault) →
+        RefusesText limit (S.left source.old) fault }
+    ensures memory { result ≡ Err ReadFault.Memory →
+        Reads (S.left source.old) [] (S.left source.new) }
+    ensures end { IsOk result → IsEnd (S.left source.new) }
+    ensures no_further { ReadsNoFurther 65536 limit (S.left source.old) (S.left source.new) }
+    ensures source { (result ≡ Err ReadFault.Source) ↔
+        (S.failures source.new ≡ S.failures source.old + 1) }
+    ensures no_failure { result ≢ Err ReadFault.Source →
+        S.failures source.new ≡ S.failures source.old }
+{
+    match read_source(alloc, source, Tally::new(), limit) {
+        Ok(ended) => Ok(ended.into_count()),
+        Err(fault) => Err(fault),
+    }
+}

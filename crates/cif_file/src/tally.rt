@@ -1,0 +1,51 @@
+//! The changes of a file's records, counted.
+ghost use Rattle.std.specs.Prelude.{◌≡◌, []};
+ghost use Rattle.cif_file.specs.KeeperRead.{CountsChanges};
+
+use crate::keeper::Keeper;
+use crate::opened::Opened;
+use crate::unit::count_changes;
+use cif_line::{Kind, Line};
+use std::alloc::AllocError;
+
+/// How many changes a file's records have made so far. No file has so many that they can't be counted, for a record makes two at most.
+#[derive(Debug, Drop)]
+pub(crate) struct Tally {
+    changes: u64,
+}
+
+impl Tally {
+    /// No change.
+    pub(crate) fn new() -> Tally
+        ensures { CountsChanges result [] [] }
+    {
+        Tally { changes: 0 }
+    }
+
+    /// How many changes there are.
+    pub(crate) fn count(&self) -> u64
+        ensures { result ≡ self.now.changes }
+    {
+        self.changes
+    }
+}
+
+impl Keeper for Tally {
+    ghost keeps = { CountsChanges };
+
+    ghost wants = { ⊥ };
+
+    fn add_line(&mut self, _line: &Line) -> Result<(), AllocError> {
+        Ok(())
+    }
+
+    fn close(&mut self, _opened: Opened) -> Result<(), AllocError> {
+        self.changes = self.changes.saturating_add(1);
+        Ok(())
+    }
+
+    fn add_single(&mut self, _number: u32, kind: Kind, line: &Line) -> Result<(), AllocError> {
+        self.changes = self.changes.saturating_add(count_changes(kind, line));
+        Ok(())
+    }
+}
