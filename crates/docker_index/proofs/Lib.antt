@@ -16,3 +16,5 @@ pub mod MovedMarks
 pub mod RoomNames
 pub mod NotedNames
 pub mod CountedSpots
+pub mod Counted
+pub mod PlacedOrder

@@ -7,10 +7,11 @@ use Rattle.docker_model.specs.state.Op.{Op, op_of}
 use Rattle.docker_model.specs.state.State.{AreAscending}
 use Rattle.docker_laws.proofs.lists.Membership.{Contains-cons, cons-Contains, cons-Contains-first, nil-Contains}
 use Rattle.docker_index.specs.declared.room.Room.{Room}
+use Rattle.docker_index.specs.declared.slots.Slots.{Slots}
 use Rattle.std.specs.Global.{Vec}
 use Rattle.docker_index.specs.declared.mark.Mark.{Mark}
 use Rattle.docker_index.specs.Spots.{Places, call_places, link_places, spots_of}
-use Rattle.docker_index.specs.Rooms.{AreNamed, HasPlaces, HavePlaces, Includes, AreMadeBy, HasRoomOf, HasRoomFor, IsRoom}
+use Rattle.docker_index.specs.Rooms.{AreNamed, HasPlaces, HavePlaces, Includes, AreMadeBy, HasRoomOf, HasSlots, HasRoomFor, IsRoom}
 use Rattle.docker_index.proofs.Positions.{Keyed}
 
 -- a key with its op
@@ -55,6 +56,17 @@ made_places places names changes (row ∷ rows) have made = (
 less_room : (few many : ℕ) (marks : Vec Mark) → few ≤ many → HasRoomOf many marks → HasRoomOf few marks
 less_room few many marks less room = record { none = room.none; empty = room.empty; room = (let all = room.room in omega arith) }
 
+-- the same of slots
+less_slots : (places few many : ℕ) (slots : Slots) → few ≤ many → HasSlots places many slots → HasSlots places few slots
+less_slots places few many slots less has = record {
+  none = has.none;
+  len = has.len;
+  no_next = has.no_next;
+  empty_next = has.empty_next;
+  room_next = has.room_next;
+  room = less_room few many slots.marks less has.room;
+}
+
 -- a room that was made for names that the rows have, and for no fewer calls and rows, is room for their index
 pub room_for : (rows : List Keyed) (names : List (List ℕ)) (calls count : ℕ) (room : Room) → IsRoom names calls count room
     → HasPlaces call_places names rows → HasPlaces link_places names rows → length (spots_of call_places rows) ≤ calls
@@ -67,6 +79,8 @@ room_for rows names calls count room is call_names link_names few_calls few_link
   link_names = places_more link_places names room.places.items rows is.all link_names;
   calls_room = less_room (length (spots_of call_places rows)) calls room.calls few_calls is.calls_room;
   links_room = less_room (length (spots_of link_places rows)) count room.links few_links is.links_room;
+  call_slots = less_slots (length room.places.items) (length (spots_of call_places rows)) calls room.call_slots few_calls is.call_slots;
+  link_slots = less_slots (length room.places.items) (length (spots_of link_places rows)) count room.link_slots few_links is.link_slots;
 }
 
 -- the same of rows that changes make

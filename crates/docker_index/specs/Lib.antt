@@ -2,6 +2,7 @@ pub mod MarkOrder
 pub mod SpotOrder
 pub mod Spots
 pub mod Tables
+pub mod ByPlace
 pub mod Rooms
 pub mod Turns
 pub mod Joined

@@ -8,6 +8,8 @@ use Rattle.docker_model.specs.state.Op.{op_of}
 use Rattle.docker_model.specs.state.Order.{bytes_cmp, IsStrictlyAscending}
 use Rattle.docker_index.specs.declared.mark.Mark.{Mark}
 use Rattle.docker_index.specs.declared.room.Room.{Room}
+use Rattle.docker_index.specs.declared.slots.Slots.{Slots}
+use Rattle.docker_index.specs.ByPlace.{AreCounts}
 use Rattle.docker_index.specs.Spots.{Places, call_places, link_places, places_of, spots_of}
 
 -- nothing is in the vector, and it has room for so many
@@ -15,6 +17,15 @@ pub record HasRoomOf (count : ℕ) (marks : Vec Mark) : Type 0 where
   pub none : marks.items ≡ []
   pub empty : vec_len marks ≡ 0
   pub room : count ≤ vec_capacity marks
+
+-- nothing is counted, and there is room for so many places and so many marks
+pub record HasSlots (places marks : ℕ) (slots : Slots) : Type 0 where
+  pub none : AreCounts [] slots.counts.items
+  pub len : length slots.counts.items ≡ places
+  pub no_next : slots.next.items ≡ []
+  pub empty_next : vec_len slots.next ≡ 0
+  pub room_next : places ≤ vec_capacity slots.next
+  pub room : HasRoomOf marks slots.marks
 
 -- each of the places is among the named ones
 abbrev pub AreNamed : List (List ℕ) → List (List ℕ) → Type 0
@@ -35,6 +46,8 @@ pub record HasRoomFor (rows : List (model.Key × ops.Entry)) (room : Room) : Typ
   pub link_names : HasPlaces link_places room.places.items rows
   pub calls_room : HasRoomOf (length (spots_of call_places rows)) room.calls
   pub links_room : HasRoomOf (length (spots_of link_places rows)) room.links
+  pub call_slots : HasSlots (length room.places.items) (length (spots_of call_places rows)) room.call_slots
+  pub link_slots : HasSlots (length room.places.items) (length (spots_of link_places rows)) room.link_slots
 
 -- each place of the one list is in the other
 abbrev pub Includes : List (List ℕ) → List (List ℕ) → Type 0
@@ -48,6 +61,8 @@ pub record IsRoom (names : List (List ℕ)) (calls rows : ℕ) (room : Room) : T
   pub few_rows : rows < 2 ^ 32
   pub calls_room : HasRoomOf calls room.calls
   pub links_room : HasRoomOf rows room.links
+  pub call_slots : HasSlots (length room.places.items) calls room.call_slots
+  pub link_slots : HasSlots (length room.places.items) rows room.link_slots
 
 -- how many calls what a change puts has
 abbrev pub calls_of_change : model.Change → ℕ

@@ -53,10 +53,12 @@ impl Index {
             places,
             calls,
             links,
+            call_slots,
+            link_slots,
             mut memo,
         } = room;
-        let calls = call_marks(rows, places.as_slice(), &mut memo, calls);
-        let links = link_marks(rows, places.as_slice(), &mut memo, links);
+        let calls = call_marks(rows, places.as_slice(), &mut memo, calls, call_slots);
+        let links = link_marks(rows, places.as_slice(), &mut memo, links, link_slots);
         Index {
             places,
             calls,

@@ -11,6 +11,7 @@ mod moves;
 mod names;
 mod places;
 mod room;
+mod slots;
 mod standing;
 mod turns;
 
@@ -19,6 +20,7 @@ pub use laws::{indexes_of_rows, one_index_of_rows};
 pub use mark::Mark;
 pub use moves::Moves;
 pub use room::Room;
+pub use slots::Slots;
 pub use standing::Standing;
 
 #[cfg(test)]

@@ -11,6 +11,7 @@ use crate::mark::Mark;
 use crate::memo::Memo;
 use crate::names::Names;
 use crate::places::{calls_in, calls_in_changes};
+use crate::slots::Slots;
 use cif_file::{Change, Key};
 use cif_line::Memory;
 use docker_join::Entry;
@@ -25,6 +26,10 @@ pub struct Room {
     pub calls: Vec<Mark>,
     /// Where the links go.
     pub links: Vec<Mark>,
+    /// Where the calls are put in order.
+    pub call_slots: Slots,
+    /// Where the links are put in order.
+    pub link_slots: Slots,
     pub(crate) memo: Memo,
 }
 
@@ -62,12 +67,16 @@ impl Room {
         if u32::try_from(places.len()).is_err() || u32::try_from(rows).is_err() {
             return Err(Memory);
         }
+        let call_slots = Slots::new(alloc, places.len(), calls)?;
+        let link_slots = Slots::new(alloc, places.len(), rows)?;
         let calls = Vec::with_capacity(alloc, calls)?;
         let links = Vec::with_capacity(alloc, rows)?;
         Ok(Room {
             places,
             calls,
             links,
+            call_slots,
+            link_slots,
             memo,
         })
     }
