@@ -2,6 +2,7 @@
 //! or as it is to be. A pipe or a device is written where it stands.
 ghost use Rattle.std.specs.Prelude.{◌≡◌, ◌<◌, ◌^◌, ◌-◌, ◌+◌, None, option_map, string_bytes};
 
+use crate::beside::Beside;
 use crate::devices::write_some;
 use crate::files::OpenFault;
 use crate::stores::Stores;
@@ -11,9 +12,6 @@ use std::fs::{File, Metadata};
 use std::io::ErrorKind;
 use std::os::unix::fs::MetadataExt;
 use std::{fs, io};
-
-/// What stands behind a file's name in that of its draft.
-const BESIDE: &str = ".new";
 
 /// Which file stood under a name, and when it was written last.
 #[derive(Clone, Copy, PartialEq, Eq)]
@@ -36,13 +34,6 @@ impl Seen {
             nanoseconds: file.mtime_nsec(),
         }
     }
-}
-
-/// A draft beside its file.
-#[derive(Drop)]
-struct Beside {
-    draft: String,
-    file: String,
 }
 
 /// The file of a name that is written anew.
@@ -137,47 +128,33 @@ impl Folder {
         }
     }
 
-    /// Opens a draft beside a file, which nobody else has made, and which has the file's permissions.
+    /// Opens a draft beside a file that is still the one that was looked at.
     fn open_beside(
         &self,
         name: &str,
         file: String,
         old: Option<Metadata>,
     ) -> Result<(File, Option<Beside>), OpenFault> {
-        let mut draft = String::from_str(self.rt.alloc(), file.as_str())?;
-        draft.push_str(BESIDE)?;
-        let opened = File::create_new(&self.rt, draft.as_str())?;
-        if let Err(fault) = self.admit(name, &opened, old) {
-            let _ = fs::remove_file(&self.rt, draft.as_str());
-            return Err(fault);
-        }
-        Ok((opened, Some(Beside { draft, file })))
-    }
-
-    /// Whether a draft may take the place of the file: that is still the one that was looked at.
-    fn admit(&self, name: &str, draft: &File, old: Option<Metadata>) -> Result<(), OpenFault> {
+        let (made, beside) = Beside::make(&self.rt, file, old)?;
         if self.seen(name) != self.seen {
+            beside.remove(&self.rt);
             return Err(OpenFault::Failed);
         }
-        if let Some(file) = old {
-            draft.set_permissions(file.permissions())?;
-        }
-        Ok(())
+        Ok((made, Some(beside)))
     }
 
-    /// Writes a draft that lies beside its file to the disk, and renames it over the file.
+    /// Puts a draft that lies beside its file in the file's place.
     fn replace(&self, draft: &File) -> io::Result<()> {
-        let Some(beside) = &self.beside else {
-            return Ok(());
-        };
-        draft.sync_all()?;
-        fs::rename(&self.rt, beside.draft.as_str(), beside.file.as_str())
+        match &self.beside {
+            Some(beside) => beside.replace(&self.rt, draft),
+            None => Ok(()),
+        }
     }
 
     /// Takes a draft that lies beside its file away, as far as that can be done.
     fn remove_draft(&self) {
         if let Some(beside) = &self.beside {
-            let _ = fs::remove_file(&self.rt, beside.draft.as_str());
+            beside.remove(&self.rt);
         }
     }
 }

@@ -1,6 +1,7 @@
 //! The program: what it does with its words and its devices, and the real devices that it runs on.
 #![tactic(auto)]
 
+mod beside;
 mod devices;
 mod fault_report;
 mod files;

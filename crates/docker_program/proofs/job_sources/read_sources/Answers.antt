@@ -1,5 +1,4 @@
 use Rattle.std.proofs.Common.{rules, sym, ap, subst, ◌∙◌}
-use Rattle.docker_cmd.specs.Prepared.{DeviceBytes}
 use Rattle.docker_program.specs.Devices.{AreOpened, file_device, given}
 use Rattle.docker_program.specs.Names.{standard_input, file_and_input, names_meant}
 use Rattle.docker_program.proofs.JobSourcesLemmas.{are_files, reads_files, reads_named}

@@ -1,0 +1,134 @@
+//! Drafts that lie beside the files whose places they are to take. A draft is locked for as long as its command is at work, and marked until it has taken
+//! its file's place: one that is marked and not locked was left by a command that was ended, and the next one takes it away.
+use crate::files::OpenFault;
+use std::fs::{File, Metadata, Permissions, TryLockError};
+use std::os::unix::fs::{MetadataExt, OpenOptionsExt, PermissionsExt};
+use std::{fs, io};
+
+/// What stands behind a file's name in that of its draft.
+const BESIDE: &str = ".new";
+
+/// The permission bit that marks a draft, the sticky bit. Of a regular file it says nothing else.
+const MARK: u32 = 0o1000;
+
+/// The permissions of a new file, of which the user's mask takes some.
+const NEW_FILE: u32 = 0o666;
+
+/// A draft beside its file.
+#[derive(Drop)]
+pub(crate) struct Beside {
+    draft: String,
+    file: String,
+    permissions: u32,
+}
+
+impl Beside {
+    /// Makes an empty draft beside the file of this path, which this command alone holds, with the permissions of the old file where there is one.
+    pub(crate) fn make(
+        rt: &HostRuntime,
+        file: String,
+        old: Option<Metadata>,
+    ) -> Result<(File, Beside), OpenFault> {
+        let mut draft = String::from_str(rt.alloc(), file.as_str())?;
+        draft.push_str(BESIDE)?;
+        remove_left_over(rt, draft.as_str());
+        let mark = mark_beside(file.as_str());
+        let made = File::options()
+            .write(true)
+            .create_new(true)
+            .mode(NEW_FILE | mark)
+            .open(rt, draft.as_str())?;
+        hold(rt, &made, draft.as_str())?;
+        match give_permissions(&made, old, mark) {
+            Ok(permissions) => {
+                let beside = Beside {
+                    draft,
+                    file,
+                    permissions,
+                };
+                Ok((made, beside))
+            }
+            Err(error) => {
+                let _ = fs::remove_file(rt, draft.as_str());
+                Err(OpenFault::from(error))
+            }
+        }
+    }
+
+    /// Writes the draft to the disk, renames it over the file, and only then takes its mark away.
+    pub(crate) fn replace(&self, rt: &HostRuntime, made: &File) -> io::Result<()> {
+        made.sync_all()?;
+        fs::rename(rt, self.draft.as_str(), self.file.as_str())?;
+        let _ = made.set_permissions(Permissions::from_mode(self.permissions));
+        Ok(())
+    }
+
+    /// Takes the draft away, as far as that can be done.
+    pub(crate) fn remove(&self, rt: &HostRuntime) {
+        let _ = fs::remove_file(rt, self.draft.as_str());
+    }
+}
+
+/// The mark of a draft beside the file of this path. A file that is itself named as a draft has unmarked ones, for once it is in its place it could be taken
+/// for a draft of another file.
+fn mark_beside(file: &str) -> u32 {
+    if file.ends_with(BESIDE) { 0 } else { MARK }
+}
+
+/// Whether a file is regular and marked as a draft.
+fn is_marked(file: &Metadata) -> bool {
+    file.is_file() && file.permissions().mode() & MARK != 0
+}
+
+/// Whether an open file is the one that stands under this name.
+fn stands_under(rt: &HostRuntime, file: &File, name: &str) -> bool {
+    let (Ok(held), Ok(there)) = (file.metadata(), fs::symlink_metadata(rt, name)) else {
+        return false;
+    };
+    held.dev() == there.dev() && held.ino() == there.ino()
+}
+
+/// Takes away what stands under the name of a draft, if a command that was ended has left it. Everything else stays.
+fn remove_left_over(rt: &HostRuntime, name: &str) {
+    let Ok(there) = fs::symlink_metadata(rt, name) else {
+        return;
+    };
+    if !is_marked(&there) {
+        return;
+    }
+    let Ok(left) = File::open(rt, name) else {
+        return;
+    };
+    if left.try_lock().is_ok() && is_left_over(rt, &left, name) {
+        let _ = fs::remove_file(rt, name);
+    }
+}
+
+/// Whether a file that is locked by this command is still a marked draft under this name, and not the one of a command that came to its end meanwhile.
+fn is_left_over(rt: &HostRuntime, left: &File, name: &str) -> bool {
+    let Ok(held) = left.metadata() else {
+        return false;
+    };
+    is_marked(&held) && stands_under(rt, left, name)
+}
+
+/// Locks a draft that was just made; refused where another command took it for one that was left. Where files can't be locked none is taken for that.
+fn hold(rt: &HostRuntime, made: &File, name: &str) -> Result<(), OpenFault> {
+    if let Err(TryLockError::WouldBlock) = made.try_lock() {
+        return Err(OpenFault::Failed);
+    }
+    if !stands_under(rt, made, name) {
+        return Err(OpenFault::Failed);
+    }
+    Ok(())
+}
+
+/// Gives a draft the permissions of the old file, where there is one, beside its mark; answers those that it is to have in the end.
+fn give_permissions(made: &File, old: Option<Metadata>, mark: u32) -> io::Result<u32> {
+    let Some(file) = old else {
+        return Ok(made.metadata()?.permissions().mode() & !MARK);
+    };
+    let permissions = file.permissions().mode() & !MARK;
+    made.set_permissions(Permissions::from_mode(permissions | mark))?;
+    Ok(permissions)
+}
