@@ -1,11 +1,8 @@
 -- What is written, from what an office prints.
-use Rattle.std.proofs.Common.{◌≡◌, ℕ, List, length, map, ap, sym, ◌∙◌, subst, ◌⊎◌, inl, inr}
-use Rattle.std.proofs.lemmas.List.{length-map}
+use Rattle.std.proofs.Common.{◌≡◌, ℕ, List, ap, sym, ◌∙◌, subst, ◌⊎◌, inl, inr}
 use Rattle.std.specs.Prelude.{Option}
 use Rattle.docker_model.specs.state.State.{State}
-use Rattle.cif_file.specs.FileRead.{FileRead}
-use Rattle.cif_file.specs.Meaning.{change_meant}
-use Rattle.cif_file.specs.declared.change.Change.{Change}
+use Rattle.cif_file.specs.FileRead.{FileCounted}
 use Rattle.cif_line.specs.declared.Tiploc.{Tiploc}
 use Rattle.docker_job.specs.Job.{task_meant}
 use Rattle.docker_job.specs.declared.tasks.Task.{Task}
@@ -32,13 +29,11 @@ printed_part output state place day old new same prints = record {
   gained = prints.gained;
 }
 
--- the line of the counts that the code has of a file is that of the file
-pub counted : (file : FileRead) (records : ℕ) (changes : List Change) (text : List ℕ) → records ≡ file.record_count
-    → map change_meant changes ≡ file.changes_made → text ≡ count_line records (length changes)
-    → text ≡ count_line file.record_count (length file.changes_made)
-counted file records changes text count made is =
-    let size : length changes ≡ length file.changes_made = sym (length-map changes change_meant) ∙ ap length made in
-    is ∙ ap (λ r. count_line r (length changes)) count ∙ ap (count_line file.record_count) size
+-- the line of the counts that the code tells of a file is that of the file
+pub counted : (file : FileCounted) (records changes : ℕ) (text : List ℕ) → records ≡ file.record_count → changes ≡ file.change_count
+    → text ≡ count_line records changes
+    → text ≡ count_line file.record_count file.change_count
+counted file records changes text count made is = is ∙ ap (λ r. count_line r changes) count ∙ ap (count_line file.record_count) made
 
 -- `day` and `print` write a docker
 pub docker_asked : (task : Task) (place : Tiploc) (day : ℕ) → (task ≡ tasks.Day place day) ⊎ (task ≡ tasks.Print place day)

@@ -1,9 +1,8 @@
 -- What a job reads, and what it writes.
-use Rattle.std.specs.Prelude.{◌≡◌, ℕ, ◌⊎◌, ⊤, List, [], ◌∷◌, length, Option}
-use Rattle.cif_line.specs.Device.{Takes, TakesPart, IsEnd}
-use Rattle.cif_file.specs.FileRead.{FileRead}
-use Rattle.cif_file.specs.SourceRead.{Held, ReadsText, RefusesText, ReadsNoFurther}
-use Rattle.cif_file.specs.SourceRead as files
+use Rattle.std.specs.Prelude.{◌≡◌, ℕ, ◌⊎◌, ⊤, List, [], ◌∷◌, Option}
+use Rattle.cif_line.specs.Device.{Reads, Takes, TakesPart, IsEnd}
+use Rattle.cif_file.specs.FileRead.{FileCounted}
+use Rattle.cif_file.specs.SourceRead.{Held, CountsText, RefusesText, ReadsNoFurther}
 use Rattle.cif_file.specs.declared.fault.FileFault.{FileFault}
 use Rattle.docker_model.specs.file.FileFault.{IsFileText}
 use Rattle.docker_model.specs.state.Lapse.{IsDayRefused}
@@ -36,9 +35,9 @@ most_at_once = 65536
 abbrev pub DeviceBytes : Type 0
 DeviceBytes = Option (List ℕ)
 
--- what was read: a file, or the state of an office
+-- what was read: the counts of a file, or the state of an office
 pub data ReadView : Type 0 where
-  file_read : (file : FileRead) → ReadView
+  file_read : (file : FileCounted) → ReadView
   office_read : (state : State) → ReadView
 
 -- a job, and what it has read
@@ -110,9 +109,9 @@ IsStateReadBy files_task first second state = ReadsState dks_2 most_bytes first 
 IsStateReadBy (horizon_task day) first second state = RaisesState day first state
 IsStateReadBy migrate_task first second state = ReadsState dks_1 most_bytes first state
 
--- what a task has read: `check` the file that its source held, any other a state
+-- what a task has read: `check` the counts of the file whose text its source held, any other a state
 abbrev pub IsReadOf : TaskView → DeviceBytes → DeviceBytes → ReadView → Type 0
-IsReadOf task first second (file_read file) = (task ≡ check_task) × ReadsText most_records first file
+IsReadOf task first second (file_read file) = (task ≡ check_task) × CountsText most_records first file
 IsReadOf task first second (office_read state) = IsStateReadBy task first second state
 
 -- a state was read that is of one file whose text the source held, and its live table is the plain table of that one file
@@ -158,10 +157,10 @@ IsOfSources office.Sink = ⊥
 abbrev pub WantsForState : Format → DeviceBytes → DeviceBytes → Type 0
 WantsForState format old new = WantsMemory format most_at_once most_bytes old new
 
--- memory was wanting for what the sources hold, of which the second is read behind a good first
+-- memory was wanting for what the sources hold, of which the second is read behind a good first; for a file that is only checked, before it is read
 abbrev pub WantsFor : Sources → DeviceBytes → DeviceBytes → DeviceBytes → DeviceBytes → Type 0
 WantsFor no_source old new second_old second_new = ⊥
-WantsFor checked_file old new second_old second_new = files.WantsMemory most_at_once most_records old new
+WantsFor checked_file old new second_old second_new = Reads old [] new
 WantsFor taken_file old new second_old second_new = WantsForFile most_records old new
 WantsFor (one_state format) old new second_old second_new = WantsForState format old new
 WantsFor state_and_file old new second_old second_new =
@@ -232,7 +231,7 @@ IsStateOutput state_written state text = text ≡ state_text dks_2 state
 
 -- the text of an output
 abbrev pub IsOutputText : Output → ReadView → List ℕ → Type 0
-IsOutputText output (file_read file) text = (output ≡ counts_written) × (text ≡ count_line file.record_count (length file.changes_made))
+IsOutputText output (file_read file) text = (output ≡ counts_written) × (text ≡ count_line file.record_count file.change_count)
 IsOutputText output (office_read state) text = IsStateOutput output state text
 
 -- the sink gained the text of an output

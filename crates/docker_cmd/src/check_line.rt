@@ -10,7 +10,7 @@ use itoa::Buffer;
 pub(crate) type CheckText = ArrayVec<u8, 64>;
 
 /// The line of a file with so many records, its header and trailer among them, and so many changes.
-pub(crate) fn check_line(records: u32, changes: usize) -> CheckText
+pub(crate) fn check_line(records: u32, changes: u64) -> CheckText
     ensures { result.items ≡ count_line records changes }
 {
     let mut text = ArrayVec::new();

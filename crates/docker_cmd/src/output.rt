@@ -1,5 +1,5 @@
 //! What a job writes.
-ghost use Rattle.std.specs.Prelude.{◌≡◌, ◌≢◌, ◌+◌, ◌-◌, ◌^◌, ◌<◌, ◌⊎◌, ◌↔◌, length, IfErr, IsOk, OnErr, OnOk, Err};
+ghost use Rattle.std.specs.Prelude.{◌≡◌, ◌≢◌, ◌+◌, ◌-◌, ◌^◌, ◌<◌, ◌⊎◌, ◌↔◌, IfErr, IsOk, OnErr, OnOk, Err};
 ghost use Rattle.cif_line.specs.Device.{Takes, TakesPart};
 ghost use Rattle.docker_job.specs.Job.{check_task, task_meant};
 ghost use Rattle.docker_office.specs.Faults.{IsOfDocker};
@@ -9,7 +9,7 @@ ghost use Rattle.docker_cmd.specs.Prepared.{GainsOutput, GainsPart, GainsText, G
 use crate::check_line::check_line;
 use crate::prepared_job::Prepared;
 use crate::sources::Content;
-use cif_file::CifFile;
+use cif_file::FileCount;
 use cif_line::{Sink, write_all};
 use docker_job::Task;
 use docker_office::{Office, OfficeFault};
@@ -42,18 +42,18 @@ pub fn emit<K: Sink>(prepared: &Prepared<'_>, sink: &mut K) -> Result<(), Office
 }
 
 /// Writes the line of a file's counts.
-fn write_counts<K: Sink>(file: &CifFile, sink: &mut K) -> Result<(), OfficeFault>
+fn write_counts<K: Sink>(file: &FileCount, sink: &mut K) -> Result<(), OfficeFault>
     requires { K.failures sink.old < 2 ^ 64 - 1 }
     ensures whole { OnOk result (Takes (K.taken sink.old)
-        (count_line file.now.record_count (length file.now.changes_made)) (K.taken sink.new)) }
+        (count_line file.now.record_count file.now.change_count) (K.taken sink.new)) }
     ensures part { OnErr result (TakesPart (K.taken sink.old)
-        (count_line file.now.record_count (length file.now.changes_made)) (K.taken sink.new)) }
+        (count_line file.now.record_count file.now.change_count) (K.taken sink.new)) }
     ensures no_failure { OnOk result (K.failures sink.new ≡ K.failures sink.old) }
     ensures sink { (result ≡ Err OfficeFault.Sink) ↔
         (K.failures sink.new ≡ K.failures sink.old + 1) }
     ensures only { IfErr result (λ fault. fault ≡ OfficeFault.Sink) }
 {
-    let text = check_line(file.records(), file.changes().len());
+    let text = check_line(file.records(), file.changes());
     write(sink, text.as_slice())
 }
 

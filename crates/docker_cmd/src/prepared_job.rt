@@ -39,7 +39,7 @@ impl<'a> Prepared<'a> {
         self.job
     }
 
-    /// What was read: of `check` a file, of any other an office.
+    /// What was read: of `check` the counts of a file, of any other an office.
     pub(crate) fn content(&self) -> &Content
         ensures content { self.now.read ≡ content_meant result.now }
         ensures fits { FitsTask self.now.job.task result.now }
@@ -48,7 +48,7 @@ impl<'a> Prepared<'a> {
     }
 }
 
-/// Reads what the job reads, in the order of its words, and answers the job with the file, or the office, that it made of it. `new` reads nothing; `check`
+/// Reads what the job reads, in the order of its words, and answers the job with the file's counts, or the office, that it made of it. `new` reads nothing; `check`
 /// and `day` read FILE from the first source, `print`, `files`, `horizon` and `migrate` STATE; `take` and `merge` read STATE from the first source, and then
 /// FILE or OTHER from the second, of which nothing is read unless the first held a state. A source is read to its end, or to the piece of at most 65,536
 /// bytes that decides.

@@ -1,7 +1,7 @@
 //! What is read of a job's sources.
 ghost use Rattle.std.specs.Prelude.{◌≡◌, ◌≢◌, ◌+◌, ◌-◌, ◌^◌, ◌<◌, ◌⊎◌, ◌↔◌, ℕ, List, IfOk, IfErr, IsOk, Err};
 ghost use Rattle.cif_line.specs.Device.{IsEnd};
-ghost use Rattle.cif_file.specs.SourceRead.{ReadsText, RefusesText, WantsMemory};
+ghost use Rattle.cif_file.specs.SourceRead.{CountsText, RefusesText, WantsMemory};
 ghost use Rattle.docker_bytes.specs.SourceRead.{JoinsState, ReadsState, RefusesState};
 ghost use Rattle.docker_model.specs.state.StateText.{dks_1, dks_2};
 ghost use Rattle.docker_job.specs.Job.{task_meant};
@@ -10,7 +10,7 @@ ghost use Rattle.docker_office.specs.Faults.{IsOfFile, IsOfState};
 ghost use Rattle.docker_cmd.specs.Content.{FitsTask, content_meant};
 ghost use Rattle.docker_cmd.specs.Prepared.{HasNoSource, HasReadToEnd, HasSecondSource, HoldsSomeState, IsOfOneFile, JoinsBehind, TakesBehind, state_and_file, two_states, IsOfSources, IsReadOf, ReadsFewOfFile, ReadsFewOfFirst, ReadsFewOfSecond, ReadsFewOfState, RefusesFileOf, RefusesStateOf, WantsFor, WantsForState, most_at_once, most_bytes, most_records, office_read, sources_of, taken_file};
 
-use cif_file::{CifFile, read_file};
+use cif_file::{FileCount, judge_file};
 use cif_line::Source;
 use docker_job::Task;
 use docker_office::{Office, OfficeFault};
@@ -25,8 +25,8 @@ const MOST_BYTES: u64 = 1_099_511_627_776;
 /// What a job has read.
 #[derive(Debug, Drop)]
 pub(crate) enum Content {
-    /// A file, which no office takes.
-    File(CifFile),
+    /// The counts of a file, which no office takes.
+    File(FileCount),
     /// An office with what it took, received or reloaded.
     Office(Office),
 }
@@ -74,7 +74,7 @@ pub(crate) fn read_sources<S: Source, T: Source>(
 {
     match task {
         Task::New => Ok(Content::Office(Office::new(alloc))),
-        Task::Check => Ok(Content::File(read_file(alloc, first, MOST_RECORDS)?)),
+        Task::Check => Ok(Content::File(judge_file(alloc, first, MOST_RECORDS)?)),
         Task::Day { .. } => Ok(Content::Office(office_of_file(alloc, first)?)),
         Task::Take => Ok(Content::Office(taken_behind(alloc, first, second)?)),
         Task::Merge => Ok(Content::Office(joined_behind(alloc, first, second)?)),
