@@ -1,11 +1,17 @@
 //! Where places were found last.
+ghost use Rattle.std.specs.Prelude.{◌≡◌, IfSome, Some, slice_get};
+
+use crate::names::is_at;
 use cif_line::Memory;
 use std::alloc::Global;
 
 /// How many indexes a memo has.
 const SLOTS: usize = 65_536;
 
-/// For some places the index at which each was found last, by a hash of its bytes. What it answers may be of another place, and is to be looked at.
+/// In how many slots, one behind the other, the index of a place may be.
+const NEAR: usize = 8;
+
+/// For some places the index at which each was found last, by a hash of its bytes. A slot may have the index of another place, so that each is looked at.
 #[derive(Debug, Drop)]
 pub(crate) struct Memo {
     slots: Vec<u32>,
@@ -18,23 +24,46 @@ impl Memo {
         Ok(Memo { slots })
     }
 
-    /// Where a place may be.
-    pub(crate) fn get(&self, place: &[u8; 7]) -> u32 {
-        match self.slots.get(slot_of(place)) {
-            Some(index) => *index,
-            None => 0,
+    /// The index of a place among places, if it is kept.
+    pub(crate) fn find(&self, places: &[[u8; 7]], place: &[u8; 7]) -> Option<u32>
+        ensures { IfSome result (λ index. slice_get places.now index ≡ Some place.now) }
+    {
+        let first = slot_of(place);
+        for step in 0..NEAR {
+            if let Some(index) = self.slots.get(first.wrapping_add(step)) {
+                if is_at(places, *index, place) {
+                    return Some(*index);
+                }
+            }
+        }
+        None
+    }
+
+    /// Keeps where a place was found: in the first of its slots that is free, or else in the first.
+    pub(crate) fn set(&mut self, place: &[u8; 7], index: u32) {
+        let first = slot_of(place);
+        for step in 0..NEAR {
+            if let Some(kept) = self.slots.get_mut(first.wrapping_add(step)) {
+                if *kept == 0 {
+                    *kept = index;
+                    return;
+                }
+            }
+        }
+        if let Some(kept) = self.slots.get_mut(first) {
+            *kept = index;
         }
     }
 
-    /// Keeps where a place was found.
-    pub(crate) fn set(&mut self, place: &[u8; 7], index: u32) {
-        if let Some(kept) = self.slots.get_mut(slot_of(place)) {
-            *kept = index;
+    /// Keeps nothing more.
+    pub(crate) fn clear(&mut self) {
+        for slot in self.slots.iter_mut() {
+            *slot = 0;
         }
     }
 }
 
-/// The slot of a place: the highest sixteen bits of a product of its bytes, read as a number.
+/// The first slot of a place: the highest sixteen bits of a product of its bytes, read as a number.
 fn slot_of(place: &[u8; 7]) -> usize {
     let [a, b, c, d, e, f, g] = *place;
     let number = u64::from_le_bytes([a, b, c, d, e, f, g, 0]);

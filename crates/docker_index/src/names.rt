@@ -33,12 +33,12 @@ impl Names {
         })
     }
 
-    /// Notes a place, if it isn't the one that was noted last of those of its slot.
+    /// Notes a place, if the memo doesn't know it.
     fn note(&mut self, place: &[u8; 7]) -> Result<(), Memory>
         ensures kept { Includes self.old.list.items self.new.list.items }
         ensures noted { IsOk result → Contains self.new.list.items place.now }
     {
-        if is_at(self.list.as_slice(), self.memo.get(place), place) {
+        if self.memo.find(self.list.as_slice(), place).is_some() {
             return Ok(());
         }
         let Ok(next) = u32::try_from(self.list.len()) else {
@@ -138,12 +138,13 @@ impl Names {
         Ok(())
     }
 
-    /// The places, ascending, each once, and what the memo keeps.
+    /// The places, ascending, each once, and a memo of none of them.
     pub(crate) fn into_places(self) -> (Vec<[u8; 7]>, Memo)
         ensures up { IsStrictlyAscending bytes_cmp result.0.items }
         ensures all { Includes self.list.items result.0.items }
     {
-        let Names { list, memo } = self;
+        let Names { list, mut memo } = self;
+        memo.clear();
         (ascending_places(list), memo)
     }
 }
