@@ -1,9 +1,3 @@
-pub mod LineTimes
-pub mod Occurrences
-pub mod KeptLines
-pub mod FallsTold
-pub mod Along
-pub mod WalkOn
 pub mod Shown
 pub mod Days
 pub mod TrainLines
@@ -13,5 +7,4 @@ pub mod Gathered
 pub mod Written
 pub mod RowPieces
 pub mod Printed
-pub mod RunFields
 pub mod PassedOver

@@ -14,7 +14,7 @@ use Rattle.docker_model.specs.state.Row.{Row, AreRowsOf}
 use Rattle.docker_model.specs.docker.LiveRows.{Train, Link, train_in, link_in}
 use Rattle.docker_model.specs.docker.Gathering.{start_days, is_in_force, line_at, line_with, row_lines}
 use Rattle.docker_model.specs.docker.DockerLine.{DockerLine}
-use Rattle.docker_day.specs.Occurrences.{Occurrence, occurrence_of, occurrences}
+use Rattle.docker_train.specs.Occurrences.{Occurrence, occurrence_of, occurrences}
 use Rattle.docker_day.specs.Lines.{Adds, is_call, link_line_by, link_line_with, link_piece, row_piece, row_back}
 use Rattle.docker_day.proofs.Days.{starts_split}
 

@@ -19,9 +19,10 @@ use Rattle.docker_laws.proofs.orders.Orders.{exact_schedule_key, exact_associati
 use Rattle.docker_laws.proofs.dockers.OneChoice.{one_schedule, one_association}
 use Rattle.docker_laws.proofs.dockers.TrainOfRows.{trains_tell}
 use Rattle.docker_laws.proofs.dockers.LinkOfRows.{links_tell}
-use Rattle.docker_day.specs.Occurrences.{Occurrence, occurrences}
-use Rattle.docker_day.specs.Along.{IsLiveTrain, IsLiveLink}
-use Rattle.docker_day.specs.Lines.{line_at_event, is_here, is_today, lines_there, some_late, runs_back, is_under_way, row_under_way, row_back, schedule_piece, Adds}
+use Rattle.docker_train.specs.Occurrences.{Occurrence, occurrences}
+use Rattle.docker_train.specs.Along.{IsLiveTrain, IsLiveLink}
+use Rattle.docker_train.specs.Midnights.{some_late}
+use Rattle.docker_day.specs.Lines.{line_at_event, is_here, is_today, lines_there, runs_back, is_under_way, row_under_way, row_back, schedule_piece, Adds}
 use Rattle.docker_day.proofs.TrainLines.{event_lines_are}
 use Rattle.docker_day.proofs.LinkLines.{three_backs}
 use Rattle.docker_day.proofs.RowPieces.{no_line}

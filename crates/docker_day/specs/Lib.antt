@@ -1,12 +1,5 @@
-pub mod Occurrences
-pub mod Meaning
-pub mod Keys
-pub mod Walk
-pub mod Falls
-pub mod Along
 pub mod Locations
 pub mod Details
 pub mod Lines
 pub mod DockerValue
 pub mod Dockers
-pub mod Runs

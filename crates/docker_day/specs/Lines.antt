@@ -17,7 +17,8 @@ use Rattle.docker_model.specs.state.Row.{Row, AreRowsOf}
 use Rattle.docker_model.specs.docker.LiveRows.{Train, Link, train_in, link_in}
 use Rattle.docker_model.specs.docker.Association.{category_occasion, partner_start}
 use Rattle.docker_model.specs.docker.Gathering.{event_lines, runs_by, partner_identity, is_in_force}
-use Rattle.docker_day.specs.Occurrences.{Occurrence, occurrences}
+use Rattle.docker_train.specs.Occurrences.{Occurrence, occurrences}
+use Rattle.docker_train.specs.Midnights.{some_late}
 
 -- the line of an event, of a schedule known by the key, on a start day, with these ends
 abbrev pub line_at_event : ScheduleKey → ℕ → Detail → Occurrence → DockerLine
@@ -69,11 +70,6 @@ lines_there place day start key detail [] = []
 lines_there place day start key detail (event ∷ events) =
     (if is_here place event && is_today day start event then line_at_event key start detail event ∷ [] else [])
     ++ lines_there place day start key detail events
-
--- some event is behind a midnight
-abbrev pub some_late : List Occurrence → Bool
-some_late [] = false
-some_late (event ∷ events) = not (event.falls == 0) || some_late events
 
 -- the schedule of these lines runs on the day so many days before
 abbrev pub runs_back : List (List ℕ) → ℕ → ℕ → Bool

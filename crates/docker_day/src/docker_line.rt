@@ -6,18 +6,15 @@ ghost use Rattle.std.proofs.Common.{refl};
 ghost use Rattle.docker_model.specs.docker.DockerLine.{docker_line_cmp};
 ghost use Rattle.docker_laws.proofs.orders.Orders.{docker_line_total};
 ghost use Rattle.cif_line.specs.Letter.{stp_letter};
-ghost use Rattle.docker_day.specs.Meaning.{occasion_meant};
+ghost use Rattle.docker_train.specs.Meaning.{occasion_meant};
 ghost use Rattle.docker_day.specs.Details.{detail_meant};
-ghost use Rattle.docker_day.specs.Walk.{occurrence_meant};
+ghost use Rattle.docker_train.specs.Walk.{occurrence_meant};
 ghost use Rattle.docker_day.specs.Lines.{line_at_event, line_of_link, cmp_at_one_time};
 
 use crate::detail::Detail;
-use crate::link_view::LinkView;
 use crate::location::{Location, suffix_in};
-use crate::occasion::Occasion;
-use crate::schedule_view::ScheduleView;
-use crate::walk::Occurrence;
 use cif_line::{Day, Stp, Time, Uid};
+use docker_train::{LinkView, Occasion, Occurrence, ScheduleView};
 use std::cmp::Ordering;
 use std::marker::Model;
 
@@ -43,7 +40,7 @@ pub struct DockerLine<'a> {
 impl<'a> Model for DockerLine<'a> {
     ghost use Rattle.docker_model.specs.docker.DockerLine as lines;
     ghost use Rattle.cif_line.specs.Letter.{stp_letter};
-    ghost use Rattle.docker_day.specs.Meaning.{occasion_meant};
+    ghost use Rattle.docker_train.specs.Meaning.{occasion_meant};
     ghost use Rattle.docker_day.specs.Details.{detail_meant};
 
     ghost Value = { lines.DockerLine };

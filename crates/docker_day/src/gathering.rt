@@ -4,19 +4,17 @@ ghost use Rattle.cif_file.specs.Meaning.{key_meant, body_meant};
 ghost use Rattle.docker_model.specs.state.State.{IsBodyOf, live_table};
 ghost use Rattle.docker_model.specs.docker.Gathering.{row_lines, gathered};
 ghost use Rattle.docker_model.specs.docker.LiveRows.{schedule_of};
-ghost use Rattle.docker_day.specs.Along.{AreGoodRows, AreLive, IsLiveLink};
+ghost use Rattle.docker_train.specs.Along.{AreGoodRows, AreLive, IsLiveLink};
 ghost use Rattle.docker_day.specs.Lines.{Adds, link_here, row_piece, row_back, row_under_way};
 
-use crate::choice::schedule_of;
 use crate::docker_line::DockerLine;
 use crate::link_lines::link_line;
-use crate::link_view::LinkView;
-use crate::links::association_of;
 use crate::starts::day_before;
 use crate::train_lines::{add_schedule, is_under_way};
 use cif_file::{Body, Key};
 use cif_line::{Day, Memory, Tiploc};
 use docker_state::{Standing, State};
+use docker_train::{LinkView, association_of, schedule_of};
 
 /// Adds the lines of rows at a place on a day. `Memory` where the growth is refused.
 pub(crate) fn add_rows<'a>(

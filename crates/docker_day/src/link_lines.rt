@@ -6,26 +6,20 @@ ghost use Rattle.docker_model.specs.docker.Association.{category_occasion, is_da
 ghost use Rattle.docker_model.specs.docker.Gathering.{identity_of, is_in_force, partner_identity};
 ghost use Rattle.docker_model.specs.state.Row.{Row, AreRowsOf};
 ghost use Rattle.docker_model.specs.docker.LiveRows.{train_in, link_in};
-ghost use Rattle.docker_day.specs.Keys.{association_key_meant};
-ghost use Rattle.docker_day.specs.Meaning.{occasion_meant};
-ghost use Rattle.docker_day.specs.Occurrences.{occurrences};
-ghost use Rattle.docker_day.specs.Walk.{occurrence_meant};
-ghost use Rattle.docker_day.specs.Along.{IsLiveLink};
+ghost use Rattle.docker_train.specs.Keys.{association_key_meant};
+ghost use Rattle.docker_train.specs.Meaning.{occasion_meant};
+ghost use Rattle.docker_train.specs.Occurrences.{occurrences};
+ghost use Rattle.docker_train.specs.Walk.{occurrence_meant};
+ghost use Rattle.docker_train.specs.Along.{IsLiveLink};
 ghost use Rattle.docker_day.specs.Lines.{is_call, listed, link_line_at, link_line_by, link_line_with, link_piece};
 
-use crate::choice::train_on;
 use crate::docker_line::DockerLine;
-use crate::events::Events;
-use crate::link_view::LinkView;
-use crate::links::counts_on;
 use crate::location::{suffix_in, tiploc_in};
-use crate::occasion::Occasion;
-use crate::schedule_view::ScheduleView;
 use crate::starts::{is_today, partner_start};
-use crate::walk::Occurrence;
 use cif_file::AssocKey;
 use cif_line::{Day, Tiploc};
 use docker_state::State;
+use docker_train::{Events, LinkView, Occasion, Occurrence, ScheduleView, counts_on, train_on};
 
 /// The line of an association on a day, where it counts on a start day of its base train and that runs.
 pub(crate) fn link_line<'a>(

@@ -15,11 +15,11 @@ use crate::docker_line::DockerLine;
 use crate::docker_list::Docker;
 use crate::fault::DockerFault;
 use crate::gathering::add_rows;
-use crate::walks::{associations_at, rows_of, schedules_at};
 use cif_file::{Body, Key};
 use cif_line::{Day, Memory, Tiploc};
 use docker_join::Op;
 use docker_state::State;
+use docker_train::{associations_at, rows_of, schedules_at};
 use std::alloc::Global;
 
 /// The docker of a timing point and a day: the events of the trains that run, and the associations, there on that day. `Lapsed` exactly where the state has a

@@ -3,12 +3,12 @@ ghost use Rattle.std.specs.Prelude.{◌≡◌, ◌+◌, ◌-◌, ◌≤◌, ◌&
 ghost use Rattle.std.specs.Option.{SomeIff};
 ghost use Rattle.docker_model.specs.docker.Association.{partner_start};
 ghost use Rattle.docker_model.specs.records.Record.{columns};
-ghost use Rattle.docker_day.specs.Walk.{occurrence_meant};
+ghost use Rattle.docker_train.specs.Walk.{occurrence_meant};
 ghost use Rattle.docker_day.specs.Lines.{is_here, is_today};
 
 use crate::location::tiploc_in;
-use crate::walk::Occurrence;
 use cif_line::{Day, Tiploc};
+use docker_train::Occurrence;
 
 /// The day so many days before. None where there is no such day.
 pub(crate) fn day_before(day: Day, back: u16) -> Option<Day>

@@ -1,4 +1,5 @@
 //! Worked dockers of small states.
+mod memory;
 mod records;
 
 use crate::{Docker, DockerFault, chosen, docker, falls, runs, write_docker};

@@ -1,31 +1,27 @@
 //! The lines of a train's events.
-ghost use Rattle.std.specs.Prelude.{◌≡◌, ◌≤◌, ◌&&◌, ◌++◌, List, [], OnOk, IfSome, IsNone, find, codes, if◌then◌else◌};
-ghost use Rattle.std.specs.Option.{option_copied};
+ghost use Rattle.std.specs.Prelude.{◌≡◌, ◌≤◌, ◌&&◌, ◌++◌, List, [], OnOk, IfSome, IsNone, codes, if◌then◌else◌};
 ghost use Rattle.std.specs.Ordering.{is_eq};
 ghost use Rattle.docker_model.specs.state.Op.{schedule_key_cmp};
 ghost use Rattle.docker_model.specs.state.State.{live_table};
-ghost use Rattle.docker_model.specs.docker.Event.{has_identity};
 ghost use Rattle.docker_model.specs.docker.DockerLine.{ends, tiploc_of_first};
 ghost use Rattle.docker_model.specs.docker.Gathering.{event_lines, runs_by};
 ghost use Rattle.docker_model.specs.state.Row.{Row, AreRowsOf};
 ghost use Rattle.docker_model.specs.docker.LiveRows.{train_in};
-ghost use Rattle.docker_day.specs.Keys.{schedule_key_meant};
+ghost use Rattle.docker_train.specs.Keys.{schedule_key_meant};
 ghost use Rattle.docker_day.specs.Details.{detail_meant};
-ghost use Rattle.docker_day.specs.Occurrences.{occurrences};
-ghost use Rattle.docker_day.specs.Walk.{occurrence_meant};
-ghost use Rattle.docker_day.specs.Lines.{Adds, is_here, is_today, lines_there, runs_back, some_late, is_under_way, schedule_piece};
-ghost use Rattle.docker_day.specs.Along.{IsLiveTrain};
+ghost use Rattle.docker_train.specs.Occurrences.{occurrences};
+ghost use Rattle.docker_train.specs.Walk.{occurrence_meant};
+ghost use Rattle.docker_day.specs.Lines.{Adds, is_here, is_today, lines_there, runs_back, is_under_way, schedule_piece};
+ghost use Rattle.docker_train.specs.Along.{IsLiveTrain};
 
-use crate::choice::train_on;
 use crate::detail::Detail;
 use crate::docker_line::DockerLine;
 use crate::location::tiploc_in;
-use crate::schedule_view::ScheduleView;
 use crate::starts::{day_before, is_here, is_today};
-use crate::walk::Occurrence;
 use cif_file::ScheduleKey;
-use cif_line::{Day, Line, Memory, Tiploc};
+use cif_line::{Day, Memory, Tiploc};
 use docker_state::State;
+use docker_train::{Occurrence, ScheduleView, ends_of, passes_midnight, train_on};
 
 /// Adds the lines of a schedule at a place on a day, where its train runs by it from a start day on. `Memory` where the growth is refused.
 pub(crate) fn add_schedule<'a>(
@@ -73,18 +69,6 @@ fn runs_back(train: &ScheduleView<'_>, day: Day, back: u16) -> bool
     }
 }
 
-/// Whether some event of a schedule is behind a midnight.
-fn passes_midnight(train: &ScheduleView<'_>) -> bool
-    ensures { result ≡ some_late (occurrences train.now.lines) }
-{
-    for event in train.events() {
-        if event.falls != 0 {
-            return true;
-        }
-    }
-    false
-}
-
 /// Whether the train of a schedule runs by it from a start day on.
 fn runs_by(state: &State, train: &ScheduleView<'_>, start: Day) -> bool
     ensures { (rows : List Row) → AreRowsOf (live_table state.now) rows
@@ -124,7 +108,7 @@ fn add_events<'a>(
     ensures { OnOk result (lines.new.items
         ≡ lines.old.items ++ event_lines place.now day start train.now.key train.now.lines) }
 {
-    match ends_of(train) {
+    match detail_of(train) {
         Some(detail) => add_there(lines, train, &detail, place, day, start),
         None => Ok(()),
     }
@@ -162,31 +146,15 @@ fn is_there(event: &Occurrence<'_>, place: &Tiploc, day: Day, start: Day) -> boo
 }
 
 /// Where a train begins and where it ends. None of a schedule without a journey.
-fn ends_of(train: &ScheduleView<'_>) -> Option<Detail>
+fn detail_of(train: &ScheduleView<'_>) -> Option<Detail>
     ensures ends { IfSome result (λ detail. detail_meant detail
         ≡ ends (tiploc_of_first (codes "LO") train.now.lines)
         (tiploc_of_first (codes "LT") train.now.lines)) }
     ensures none { IsNone result → occurrences train.now.lines ≡ [] }
 {
-    let lines = train.lines();
-    let origin = first_of(lines, b"LO")?;
-    let terminus = first_of(lines, b"LT")?;
+    let (origin, terminus) = ends_of(train)?;
     Some(Detail::Ends {
         origin: *tiploc_in(origin),
         destination: *tiploc_in(terminus),
     })
-}
-
-/// The first of some lines that has this record identity.
-fn first_of<'a>(lines: &'a [Line], identity: &[u8; 2]) -> Option<&'a Line>
-    ensures { option_copied result ≡ find (λ line. has_identity identity.now line) lines.entry.now }
-{
-    lines.iter().find(|line| has_identity(line, identity))
-}
-
-/// Whether a line has this record identity.
-fn has_identity(line: &Line, identity: &[u8; 2]) -> bool
-    ensures { result ≡ has_identity identity.now line.now }
-{
-    line.bytes()[..2] == identity[..]
 }

@@ -3,7 +3,7 @@ use Rattle.docker_model.specs.state.State.{live_table}
 use Rattle.docker_model.specs.docker.Gathering.{gathered}
 use Rattle.docker_model.specs.state.Row.{Row, AreRowsOf}
 use Rattle.docker_model.specs.docker.LiveRows.{train_in, link_in}
-use Rattle.docker_day.specs.Along.{AreGoodRows, AreLive}
+use Rattle.docker_train.specs.Along.{AreGoodRows, AreLive}
 use Rattle.docker_day.proofs.gathering.add_rows.Given as goal
 
 -- what is out and the lines of the rows to come are all

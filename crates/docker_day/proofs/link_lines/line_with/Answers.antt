@@ -3,7 +3,7 @@ use Rattle.std.specs.Prelude.{option_map}
 use Rattle.docker_model.specs.records.Record.{columns}
 use Rattle.docker_model.specs.docker.Association.{category_occasion}
 use Rattle.docker_model.specs.docker.LiveRows.{train_in}
-use Rattle.docker_day.specs.Meaning.{occasion_meant}
+use Rattle.docker_train.specs.Meaning.{occasion_meant}
 use Rattle.docker_day.specs.Lines.{link_line_with}
 use Rattle.docker_day.proofs.link_lines.line_with.Goals as goal
 

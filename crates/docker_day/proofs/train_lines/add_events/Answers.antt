@@ -1,6 +1,6 @@
 use Rattle.std.proofs.Common.{◌++◌, ap, ◌∙◌, refl}
 use Rattle.std.proofs.lemmas.Result.{on_ok_weaker}
-use Rattle.docker_day.specs.Occurrences.{occurrences}
+use Rattle.docker_train.specs.Occurrences.{occurrences}
 use Rattle.docker_day.specs.Lines.{lines_there}
 use Rattle.docker_day.proofs.TrainLines.{event_lines_are, no_event_lines}
 use Rattle.docker_day.proofs.train_lines.add_events.Goals as goal

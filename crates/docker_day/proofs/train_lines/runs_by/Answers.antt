@@ -2,7 +2,7 @@ use Rattle.std.proofs.Common.{ap, ◌∙◌}
 use Rattle.std.specs.Prelude.{Option}
 use Rattle.docker_model.specs.docker.Gathering.{runs_by}
 use Rattle.docker_model.specs.docker.LiveRows.{Train, train_in}
-use Rattle.docker_day.specs.Keys.{schedule_key_meant}
+use Rattle.docker_train.specs.Keys.{schedule_key_meant}
 use Rattle.docker_day.proofs.train_lines.runs_by.Goals as goal
 
 pub returns : goal.returns

@@ -1,7 +1,0 @@
-use Rattle.docker_model.specs.state.State.{live_table}
-use Rattle.docker_day.proofs.Along.{chosen_of_uid}
-use Rattle.docker_day.proofs.choice.chosen.Goals as goal
-
-pub returns : goal.returns
-returns c =
-    chosen_of_uid (live_table c.args.state.now) c.args.uid.now c.args.day c.schedules_of.result c.chosen_of.result c.schedules_of.ensures.has c.chosen_of.ensures

@@ -1,0 +1,135 @@
+-- The best along the rows of a walk is what is chosen.
+use Rattle.std.proofs.Common.{◌≡◌, ℕ, List, [], ◌∷◌, ◌++◌, ap, sym, ◌∙◌, subst, Some, None, Contains, append_assoc, append-nil}
+use Rattle.std.specs.Prelude.{Option}
+use Rattle.std.specs.Ordering.{on}
+use Rattle.docker_model.specs.file.Change.{Key, tiploc_key, association_key, schedule_key, Body, tiploc_body, association_body, schedule_body}
+use Rattle.docker_model.specs.state.Table.{Table}
+use Rattle.docker_model.specs.docker.Choice.{Group, schedule_choice_cmp, association_choice_cmp}
+use Rattle.docker_model.specs.docker.Best.{with_one_more}
+use Rattle.docker_model.specs.state.Row.{Row, AreRowsOf}
+use Rattle.docker_model.specs.docker.LiveRows.{Train, Link, HasSchedulesOf, HasAssociationsOf, IsChosenOn, IsLinkOn, unless_cancelled, train_in, link_in, schedule_of, association_of, is_running, is_linked}
+use Rattle.docker_model.specs.docker.ChoiceWalk.{IsChosenSoFar, IsLinkSoFar, next_chosen, next_link}
+use Rattle.docker_model.specs.state.State.{HasGoodBodies}
+use Rattle.docker_model.specs.state.Index.{AreCalling, AreLinked, AreOfUid}
+use Rattle.docker_laws.proofs.lists.Membership.{cons-Contains, cons-Contains-first}
+use Rattle.docker_laws.proofs.dockers.ChoiceWalk.{none_chosen, chosen_more, none_linked, link_more}
+use Rattle.docker_laws.proofs.dockers.TrainOfRows.{best_is_chosen, one_answer, rows_have, chosen_tells}
+use Rattle.docker_laws.proofs.dockers.LinkOfRows.{best_is_link, one_link_answer, links_tell}
+use Rattle.docker_train.specs.Along.{chosen_along, link_along, AreGoodRows, AreLive}
+
+no_train : (train : Train) → None ≡ Some train → ⊥
+no_train train h = cc
+
+no_link : (link : Link) → None ≡ Some link → ⊥
+no_link link h = cc
+
+chosen_behind : (uid : List ℕ) (day : ℕ) (front rows : List Row) (found : Option Train) → IsChosenSoFar uid day front found
+    → IsChosenSoFar uid day (front ++ rows) (chosen_along uid day found rows)
+chosen_behind uid day front [] found best = subst (λ (rs : List Row). IsChosenSoFar uid day rs found) (sym (append-nil front)) best
+chosen_behind uid day front (row ∷ rows) found best =
+    subst (λ (rs : List Row). IsChosenSoFar uid day rs (chosen_along uid day found (row ∷ rows))) (append_assoc front (row ∷ []) rows)
+    (chosen_behind uid day (front ++ row ∷ []) rows _ (chosen_more uid day front row.0 row.1 found best))
+
+link_behind : (group : Group) (day : ℕ) (front rows : List Row) (found : Option Link) → IsLinkSoFar group day front found
+    → IsLinkSoFar group day (front ++ rows) (link_along group day found rows)
+link_behind group day front [] found best = subst (λ (rs : List Row). IsLinkSoFar group day rs found) (sym (append-nil front)) best
+link_behind group day front (row ∷ rows) found best =
+    subst (λ (rs : List Row). IsLinkSoFar group day rs (link_along group day found (row ∷ rows))) (append_assoc front (row ∷ []) rows)
+    (link_behind group day (front ++ row ∷ []) rows _ (link_more group day front row.0 row.1 found best))
+
+-- along rows with each schedule of a UID it is the chosen one
+pub chosen_of_uid : (live : Table) (uid : List ℕ) (day : ℕ) (rows : List Row) (found : Option Train) → HasSchedulesOf live uid rows
+    → found ≡ chosen_along uid day None rows → IsChosenOn live uid day found
+chosen_of_uid live uid day rows found has is =
+    best_is_chosen live rows uid has day found
+    (subst (IsChosenSoFar uid day rows) (sym is) (chosen_behind uid day [] rows None (none_chosen uid day)))
+
+-- along rows with each association of a group it is the one that counts
+pub link_of_group : (live : Table) (group : Group) (day : ℕ) (rows : List Row) (found : Option Link) → HasAssociationsOf live group rows
+    → found ≡ link_along group day None rows → IsLinkOn live group day found
+link_of_group live group day rows found has is =
+    best_is_link live rows group has day found
+    (subst (IsLinkSoFar group day rows) (sym is) (link_behind group day [] rows None (none_linked group day)))
+
+-- it is that of the rows of the table
+pub train_of_rows : (live : Table) (rows : List Row) (uid : List ℕ) (day : ℕ) (found : Option Train) → AreRowsOf live rows
+    → IsChosenOn live uid day found → unless_cancelled found ≡ train_in rows uid day
+train_of_rows live rows uid day found are chosen =
+    ap unless_cancelled (one_answer live uid day found _ chosen (chosen_tells live rows uid (rows_have live rows are uid) day))
+
+pub link_of_rows : (live : Table) (rows : List Row) (group : Group) (day : ℕ) (found : Option Link) → AreRowsOf live rows
+    → IsLinkOn live group day found → found ≡ link_in rows group day
+link_of_rows live rows group day found are is = one_link_answer live group day found (link_in rows group day) is (links_tell live rows are group day)
+
+-- the bodies of rows of a valid state are good
+pub good_rows : (live : Table) (rows : List Row) → HasGoodBodies live → ((key : Key) (body : Body) → Contains rows (key, body) → live key ≡ Some body)
+    → AreGoodRows rows
+good_rows live [] good each = tt
+good_rows live (row ∷ rows) good each = (
+  good row.0 row.1 (each row.0 row.1 (cons-Contains-first row rows)),
+  good_rows live rows good
+      (λ key body among. each key body (cons-Contains row rows (key, body) among)),
+)
+
+-- so are those of the schedules of a UID
+pub good_of_uid : (live : Table) (uid : List ℕ) (rows : List Row) → HasGoodBodies live → AreOfUid live uid rows → AreGoodRows rows
+good_of_uid live uid rows good are = good_rows live rows good (λ key body among. ((are.members key body).0 among).4)
+
+-- rows each of which is live
+live_rows : (live : Table) (rows : List Row) → ((key : Key) (body : Body) → Contains rows (key, body) → live key ≡ Some body) → AreLive live rows
+live_rows live [] each = tt
+live_rows live (row ∷ rows) each = (
+  each row.0 row.1 (cons-Contains-first row rows),
+  live_rows live rows
+      (λ key body among. each key body (cons-Contains row rows (key, body) among)),
+)
+
+-- the associations at a place are
+linked_each : (live : Table) (place : List ℕ) (rows : List Row) → AreLinked live place rows
+    → (key : Key) (body : Body) → Contains rows (key, body) → live key ≡ Some body
+linked_each live place rows are key body among = let one = (are.members key body).0 among in ap live one.2 ∙ one.4.is_live ∙ ap Some (sym one.3)
+
+pub live_linked : (live : Table) (place : List ℕ) (rows : List Row) → AreLinked live place rows → AreLive live rows
+live_linked live place rows are = live_rows live rows (linked_each live place rows are)
+
+pub good_linked : (live : Table) (place : List ℕ) (rows : List Row) → HasGoodBodies live → AreLinked live place rows → AreGoodRows rows
+good_linked live place rows good are = good_rows live rows good (linked_each live place rows are)
+
+-- and the schedules that call there
+calling_each : (live : Table) (place : List ℕ) (rows : List Row) → AreCalling live place rows
+    → (key : Key) (body : Body) → Contains rows (key, body) → live key ≡ Some body
+calling_each live place rows are key body among = let one = (are.members key body).0 among in ap live one.2 ∙ one.4.is_live ∙ ap Some (sym one.3)
+
+pub live_calling : (live : Table) (place : List ℕ) (rows : List Row) → AreCalling live place rows → AreLive live rows
+live_calling live place rows are = live_rows live rows (calling_each live place rows are)
+
+pub good_calling : (live : Table) (place : List ℕ) (rows : List Row) → HasGoodBodies live → AreCalling live place rows → AreGoodRows rows
+good_calling live place rows good are = good_rows live rows good (calling_each live place rows are)
+
+-- one more row of a schedule is one more schedule
+pub next_is_one : (uid : List ℕ) (day : ℕ) (found : Option Train) (key : Key) (body : Body) (train : Train) → schedule_of key body ≡ Some train
+    → with_one_more (on (λ (t : Train). t.key) schedule_choice_cmp) (is_running uid day) found train ≡ next_chosen uid day found key body
+next_is_one uid day found (schedule_key key) (schedule_body lines) train is =
+    let same : record { key = key; lines = lines } ≡ train = some_train (record { key = key; lines = lines }) train is in
+    (λ i. with_one_more (on (λ (t : Train). t.key) schedule_choice_cmp) (is_running uid day) found (sym same i))
+  where
+    some_train : (a b : Train) → Some a ≡ Some b → a ≡ b
+    some_train a b h = cc
+next_is_one uid day found (schedule_key key) (tiploc_body bytes) train is = absurd (no_train train is)
+next_is_one uid day found (schedule_key key) (association_body line) train is = absurd (no_train train is)
+next_is_one uid day found (tiploc_key code) body train is = absurd (no_train train is)
+next_is_one uid day found (association_key key) body train is = absurd (no_train train is)
+
+-- and of an association one more association
+pub next_link_is_one : (group : Group) (day : ℕ) (found : Option Link) (key : Key) (body : Body) (link : Link) → association_of key body ≡ Some link
+    → with_one_more (on (λ (l : Link). l.key) association_choice_cmp) (is_linked group day) found link ≡ next_link group day found key body
+next_link_is_one group day found (association_key key) (association_body line) link is =
+    let same : record { key = key; line = line } ≡ link = some_link (record { key = key; line = line }) link is in
+    (λ i. with_one_more (on (λ (l : Link). l.key) association_choice_cmp) (is_linked group day) found (sym same i))
+  where
+    some_link : (a b : Link) → Some a ≡ Some b → a ≡ b
+    some_link a b h = cc
+next_link_is_one group day found (association_key key) (tiploc_body bytes) link is = absurd (no_link link is)
+next_link_is_one group day found (association_key key) (schedule_body lines) link is = absurd (no_link link is)
+next_link_is_one group day found (tiploc_key code) body link is = absurd (no_link link is)
+next_link_is_one group day found (schedule_key key) body link is = absurd (no_link link is)

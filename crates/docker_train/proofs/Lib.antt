@@ -1,0 +1,9 @@
+pub mod LineTimes
+pub mod Occurrences
+pub mod KeptLines
+pub mod FallsTold
+pub mod Along
+pub mod WalkOn
+pub mod RunFields
+pub mod NoEvents
+pub mod Late

@@ -1,0 +1,43 @@
+-- The times of a line, by its kind.
+use Rattle.std.proofs.Common.{◌≡◌, ℕ, List, ap, sym, ◌∙◌, Some, true}
+use Rattle.docker_model.specs.records.Record.{origin_location, intermediate_location, terminating_location, HasKind, columns}
+use Rattle.docker_model.specs.records.Clock.{half_minutes, is_present_time, is_scheduled_time}
+use Rattle.docker_model.specs.records.Field.{HasGoodFields}
+use Rattle.docker_model.specs.file.Journey.{arrival, departure, timed, times_by_kind, times_of}
+use Rattle.docker_laws.proofs.records.Columns.{good_fields}
+use Rattle.docker_laws.proofs.dockers.TrainOfOne.{time_there}
+
+-- the departure of an origin is a time
+pub origin_departure : (line : List ℕ) → HasKind origin_location line → HasGoodFields line → is_present_time (columns 11 15 line) ≡ true
+origin_departure line is good = (good_fields origin_location line is good).1.0
+
+-- and so are those of an intermediate location that are there
+pub call_arrival : (line : List ℕ) → HasKind intermediate_location line → HasGoodFields line → is_scheduled_time (columns 11 15 line) ≡ true
+call_arrival line is good = (good_fields intermediate_location line is good).1.0
+
+pub call_departure : (line : List ℕ) → HasKind intermediate_location line → HasGoodFields line → is_scheduled_time (columns 16 20 line) ≡ true
+call_departure line is good = (good_fields intermediate_location line is good).1.1.0
+
+pub call_pass : (line : List ℕ) → HasKind intermediate_location line → HasGoodFields line → is_scheduled_time (columns 21 25 line) ≡ true
+call_pass line is good = (good_fields intermediate_location line is good).1.1.1.0
+
+-- and the arrival at a terminus
+pub terminus_arrival : (line : List ℕ) → HasKind terminating_location line → HasGoodFields line → is_present_time (columns 11 15 line) ≡ true
+terminus_arrival line is good = (good_fields terminating_location line is good).1.0
+
+-- an origin has its departure
+pub origin_time : (line : List ℕ) → HasKind origin_location line → HasGoodFields line
+    → timed departure (Some (half_minutes (columns 11 15 line))) ≡ times_of line
+origin_time line is good =
+    ap (timed departure) (sym (time_there (columns 11 15 line) (origin_departure line is good)))
+    ∙ (λ i. times_by_kind (sym is i) line)
+
+-- a terminus has its arrival
+pub terminus_time : (line : List ℕ) → HasKind terminating_location line → HasGoodFields line
+    → timed arrival (Some (half_minutes (columns 11 15 line))) ≡ times_of line
+terminus_time line is good =
+    ap (timed arrival) (sym (time_there (columns 11 15 line) (terminus_arrival line is good)))
+    ∙ (λ i. times_by_kind (sym is i) line)
+
+-- the times of a line
+pub ruleset line_times = (origin_departure, call_arrival, call_departure, call_pass, terminus_arrival, origin_time, terminus_time)

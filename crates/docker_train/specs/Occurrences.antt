@@ -1,0 +1,90 @@
+-- The events of a schedule as a walk over its lines meets them, each with what the walk carries along.
+use Rattle.std.specs.Prelude.{ℕ, ◌+◌, if◌then◌else◌, List, [], ◌∷◌, ◌++◌, map, Option, Some, None, codes}
+use Rattle.docker_model.specs.records.Record.{columns}
+use Rattle.docker_model.specs.file.Journey.{Occasion, times_of}
+use Rattle.docker_model.specs.docker.Event.{Event, events_of, falls_to, event_line, event_identity, has_identity}
+use Rattle.docker_model.specs.docker.EventWalk.{fall_at}
+
+-- an event: its number, what happens and when, the falls up to it, its line, and the identity of the train there
+pub record Occurrence : Type 0 where
+  pub number : ℕ
+  pub occasion : Occasion
+  pub time : ℕ
+  pub falls : ℕ
+  pub line : List ℕ
+  pub identity : List ℕ
+
+-- an event of these lines
+abbrev pub occurrence_of : List (List ℕ) → Event → Occurrence
+occurrence_of lines event = record {
+  number = event.number;
+  occasion = event.occasion;
+  time = event.time;
+  falls = falls_to lines event.number;
+  line = event_line lines event;
+  identity = event_identity lines event;
+}
+
+-- the events of a schedule
+abbrev pub occurrences : List (List ℕ) → List Occurrence
+occurrences lines = map (occurrence_of lines) (events_of lines)
+
+-- how far a walk has come: the number of the next event, the falls so far, the last time and the identity
+pub record Progress : Type 0 where
+  pub number : ℕ
+  pub falls : ℕ
+  pub last : Option ℕ
+  pub identity : List ℕ
+
+-- before the first line, which is a basic schedule
+abbrev pub before_all : List ℕ → Progress
+before_all basic = record { number = 1; falls = 0; last = None; identity = columns 33 36 basic }
+
+-- the event of a time of a line
+abbrev pub occurrence_at : Progress → List ℕ → Occasion × ℕ → Occurrence
+occurrence_at p line time = record {
+  number = p.number;
+  occasion = time.0;
+  time = time.1;
+  falls = p.falls + fall_at p.last time.1;
+  line = line;
+  identity = p.identity;
+}
+
+-- behind that time
+abbrev pub past_time : Progress → Occasion × ℕ → Progress
+past_time p time = record {
+  number = p.number + 1;
+  falls = p.falls + fall_at p.last time.1;
+  last = Some time.1;
+  identity = p.identity;
+}
+
+-- the events of some times of a line
+abbrev pub occurrences_at : Progress → List ℕ → List (Occasion × ℕ) → List Occurrence
+occurrences_at p line [] = []
+occurrences_at p line (time ∷ times) = occurrence_at p line time ∷ occurrences_at (past_time p time) line times
+
+-- behind those times
+abbrev pub past_times : Progress → List (Occasion × ℕ) → Progress
+past_times p [] = p
+past_times p (time ∷ times) = past_times (past_time p time) times
+
+-- the identity behind a line: that of a change en route, and else the one before
+abbrev pub identity_behind : List ℕ → List ℕ → List ℕ
+identity_behind line identity = if has_identity (codes "CR") line then columns 13 16 line else identity
+
+-- at a line
+abbrev pub turned : Progress → List ℕ → Progress
+turned p line = record {
+  number = p.number;
+  falls = p.falls;
+  last = p.last;
+  identity = identity_behind line p.identity;
+}
+
+-- the events of some lines
+abbrev pub occurrences_from : Progress → List (List ℕ) → List Occurrence
+occurrences_from p [] = []
+occurrences_from p (line ∷ lines) =
+    occurrences_at (turned p line) line (times_of line) ++ occurrences_from (past_times (turned p line) (times_of line)) lines

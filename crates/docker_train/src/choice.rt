@@ -1,0 +1,138 @@
+//! Which schedule of a train counts on a day.
+ghost use Rattle.std.specs.Prelude.{◌≡◌, ◌==◌, ℕ, List, None, Some};
+ghost use Rattle.std.specs.Ordering.{on, is_lt};
+ghost use Rattle.cif_file.specs.Meaning.{key_meant, body_meant};
+ghost use Rattle.docker_model.specs.state.State.{IsBodyOf, live_table};
+ghost use Rattle.docker_model.specs.docker.Choice.{schedule_choice_cmp};
+ghost use Rattle.docker_model.specs.docker.Best.{with_one_more};
+ghost use Rattle.docker_model.specs.docker.ChoiceWalk.{next_chosen};
+ghost use Rattle.docker_model.specs.state.Row.{Row, AreRowsOf};
+ghost use Rattle.docker_model.specs.docker.LiveRows.{Train, IsChosenOn, is_running, schedule_of, train_in, unless_cancelled};
+ghost use Rattle.docker_train.specs.Keys.{schedule_key_meant};
+ghost use Rattle.docker_train.specs.Along.{chosen_along, AreGoodRows};
+
+use crate::schedule_view::ScheduleView;
+use crate::walks::schedules_of;
+use cif_file::{Body, Key, ScheduleKey};
+use cif_line::{Day, Stp, Uid};
+use docker_state::{Live, State};
+
+/// The schedule of a UID that is chosen for a day: of the live ones that run then that with the least STP indicator, and of several such that with the latest
+/// first day. It may be a cancellation. None where none runs.
+pub fn chosen<'a>(state: &'a State, uid: &Uid, day: Day) -> Option<ScheduleView<'a>>
+    ensures { IsChosenOn (live_table state.now) uid.now day result }
+{
+    chosen_of(schedules_of(state, uid), uid, day)
+}
+
+/// The train of a UID that starts on a day, if it runs: the chosen schedule, unless that is a cancellation.
+pub fn train_on<'a>(state: &'a State, uid: &Uid, day: Day) -> Option<ScheduleView<'a>>
+    ensures { (rows : List Row) → AreRowsOf (live_table state.now) rows
+        → result ≡ train_in rows uid.now day }
+{
+    unless_cancelled(chosen(state, uid, day))
+}
+
+/// The schedule, unless it is a cancellation.
+fn unless_cancelled(found: Option<ScheduleView<'_>>) -> Option<ScheduleView<'_>>
+    ensures { result ≡ unless_cancelled found.entry }
+{
+    let view = found?;
+    if is_cancellation(view.key()) {
+        None
+    } else {
+        Some(view)
+    }
+}
+
+/// The best along rows.
+fn chosen_of<'a>(rows: Live<'a>, uid: &Uid, day: Day) -> Option<ScheduleView<'a>>
+    requires { AreGoodRows rows }
+    ensures { result ≡ chosen_along uid.now day None rows.entry }
+{
+    let mut found = None;
+    for (key, body) in rows {
+        found = with_row(found, key, body, uid, day);
+    }
+    found
+}
+
+/// The best with one more row.
+fn with_row<'a>(
+    found: Option<ScheduleView<'a>>,
+    key: &'a Key,
+    body: &'a Body,
+    uid: &Uid,
+    day: Day,
+) -> Option<ScheduleView<'a>>
+    requires { IsBodyOf (key_meant key.now) (body_meant body.now) }
+    ensures { result ≡ next_chosen uid.now day found.entry (key_meant key.entry.now)
+        (body_meant body.entry.now) }
+{
+    match schedule_of(key, body) {
+        Some(view) => with_one(found, view, uid, day),
+        None => found,
+    }
+}
+
+/// The schedule of a row, if it is of one.
+pub fn schedule_of<'a>(key: &'a Key, body: &'a Body) -> Option<ScheduleView<'a>>
+    requires { IsBodyOf (key_meant key.now) (body_meant body.now) }
+    ensures { result ≡ schedule_of (key_meant key.entry.now) (body_meant body.entry.now) }
+{
+    match (key, body) {
+        (Key::Schedule(key), Body::Schedule(lines)) => Some(ScheduleView::of(key, lines)),
+        _ => None,
+    }
+}
+
+/// The best with one more schedule.
+fn with_one<'a>(
+    found: Option<ScheduleView<'a>>,
+    view: ScheduleView<'a>,
+    uid: &Uid,
+    day: Day,
+) -> Option<ScheduleView<'a>>
+    ensures { result ≡ with_one_more (on (λ (train : Train). train.key) schedule_choice_cmp)
+        (is_running uid.now day) found.entry view.entry }
+{
+    if !is_running(&view, uid, day) {
+        return found;
+    }
+    match found {
+        Some(best) => {
+            if comes_before(view.key(), best.key()) {
+                Some(view)
+            } else {
+                Some(best)
+            }
+        }
+        None => Some(view),
+    }
+}
+
+/// Whether a schedule is of the UID and runs on the day.
+fn is_running(view: &ScheduleView<'_>, uid: &Uid, day: Day) -> bool
+    ensures { result ≡ is_running uid.now day view.now }
+{
+    (view.key().uid == *uid) & view.runs_on(day)
+}
+
+/// Whether a schedule comes before another in the order of choice.
+fn comes_before(key: &ScheduleKey, other: &ScheduleKey) -> bool
+    ensures { result ≡ is_lt
+        (schedule_choice_cmp (schedule_key_meant key.now) (schedule_key_meant other.now)) }
+{
+    key.stp
+        .letter()
+        .cmp(&other.stp.letter())
+        .then(other.runs_from.number().cmp(&key.runs_from.number()))
+        .is_lt()
+}
+
+/// Whether it is that of a cancellation.
+fn is_cancellation(key: &ScheduleKey) -> bool
+    ensures { result ≡ ((schedule_key_meant key.now).indicator == 67) }
+{
+    key.stp == Stp::Cancellation
+}

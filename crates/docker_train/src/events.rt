@@ -1,0 +1,64 @@
+//! The events of a schedule, in their order.
+ghost use Rattle.std.specs.Prelude.{◌≡◌, ◌+◌, ◌≤◌, ◌^◌, ◌<◌, None, All, length};
+ghost use Rattle.std.specs.Iterator.{YieldsFirstBy, item_count};
+ghost use Rattle.docker_model.specs.records.Field.{HasGoodFields};
+ghost use Rattle.docker_train.specs.Occurrences.{occurrences_from};
+ghost use Rattle.docker_train.specs.Walk.{occurrence_meant};
+
+use crate::walk::{Occurrence, Walk};
+use cif_line::Line;
+use std::marker::Model;
+
+/// Walks the events of a schedule.
+#[derive(Debug, Drop)]
+pub struct Events<'a> {
+    walk: Walk<'a>,
+    lines: &'a [Line],
+}
+
+impl<'a> Model for Events<'a> {
+    ghost use Rattle.std.specs.Prelude.{List};
+    ghost use Rattle.docker_train.specs.Occurrences.{Occurrence as Event};
+    ghost use Rattle.docker_train.specs.Walk.{events_left, CanWalk};
+
+    ghost Value = { List Event };
+
+    ghost view = { λ events. events_left events.walk events.lines.now };
+
+    ghost invariant = { λ events. CanWalk events.walk events.lines.now };
+}
+
+impl<'a> Events<'a> {
+    /// The events of the lines of a schedule, of which this one is the first, and in which the train has this identity.
+    pub(crate) fn of(basic: &'a Line, identity: &'a [u8; 4], lines: &'a [Line]) -> Events<'a>
+        requires good { All HasGoodFields lines.now }
+        requires few { length lines.now < 2 ^ 32 }
+        ensures { result ≡ occurrences_from
+            (record { number = 1; falls = 0; last = None; identity = identity.entry.now })
+            lines.entry.now }
+    {
+        Events {
+            walk: Walk::new(basic, identity),
+            lines,
+        }
+    }
+}
+
+impl<'a> Iterator for Events<'a> {
+    type Item = Occurrence<'a>;
+
+    ghost next_gives = { YieldsFirstBy occurrence_meant (λ events. events) };
+
+    ghost remaining = { item_count (λ events. events) };
+
+    fn next(&mut self) -> Option<Occurrence<'a>> {
+        'lines: loop {
+            if let Some(event) = self.walk.next_event() {
+                return Some(event);
+            }
+            let (line, rest) = self.lines.split_first()?;
+            self.lines = rest;
+            self.walk.advance(line);
+        }
+    }
+}

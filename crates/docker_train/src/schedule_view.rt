@@ -1,0 +1,105 @@
+//! A live schedule.
+ghost use Rattle.std.specs.Prelude.{◌≡◌, ◌≤◌, ℕ, false};
+ghost use Rattle.docker_model.specs.records.Record.{basic_schedule, HasKind, columns};
+ghost use Rattle.docker_model.specs.records.Field.{HasGoodFields, is_deletion};
+ghost use Rattle.docker_model.specs.file.File.{first_record};
+ghost use Rattle.docker_model.specs.state.State.{IsScheduleOf};
+ghost use Rattle.docker_model.specs.docker.Choice.{schedule_runs};
+ghost use Rattle.docker_model.specs.docker.Event.{falls_to};
+ghost use Rattle.docker_train.specs.Keys.{schedule_key_meant};
+ghost use Rattle.docker_train.specs.Occurrences.{occurrences};
+
+use crate::days_run::schedule_runs_on;
+use crate::events::Events;
+use cif_file::{Lines, ScheduleKey};
+use cif_line::{Day, Line, basic};
+use std::marker::Model;
+
+/// A live schedule: its key, and its lines.
+#[derive(Debug, Drop)]
+pub struct ScheduleView<'a> {
+    key: &'a ScheduleKey,
+    lines: &'a Lines,
+}
+
+impl<'a> Model for ScheduleView<'a> {
+    ghost use Rattle.docker_model.specs.docker.LiveRows.{Train};
+    ghost use Rattle.docker_model.specs.state.State.{IsScheduleOf};
+    ghost use Rattle.docker_train.specs.Keys.{schedule_key_meant};
+
+    ghost Value = { Train };
+
+    ghost view = { λ view. record {
+      key = schedule_key_meant view.key.now;
+      lines = view.lines.now;
+    } };
+
+    ghost invariant = { λ view. IsScheduleOf (schedule_key_meant view.key.now) view.lines.now };
+}
+
+#[tactic(auto, using(crate::proofs::KeptLines::kept_lines))]
+impl<'a> ScheduleView<'a> {
+    /// A schedule whose lines are kept under this key.
+    pub(crate) fn of(key: &'a ScheduleKey, lines: &'a Lines) -> ScheduleView<'a>
+        requires { IsScheduleOf (schedule_key_meant key.now) lines.now }
+        ensures { result ≡ record {
+          key = schedule_key_meant key.entry.now;
+          lines = lines.entry.now;
+        } }
+    {
+        ScheduleView { key, lines }
+    }
+
+    /// The key: UID, first day and STP indicator.
+    pub fn key(&self) -> &'a ScheduleKey
+        ensures { schedule_key_meant result.now ≡ self.now.key }
+    {
+        self.key
+    }
+
+    /// The lines, of which the first is the basic schedule (BS), its transaction `N`.
+    pub fn lines(&self) -> &'a [Line]
+        ensures lines { result.now ≡ self.now.lines }
+        ensures kept { IsScheduleOf self.now.key self.now.lines }
+    {
+        self.lines.as_slice()
+    }
+
+    /// The basic schedule.
+    fn first(&self) -> &'a Line
+        ensures line { result.now ≡ first_record self.now.lines }
+        ensures kind { HasKind basic_schedule result.now }
+        ensures good { HasGoodFields result.now }
+        ensures no_deletion { is_deletion result.now ≡ false }
+    {
+        match self.lines.as_slice().first() {
+            Some(line) => line,
+            None => unreachable!(),
+        }
+    }
+
+    /// Whether it runs on a day. Where it begins later, its lines are not looked at.
+    pub fn runs_on(&self, day: Day) -> bool
+        ensures { result ≡ schedule_runs (first_record self.now.lines) day }
+    {
+        (self.key.runs_from.number() <= day.number()) && schedule_runs_on(self.first(), day)
+    }
+
+    /// The train identity in the basic schedule.
+    pub fn identity(&self) -> &'a [u8; 4]
+        ensures { result.now ≡ columns 33 36 (first_record self.now.lines) }
+    {
+        match basic(self.first()) {
+            Ok(view) => view.identity(),
+            Err(_) => unreachable!(),
+        }
+    }
+
+    /// The events, in their order.
+    pub fn events(&self) -> Events<'a>
+        ensures events { result ≡ occurrences self.now.lines }
+        ensures few { (number : ℕ) → falls_to self.now.lines number ≤ 2 }
+    {
+        Events::of(self.first(), self.identity(), self.lines.as_slice())
+    }
+}

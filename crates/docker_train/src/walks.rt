@@ -1,0 +1,52 @@
+//! The rows of a state that a docker is made of.
+ghost use Rattle.std.specs.Prelude.{◌≡◌};
+ghost use Rattle.docker_model.specs.state.State.{live_table, HasGoodBodies};
+ghost use Rattle.docker_model.specs.docker.Choice.{Group};
+ghost use Rattle.docker_model.specs.state.Index.{AreCalling, AreLinked};
+ghost use Rattle.docker_model.specs.docker.LiveRows.{HasSchedulesOf, HasAssociationsOf};
+ghost use Rattle.docker_model.specs.state.Row.{AreRowsOf};
+ghost use Rattle.docker_train.specs.Along.{AreGoodRows, AreLive};
+
+use cif_line::{Tiploc, Uid};
+use docker_state::{Live, Standing, State};
+
+/// All rows of a state.
+pub fn rows_of(state: &State) -> Live<'_>
+    ensures rows { AreRowsOf (live_table state.now) result }
+    ensures bodies { HasGoodBodies (live_table state.now) }
+{
+    // That a state is valid is a clause of its entries.
+    let _entries = state.entries();
+    state.live()
+}
+
+/// The rows of the schedules of a UID.
+pub(crate) fn schedules_of<'a>(state: &'a State, uid: &Uid) -> Live<'a>
+    ensures has { HasSchedulesOf (live_table state.now) uid.now result }
+    ensures good { AreGoodRows result }
+{
+    let _rows = rows_of(state);
+    state.of_uid(uid)
+}
+
+/// The rows of the associations at a place.
+pub fn associations_at<'a>(state: &'a State, place: &Tiploc) -> Standing<'a>
+    ensures linked { AreLinked (live_table state.now) place.now result }
+    ensures has { (group : Group) → group.location ≡ place.now
+        → HasAssociationsOf (live_table state.now) group result }
+    ensures good { AreGoodRows result }
+    ensures live { AreLive (live_table state.now) result }
+{
+    let _rows = rows_of(state);
+    state.linked(place)
+}
+
+/// The rows of the schedules that call at a place.
+pub fn schedules_at<'a>(state: &'a State, place: &Tiploc) -> Standing<'a>
+    ensures calling { AreCalling (live_table state.now) place.now result }
+    ensures good { AreGoodRows result }
+    ensures live { AreLive (live_table state.now) result }
+{
+    let _rows = rows_of(state);
+    state.calling(place)
+}
