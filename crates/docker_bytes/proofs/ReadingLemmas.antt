@@ -282,6 +282,11 @@ rest_first piece = (none, ap (λ xs. xs ++ piece) none)
     none : before_rest piece piece ≡ []
     none = let zero_left : length piece - length piece ≡ 0 = omega arith in ap (λ n. take n piece) zero_left
 
+-- before the first part of a piece nothing of it was read
+pub reads_none : (now : Reading) (piece : List ℕ) → IsReading now → ReadsOn now now (before_rest piece piece)
+reads_none now piece is =
+    subst (ReadsOn now now) (sym (rest_first piece).0) (record { reading = is; text = sym (append-nil (text_of now)); limit = refl; format = refl })
+
 module _ (initial now : Reading) (piece rest : List ℕ) (whole : before_rest piece rest ++ rest ≡ piece) (on : ReadsOn initial now (before_rest piece rest))
   where
     -- the bytes so far and the rest

@@ -6,7 +6,7 @@ use Rattle.docker_model.specs.state.Stamp.{LedgerItem, Stamp}
 use Rattle.docker_model.specs.state.Op.{put_with}
 use Rattle.docker_model.specs.state.State.{State, IsLedger, IsScheduleOf}
 use Rattle.docker_model.specs.state.StateText.{Format}
-use Rattle.docker_model.specs.state.StatePart.{Before, in_entry, before_line, AreLinesUpTo, IsPartHere, AreGood}
+use Rattle.docker_model.specs.state.StatePart.{Before, in_entry, before_line, width, AreLinesUpTo, IsPartHere, AreGood}
 use Rattle.docker_model.specs.state.StateFault.{bad_mark, bad_item, bad_order, bad_floor, bad_tag, bad_stamp, bad_body, too_short, has_tail, too_long, bad_horizon}
 use Rattle.docker_model.specs.state.StateFault as model
 use Rattle.docker_laws.specs.TextStage.{advance, after_lines, after_entries, with_entry}
@@ -21,6 +21,7 @@ use Rattle.docker_join.specs.declared.stamp.Stamp as stamps
 use Rattle.cif_file.specs.declared.key.ScheduleKey as code
 use Rattle.docker_bytes.specs.declared.stage.Stage.{Stage}
 use Rattle.docker_bytes.specs.declared.stage.Stage.TheVariants as stage
+use Rattle.docker_bytes.specs.Reading.{IsLineOf}
 use Rattle.docker_bytes.specs.Lines.{AreLinesUpToIn, IsUpToRefusal}
 use Rattle.docker_bytes.specs.Stage.{schedule_meant, stage_meant, begins_item, LeadsTo, IsFresh}
 
@@ -94,6 +95,11 @@ module _ (format : Format) (count : ℕ) (state : State) (key : ScheduleKey) (st
       })
 
 -- ---- a line with more lines to come: the stage stays as it is
+
+-- how wide it is
+pub line_width : (key : code.ScheduleKey) (n : ℕ) (at : Stage) → IsLineOf key n at → (state : State) (lines : List (List ℕ))
+    → width (stage_meant at state lines) ≡ 80
+line_width key n at of state lines = subst (λ (p : Stage). width (stage_meant p state lines) ≡ 80) (sym of.is) refl
 
 -- the stage behind the line is the same, and within the item
 pub line_leads : (format : Format) (at : Stage) (entries : ℕ) (key : code.ScheduleKey) (stamp : stamps.Stamp) (n : ℕ) → at ≡ stage.Line entries key stamp n

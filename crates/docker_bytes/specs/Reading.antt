@@ -12,6 +12,10 @@ use Rattle.docker_bytes.specs.declared.reading.Reading.{Reading}
 use Rattle.docker_bytes.specs.FaultMeaning.{cause_meant, IsWantingHere, IsBadHere}
 use Rattle.docker_bytes.specs.FormatMeaning.{format_meant}
 use Rattle.docker_bytes.specs.Stage.{stage_meant, IsReady}
+use Rattle.cif_file.specs.declared.key.ScheduleKey.{ScheduleKey}
+use Rattle.docker_join.specs.declared.stamp.Stamp.{Stamp}
+use Rattle.docker_bytes.specs.declared.stage.Stage.{Stage}
+use Rattle.docker_bytes.specs.declared.stage.Stage.TheVariants.{Line}
 
 -- the format of the text
 abbrev pub format_of : Reading → Format
@@ -92,3 +96,9 @@ pub record JoinsText (format : Format) (limit : ℕ) (text : List ℕ) (own afte
   pub received : State
   pub is : IsStateText format limit text received
   pub join : IsJoin own received after
+
+-- the part that comes next is one of so many lines of a schedule of this key
+pub record IsLineOf (key : ScheduleKey) (count : ℕ) (at : Stage) : Type 0 where
+  pub entries : ℕ
+  pub stamp : Stamp
+  pub is : at ≡ Line entries key stamp count

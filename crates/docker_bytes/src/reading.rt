@@ -5,7 +5,7 @@ ghost use Rattle.arrayvec.specs.ArrayVec.{array_vec_len};
 ghost use Rattle.docker_model.specs.state.StatePart.{width};
 ghost use Rattle.docker_model.specs.state.StateFault.{IsStateText};
 ghost use Rattle.docker_bytes.specs.FormatMeaning.{format_meant};
-ghost use Rattle.docker_bytes.specs.Reading.{format_of, before_of, text_of, IsReading, ReadsOn, IsPartRefused, IsFaultTold, IsUnended, IsStep, JoinsText};
+ghost use Rattle.docker_bytes.specs.Reading.{format_of, before_of, text_of, IsReading, ReadsOn, IsPartRefused, IsFaultTold, IsUnended, IsStep, JoinsText, IsLineOf};
 
 use crate::fault::{StateCause, StateFault, Step};
 use crate::format::{Format, LINE};
@@ -14,6 +14,7 @@ use crate::stage::Stage;
 use crate::step::step;
 use crate::told::Told;
 use arrayvec::ArrayVec;
+use cif_file::ScheduleKey;
 use docker_state::State;
 use std::alloc::Global;
 
@@ -99,6 +100,70 @@ impl Reading {
         }
     }
 
+    /// Takes a whole line of the schedule that is read, behind which more are to come: the stage stays as it is.
+    fn take_line(&mut self, key: &ScheduleKey, count: u32, bytes: &[u8]) -> Result<(), StateFault>
+        requires reading { IsReading self.old }
+        requires stage { IsLineOf key.now count self.old.stage }
+        requires more { length self.old.lines + 1 < count }
+        requires fresh { self.old.partial.items ≡ [] }
+        requires wide { length bytes.now ≡ LINE }
+        requires fits { self.old.reached + length bytes.now ≤ self.old.limit }
+        ensures ok { IsOk result → ReadsOn self.old self.new bytes.now }
+        ensures err { IfErr result (λ fault. IsPartRefused self.old bytes.now fault) }
+        ensures own { self.new.parts.own ≡ self.old.parts.own }
+        ensures stage { self.new.stage ≡ self.old.stage }
+        ensures partial { self.new.partial.items ≡ self.old.partial.items }
+    {
+        match judged_line(key, &self.parts, count, &mut self.lines, bytes) {
+            Ok(()) => {
+                self.reached += bytes.len() as u64;
+                Ok(())
+            }
+            Err(cause) => Err(self.bad(cause)),
+        }
+    }
+
+    /// Whether so many bytes hold a whole line within the limit, behind which more of so many lines are to come.
+    fn has_whole_line(&self, count: u32, len: usize) -> bool
+        requires { self.now.reached ≤ self.now.limit }
+        ensures { IsTrue result ↔ ((LINE ≤ len) × (self.now.reached + LINE ≤ self.now.limit)
+            × (length self.now.lines + 1 < count)) }
+    {
+        if len < LINE {
+            return false;
+        }
+        if self.limit - self.reached < LINE as u64 {
+            return false;
+        }
+        self.lines.has_more(count)
+    }
+
+    /// Takes the whole lines at the head of a piece behind which more lines of the same schedule are to come, and tells what stands behind them.
+    fn take_lines<'a>(&mut self, piece: &'a [u8]) -> Result<&'a [u8], StateFault>
+        requires { IsReading self.old }
+        ensures rest { IfOk result (λ behind.
+            take (length piece.now - length behind.now) piece.now ++ behind.now ≡ piece.now) }
+        ensures on { IfOk result (λ behind.
+            ReadsOn self.old self.new (take (length piece.now - length behind.now) piece.now)) }
+        ensures err { IfErr result (λ fault. IsFaultTold (format_of self.old) self.old.limit
+            (text_of self.old) piece.now fault) }
+        ensures own { self.new.parts.own ≡ self.old.parts.own }
+    {
+        let Stage::Line(_entries, key, _stamp, count) = self.stage else {
+            return Ok(piece);
+        };
+        if !self.partial.is_empty() {
+            return Ok(piece);
+        }
+        let mut rest = piece;
+        'lines: while self.has_whole_line(count, rest.len()) {
+            let (line, behind) = rest.split_at(LINE);
+            self.take_line(&key, count, line)?;
+            rest = behind;
+        }
+        Ok(rest)
+    }
+
     /// Takes a whole part, of which nothing was kept. Behind a line with more to come the stage stays as it is.
     fn judge(&mut self, bytes: &[u8]) -> Result<(), StateFault>
         requires reading { IsReading self.old }
@@ -112,13 +177,7 @@ impl Reading {
     {
         if let Stage::Line(_entries, key, _stamp, count) = self.stage {
             if self.lines.has_more(count) {
-                return match judged_line(&key, &self.parts, count, &mut self.lines, bytes) {
-                    Ok(()) => {
-                        self.reached += bytes.len() as u64;
-                        Ok(())
-                    }
-                    Err(cause) => Err(self.bad(cause)),
-                };
+                return self.take_line(&key, count, bytes);
             }
         }
         match step(
@@ -204,7 +263,7 @@ impl Reading {
             }
             let (front, behind) = rest.split_at(missing);
             self.take(front)?;
-            rest = behind;
+            rest = self.take_lines(behind)?;
         }
     }
 
