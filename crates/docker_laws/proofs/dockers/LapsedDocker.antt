@@ -53,7 +53,7 @@ record CarriesOver (one other : Table) (day : ℕ) : Type 0 where
       → event_day start lines event ≡ day → (key : AssociationKey) (line : List ℕ) (indicator : ℕ) (identity : List ℕ)
       → (IsChosenAssociation one (group_of key) start key line → IsChosenAssociation other (group_of key) start key line)
       × (IsPartnerIdentity one key.associated (partner_start indicator start) identity
-          → IsPartnerIdentity other key.associated (partner_start indicator start) identity)
+      → IsPartnerIdentity other key.associated (partner_start indicator start) identity)
 
 -- so the line of an event is one of the other
 event_line_over : (one other : Table) (place : List ℕ) (day : ℕ) → CarriesOver one other day → (line : DockerLine) → IsEventLine one place day line
@@ -150,7 +150,7 @@ module _ (horizon : ℕ) (bound : horizon ≤ no_end_number) (live : Table) wher
                 let after = started_after uid start base lines runs event today in
                 (association_iff horizon bound live start (omega arith) (group_of key) key line).0 chosen,
             (partner_iff key.associated identity (partner_start indicator start)
-            (bounded indicator start (started_after uid start base lines runs event today))).0,
+                (bounded indicator start (started_after uid start base lines runs event today))).0,
           );
     }
 
@@ -166,12 +166,13 @@ module _ (horizon : ℕ) (bound : horizon ≤ no_end_number) (live : Table) wher
                 let after = was_running uid start base lines runs event today in
                 (association_iff horizon bound live start (omega arith) (group_of key) key line).1 chosen,
             (partner_iff key.associated identity (partner_start indicator start)
-            (bounded indicator start (was_running uid start base lines runs event today))).1,
+                (bounded indicator start (was_running uid start base lines runs event today))).1,
           );
     }
 
     event_line_iff : (line : DockerLine) → IsEventLine live place day line ↔ IsEventLine (lapse_table horizon live) place day line
-    event_line_iff line = (event_line_over live (lapse_table horizon live) place day over line, event_line_over (lapse_table horizon live) live place day back line)
+    event_line_iff line =
+        (event_line_over live (lapse_table horizon live) place day over line, event_line_over (lapse_table horizon live) live place day back line)
 
     association_line_iff : (line : DockerLine) → IsAssociationLine live place day line ↔ IsAssociationLine (lapse_table horizon live) place day line
     association_line_iff line =
