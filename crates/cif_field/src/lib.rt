@@ -16,7 +16,7 @@ mod until;
 pub use day::Day;
 pub use days::Days;
 pub use letter::{Extract, Stp, Transaction};
-pub use line::{Line, LineFault};
+pub use line::{Line, LineFault, is_printable};
 pub use time::{Time, clock, is_clock, is_present_time, is_public_time, is_scheduled_time};
 pub use tiploc_code::Tiploc;
 pub use uid::Uid;

@@ -100,8 +100,8 @@ impl Line {
     }
 }
 
-/// A byte that a line may hold.
-fn is_printable(byte: u8) -> bool
+/// Whether a line may hold the byte: from a space to a tilde.
+pub fn is_printable(byte: u8) -> bool
     ensures { result ≡ is_printable byte }
 {
     b' ' <= byte && byte <= b'~'

@@ -22,6 +22,7 @@ pub use check::FieldFault;
 pub use cif_device::{Bytes, Endless, Failed, Fuse, Kept, Memory, Sink, Source, write_all};
 pub use cif_field::{
     Day, Days, Extract, Line, LineFault, NO_END, Stp, Time, Tiploc, Transaction, Uid, Until,
+    is_printable,
 };
 pub use header_record::Header;
 pub use identity::kind;

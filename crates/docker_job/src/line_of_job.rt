@@ -1,7 +1,6 @@
 //! The job line: the words of a program that is given none, on the first line of its standard input.
 ghost use Rattle.std.specs.Prelude.{◌≡◌, ◌+◌, ◌*◌, ◌-◌, ◌^◌, ◌<◌, ◌≤◌, ◌↔◌, ◌≢◌, ◌++◌, length, Some, IfOk, OnOk, OnErr, Err, MatchOption, IfSome};
 ghost use Rattle.std.specs.List.{position_or_len, before_first, after_first};
-ghost use Rattle.docker_model.specs.records.Record.{is_printable};
 ghost use Rattle.docker_job.specs.Job.{IsJobOf, NameNoJob};
 ghost use Rattle.arrayvec.specs.ArrayVec.{array_vec_len};
 ghost use Rattle.docker_job.specs.JobLine.{HasJob, HasNoJob, HasNoLine, IsLineText, ReadsAtMost, ReadsByte, ReadsJob, ReadsLine, is_space, word_or_none, words_in};
@@ -11,7 +10,7 @@ use crate::fault::JobFault;
 use crate::job_of_words::job;
 use crate::jobs::Job;
 use arrayvec::ArrayVec;
-use cif_line::Source;
+use cif_line::{Source, is_printable};
 use std::alloc::Global;
 use std::str;
 
@@ -155,11 +154,4 @@ fn read_line<S: Source>(source: &mut S) -> Result<Line, JobFault>
         line.push(byte);
     }
     Err(JobFault::Usage)
-}
-
-/// A byte that a line may hold.
-fn is_printable(byte: u8) -> bool
-    ensures { result ≡ is_printable byte }
-{
-    b' ' <= byte && byte <= b'~'
 }

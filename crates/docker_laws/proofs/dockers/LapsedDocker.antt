@@ -5,12 +5,12 @@ use Rattle.std.specs.List.{flat_map}
 use Rattle.docker_model.specs.records.Record.{column}
 use Rattle.docker_model.specs.records.Date.{last_day, no_end_number}
 use Rattle.docker_model.specs.records.PrintedTime.{spaces, day_text}
-use Rattle.docker_model.specs.file.Change.{tiploc_key, schedule_key, Body, tiploc_body, association_body, schedule_body, ScheduleKey}
+use Rattle.docker_model.specs.file.Change.{tiploc_key, schedule_key, Body, tiploc_body, association_body, schedule_body, ScheduleKey, AssociationKey}
 use Rattle.docker_model.specs.state.Op.{body_end}
 use Rattle.docker_model.specs.state.Table.{Table}
 use Rattle.docker_model.specs.state.Lapse.{unlapsed, lapse_table}
 use Rattle.docker_model.specs.docker.Event.{Event, event_day}
-use Rattle.docker_model.specs.docker.Choice.{TrainRuns, group_of}
+use Rattle.docker_model.specs.docker.Choice.{TrainRuns, group_of, IsChosenAssociation}
 use Rattle.docker_model.specs.docker.DockerLine.{DockerLine}
 use Rattle.docker_model.specs.docker.Association.{partner_start, IsIdentityOn, IsPartnerIdentity, IsAssociationLine}
 use Rattle.docker_model.specs.docker.DockerList.{IsEventLine, Lists, IsDockerList}
@@ -42,6 +42,60 @@ partner_after indicator start day is = by (indicator == 78) (indicator == 80) is
     by true c told = later (nat_lt start last_day) refl told
     by false true told = earlier (nat_lt 0 start) refl told
     by false false some = let same : start ≡ day = cc in omega arith
+
+-- ---- from one table to another
+
+-- a train of one table with an event on the day is one of the other, and so are the associations of its base and the partner's identity
+record CarriesOver (one other : Table) (day : ℕ) : Type 0 where
+  trains : (uid : List ℕ) (start : ℕ) (key : ScheduleKey) (lines : List (List ℕ)) → TrainRuns one uid start key lines → (event : Event)
+      → event_day start lines event ≡ day → TrainRuns other uid start key lines
+  links : (uid : List ℕ) (start : ℕ) (base : ScheduleKey) (lines : List (List ℕ)) → TrainRuns one uid start base lines → (event : Event)
+      → event_day start lines event ≡ day → (key : AssociationKey) (line : List ℕ) (indicator : ℕ) (identity : List ℕ)
+      → (IsChosenAssociation one (group_of key) start key line → IsChosenAssociation other (group_of key) start key line)
+      × (IsPartnerIdentity one key.associated (partner_start indicator start) identity
+      → IsPartnerIdentity other key.associated (partner_start indicator start) identity)
+
+-- so the line of an event is one of the other
+event_line_over : (one other : Table) (place : List ℕ) (day : ℕ) → CarriesOver one other day → (line : DockerLine) → IsEventLine one place day line
+    → IsEventLine other place day line
+event_line_over one other place day carries line is = record {
+  start = is.start;
+  key = is.key;
+  schedule = is.schedule;
+  train_runs = carries.trains is.key.uid is.start is.key is.schedule is.train_runs is.event is.today;
+  event = is.event;
+  among = is.among;
+  here = is.here;
+  today = is.today;
+  is = is.is;
+}
+
+-- and so is the line of an association
+association_line_over : (one other : Table) (place : List ℕ) (day : ℕ) → CarriesOver one other day → (line : DockerLine)
+    → IsAssociationLine one place day line → IsAssociationLine other place day line
+association_line_over one other place day carries line is =
+    let link =
+    carries.links is.key.base is.start is.base_key is.base is.base_runs is.event is.today is.key is.association (column 37 is.association) is.identity in
+    record {
+      start = is.start;
+      key = is.key;
+      association = is.association;
+      chosen = link.0 is.chosen;
+      no_cancellation = is.no_cancellation;
+      occasion = is.occasion;
+      category = is.category;
+      date_indicator = is.date_indicator;
+      base_key = is.base_key;
+      base = is.base;
+      base_runs = carries.trains is.key.base is.start is.base_key is.base is.base_runs is.event is.today;
+      event = is.event;
+      first_there = is.first_there;
+      identity = is.identity;
+      partner = link.1 is.partner;
+      here = is.here;
+      today = is.today;
+      is = is.is;
+    }
 
 module _ (horizon : ℕ) (bound : horizon ≤ no_end_number) (live : Table) where
   -- ---- the partner
@@ -81,93 +135,48 @@ module _ (horizon : ℕ) (bound : horizon ≤ no_end_number) (live : Table) wher
         let late = started start lines event day (few key lines is) today in
         omega arith
 
+    bounded : (indicator start : ℕ) → horizon + 1 ≤ start → (n : ℕ) → partner_start indicator start ≡ Some n → horizon ≤ n
+    bounded indicator start after n is = let most = partner_after indicator start n is in omega arith
+
+    over : CarriesOver live (lapse_table horizon live) day
+    over = record {
+      trains =
+          λ uid start key lines runs event today.
+          let after = started_after uid start key lines runs event today in
+          (train_iff horizon bound live start (omega arith) uid key lines).0 runs;
+      links =
+          λ uid start base lines runs event today key line indicator identity. (
+            λ chosen.
+                let after = started_after uid start base lines runs event today in
+                (association_iff horizon bound live start (omega arith) (group_of key) key line).0 chosen,
+            (partner_iff key.associated identity (partner_start indicator start)
+                (bounded indicator start (started_after uid start base lines runs event today))).0,
+          );
+    }
+
+    back : CarriesOver (lapse_table horizon live) live day
+    back = record {
+      trains =
+          λ uid start key lines runs event today.
+          let after = was_running uid start key lines runs event today in
+          (train_iff horizon bound live start (omega arith) uid key lines).1 runs;
+      links =
+          λ uid start base lines runs event today key line indicator identity. (
+            λ chosen.
+                let after = was_running uid start base lines runs event today in
+                (association_iff horizon bound live start (omega arith) (group_of key) key line).1 chosen,
+            (partner_iff key.associated identity (partner_start indicator start)
+                (bounded indicator start (was_running uid start base lines runs event today))).1,
+          );
+    }
+
     event_line_iff : (line : DockerLine) → IsEventLine live place day line ↔ IsEventLine (lapse_table horizon live) place day line
-    event_line_iff line = (
-      λ is.
-          let after = started_after is.key.uid is.start is.key is.schedule is.train_runs is.event is.today in
-          record {
-            start = is.start;
-            key = is.key;
-            schedule = is.schedule;
-            train_runs = (train_iff horizon bound live is.start (omega arith) is.key.uid is.key is.schedule).0 is.train_runs;
-            event = is.event;
-            among = is.among;
-            here = is.here;
-            today = is.today;
-            is = is.is;
-          },
-      λ is.
-          let after = was_running is.key.uid is.start is.key is.schedule is.train_runs is.event is.today in
-          record {
-            start = is.start;
-            key = is.key;
-            schedule = is.schedule;
-            train_runs = (train_iff horizon bound live is.start (omega arith) is.key.uid is.key is.schedule).1 is.train_runs;
-            event = is.event;
-            among = is.among;
-            here = is.here;
-            today = is.today;
-            is = is.is;
-          },
-    )
+    event_line_iff line =
+        (event_line_over live (lapse_table horizon live) place day over line, event_line_over (lapse_table horizon live) live place day back line)
 
     association_line_iff : (line : DockerLine) → IsAssociationLine live place day line ↔ IsAssociationLine (lapse_table horizon live) place day line
-    association_line_iff line = (forth, back)
-      where
-        partner_from : (indicator start : ℕ) → horizon + 1 ≤ start → (n : ℕ) → partner_start indicator start ≡ Some n → horizon ≤ n
-        partner_from indicator start after n is = let most = partner_after indicator start n is in omega arith
-
-        forth : IsAssociationLine live place day line → IsAssociationLine (lapse_table horizon live) place day line
-        forth is =
-            let after = started_after is.key.base is.start is.base_key is.base is.base_runs is.event is.today in
-            record {
-              start = is.start;
-              key = is.key;
-              association = is.association;
-              chosen = (association_iff horizon bound live is.start (omega arith) (group_of is.key) is.key is.association).0 is.chosen;
-              no_cancellation = is.no_cancellation;
-              occasion = is.occasion;
-              category = is.category;
-              date_indicator = is.date_indicator;
-              base_key = is.base_key;
-              base = is.base;
-              base_runs = (train_iff horizon bound live is.start (omega arith) is.key.base is.base_key is.base).0 is.base_runs;
-              event = is.event;
-              first_there = is.first_there;
-              identity = is.identity;
-              partner =
-                  (partner_iff is.key.associated is.identity (partner_start (column 37 is.association) is.start)
-                  (partner_from (column 37 is.association) is.start after)).0 is.partner;
-              here = is.here;
-              today = is.today;
-              is = is.is;
-            }
-
-        back : IsAssociationLine (lapse_table horizon live) place day line → IsAssociationLine live place day line
-        back is =
-            let after = was_running is.key.base is.start is.base_key is.base is.base_runs is.event is.today in
-            record {
-              start = is.start;
-              key = is.key;
-              association = is.association;
-              chosen = (association_iff horizon bound live is.start (omega arith) (group_of is.key) is.key is.association).1 is.chosen;
-              no_cancellation = is.no_cancellation;
-              occasion = is.occasion;
-              category = is.category;
-              date_indicator = is.date_indicator;
-              base_key = is.base_key;
-              base = is.base;
-              base_runs = (train_iff horizon bound live is.start (omega arith) is.key.base is.base_key is.base).1 is.base_runs;
-              event = is.event;
-              first_there = is.first_there;
-              identity = is.identity;
-              partner =
-                  (partner_iff is.key.associated is.identity (partner_start (column 37 is.association) is.start)
-                  (partner_from (column 37 is.association) is.start after)).1 is.partner;
-              here = is.here;
-              today = is.today;
-              is = is.is;
-            }
+    association_line_iff line =
+        (association_line_over live (lapse_table horizon live) place day over line, association_line_over (lapse_table horizon live) live place day back line)
 
     -- ---- the list and the text
 

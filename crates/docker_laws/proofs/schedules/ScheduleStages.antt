@@ -194,6 +194,16 @@ pub test_by_next_line : (stage : Stage) (lines : Lines) (line : List ℕ) (next 
 test_by_next_line stage lines line next told =
     (λ i. cond (and_true (is_record line) _ ((record_iff_test line).0 told.is) told.sound i) (stage_after stage (kind_of line)) None) ∙ told.stage_is
 
+-- an open journey with one more line within it
+journey_more : (journey : Lines) (line : List ℕ) → IsOpenJourney journey → IsWithinJourney line → IsOpenJourney (journey ++ line ∷ [])
+journey_more journey line so_far is = (
+  so_far.0,
+  so_far.1 ++ line ∷ [],
+  (λ i. so_far.2 i ++ line ∷ []),
+  so_far.3,
+  all_append IsWithinJourney so_far.1 (line ∷ []) so_far.4 (is, tt),
+)
+
 -- the shape with one more line
 shape_more : (stage : Stage) (kind : Kind) (next : Stage) (extra journey : Lines) (line : List ℕ) → HasShape stage extra journey → HasKind kind line
     → stage_after stage (Some kind) ≡ Some next
@@ -208,32 +218,10 @@ shape_more after_details origin_location next extra journey line shape is after 
     inl (subst (λ s. HasShape s extra (journey ++ line ∷ [])) same (shape.0, (line, [], (λ i. shape.1 i ++ line ∷ []), is, tt)))
 shape_more in_journey intermediate_location next extra journey line shape is after =
     let same : in_journey ≡ next = cc in
-    let open_journey = shape.1 in
-    inl (subst (λ s. HasShape s extra (journey ++ line ∷ [])) same (
-      shape.0,
-      (
-        open_journey.0,
-        open_journey.1 ++ line ∷ [],
-        (λ i. open_journey.2 i ++ line ∷ []),
-        open_journey.3,
-        all_append IsWithinJourney open_journey.1
-            (line ∷ []) open_journey.4 (inl is, tt),
-      ),
-    ))
+    inl (subst (λ s. HasShape s extra (journey ++ line ∷ [])) same (shape.0, journey_more journey line shape.1 (inl is)))
 shape_more in_journey change_en_route next extra journey line shape is after =
     let same : in_journey ≡ next = cc in
-    let open_journey = shape.1 in
-    inl (subst (λ s. HasShape s extra (journey ++ line ∷ [])) same (
-      shape.0,
-      (
-        open_journey.0,
-        open_journey.1 ++ line ∷ [],
-        (λ i. open_journey.2 i ++ line ∷ []),
-        open_journey.3,
-        all_append IsWithinJourney open_journey.1
-            (line ∷ []) open_journey.4 (inr is, tt),
-      ),
-    ))
+    inl (subst (λ s. HasShape s extra (journey ++ line ∷ [])) same (shape.0, journey_more journey line shape.1 (inr is)))
 shape_more in_journey terminating_location next extra journey line shape is after =
     let same : after_journey ≡ next = cc in
     let open_journey = shape.1 in
