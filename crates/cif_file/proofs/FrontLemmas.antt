@@ -25,13 +25,14 @@ use Rattle.cif_line.specs.Kind.{meaning}
 use Rattle.cif_file.specs.declared.key.Key.TheVariants as key
 use Rattle.cif_file.specs.declared.opened.Opened.{Opened}
 use Rattle.cif_file.specs.declared.front.Front.{Front}
+use Rattle.cif_file.specs.declared.front.FileStage.{FileStage}
 use Rattle.cif_file.specs.declared.front.FileStage.TheVariants.{BeforeHeader, BetweenUnits, InSchedule, AfterEnd}
 use Rattle.cif_file.specs.Meaning.{key_meant}
 use Rattle.cif_file.specs.declared.ended.Ended.{Ended}
 use Rattle.cif_file.specs.KeeperRead.{Keeps, change_opened, AddsLine, AddsSingle, Closes}
 use Rattle.cif_file.specs.EndedRead.{IsEnded}
-use Rattle.cif_file.specs.JourneyRead.{progress_meant, HasLines, IsScheduleCause, is_over_by}
-use Rattle.cif_file.specs.RecordsRead.{with_new_first, header_of, IsOpen, IsKept, HasRecords, IsOver, GoesOnWith, IsNoNext, IsNoNextCause, IsWholeBy, StandsBefore}
+use Rattle.cif_file.specs.JourneyRead.{progress_meant, HasLines, Advances, IsScheduleCause, is_over_by}
+use Rattle.cif_file.specs.RecordsRead.{with_new_first, header_of, IsOpen, IsKept, HasRecords, IsOver, GoesOnWith, IsNoNext, IsNoNextCause, IsWholeBy, GoesOnTo, StandsBefore}
 use Rattle.cif_file.proofs.JourneyLemmas.{whole_iff, first_line_is}
 
 abbrev Lines : Type 0
@@ -263,14 +264,27 @@ over_of_closed keeps old new opened records has place whole same_header closed =
 
 -- ---- one more line of a schedule
 
+-- the schedule that is being read, with a line behind those that it had
+pub record IsFollowed (opened : Opened) (line : List ℕ) (stage : FileStage) : Type 0 where
+  pub later : Opened
+  pub place : stage ≡ InSchedule later
+  pub number : later.number ≡ opened.number
+  pub named : later.key ≡ opened.key
+  pub read : Advances opened.progress line later.progress
+
+pub followed : (opened : Opened) (line : List ℕ) (stage : FileStage) → GoesOnTo opened line stage → IsFollowed opened line stage
+followed opened line BeforeHeader gone = absurd gone
+followed opened line BetweenUnits gone = absurd gone
+followed opened line (InSchedule later) gone = record { later = later; place = refl; number = gone.0; named = gone.1; read = gone.2 }
+followed opened line AfterEnd gone = absurd gone
+
 -- a line that goes on with the schedule that is being read
-pub stands_before : {K : Type 0} (keeps : Keeps K) (front : Front K) (opened later : Opened) (records : Lines) (line : List ℕ) → HasRecords keeps front records → front.stage ≡ InSchedule opened
-    → IsRecord line
-    → follows_basic (kind_of line) ≡ true → later.number ≡ opened.number → later.key ≡ opened.key
-    → ((lines : Lines) → HasLines (progress_meant opened.progress) lines → HasLines (progress_meant later.progress) (lines ++ line ∷ []))
+pub stands_before : {K : Type 0} (keeps : Keeps K) (front new : Front K) (opened : Opened) (records : Lines) (line : List ℕ) → HasRecords keeps front records
+    → front.stage ≡ InSchedule opened → new.header ≡ front.header → new.keeper ≡ front.keeper → IsRecord line
+    → follows_basic (kind_of line) ≡ true → (after : IsFollowed opened line new.stage)
     → ((lines : Lines) → HasLines (progress_meant opened.progress) lines → BeginsSchedule (lines ++ line ∷ []))
-    → StandsBefore keeps front later line records
-stands_before keeps front opened later records line has place is follow number keys read begins =
+    → StandsBefore keeps new after.later line records
+stands_before keeps front new opened records line has place same_header same is follow after begins =
     let told = opened_of keeps front opened records has place in
     record {
       is = is;
@@ -280,13 +294,13 @@ stands_before keeps front opened later records line has place is follow number k
       before = told.before;
       at = has.at ∙ ap Some told.place_is;
       stage_is = told.stage_is;
-      header_is = has.header_is;
+      header_is = same_header ∙ has.header_is;
       whole = told.whole;
-      number_is = number ∙ told.number_is;
-      key_is = ap (λ k. key_meant (key.Schedule k)) keys ∙ told.key_is;
-      progress_is = read told.lines told.progress_is;
+      number_is = after.number ∙ told.number_is;
+      key_is = ap (λ k. key_meant (key.Schedule k)) after.named ∙ told.key_is;
+      progress_is = after.read told.lines told.progress_is;
       goes_on = begins told.lines told.progress_is;
-      kept = told.kept;
+      kept = subst (λ k. keeps k (with_new_first told.lines) (changes told.before)) (sym same) told.kept;
     }
 
 stage_begun : (lines : Lines) (line : List ℕ) → BeginsSchedule (lines ++ line ∷ []) → (next : Stage) × (stage_of (lines ++ line ∷ []) ≡ Some next)

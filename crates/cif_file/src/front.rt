@@ -1,5 +1,5 @@
 //! The records of a file so far.
-ghost use Rattle.std.specs.Prelude.{◌≡◌, ℕ, ◌+◌, ◌↔◌, List, [], ◌∷◌, ◌++◌, length, map, IsOk, IfErr, IsErr, OnOk, OnErr, MatchOption, Some, true, is_some, IsTrue};
+ghost use Rattle.std.specs.Prelude.{◌≡◌, ℕ, ◌+◌, ◌↔◌, List, [], ◌∷◌, ◌++◌, length, map, IsOk, IfErr, IsErr, OnOk, OnErr, MatchOption, Some, true, false, is_some, IsTrue};
 ghost use Rattle.docker_model.specs.records.Record.{HasKind, IsRecord, kind_of, basic_schedule};
 ghost use Rattle.docker_model.specs.records.Field.{HasGoodFields};
 ghost use Rattle.docker_model.specs.file.File.{follows_basic, IsFile};
@@ -7,9 +7,10 @@ ghost use Rattle.docker_model.specs.file.Change.{changes};
 ghost use Rattle.docker_laws.specs.FileStage.{unit_by_kind};
 ghost use Rattle.cif_line.specs.Kind.{meaning};
 ghost use Rattle.cif_file.specs.Meaning.{cause_meant};
+ghost use Rattle.cif_file.specs.JourneyRead.{FaultsLine, JudgesLine, is_over_by, progress_meant};
 ghost use Rattle.cif_file.specs.KeeperRead.{Closes};
 ghost use Rattle.cif_file.specs.EndedRead.{IsEnded};
-ghost use Rattle.cif_file.specs.RecordsRead.{HasRecords, StandsBefore, IsWholeBy, TakesLine, TakesNext, BeginsAnew, RefusesLine, RefusesUnended};
+ghost use Rattle.cif_file.specs.RecordsRead.{HasRecords, StandsBefore, IsWholeBy, GoesOnTo, TakesLine, TakesNext, BeginsAnew, RefusesLine, RefusesUnended};
 
 use crate::ended::Ended;
 use crate::fault::FileCause;
@@ -31,6 +32,38 @@ pub(crate) enum FileStage {
     InSchedule(Opened),
     /// Behind its trailer.
     AfterEnd,
+}
+
+impl FileStage {
+    /// Goes on with one more line of the schedule that is being read.
+    fn advance(&mut self, kind: Kind, line: &Line) -> Result<(), FileCause>
+        requires record { IsRecord line.now }
+        requires kind { HasKind (meaning kind) line.now }
+        ensures ok { (opened : Opened) → self.old ≡ FileStage.InSchedule opened →
+            JudgesLine (progress_meant opened.progress) line.now (IsOk result) }
+        ensures read { (opened : Opened) → self.old ≡ FileStage.InSchedule opened →
+            OnOk result (GoesOnTo opened line.now self.new) }
+        ensures err { (opened : Opened) → self.old ≡ FileStage.InSchedule opened →
+            IfErr result (FaultsLine (progress_meant opened.progress) line.now) }
+    {
+        match self {
+            FileStage::InSchedule(opened) => opened.advance(kind, line),
+            _ => Err(FileCause::Place),
+        }
+    }
+
+    /// The schedule that is being read, if its journey is whole, so that no schedule goes on behind its lines.
+    fn over(&self) -> Option<Opened>
+        ensures { (opened : Opened) → self.now ≡ FileStage.InSchedule opened →
+            MatchOption result (is_over_by (progress_meant opened.progress).stage ≡ false)
+            (λ over. (over ≡ opened) ×
+            (is_over_by (progress_meant opened.progress).stage ≡ true)) }
+    {
+        match self {
+            FileStage::InSchedule(opened) => opened.over(),
+            _ => None,
+        }
+    }
 }
 
 /// What a reader has of a file's records so far.
@@ -171,7 +204,7 @@ impl<K: Keeper> Front<K> {
         ensures err { IfErr result (RefusesLine K.keeps K.wants self.old line.now) }
     {
         if follows_basic(kind) {
-            return self.follow(opened, kind, line);
+            return self.follow(kind, line);
         }
         if !opened.progress.complete() {
             return Err(FileCause::Place);
@@ -184,37 +217,37 @@ impl<K: Keeper> Front<K> {
     }
 
     /// Takes a line that may go on with the schedule.
-    fn follow(&mut self, opened: Opened, kind: Kind, line: &Line) -> Result<(), FileCause>
-        requires stage { self.old.stage ≡ FileStage.InSchedule opened }
+    fn follow(&mut self, kind: Kind, line: &Line) -> Result<(), FileCause>
         requires record { IsRecord line.now }
         requires kind { HasKind (meaning kind) line.now }
         requires follows { follows_basic (Some (meaning kind)) ≡ true }
-        ensures read { OnOk result (TakesLine K.keeps self.old line.now self.new) }
-        ensures err { IfErr result (RefusesLine K.keeps K.wants self.old line.now) }
+        ensures read { (opened : Opened) → self.old.stage ≡ FileStage.InSchedule opened →
+            OnOk result (TakesLine K.keeps self.old line.now self.new) }
+        ensures err { (opened : Opened) → self.old.stage ≡ FileStage.InSchedule opened →
+            IfErr result (RefusesLine K.keeps K.wants self.old line.now) }
     {
-        let progress = match opened.progress.with_kind(kind, line) {
-            Ok(progress) => progress,
-            Err(cause) => return Err(cause),
-        };
-        match self.add_line(Opened { progress, ..opened }, line) {
+        if let Err(cause) = self.stage.advance(kind, line) {
+            return Err(cause);
+        }
+        match self.add_line(line) {
             Ok(()) => Ok(()),
             Err(_) => Err(FileCause::Memory),
         }
     }
 
-    /// Adds a line of the schedule, behind which it stands so.
-    fn add_line(&mut self, opened: Opened, line: &Line) -> Result<(), AllocError>
-        ensures read { (records : List (List ℕ)) →
+    /// Adds a line of the schedule, which stands behind it.
+    fn add_line(&mut self, line: &Line) -> Result<(), AllocError>
+        ensures read { (opened : Opened) → self.old.stage ≡ FileStage.InSchedule opened →
+            (records : List (List ℕ)) →
             StandsBefore K.keeps self.old opened line.now records →
             OnOk result (HasRecords K.keeps self.new (records ++ line.now ∷ [])) }
         ensures wants { OnErr result K.wants }
     {
         self.keeper.add_line(line)?;
-        if opened.progress.is_over() {
-            return self.close(opened);
+        match self.stage.over() {
+            Some(opened) => self.close(opened),
+            None => Ok(()),
         }
-        self.stage = FileStage::InSchedule(opened);
-        Ok(())
     }
 
     /// Makes the change of a schedule whose lines are whole.

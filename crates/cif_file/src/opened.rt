@@ -1,17 +1,19 @@
 //! A schedule whose lines are being read.
-ghost use Rattle.std.specs.Prelude.{◌≡◌, [], ◌∷◌, IfOk, if◌then◌else◌};
+ghost use Rattle.std.specs.Prelude.{◌≡◌, [], ◌∷◌, true, false, IsOk, IfOk, IfErr, OnOk, MatchOption, if◌then◌else◌};
 ghost use Rattle.docker_model.specs.records.Record.{HasKind, IsRecord, basic_schedule};
 ghost use Rattle.docker_model.specs.records.Field.{HasGoodFields};
 ghost use Rattle.docker_model.specs.file.Change.{schedule_named, schedule_body, delete, put};
-ghost use Rattle.cif_file.specs.JourneyRead.{progress_meant, HasLines};
+ghost use Rattle.cif_file.specs.JourneyRead.{progress_meant, HasLines, Advances, FaultsLine, JudgesLine, is_over_by};
+ghost use Rattle.cif_line.specs.Kind.{meaning};
 ghost use Rattle.cif_file.specs.Meaning.{change_meant, key_meant};
 
 use crate::change::{Act, Body, Change};
+use crate::fault::FileCause;
 use crate::key::{Key, ScheduleKey};
 use crate::lines::Lines;
 use crate::progress::Progress;
 use crate::steps::behind_basic;
-use cif_line::{Basic, Line, basic};
+use cif_line::{Basic, Kind, Line, basic};
 use std::alloc::{AllocError, Global};
 
 /// A schedule whose lines are being read: the number of its basic schedule, its key, and how far it has come.
@@ -23,6 +25,38 @@ pub(crate) struct Opened {
 }
 
 impl Opened {
+    /// Goes on with one more line. A refused line changes nothing.
+    pub(crate) fn advance(&mut self, kind: Kind, line: &Line) -> Result<(), FileCause>
+        requires record { IsRecord line.now }
+        requires kind { HasKind (meaning kind) line.now }
+        ensures ok { JudgesLine (progress_meant self.old.progress) line.now (IsOk result) }
+        ensures read { OnOk result (Advances self.old.progress line.now self.new.progress) }
+        ensures err { IfErr result (FaultsLine (progress_meant self.old.progress) line.now) }
+        ensures number { self.new.number ≡ self.old.number }
+        ensures key { self.new.key ≡ self.old.key }
+    {
+        match self.progress.with_kind(kind, line) {
+            Ok(progress) => {
+                self.progress = progress;
+                Ok(())
+            }
+            Err(cause) => Err(cause),
+        }
+    }
+
+    /// The schedule, if its journey is whole.
+    pub(crate) fn over(&self) -> Option<Opened>
+        ensures { MatchOption result (is_over_by (progress_meant self.now.progress).stage ≡ false)
+            (λ over. (over ≡ self.now) ×
+            (is_over_by (progress_meant self.now.progress).stage ≡ true)) }
+    {
+        if self.progress.is_over() {
+            Some(*self)
+        } else {
+            None
+        }
+    }
+
     /// The change that the schedule makes, of these lines.
     pub(crate) fn change(self, alloc: Global, lines: &[Line]) -> Result<Change, AllocError>
         ensures { IfOk result (λ change. change_meant change ≡ record {

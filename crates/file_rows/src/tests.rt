@@ -1,14 +1,15 @@
 ghost use Rattle.std.specs.Prelude.{◌<◌};
 
 use cif_file::{
-    Act, Body, Change, CifFile, FileCause, FileFault, FileParser, Journey, Key, ScheduleKey,
-    read_pieces,
+    Act, Body, Change, CifFile, FileCause, FileFault, FileParser, Journey, Key, ReadFault,
+    ScheduleKey, judge_file, read_pieces,
 };
-use cif_line::{Day, Extract, Line, Stp, Tiploc, Uid};
+use cif_line::{Bytes, Day, Extract, Line, Stp, Tiploc, Uid};
 use std::alloc::{AllocError, Global};
 use std::process::Abort;
 use std::test::Fail;
 
+mod counts;
 mod sources;
 
 /// A header: an update of 9 June 2024, 21:00.
@@ -202,7 +203,21 @@ fn fault_by(alloc: Global, text: &[u8], step: usize) -> Option<FileFault>
     parser.finish().err()
 }
 
-/// That the text has this fault, or none, in one piece, in pieces of any length, and from then on.
+/// Why a text from a source isn't judged to be a file.
+fn judged_fault(alloc: Global, text: &[u8]) -> Option<ReadFault> {
+    let mut source = Bytes::new(text, 7);
+    judge_file(alloc, &mut source, 1000).err()
+}
+
+/// A fault of a text, as it is told of a source.
+fn told(fault: Option<FileFault>) -> Option<ReadFault> {
+    match fault {
+        Some(fault) => Some(ReadFault::File(fault)),
+        None => None,
+    }
+}
+
+/// That the text has this fault, or none, in one piece, in pieces of any length, and from then on; and that a reader which keeps nothing tells the same.
 fn check_fault(
     rt: &impl Abort,
     alloc: Global,
@@ -214,6 +229,7 @@ fn check_fault(
     assert_eq!(rt; fault_by(alloc, text, 1), wanted, "{name}");
     assert_eq!(rt; fault_by(alloc, text, 7), wanted, "{name}");
     assert_eq!(rt; fault_by(alloc, text, 4096), wanted, "{name}");
+    assert_eq!(rt; judged_fault(alloc, text), told(wanted), "{name}");
     let mut parser = FileParser::new(alloc, 1000);
     if let Err(fault) = parser.feed(text) {
         assert_eq!(rt; Some(fault), wanted, "{name}");

@@ -1,7 +1,7 @@
 //! Files that are read from a source.
 
 use super::{F2, HD, TI, at, check_f2, text};
-use cif_file::{FileCause, ReadFault, read_file};
+use cif_file::{FileCause, ReadFault, judge_file, read_file};
 use cif_line::{Bytes, Endless, Failed, Source};
 use std::test::Fail;
 
@@ -58,6 +58,10 @@ fn sources_that_fail(rt: HostRuntime) -> Result<(), Fail> {
         let fault = read_file(rt.alloc(), &mut source, 5).err();
         assert_eq!(rt; fault, Some(ReadFault::Source), "{length} bytes");
         assert_eq!(rt; source.failures, 1);
+        let mut source = Broken { bytes, failures: 0 };
+        let fault = judge_file(rt.alloc(), &mut source, 5).err();
+        assert_eq!(rt; fault, Some(ReadFault::Source), "{length} bytes");
+        assert_eq!(rt; source.failures, 1);
     }
     let mut source = Broken {
         bytes: TI,
@@ -85,6 +89,9 @@ fn sources_without_end(rt: HostRuntime) -> Result<(), Fail> {
             assert!(rt; !again.is_empty());
             let mut source = Endless::new(first, again, step);
             let fault = read_file(rt.alloc(), &mut source, limit).err();
+            assert_eq!(rt; fault, Some(ReadFault::File(at(number, cause))));
+            let mut source = Endless::new(first, again, step);
+            let fault = judge_file(rt.alloc(), &mut source, limit).err();
             assert_eq!(rt; fault, Some(ReadFault::File(at(number, cause))));
         }
     }

@@ -34,3 +34,6 @@ returns-in_err-begin_anew-clause-err g c =
       anew_goes_on g.K.Keeper.keeps c.args.self.now c.args.opened records c.args.line.now has c.requires.stage
           (λ lines read. (c.complete.ensures lines read).0 c.if-not-complete.false) c.requires.«record» good.1 good.0,
     ))
+
+pub returns-then-follows_basic-clause-err : goal.returns-then-follows_basic-clause-err
+returns-then-follows_basic-clause-err g c = c.follow.ensures.err c.args.opened c.requires.stage
