@@ -7,7 +7,7 @@ use arrayvec::ArrayVec;
 use cif_line::{Failed, Sink, write_all};
 
 /// How many bytes are gathered before they are written.
-pub(crate) const ROOM: usize = 8192;
+pub(crate) const ROOM: usize = 65_536;
 
 /// Bytes that a sink is to take.
 pub(crate) type Buffer = ArrayVec<u8, ROOM>;
