@@ -358,6 +358,52 @@ fn past_midnight(rt: HostRuntime) -> Result<(), Fail> {
     are_printed(&rt, rt.alloc(), NIGHTS)
 }
 
+/// Dockers of days far off, and of descriptions.
+const OTHERS: &[Row] = &[
+    (
+        &[NO_END],
+        "ASHFELD",
+        "2059-12-31",
+        "\
+DOCKER ASHFELD 2059-12-31                               
+0900  D 1A10 C10001 P   1   SL      0900 ASHFELD BRAYTON
+END                                                     
+",
+    ),
+    (
+        &[NO_END],
+        "ASHFELD",
+        "2059-12-30",
+        "\
+DOCKER ASHFELD 2059-12-30                               
+END                                                     
+",
+    ),
+    (
+        &[AMENDED],
+        "ASHFELD",
+        "2024-06-10",
+        "\
+DOCKER ASHFELD 2024-06-10 ASHFIELD CENTRAL              
+END                                                     
+",
+    ),
+    (
+        &[DELETION, EIGHTH],
+        "BRAYTON",
+        "2024-06-10",
+        "\
+DOCKER BRAYTON 2024-06-10                               
+END                                                     
+",
+    ),
+];
+
+#[test]
+fn days_far_off_and_descriptions(rt: HostRuntime) -> Result<(), Fail> {
+    are_printed(&rt, rt.alloc(), OTHERS)
+}
+
 /// Dockers with associations.
 const LINKS: &[Row] = &[
     (

@@ -17,6 +17,9 @@ pub(crate) const REVISED: File = &[HD, BS_REVISED, LO, LT, ZZ];
 /// The same train, leaving in the evening.
 pub(crate) const EVENING: File = &[HD, BS, LO_2355, LT_0005, ZZ];
 
+/// The same train, in a full extract.
+pub(crate) const FULL: File = &[HD_FULL, BS, LO, LT, ZZ];
+
 /// The revision of that train, a day later.
 pub(crate) const REVISION: File = &[HD_10B, BS_REVISED, LO_0905, LT_0935, ZZ];
 
@@ -28,6 +31,9 @@ pub(crate) const SEVENTH: File = &[HD_7B, BS_C10002, LO_1000, LT_1030, ZZ];
 
 /// An update of 9 June: C10001 two hours later.
 pub(crate) const NINTH: File = &[HD_9C, BS, LO_1100, LT_1130, ZZ];
+
+/// The same without its trailer.
+pub(crate) const NINTH_OPEN: File = &[HD_9C, BS, LO_1100, LT_1130];
 
 /// A deletion of C10001.
 pub(crate) const DELETION: File = &[HD_9B, BS_DELETED, ZZ];
@@ -249,3 +255,18 @@ pub(crate) const BASE_CANCELLED: File = &[
     BS_C40001_CANCELLED,
     ZZ,
 ];
+
+/// The train of the morning, and its deletion in the same file.
+pub(crate) const WITHDRAWN: File = &[HD, BS, LO, LT, BS_DELETED, ZZ];
+
+/// Its deletion with an origin that departs at no time of the day, which is not read.
+pub(crate) const DELETED_AT_NO_TIME: File = &[HD, BS_DELETED, LO_2400, LT, ZZ];
+
+/// An update of another century without a change.
+pub(crate) const EARLY: File = &[HD_EARLY, ZZ];
+
+/// A train on Wednesdays, without an end.
+pub(crate) const NO_END: File = &[HD, BS_NO_END, LO, LT, ZZ];
+
+/// A timing point that is amended and keeps its code.
+pub(crate) const AMENDED: File = &[HD, TA_SAME, ZZ];

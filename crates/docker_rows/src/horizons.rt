@@ -1,31 +1,16 @@
 //! Offices with a horizon.
 
 use crate::files::*;
-use crate::offices::{office_of, sent, take, text_of};
-use cif_line::{Day, Kept, Tiploc};
-use docker_office::{Office, OfficeFault};
-use std::alloc::Global;
+use crate::offices::{office_of, prints, sent, take};
+use crate::state_texts::{LAPSED_STATE, text_of_parts};
+use cif_line::Day;
+use docker_office::Office;
 use std::test::Fail;
 
 /// Sets a horizon.
 fn set(office: &mut Office, day: &str) -> Result<(), Fail> {
     office.set_horizon(Day::from_iso(day).ok_or("a day")?);
     Ok(())
-}
-
-/// Whether Ashfeld on a day is refused, or else whether it is printed with these lines.
-fn prints(alloc: Global, office: &Office, day: &str, lines: Option<&[&str]>) -> Result<bool, Fail> {
-    let place = Tiploc::from_text("ASHFELD").ok_or("a TIPLOC")?;
-    let day = Day::from_iso(day).ok_or("a day")?;
-    let mut kept = Kept::new(alloc, 400)?;
-    let answer = office.print(&place, day, &mut kept);
-    match lines {
-        Some(lines) => {
-            let text = text_of(alloc, lines)?;
-            Ok(answer == Ok(()) && kept.bytes() == text.as_slice())
-        }
-        None => Ok(answer == Err(OfficeFault::Lapsed) && kept.bytes().is_empty()),
-    }
 }
 
 /// A horizon to be set, the live schedules behind it by the size of the state, a day that is refused, and the heading of the next, on which there is no line.
@@ -70,17 +55,13 @@ fn a_horizon_that_rises(rt: HostRuntime) -> Result<(), Fail> {
     Ok(())
 }
 
-/// A state with the horizon 2024-06-15 and one entry that has lapsed.
-const LAPSED: &[u8; 67] =
-    b"DKS2\x5b\xf6\0\0\0\0\0\0\0\x01\x5b\xf0\x04\xecDFROC1AUDFROC1Z\0\0\0\0\0\0\0\x01\
-\x03C10001\x5b\xf1P\x5b\xf0\x04\xecDFROC1A\0\0\0\x02\x02";
-
 #[test]
 fn a_lapsed_state(rt: HostRuntime) -> Result<(), Fail> {
     let alloc = rt.alloc();
     let mut office = office_of(alloc, &[MORNING])?;
     set(&mut office, "2024-06-15")?;
-    assert_eq!(rt; sent(alloc, &office)?.bytes(), LAPSED.as_slice());
+    let want = text_of_parts(alloc, LAPSED_STATE)?;
+    assert_eq!(rt; sent(alloc, &office)?.bytes(), want.as_slice());
     Ok(())
 }
 

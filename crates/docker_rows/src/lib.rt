@@ -1,6 +1,12 @@
-//! The worked rows that go over several crates: what offices print and send, and what words and lines ask for. There is no code here, only tests.
+//! The worked rows that go over several crates: what offices print, send and do in runs of events, and what commands write. There is no code here, only tests.
 #![tactic(auto)]
 
+#[cfg(test)]
+mod commands;
+#[cfg(test)]
+mod devices;
+#[cfg(test)]
+mod dice;
 #[cfg(test)]
 mod dockers;
 #[cfg(test)]
@@ -12,10 +18,20 @@ mod job_lines;
 #[cfg(test)]
 mod jobs;
 #[cfg(test)]
+mod knowledge;
+#[cfg(test)]
 mod offices;
+#[cfg(test)]
+mod random_runs;
 #[cfg(test)]
 mod records;
 #[cfg(test)]
+mod refused_files;
+#[cfg(test)]
 mod refused_states;
+#[cfg(test)]
+mod runs;
+#[cfg(test)]
+mod state_texts;
 #[cfg(test)]
 mod states;

@@ -1,9 +1,11 @@
 //! Offices over devices in memory.
 
 use crate::files::File;
+use crate::state_texts::{Parts, text_of_parts};
 use cif_line::{Bytes, Day, Kept, Tiploc};
-use docker_office::Office;
+use docker_office::{Office, OfficeFault};
 use std::alloc::{AllocError, Global};
+use std::process::Abort;
 use std::test::Fail;
 
 /// The most bytes that a text of these rows has.
@@ -35,11 +37,35 @@ pub(crate) fn office_of(alloc: Global, files: &[File]) -> Result<Office, Fail> {
     Ok(office)
 }
 
+/// An office that received in turn the states of others, each of which took one of these files.
+pub(crate) fn merged(alloc: Global, files: &[File]) -> Result<Office, Fail> {
+    let mut office = Office::new(alloc);
+    for file in files {
+        let other = office_of(alloc, &[*file])?;
+        let text = sent(alloc, &other)?;
+        office.receive(&mut Bytes::new(text.bytes(), 7), 1000)?;
+    }
+    Ok(office)
+}
+
 /// What an office sends.
 pub(crate) fn sent(alloc: Global, office: &Office) -> Result<Kept, Fail> {
     let mut kept = Kept::new(alloc, ROOM)?;
     office.send(&mut kept)?;
     Ok(kept)
+}
+
+/// That an office has this text.
+pub(crate) fn has(
+    rt: &impl Abort,
+    alloc: Global,
+    office: &Office,
+    parts: Parts,
+) -> Result<(), Fail> {
+    let text = sent(alloc, office)?;
+    let want = text_of_parts(alloc, parts)?;
+    assert_eq!(rt; text.bytes(), want.as_slice());
+    Ok(())
 }
 
 /// What an office prints of a place on a day.
@@ -54,4 +80,24 @@ pub(crate) fn printed(
     let mut kept = Kept::new(alloc, ROOM)?;
     office.print(&place, day, &mut kept)?;
     Ok(kept)
+}
+
+/// Whether Ashfeld on a day is printed with these lines, or refused where there are none.
+pub(crate) fn prints(
+    alloc: Global,
+    office: &Office,
+    day: &str,
+    lines: Option<&[&str]>,
+) -> Result<bool, Fail> {
+    let place = Tiploc::from_text("ASHFELD").ok_or("a TIPLOC")?;
+    let day = Day::from_iso(day).ok_or("a day")?;
+    let mut kept = Kept::new(alloc, ROOM)?;
+    let answer = office.print(&place, day, &mut kept);
+    match lines {
+        Some(lines) => {
+            let text = text_of(alloc, lines)?;
+            Ok(answer == Ok(()) && kept.bytes() == text.as_slice())
+        }
+        None => Ok(answer == Err(OfficeFault::Lapsed) && kept.bytes().is_empty()),
+    }
 }

@@ -4,6 +4,10 @@
 pub(crate) const HD: &str =
     "HDTPS.UDFROC1.PD2406090906242100DFROC1ADFROC1ZUA                                ";
 
+/// The same of a full extract.
+pub(crate) const HD_FULL: &str =
+    "HDTPS.UDFROC1.PD2406090906242100DFROC1ADFROC1ZFA                                ";
+
 /// The header of an update a day later.
 pub(crate) const HD_10B: &str =
     "HDTPS.UDFROC1.PD2406091006242100DFROC1BDFROC1AUA                                ";
@@ -299,6 +303,38 @@ pub(crate) const LI_COLWELL_1210: &str =
 /// Brayton at 12:30.
 pub(crate) const LT_1230: &str =
     "LTBRAYTON 1230                                                                  ";
+
+/// The header of an update of 1 January 2000, 03:07.
+pub(crate) const HD_EARLY: &str =
+    "HDTPS.UDFROC1.PD2406090101000307DFROC1ADFROC1ZUA                                ";
+
+/// A header with an unknown indicator.
+pub(crate) const HD_X: &str =
+    "HDTPS.UDFROC1.PD2406090906242100DFROC1ADFROC1ZXA                                ";
+
+/// A line of 79 characters.
+pub(crate) const SHORT: &str =
+    "ZZ                                                                             ";
+
+/// A timing point with a tab in its description.
+pub(crate) const TI_TAB: &str =
+    "TIASHFELD         A\tHFIELD CENTRAL                                              ";
+
+/// A note of a location, which no file may have.
+pub(crate) const LN: &str =
+    "LN                                                                              ";
+
+/// An origin that departs at no time of the day.
+pub(crate) const LO_2400: &str =
+    "LOASHFELD 2400 09001  SL                                                        ";
+
+/// A schedule of C10001 from a day that is in no calendar.
+pub(crate) const BS_NO_DAY: &str =
+    "BSNC100012302292406141111100 POO1A10                                           P";
+
+/// A schedule of C10001 on Wednesdays, without an end.
+pub(crate) const BS_NO_END: &str =
+    "BSNC100012406109999990010000 POO1A10                                           P";
 
 /// A trailer.
 pub(crate) const ZZ: &str =

@@ -1,12 +1,52 @@
 //! Texts of states that are refused, and what they leave of the office.
 
 use crate::files::*;
-use crate::offices::{office_of, sent};
-use cif_line::{Bytes, Kept};
+use crate::offices::{has, office_of, sent};
+use crate::state_texts::*;
+use cif_line::Bytes;
 use docker_bytes::{StateCause, StateFault};
-use docker_office::OfficeFault;
+use docker_office::{Office, OfficeFault};
 use std::alloc::Global;
+use std::process::Abort;
 use std::test::Fail;
+
+/// How an office reads a state.
+#[derive(Clone, Copy, Debug)]
+enum Ask {
+    Receive,
+    Reload,
+    Migrate,
+}
+
+/// Asks an office to read a text, in pieces of 9 bytes, of at most `limit` bytes.
+fn read_in(how: Ask, office: &mut Office, text: &[u8], limit: u64) -> Result<(), OfficeFault> {
+    let mut source = Bytes::new(text, 9);
+    match how {
+        Ask::Receive => office.receive(&mut source, limit),
+        Ask::Reload => office.reload(&mut source, limit),
+        Ask::Migrate => office.migrate(&mut source, limit),
+    }
+}
+
+/// That an office which knows the revision refuses a text for this cause there, and is as it was.
+fn refuses(
+    rt: &impl Abort,
+    alloc: Global,
+    how: Ask,
+    text: &[u8],
+    limit: u64,
+    fault: StateFault,
+) -> Result<(), Fail> {
+    let mut office = office_of(alloc, &[REVISION])?;
+    let answer = read_in(how, &mut office, text, limit);
+    assert_eq!(rt; answer, Err(OfficeFault::State(fault)), "{how:?} {fault:?}");
+    has(rt, alloc, &office, REVISION_STATE)
+}
+
+/// A fault.
+fn fault(at: u64, cause: StateCause) -> StateFault {
+    StateFault { at, cause }
+}
 
 /// A text in which these bytes stand at an offset.
 fn changed(alloc: Global, text: &[u8], at: usize, bytes: &[u8]) -> Result<Vec<u8>, Fail> {
@@ -40,63 +80,18 @@ const CHANGED: &[(usize, &[u8], u64, StateCause)] = &[
 #[test]
 fn changed_states(rt: HostRuntime) -> Result<(), Fail> {
     let alloc = rt.alloc();
-    let known = office_of(alloc, &[MORNING])?;
-    let text = sent(alloc, &known)?;
-    let mut office = office_of(alloc, &[REVISION])?;
-    let before = sent(alloc, &office)?;
+    let text = text_of_parts(alloc, MORNING_STATE)?;
     for (offset, bytes, at, cause) in CHANGED {
-        let other = changed(alloc, text.bytes(), *offset, bytes)?;
-        let answer = office.receive(&mut Bytes::new(other.as_slice(), 9), 1000);
-        let fault = StateFault {
-            at: *at,
-            cause: *cause,
-        };
-        assert_eq!(rt; answer, Err(OfficeFault::State(fault)), "{offset}");
-        assert_eq!(rt; sent(alloc, &office)?.bytes(), before.bytes());
+        let other = changed(alloc, text.as_slice(), *offset, bytes)?;
+        for how in [Ask::Receive, Ask::Reload] {
+            refuses(&rt, alloc, how, other.as_slice(), 1000, fault(*at, *cause))?;
+        }
     }
-    let other = changed(alloc, text.bytes(), 4, b"\x5b\xf5")?;
-    office.receive(&mut Bytes::new(other.as_slice(), 9), 1000)?;
     Ok(())
 }
 
-/// How much of that text there is, and where it is too short.
-const CUT: &[(usize, u64)] = &[
-    (0, 0),
-    (3, 0),
-    (4, 4),
-    (5, 4),
-    (6, 6),
-    (13, 6),
-    (14, 14),
-    (32, 14),
-    (33, 33),
-    (40, 33),
-    (41, 41),
-    (310, 41),
-];
-
-#[test]
-fn states_that_are_cut(rt: HostRuntime) -> Result<(), Fail> {
-    let alloc = rt.alloc();
-    let known = office_of(alloc, &[MORNING])?;
-    let text = sent(alloc, &known)?;
-    let mut office = office_of(alloc, &[REVISION])?;
-    let before = sent(alloc, &office)?;
-    for (bytes, at) in CUT {
-        let front = text.bytes().get(..*bytes).ok_or("a length")?;
-        let fault = StateFault {
-            at: *at,
-            cause: StateCause::Short,
-        };
-        let answer = office.reload(&mut Bytes::new(front, 9), 1000);
-        assert_eq!(rt; answer, Err(OfficeFault::State(fault)), "{bytes}");
-    }
-    assert_eq!(rt; sent(alloc, &office)?.bytes(), before.bytes());
-    Ok(())
-}
-
-/// The text of the older format with these bytes at an offset, and the fault.
-const OLD: &[(usize, &[u8], u64, StateCause)] = &[
+/// The same of the older format.
+const OLD_CHANGED: &[(usize, &[u8], u64, StateCause)] = &[
     (3, b"2", 0, StateCause::Mark),
     (12, b"\x8e\xad", 12, StateCause::Item),
     (39, b"\x04", 39, StateCause::Tag),
@@ -112,26 +107,208 @@ const OLD: &[(usize, &[u8], u64, StateCause)] = &[
 ];
 
 #[test]
-fn older_states(rt: HostRuntime) -> Result<(), Fail> {
+fn changed_older_states(rt: HostRuntime) -> Result<(), Fail> {
     let alloc = rt.alloc();
-    let known = office_of(alloc, &[MORNING])?;
-    let text = sent(alloc, &known)?;
-    let mut old = Kept::new(alloc, 309)?;
-    cif_line::write_all(&mut old, b"DKS1")?;
-    cif_line::write_all(&mut old, text.bytes().get(6..).ok_or("a text")?)?;
-    let mut office = office_of(alloc, &[REVISION])?;
-    let before = sent(alloc, &office)?;
-    for (offset, bytes, at, cause) in OLD {
-        let other = changed(alloc, old.bytes(), *offset, bytes)?;
-        let answer = office.migrate(&mut Bytes::new(other.as_slice(), 9), 1000);
-        let fault = StateFault {
-            at: *at,
-            cause: *cause,
-        };
-        assert_eq!(rt; answer, Err(OfficeFault::State(fault)), "{offset}");
-        assert_eq!(rt; sent(alloc, &office)?.bytes(), before.bytes());
+    let text = text_of_parts(alloc, OLD_STATE)?;
+    for (offset, bytes, at, cause) in OLD_CHANGED {
+        let other = changed(alloc, text.as_slice(), *offset, bytes)?;
+        refuses(
+            &rt,
+            alloc,
+            Ask::Migrate,
+            other.as_slice(),
+            1000,
+            fault(*at, *cause),
+        )?;
     }
-    office.migrate(&mut Bytes::new(old.bytes(), 9), 309)?;
-    assert_eq!(rt; sent(alloc, &office)?.bytes(), text.bytes());
+    Ok(())
+}
+
+/// What stands behind the mark, the limit behind it, and the fault in the older format: an item twice, a full extract above the first item, an entry twice, a
+/// byte behind the state, and a limit that is too low.
+const OTHERS: &[(Parts, u64, u64, StateCause)] = &[
+    (
+        &[
+            TWO,
+            ITEM,
+            ITEM,
+            ONE,
+            ENTRY,
+            THREE_LINES,
+            FIRST,
+            FROM_ASHFELD,
+            TO_BRAYTON,
+        ],
+        1000,
+        31,
+        StateCause::Order,
+    ),
+    (
+        &[
+            TWO,
+            ITEM_5A,
+            ITEM_7B,
+            ONE,
+            ENTRY,
+            THREE_LINES,
+            FIRST,
+            FROM_ASHFELD,
+            TO_BRAYTON,
+        ],
+        1000,
+        31,
+        StateCause::Floor,
+    ),
+    (
+        &[
+            ONE,
+            ITEM,
+            TWO,
+            ENTRY,
+            THREE_LINES,
+            FIRST,
+            FROM_ASHFELD,
+            TO_BRAYTON,
+            ENTRY,
+            THREE_LINES,
+            FIRST,
+            FROM_ASHFELD,
+            TO_BRAYTON,
+        ],
+        1000,
+        309,
+        StateCause::Order,
+    ),
+    (
+        &[
+            ONE,
+            ITEM,
+            ONE,
+            ENTRY,
+            THREE_LINES,
+            FIRST,
+            FROM_ASHFELD,
+            TO_BRAYTON,
+            "\0",
+        ],
+        1000,
+        309,
+        StateCause::Tail,
+    ),
+    (
+        &[
+            ONE,
+            ITEM,
+            ONE,
+            ENTRY,
+            THREE_LINES,
+            FIRST,
+            FROM_ASHFELD,
+            TO_BRAYTON,
+        ],
+        308,
+        308,
+        StateCause::Long,
+    ),
+];
+
+/// These parts behind a mark.
+fn marked(alloc: Global, mark: &str, parts: Parts) -> Result<Vec<u8>, Fail> {
+    let mut text = text_of_parts(alloc, &[mark])?;
+    text.extend_from_slice(text_of_parts(alloc, parts)?.as_slice())?;
+    Ok(text)
+}
+
+#[test]
+fn items_and_entries_out_of_place(rt: HostRuntime) -> Result<(), Fail> {
+    let alloc = rt.alloc();
+    for (parts, limit, at, cause) in OTHERS {
+        let old = marked(alloc, OLD_MARK, parts)?;
+        refuses(
+            &rt,
+            alloc,
+            Ask::Migrate,
+            old.as_slice(),
+            *limit,
+            fault(*at, *cause),
+        )?;
+        let new = marked(alloc, MARK, parts)?;
+        for how in [Ask::Receive, Ask::Reload] {
+            refuses(
+                &rt,
+                alloc,
+                how,
+                new.as_slice(),
+                limit + 2,
+                fault(at + 2, *cause),
+            )?;
+        }
+    }
+    Ok(())
+}
+
+/// How much of the text there is, and where it is too short.
+const CUT: &[(usize, u64)] = &[
+    (0, 0),
+    (3, 0),
+    (4, 4),
+    (5, 4),
+    (6, 6),
+    (13, 6),
+    (14, 14),
+    (32, 14),
+    (33, 33),
+    (40, 33),
+    (41, 41),
+    (310, 41),
+];
+
+/// The same of the older format.
+const OLD_CUT: &[(usize, u64)] = &[
+    (0, 0),
+    (3, 0),
+    (4, 4),
+    (11, 4),
+    (12, 12),
+    (30, 12),
+    (31, 31),
+    (38, 31),
+    (39, 39),
+    (308, 39),
+];
+
+#[test]
+fn states_that_are_cut(rt: HostRuntime) -> Result<(), Fail> {
+    let alloc = rt.alloc();
+    let text = text_of_parts(alloc, MORNING_STATE)?;
+    for (bytes, at) in CUT {
+        let front = text.as_slice().get(..*bytes).ok_or("a length")?;
+        for how in [Ask::Receive, Ask::Reload] {
+            refuses(&rt, alloc, how, front, 1000, fault(*at, StateCause::Short))?;
+        }
+    }
+    let old = text_of_parts(alloc, OLD_STATE)?;
+    for (bytes, at) in OLD_CUT {
+        let front = old.as_slice().get(..*bytes).ok_or("a length")?;
+        refuses(
+            &rt,
+            alloc,
+            Ask::Migrate,
+            front,
+            1000,
+            fault(*at, StateCause::Short),
+        )?;
+    }
+    Ok(())
+}
+
+#[test]
+fn a_horizon_on_the_last_day(rt: HostRuntime) -> Result<(), Fail> {
+    let alloc = rt.alloc();
+    let text = text_of_parts(alloc, MORNING_STATE)?;
+    let raised = changed(alloc, text.as_slice(), 4, b"\x5b\xf5")?;
+    let mut office = Office::new(alloc);
+    office.receive(&mut Bytes::new(raised.as_slice(), 9), 311)?;
+    assert_eq!(rt; sent(alloc, &office)?.bytes(), raised.as_slice());
     Ok(())
 }

@@ -1,0 +1,238 @@
+//! What offices know in a run, worked out from its events and replies alone, and the state that is made of it with no office.
+
+use crate::files::*;
+use crate::offices::text_of;
+use cif_file::{FileCause, FileFault, MOST_RECORDS, read_file};
+use cif_line::{Bytes, Day, Kept};
+use docker_bytes::{encoded_len, write_state};
+use docker_join::Merge;
+use docker_office::{OfficeFault, Reply, RunFault};
+use docker_state::State;
+use std::alloc::{AllocError, Global};
+
+/// How many offices there are.
+pub(crate) const OFFICES: usize = 3;
+
+/// The files that may be taken. The first two are refused.
+pub(crate) const FILES: [File; 18] = [
+    OPEN,
+    THREE_NIGHTS,
+    MORNING,
+    REVISION,
+    FIFTH,
+    SEVENTH,
+    NINTH,
+    DELETION,
+    EIGHTH,
+    PLACE,
+    RENAMED,
+    WEEK,
+    DIVISION,
+    LONGER,
+    LATER,
+    DELETED,
+    JULY,
+    FULL,
+];
+
+/// Why the first two are refused.
+const REFUSED: [FileFault; 2] = [
+    FileFault {
+        number: 5,
+        cause: FileCause::NoEnd,
+    },
+    FileFault {
+        number: 6,
+        cause: FileCause::Midnights,
+    },
+];
+
+/// The texts of the files.
+pub(crate) fn texts_of_files(alloc: Global) -> Result<Vec<Vec<u8>>, AllocError> {
+    let mut texts = Vec::new(alloc);
+    for file in FILES {
+        texts.push(text_of(alloc, file)?)?;
+    }
+    Ok(texts)
+}
+
+/// What happens at an office. A file is told by its place.
+#[derive(Clone, Copy)]
+pub(crate) enum Step {
+    /// It takes a file.
+    Take {
+        /// The office.
+        office: usize,
+        /// The file.
+        file: usize,
+    },
+    /// It sends its state.
+    Send {
+        /// The office.
+        office: usize,
+    },
+    /// A message is delivered to it.
+    Deliver {
+        /// The office.
+        office: usize,
+        /// The message.
+        message: usize,
+    },
+    /// It goes back to a message.
+    Reload {
+        /// The office.
+        office: usize,
+        /// The message.
+        message: usize,
+    },
+    /// It sets a horizon.
+    Horizon {
+        /// The office.
+        office: usize,
+        /// The horizon.
+        day: Day,
+    },
+}
+
+impl Step {
+    /// The office where it happens.
+    fn office(&self) -> usize {
+        match self {
+            Step::Take { office, .. }
+            | Step::Send { office }
+            | Step::Deliver { office, .. }
+            | Step::Reload { office, .. }
+            | Step::Horizon { office, .. } => *office,
+        }
+    }
+
+    /// The message that comes.
+    fn message(&self) -> Option<usize> {
+        match self {
+            Step::Deliver { message, .. } | Step::Reload { message, .. } => Some(*message),
+            Step::Take { .. } | Step::Send { .. } | Step::Horizon { .. } => None,
+        }
+    }
+
+    /// Why the file that is taken is refused, if one is taken and refused.
+    fn refusal(&self) -> Option<FileFault> {
+        match self {
+            Step::Take { file, .. } => REFUSED.get(*file).copied(),
+            _ => None,
+        }
+    }
+}
+
+/// What an office knows, or a message tells: which of the files, by their places, and the horizon.
+#[derive(Clone, Copy)]
+pub(crate) struct Known {
+    files: [bool; FILES.len()],
+    horizon: Option<Day>,
+}
+
+impl Known {
+    /// Nothing is known.
+    fn nothing() -> Known {
+        Known {
+            files: [false; FILES.len()],
+            horizon: None,
+        }
+    }
+
+    /// A file is known too.
+    fn take(&mut self, file: usize) {
+        if let Some(known) = self.files.get_mut(file) {
+            *known = true;
+        }
+    }
+
+    /// A horizon is known too.
+    fn raise(&mut self, horizon: Option<Day>) {
+        if self.horizon < horizon {
+            self.horizon = horizon;
+        }
+    }
+
+    /// What another knows is known too.
+    fn join(&mut self, other: &Known) {
+        for file in 0..FILES.len() {
+            self.files[file] |= other.files[file];
+        }
+        self.raise(other.horizon);
+    }
+
+    /// The state of the files under the horizon.
+    fn state(&self, alloc: Global, texts: &[Vec<u8>]) -> Option<State> {
+        let mut state = State::empty(alloc);
+        for (text, known) in texts.iter().zip(self.files.iter()) {
+            if *known {
+                let mut source = Bytes::new(text.as_slice(), 4096);
+                let file = read_file(alloc, &mut source, MOST_RECORDS).ok()?;
+                let other = State::of_file(alloc, file).ok()?;
+                state = state.join(alloc, other).ok()?;
+            }
+        }
+        if let Some(day) = self.horizon {
+            state.set_horizon(day);
+        }
+        Some(state)
+    }
+
+    /// The text of that state.
+    pub(crate) fn text(&self, alloc: Global, texts: &[Vec<u8>]) -> Option<Kept> {
+        let state = self.state(alloc, texts)?;
+        let room = usize::try_from(encoded_len(&state)).ok()?;
+        let mut kept = Kept::new(alloc, room).ok()?;
+        write_state(&state, &mut kept).ok()?;
+        Some(kept)
+    }
+}
+
+/// What each office knows, and each message tells.
+#[derive(Drop)]
+pub(crate) struct Knowledge {
+    pub(crate) offices: [Known; OFFICES],
+    pub(crate) messages: Vec<Known>,
+}
+
+impl Knowledge {
+    /// No office knows anything, and nothing was sent.
+    pub(crate) fn new(alloc: Global) -> Knowledge {
+        Knowledge {
+            offices: [Known::nothing(); OFFICES],
+            messages: Vec::new(alloc),
+        }
+    }
+
+    /// The reply that is due where memory does not want.
+    pub(crate) fn due(&self, step: &Step) -> Reply {
+        if step.office() >= OFFICES {
+            return Reply::Refused(RunFault::NoOffice);
+        }
+        if let Some(message) = step.message() {
+            if message >= self.messages.len() {
+                return Reply::Refused(RunFault::NoMessage);
+            }
+        }
+        match step.refusal() {
+            Some(fault) => Reply::Refused(RunFault::Office(OfficeFault::File(fault))),
+            None => Reply::Done,
+        }
+    }
+
+    /// What is known after a step, by its reply. A step that is refused changes nothing.
+    pub(crate) fn follow(&mut self, step: &Step, reply: Reply) -> Option<()> {
+        if reply != Reply::Done {
+            return Some(());
+        }
+        let known = self.offices.get_mut(step.office())?;
+        match step {
+            Step::Take { file, .. } => known.take(*file),
+            Step::Send { .. } => self.messages.push(*known).ok()?,
+            Step::Deliver { message, .. } => known.join(self.messages.get(*message)?),
+            Step::Reload { message, .. } => *known = *self.messages.get(*message)?,
+            Step::Horizon { day, .. } => known.raise(Some(*day)),
+        }
+        Some(())
+    }
+}

@@ -1,0 +1,277 @@
+//! A thousand random runs of three offices: at the end of each, the text of every office and of every message is that of the state made of what it knows.
+ghost use Rattle.docker_office.specs.RunEnds.{HasGoodLimit};
+ghost use Rattle.docker_office.specs.RunMeaning.{event_meant};
+
+use crate::dice::Dice;
+use crate::knowledge::{FILES, Knowledge, OFFICES, Step, texts_of_files};
+use cif_file::MOST_RECORDS;
+use cif_line::{Day, Kept};
+use docker_bytes::encoded_len;
+use docker_office::{Event, Exchange, Office, Reply, RunFault, run};
+use std::alloc::Global;
+use std::process::Abort;
+use std::test::Fail;
+
+/// How many events a run has.
+const STEPS: usize = 16;
+
+/// The number of 10 June 2024, and how many days from there on a horizon may be.
+const FIRST_HORIZON: usize = 23537;
+
+const HORIZONS: usize = 16;
+
+/// One step, at one of the offices or at one that is not there, with a message that was sent, or with the one behind those.
+fn random_step(dice: &mut Dice, sent: usize) -> Option<Step> {
+    let office = if dice.roll(12) == 0 {
+        OFFICES
+    } else {
+        dice.roll(OFFICES)
+    };
+    let message = dice.roll(sent.checked_add(1)?);
+    match dice.roll(16) {
+        0..=4 => {
+            let file = dice.roll(FILES.len());
+            Some(Step::Take { office, file })
+        }
+        5..=8 => Some(Step::Send { office }),
+        9..=12 => Some(Step::Deliver { office, message }),
+        13..=14 => Some(Step::Reload { office, message }),
+        _ => {
+            let number = FIRST_HORIZON + dice.roll(HORIZONS);
+            let day = Day::from_number(u16::try_from(number).ok()?)?;
+            Some(Step::Horizon { office, day })
+        }
+    }
+}
+
+/// The steps of a run.
+fn random_steps(alloc: Global, dice: &mut Dice) -> Option<Vec<Step>> {
+    let mut steps = Vec::new(alloc);
+    let mut sent = 0_usize;
+    for _ in 0..STEPS {
+        let step = random_step(dice, sent)?;
+        if let Step::Send { .. } = step {
+            sent = sent.checked_add(1)?;
+        }
+        steps.push(step).ok()?;
+    }
+    Some(steps)
+}
+
+/// The event at a place, with the text of its file; none of the offices sends where there is no such step.
+fn event_at<'a>(steps: &[Step], place: usize, texts: &'a [Vec<u8>]) -> Event<'a>
+    ensures { HasGoodLimit (event_meant result) }
+{
+    match steps.get(place) {
+        Some(Step::Take { office, file }) => Event::Take {
+            office: *office,
+            text: text_at(texts, *file),
+            limit: MOST_RECORDS,
+        },
+        Some(Step::Send { office }) => Event::Send { office: *office },
+        Some(Step::Deliver { office, message }) => Event::Deliver {
+            office: *office,
+            message: *message,
+        },
+        Some(Step::Reload { office, message }) => Event::Reload {
+            office: *office,
+            message: *message,
+        },
+        Some(Step::Horizon { office, day }) => Event::Horizon {
+            office: *office,
+            day: *day,
+        },
+        None => Event::Send { office: OFFICES },
+    }
+}
+
+/// The text of a file, or none where there is no such file.
+fn text_at(texts: &[Vec<u8>], file: usize) -> &[u8] {
+    match texts.get(file) {
+        Some(text) => text.as_slice(),
+        None => &[],
+    }
+}
+
+/// What a run of these steps leaves.
+fn left_by(alloc: Global, steps: &[Step], texts: &[Vec<u8>]) -> Option<Exchange> {
+    let events = [
+        event_at(steps, 0, texts),
+        event_at(steps, 1, texts),
+        event_at(steps, 2, texts),
+        event_at(steps, 3, texts),
+        event_at(steps, 4, texts),
+        event_at(steps, 5, texts),
+        event_at(steps, 6, texts),
+        event_at(steps, 7, texts),
+        event_at(steps, 8, texts),
+        event_at(steps, 9, texts),
+        event_at(steps, 10, texts),
+        event_at(steps, 11, texts),
+        event_at(steps, 12, texts),
+        event_at(steps, 13, texts),
+        event_at(steps, 14, texts),
+        event_at(steps, 15, texts),
+    ];
+    run(alloc, OFFICES, &events).ok()
+}
+
+/// How often events of one kind had each reply.
+#[derive(Clone, Copy)]
+struct Count {
+    done: u32,
+    no_office: u32,
+    no_message: u32,
+    refused: u32,
+}
+
+impl Count {
+    /// None yet.
+    const NONE: Count = Count {
+        done: 0,
+        no_office: 0,
+        no_message: 0,
+        refused: 0,
+    };
+
+    /// One more.
+    fn add(&mut self, reply: Reply) {
+        let number = match reply {
+            Reply::Done => &mut self.done,
+            Reply::Refused(RunFault::NoOffice) => &mut self.no_office,
+            Reply::Refused(RunFault::NoMessage) => &mut self.no_message,
+            Reply::Refused(RunFault::Office(_)) => &mut self.refused,
+        };
+        *number = number.saturating_add(1);
+    }
+}
+
+/// How often there was each kind of event.
+#[derive(Clone, Copy)]
+struct Tally {
+    takes: Count,
+    sends: Count,
+    deliveries: Count,
+    reloads: Count,
+    horizons: Count,
+}
+
+impl Tally {
+    /// None yet.
+    const NONE: Tally = Tally {
+        takes: Count::NONE,
+        sends: Count::NONE,
+        deliveries: Count::NONE,
+        reloads: Count::NONE,
+        horizons: Count::NONE,
+    };
+
+    /// One more.
+    fn add(&mut self, step: &Step, reply: Reply) {
+        match step {
+            Step::Take { .. } => self.takes.add(reply),
+            Step::Send { .. } => self.sends.add(reply),
+            Step::Deliver { .. } => self.deliveries.add(reply),
+            Step::Reload { .. } => self.reloads.add(reply),
+            Step::Horizon { .. } => self.horizons.add(reply),
+        }
+    }
+
+    /// Whether each kind of event had each reply that it may have.
+    fn is_full(&self) -> bool {
+        let all = [
+            self.takes,
+            self.sends,
+            self.deliveries,
+            self.reloads,
+            self.horizons,
+        ];
+        all.iter()
+            .all(|count| count.done > 0 && count.no_office > 0)
+            && self.deliveries.no_message > 0
+            && self.reloads.no_message > 0
+            && self.takes.refused > 0
+    }
+}
+
+/// What is known at the end of a run, whose replies are those that are due.
+fn known_at_end(
+    rt: &impl Abort,
+    alloc: Global,
+    number: u32,
+    steps: &[Step],
+    replies: &[Reply],
+    tally: &mut Tally,
+) -> Option<Knowledge> {
+    let mut known = Knowledge::new(alloc);
+    assert_eq!(rt; replies.len(), steps.len());
+    for (step, reply) in steps.iter().zip(replies.iter()) {
+        assert_eq!(rt; *reply, known.due(step), "run {number}");
+        known.follow(step, *reply)?;
+        tally.add(step, *reply);
+    }
+    Some(known)
+}
+
+/// The text that an office sends.
+fn text_of_office(alloc: Global, office: &Office) -> Option<Kept> {
+    let room = usize::try_from(encoded_len(office.state())).ok()?;
+    let mut kept = Kept::new(alloc, room).ok()?;
+    office.send(&mut kept).ok()?;
+    Some(kept)
+}
+
+/// That each office and each message has the text of the state made of what it knows.
+fn are_of_known(
+    rt: &impl Abort,
+    alloc: Global,
+    number: u32,
+    texts: &[Vec<u8>],
+    left: &Exchange,
+    known: &Knowledge,
+) -> Option<()> {
+    assert_eq!(rt; left.offices().len(), OFFICES);
+    for (office, known) in left.offices().iter().zip(known.offices.iter()) {
+        let text = known.text(alloc, texts)?;
+        assert_eq!(rt;
+            text_of_office(alloc, office)?.bytes(),
+            text.bytes(),
+            "run {number}"
+        );
+    }
+    assert_eq!(rt; left.messages().len(), known.messages.len());
+    for (message, known) in left.messages().iter().zip(known.messages.iter()) {
+        let text = known.text(alloc, texts)?;
+        assert_eq!(rt; message.bytes(), text.bytes(), "run {number}");
+    }
+    Some(())
+}
+
+/// Meets random events, and looks at what they leave.
+fn random_run(
+    rt: &impl Abort,
+    alloc: Global,
+    number: u32,
+    texts: &[Vec<u8>],
+    dice: &mut Dice,
+    tally: &mut Tally,
+) -> Option<()> {
+    let steps = random_steps(alloc, dice)?;
+    let left = left_by(alloc, steps.as_slice(), texts)?;
+    let known = known_at_end(rt, alloc, number, steps.as_slice(), left.replies(), tally)?;
+    are_of_known(rt, alloc, number, texts, &left, &known)
+}
+
+#[test]
+fn a_thousand_random_runs(rt: HostRuntime) -> Result<(), Fail> {
+    let alloc = rt.alloc();
+    let texts = texts_of_files(alloc)?;
+    let mut dice = Dice::new(20_240_610);
+    let mut tally = Tally::NONE;
+    for number in 0..1000 {
+        let held = random_run(&rt, alloc, number, texts.as_slice(), &mut dice, &mut tally);
+        assert_eq!(rt; held, Some(()), "run {number}");
+    }
+    assert!(rt; tally.is_full());
+    Ok(())
+}

@@ -1,0 +1,53 @@
+//! Texts of files that are refused, and what they leave of the office.
+
+use crate::files::*;
+use crate::offices::{has, office_of, text_of};
+use crate::records::*;
+use crate::state_texts::REVISION_STATE;
+use cif_file::{FileCause, FileFault};
+use cif_line::Bytes;
+use docker_office::{Office, OfficeFault};
+use std::test::Fail;
+
+/// Files that are refused, each under a limit of records, by the number of the record and the cause.
+const REFUSED: &[(File, u16, u32, FileCause)] = &[
+    (&[], 1000, 1, FileCause::NoEnd),
+    (&[BS, LO, LT, ZZ], 1000, 1, FileCause::Place),
+    (&[HD_X, ZZ], 1000, 1, FileCause::Field(47)),
+    (&[HD, SHORT, ZZ], 1000, 2, FileCause::Length),
+    (&[HD, TI_TAB, ZZ], 1000, 2, FileCause::Byte(20)),
+    (&[HD, LN, ZZ], 1000, 2, FileCause::Kind),
+    (&[HD, ZZ, LI_1010], 1000, 3, FileCause::After),
+    (&[HD, BS, LT, ZZ], 1000, 3, FileCause::Place),
+    (&[HD, BS, ZZ], 1000, 3, FileCause::Place),
+    (&[HD, BS, LO_2400, LT, ZZ], 1000, 3, FileCause::Field(11)),
+    (&[HD, BS], 1000, 3, FileCause::NoEnd),
+    (&[HD, BS_NO_DAY, LO, LT, ZZ], 1000, 2, FileCause::Field(10)),
+    (THREE_NIGHTS, 1000, 6, FileCause::Midnights),
+    (OPEN, 1000, 5, FileCause::NoEnd),
+    (MORNING, 3, 4, FileCause::TooMany),
+    (MORNING, 0, 1, FileCause::TooMany),
+    (&[], 0, 1, FileCause::NoEnd),
+];
+
+#[test]
+fn refused_files_leave_the_office(rt: HostRuntime) -> Result<(), Fail> {
+    let alloc = rt.alloc();
+    let mut office = office_of(alloc, &[REVISION])?;
+    for (file, limit, number, cause) in REFUSED {
+        let text = text_of(alloc, file)?;
+        let answer = taken(&mut office, text.as_slice(), *limit);
+        let fault = FileFault {
+            number: *number,
+            cause: *cause,
+        };
+        assert_eq!(rt; answer, Err(OfficeFault::File(fault)), "{fault:?}");
+        has(&rt, alloc, &office, REVISION_STATE)?;
+    }
+    Ok(())
+}
+
+/// What an office answers where it takes a text, of at most so many records.
+fn taken(office: &mut Office, text: &[u8], limit: u16) -> Result<(), OfficeFault> {
+    office.take(&mut Bytes::new(text, 9), u32::from(limit))
+}
