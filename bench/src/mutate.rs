@@ -4,8 +4,9 @@ use crate::measure::{run, Input, Spent};
 use crate::plain::{answer, Answer};
 use crate::random::Random;
 use std::collections::BTreeMap;
-use std::fs;
+use std::fmt::Display;
 use std::io::{Error, Result};
+use std::{fs, thread};
 
 /// Bytes that mean something in some column or part.
 const TELLING: &[u8] = b"  00112345999ABCDFHILNNOOPPRSTUXZ\n\r\x00\x01\x02\x03\xFF";
@@ -129,12 +130,30 @@ fn change_count(text: &mut [u8], random: &mut Random) -> &'static str {
     "counts changed"
 }
 
+/// How many of one subject were of each way, and had each answer.
 #[derive(Default)]
 struct Tally {
+    count: usize,
     ways: BTreeMap<&'static str, usize>,
     answers: BTreeMap<String, usize>,
     unlike: usize,
 }
+
+impl Tally {
+    fn add(&mut self, other: Tally) {
+        self.count += other.count;
+        self.unlike += other.unlike;
+        for (way, count) in other.ways {
+            *self.ways.entry(way).or_default() += count;
+        }
+        for (answer, count) in other.answers {
+            *self.answers.entry(answer).or_default() += count;
+        }
+    }
+}
+
+/// Of files, of states, and of states of the older format.
+type Tallies = [Tally; 3];
 
 /// The states of the files, that of all of them, and that under a horizon.
 fn states_of(files: &[Vec<u8>]) -> Option<Vec<Vec<u8>>> {
@@ -151,52 +170,86 @@ fn states_of(files: &[Vec<u8>]) -> Option<Vec<Vec<u8>>> {
     Some(states)
 }
 
-/// Compares so many mutations of each of these files and of their states; false where an answer differs.
-pub fn compare(program: &str, folder: &str, seed: u64, count: usize, paths: &[&str]) -> Result<bool> {
-    let mut random = Random::of(&[seed, 5]);
-    let files = paths.iter().map(fs::read).collect::<Result<Vec<_>>>()?;
-    let states = states_of(&files).ok_or_else(|| Error::other("a file is refused as it is"))?;
-    let mut tally = Tally::default();
-    for _ in 0..count {
-        let subject = *random.pick(&[Subject::File, Subject::State, Subject::State, Subject::Older]);
-        let own = random.pick(&states).clone();
-        let mut text = match subject {
-            Subject::File => random.pick(&files).clone(),
-            Subject::State => random.pick(&states).clone(),
-            Subject::Older => [b"DKS1", &random.pick(&states)[6..]].concat(),
-        };
-        for _ in 0..1 + random.below(2) {
-            *tally.ways.entry(mutate(&mut text, subject, &mut random)).or_default() += 1;
-        }
-        let same = agrees(program, folder, subject, &own, &text, &mut tally)?;
-        tally.unlike += usize::from(!same);
-    }
-    print_tally(&tally, count);
-    Ok(tally.unlike == 0)
+/// What is mutated, and the program that is asked.
+struct Bench<'a> {
+    program: &'a str,
+    folder: &'a str,
+    seed: u64,
+    files: Vec<Vec<u8>>,
+    states: Vec<Vec<u8>>,
 }
 
-/// Whether the program answers as the plain one does, and leaves STATE as that would.
-fn agrees(program: &str, folder: &str, subject: Subject, own: &[u8], text: &[u8], tally: &mut Tally) -> Result<bool> {
-    let (state, other) = (format!("{folder}/own.state"), format!("{folder}/other"));
-    let (words, files) = match subject {
-        Subject::Older => (vec!["migrate", &*state], vec![text.to_vec()]),
-        _ => (vec![subject.command(), &*state, &*other], vec![own.to_vec(), text.to_vec()]),
-    };
-    fs::write(&state, &files[0])?;
-    fs::write(&other, text)?;
-    let Answer { status, output, errors, state: becomes } = answer(&words, &files).unwrap_or_else(|refused| refused);
-    let spent = run(&[&[program], &*words].concat(), Input::None)?;
-    let left = fs::read(&state)?;
-    let wanted = (i32::from(status), &*output, &*errors);
-    let Spent { status, output, errors, .. } = &spent;
-    *tally.answers.entry(cause_of(errors)).or_default() += 1;
-    let same = (*status, &**output, &**errors) == wanted && left == becomes.unwrap_or_else(|| files[0].clone());
-    if !same {
-        let kept = format!("{folder}/unlike-{}", tally.unlike);
-        fs::write(&kept, text)?;
-        println!("unlike: {} of {kept}\n  wanted {wanted:?}\n  got    {:?}", subject.command(), (status, output, errors));
+/// Compares so many mutations of these files and of their states, half of each; false where an answer differs. Each mutation is made from the seed and
+/// its own number, so that it is the same however many processors there are.
+pub fn compare(program: &str, folder: &str, seed: u64, count: usize, paths: &[&str]) -> Result<bool> {
+    let files = paths.iter().map(fs::read).collect::<Result<Vec<_>>>()?;
+    let states = states_of(&files).ok_or_else(|| Error::other("a file is refused as it is"))?;
+    let bench = &Bench { program, folder, seed, files, states };
+    let workers = thread::available_parallelism()?.get();
+    let tallies = thread::scope(|scope| {
+        let started: Vec<_> = (0..workers).map(|first| scope.spawn(move || bench.work(first, workers, count))).collect();
+        let mut tallies = Tallies::default();
+        for worker in started {
+            let done = worker.join().map_err(|_| Error::other("a worker stopped"))??;
+            tallies.iter_mut().zip(done).for_each(|(all, own)| all.add(own));
+        }
+        Ok::<Tallies, Error>(tallies)
+    })?;
+    print_tallies(&tallies, seed);
+    Ok(tallies.iter().all(|tally| tally.unlike == 0))
+}
+
+impl Bench<'_> {
+    /// The mutations of every so-manieth number, in files of their own.
+    fn work(&self, first: usize, workers: usize, count: usize) -> Result<Tallies> {
+        let mut tallies = Tallies::default();
+        let (state, other) = (format!("{}/{first}.state", self.folder), format!("{}/{first}.other", self.folder));
+        for number in (first..count).step_by(workers) {
+            let mut random = Random::of(&[self.seed, 5, number as u64]);
+            let subject = match number % 2 {
+                0 => Subject::File,
+                _ => *random.pick(&[Subject::State, Subject::State, Subject::Older]),
+            };
+            let own = random.pick(&self.states).clone();
+            let mut text = match subject {
+                Subject::File => random.pick(&self.files).clone(),
+                Subject::State => random.pick(&self.states).clone(),
+                Subject::Older => [b"DKS1", &random.pick(&self.states)[6..]].concat(),
+            };
+            let tally = &mut tallies[subject as usize];
+            tally.count += 1;
+            for _ in 0..1 + random.below(2) {
+                *tally.ways.entry(mutate(&mut text, subject, &mut random)).or_default() += 1;
+            }
+            if !self.agrees(subject, [&state, &other], &own, &text, tally)? {
+                tally.unlike += 1;
+                println!("unlike: mutation {number} of seed {}", self.seed);
+            }
+        }
+        Ok(tallies)
     }
-    Ok(same)
+
+    /// Whether the program answers as the plain one does, and leaves STATE as that would.
+    fn agrees(&self, subject: Subject, paths: [&str; 2], own: &[u8], text: &[u8], tally: &mut Tally) -> Result<bool> {
+        let [state, other] = paths;
+        let (words, files) = match subject {
+            Subject::Older => (vec!["migrate", state], vec![text.to_vec()]),
+            _ => (vec![subject.command(), state, other], vec![own.to_vec(), text.to_vec()]),
+        };
+        fs::write(state, &files[0])?;
+        fs::write(other, text)?;
+        let Answer { status, output, errors, state: becomes } = answer(&words, &files).unwrap_or_else(|refused| refused);
+        let spent = run(&[&[self.program], &*words].concat(), Input::None)?;
+        let left = fs::read(state)?;
+        let wanted = (i32::from(status), &*output, &*errors);
+        let Spent { status, output, errors, .. } = &spent;
+        *tally.answers.entry(cause_of(errors)).or_default() += 1;
+        let same = (*status, &**output, &**errors) == wanted && left == becomes.unwrap_or_else(|| files[0].clone());
+        if !same {
+            println!("  {}: wanted {wanted:?}, got {:?}", subject.command(), (status, output, errors));
+        }
+        Ok(same)
+    }
 }
 
 /// The last word of a fault's line, without its column.
@@ -205,9 +258,14 @@ fn cause_of(errors: &str) -> String {
     format!("{kind} {}", cause.split_whitespace().next().unwrap_or("")).trim_end().to_string()
 }
 
-fn print_tally(tally: &Tally, count: usize) {
-    let line = |counts: Vec<String>| counts.join(", ");
-    println!("{count} mutated texts: {} answered otherwise than by the plain program", tally.unlike);
-    println!("  ways: {}", line(tally.ways.iter().map(|(way, count)| format!("{way} {count}")).collect()));
-    println!("  answers: {}", line(tally.answers.iter().map(|(answer, count)| format!("{answer} {count}")).collect()));
+fn print_tallies(tallies: &Tallies, seed: u64) {
+    for (name, tally) in ["files", "states", "states of the older format"].iter().zip(tallies) {
+        println!("{} mutated {name} of seed {seed}: {} answered otherwise than by the plain program", tally.count, tally.unlike);
+        println!("  ways: {}", listed(&tally.ways));
+        println!("  answers: {}", listed(&tally.answers));
+    }
+}
+
+fn listed<K: Display>(counts: &BTreeMap<K, usize>) -> String {
+    counts.iter().map(|(name, count)| format!("{name} {count}")).collect::<Vec<_>>().join(", ")
 }

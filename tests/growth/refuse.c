@@ -1,5 +1,5 @@
-// Preloaded under the program: the growth whose number is in GROWTH is refused, and no other. Each is counted from 1, and the one that was refused
-// leaves the file that REFUSED names.
+// Preloaded under a program: the growth whose number is in GROWTH is refused, and no other. Each is counted from 1, and the one that was refused
+// leaves the file that REFUSED names. Where CALL is set, those alone count that stand between the first write to standard output and the next.
 #define _GNU_SOURCE
 #include <dlfcn.h>
 #include <errno.h>
@@ -7,11 +7,18 @@
 #include <stdlib.h>
 #include <unistd.h>
 
-static long growths;
+static long growths, writes;
+
+ssize_t write(int to, const void *bytes, size_t count) {
+  static ssize_t (*next)(int, const void *, size_t);
+  if (!next) next = dlsym(RTLD_NEXT, "write");
+  writes += to == 1;
+  return next(to, bytes, count);
+}
 
 static int is_refused(void) {
   const char *wanted = getenv("GROWTH"), *told = getenv("REFUSED");
-  if (!wanted || ++growths != atol(wanted)) return 0;
+  if (!wanted || (getenv("CALL") && writes != 1) || ++growths != atol(wanted)) return 0;
   if (told) close(open(told, O_CREAT | O_WRONLY, 0600));
   errno = ENOMEM;
   return 1;
