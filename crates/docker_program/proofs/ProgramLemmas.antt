@@ -1,14 +1,15 @@
 -- How the program ends where a job isn't read whole.
-use Rattle.std.proofs.Common.{◌≡◌, inl, inr, Some, Err, subst}
-use Rattle.std.specs.Prelude.{List}
+use Rattle.std.proofs.Common.{◌≡◌, ◌≢◌, ◌≤◌, ◌↔◌, ℕ, List, [], ◌∷◌, Option, None, Some, Err, arith, inl, inr, refl, sym, subst}
 use Rattle.docker_job.specs.Words.{Text}
-use Rattle.docker_job.specs.Job.{JobView}
+use Rattle.docker_job.specs.Job.{JobView, NameNoJob}
+use Rattle.docker_job.specs.declared.fault.JobFault.TheVariants as job
 use Rattle.docker_cmd.specs.Prepared.{DeviceBytes, PreparedView}
-use Rattle.docker_cmd.specs.declared.fault.Fault.TheVariants.{Office}
+use Rattle.docker_cmd.specs.declared.fault.Fault.{Fault}
+use Rattle.docker_cmd.specs.declared.fault.Fault.TheVariants.{Job, Office}
 use Rattle.docker_office.specs.declared.fault.OfficeFault.{OfficeFault}
 use Rattle.docker_office.specs.declared.fault.OfficeFault.TheVariants as office
 use Rattle.docker_program.specs.Devices.{Given, IsUnwritten, Written, written}
-use Rattle.docker_program.specs.Program.{AsksAtMost, AsksFor, EndsBy, EndsWriting, HasRead, IsAsked, IsPrepared, ReadsNamed, Writes}
+use Rattle.docker_program.specs.Program.{AskForNone, AskForSome, AsksAtMost, AsksFor, EndsBy, EndsWriting, FaultSink, HasRead, IsAsked, IsPrepared, IsUsageStatus, Performs, ReadsNamed, Writes, ending_status}
 
 -- a job that is asked for and refused for what its sources held ends the program by that fault
 pub ends_unread : (words : List Text) (given : Given) (written : Written) (job : JobView) (rest : DeviceBytes) (fault : OfficeFault) →
@@ -71,3 +72,69 @@ ends_done words given output output_now looked files files_now same job rest pre
         ),
       );
     }
+
+-- words that ask for a job name one
+names_one : (words : List Text) (given : Given) (Holds : JobView → DeviceBytes → Type 0) → words ≢ [] → IsAsked words given Holds → ¬ NameNoJob words
+names_one [] given Holds some asked = absurd (some refl)
+names_one (word ∷ words) given Holds some asked = λ none. none asked.job asked.asks.0
+
+-- words that ask for none name none
+names_none : (words : List Text) (input : DeviceBytes) → words ≢ [] → AskForNone words input → NameNoJob words
+names_none [] input some none = absurd (some refl)
+names_none (word ∷ words) input some none = none
+
+-- words that ask for some name one
+names_some : (words : List Text) (input : DeviceBytes) → words ≢ [] → AskForSome words input → ¬ NameNoJob words
+names_some [] input some one = absurd (some refl)
+names_some (word ∷ words) input some one = one
+
+-- a status that isn't that of usage, where the words name a job
+other_status : (words : List Text) (status : ℕ) → status ≢ 2 → ¬ NameNoJob words → (status ≡ 2) ↔ NameNoJob words
+other_status words status differs one = (λ is. absurd (differs is), λ none. absurd (one none))
+
+-- by how the program ends
+usage_of : (words : List Text) (given : Given) (written : Written) (ending : Option Fault) → words ≢ [] → EndsBy words given written ending →
+    (ending_status ending ≡ 2) ↔ NameNoJob words
+usage_of words given written None some ends = other_status words 0 (λ is. omega arith) (names_one words given _ some ends)
+usage_of words given written (Some (Job job.Usage)) some ends = (λ is. names_none words given.input some ends.0.why, λ none. refl)
+usage_of words given written (Some (Job job.Memory)) some ends =
+    other_status words 3 (λ is. omega arith) (names_some words given.input some ends.0.why)
+usage_of words given written (Some (Job job.Source)) some ends = absurd (some ends.0.why)
+usage_of words given written (Some (Office (office.File fault))) some ends =
+    other_status words 1 (λ is. omega arith) (names_one words given _ some ends.0)
+usage_of words given written (Some (Office (office.State fault))) some ends =
+    other_status words 1 (λ is. omega arith) (names_one words given _ some ends.0)
+usage_of words given written (Some (Office office.Lapsed)) some ends =
+    other_status words 1 (λ is. omega arith) (names_one words given _ some ends.0)
+usage_of words given written (Some (Office office.Source)) some ends =
+    other_status words 4 (λ is. omega arith) (names_one words given _ some ends.0)
+usage_of words given written (Some (Office office.Memory)) some ends =
+    other_status words 3 (λ is. omega arith) (names_one words given _ some ends.0)
+usage_of words given written (Some (Office office.Sink)) some ends =
+    other_status words 4 (λ is. omega arith) (names_one words given _ some ends)
+
+-- the status is that of usage exactly where words name no job
+pub usage_status : (words : List Text) (given : Given) (written : Written) (faults : FaultSink) (status : ℕ) →
+    Performs words given written faults status → IsUsageStatus words status
+usage_status words given written faults status performs =
+    λ some. subst (λ status. (status ≡ 2) ↔ NameNoJob words) (sym performs.status_is)
+    (usage_of words given written performs.ending some performs.ends)
+
+-- no status is above 4
+few_statuses : (ending : Option Fault) → ending_status ending ≤ 4
+few_statuses None = omega arith
+few_statuses (Some (Job job.Usage)) = omega arith
+few_statuses (Some (Job job.Memory)) = omega arith
+few_statuses (Some (Job job.Source)) = omega arith
+few_statuses (Some (Office (office.File fault))) = omega arith
+few_statuses (Some (Office (office.State fault))) = omega arith
+few_statuses (Some (Office office.Lapsed)) = omega arith
+few_statuses (Some (Office office.Source)) = omega arith
+few_statuses (Some (Office office.Memory)) = omega arith
+few_statuses (Some (Office office.Sink)) = omega arith
+
+-- nor is that of the program
+pub status_within : (words : List Text) (given : Given) (written : Written) (faults : FaultSink) (status : ℕ) →
+    Performs words given written faults status → status ≤ 4
+status_within words given written faults status performs =
+    subst (λ status. status ≤ 4) (sym performs.status_is) (few_statuses performs.ending)

@@ -1,5 +1,5 @@
 -- What the program does with its words, over its devices.
-use Rattle.std.specs.Prelude.{◌≡◌, ◌≢◌, ℕ, ◌+◌, List, [], ◌∷◌, Option, Some, None, Result, Ok, Err, ⊤, ◌⊎◌}
+use Rattle.std.specs.Prelude.{◌≡◌, ◌≢◌, ◌↔◌, ℕ, ◌+◌, List, [], ◌∷◌, Option, Some, None, Result, Ok, Err, ⊤, ◌⊎◌}
 use Rattle.cif_line.specs.Device.{Takes, TakesPart}
 use Rattle.cif_file.specs.SourceRead.{Held}
 use Rattle.cif_file.specs.declared.fault.FileFault.{FileFault}
@@ -221,6 +221,10 @@ pub record Performs (words : List Text) (given : Given) (written : Written) (fau
   pub ends : EndsBy words given written ending
   pub status_is : status ≡ ending_status ending
   pub tells : Tells ending faults.taken faults.taken_now faults.before faults.after
+
+-- where there are words, the status is that of usage exactly where they name no job
+abbrev pub IsUsageStatus : List Text → ℕ → Type 0
+IsUsageStatus words status = words ≢ [] → (status ≡ 2) ↔ NameNoJob words
 
 -- the fault of a call that answers nothing else
 abbrev pub fault_in : {A : Type 0} → Result A Fault → Option Fault

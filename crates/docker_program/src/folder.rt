@@ -74,6 +74,14 @@ impl Sink for Draft {
 }
 
 impl From<io::Error> for OpenFault {
+    ghost use Rattle.docker_program.specs.declared.files.OpenFault.TheVariants.{Memory};
+    ghost use Rattle.std.specs.IoError.{error_kind};
+    ghost use Rattle.std.specs.Prelude.{◌≡◌, ◌↔◌};
+    ghost use Rattle.std.specs.declared.io.ErrorKind.TheVariants.{OutOfMemory};
+
+    ghost from_gives = { λ error fault.
+        (fault ≡ Memory) ↔ (error_kind error ≡ OutOfMemory) };
+
     fn from(error: io::Error) -> OpenFault {
         if error.kind() == ErrorKind::OutOfMemory {
             return OpenFault::Memory;
@@ -83,6 +91,11 @@ impl From<io::Error> for OpenFault {
 }
 
 impl From<AllocError> for OpenFault {
+    ghost use Rattle.docker_program.specs.declared.files.OpenFault.TheVariants.{Memory};
+    ghost use Rattle.std.specs.Prelude.{◌≡◌};
+
+    ghost from_gives = { λ _ fault. fault ≡ Memory };
+
     fn from(_refused: AllocError) -> OpenFault {
         OpenFault::Memory
     }

@@ -1,4 +1,8 @@
 //! The program on the real devices.
+ghost use Rattle.std.specs.Prelude.{◌≤◌};
+ghost use Rattle.docker_job.specs.Words.{texts};
+ghost use Rattle.docker_program.specs.Program.{IsUsageStatus};
+
 use crate::devices::{Input, Output};
 use crate::fault_report::tell;
 use crate::folder::Folder;
@@ -16,7 +20,10 @@ pub fn run(rt: &HostRuntime) -> ExitCode {
 }
 
 /// Runs the program with these words in place of its own.
-pub fn run_words(rt: &HostRuntime, words: &[&str]) -> u8 {
+pub fn run_words(rt: &HostRuntime, words: &[&str]) -> u8
+    ensures usage { IsUsageStatus (texts words.now) result }
+    ensures status { result ≤ 4 }
+{
     perform(
         rt.alloc(),
         words,
