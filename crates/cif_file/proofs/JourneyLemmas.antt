@@ -12,7 +12,7 @@ use Rattle.docker_laws.specs.RecordCause.{field_cause, schedule_cause, first_lin
 use Rattle.docker_model.specs.file.ScheduleFault.{IsScheduleFault}
 use Rattle.docker_model.specs.file.Journey.{Occasion, arrival, pass, departure, timed, times_of, times_by_kind, times_along, midnights, fall_count}
 use Rattle.docker_laws.proofs.records.Columns.{good_fields}
-use Rattle.docker_laws.proofs.dockers.TrainOfOne.{time_there}
+use Rattle.docker_laws.proofs.records.ScheduledTimes.{time_there}
 use Rattle.docker_laws.specs.RecordTest.{is_record, has_good_fields}
 use Rattle.docker_laws.proofs.lists.Tests.{test_by_none, and_true}
 use Rattle.docker_laws.proofs.records.RecordTests.{record_iff_test, midnights_step, last_time_step, no_times, no_times_before}

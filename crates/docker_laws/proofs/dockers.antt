@@ -20,4 +20,3 @@ pub mod LapsedChoice
 pub mod LapsedDocker
 pub mod StateChoice
 pub mod PrintedDocker
-pub mod TrainOfOne
