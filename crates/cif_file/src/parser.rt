@@ -49,8 +49,10 @@ impl<K: Keeper> Reading<K> {
     fn end_line(&mut self, front: &[u8]) -> Result<(), FileFault>
         requires { HasNoFeed front.now }
         ensures read { OnOk result
-            (GoesOn (IsReading K.keeps self.old) (front.now ++ 10 ∷ []) (IsReading K.keeps self.new)) }
-        ensures err { IfErr result (TellsFault (IsReading K.keeps self.old) (front.now ++ 10 ∷ [])) }
+            (GoesOn (IsReading K.keeps self.old) (front.now ++ 10 ∷ [])
+            (IsReading K.keeps self.new)) }
+        ensures err { IfErr result
+            (TellsFault (IsReading K.keeps self.old) (front.now ++ 10 ∷ [])) }
         ensures later { IfErr result (IsLater K.keeps K.wants self.old) }
     {
         if self.partial.is_empty() {
@@ -67,7 +69,8 @@ impl<K: Keeper> Reading<K> {
     /// Takes more bytes of a line.
     fn keep(&mut self, more: &[u8]) -> Result<(), FileFault>
         requires { HasNoFeed more.now }
-        ensures read { OnOk result (GoesOn (IsReading K.keeps self.old) more.now (IsReading K.keeps self.new)) }
+        ensures read { OnOk result
+            (GoesOn (IsReading K.keeps self.old) more.now (IsReading K.keeps self.new)) }
         ensures err { IfErr result (TellsFault (IsReading K.keeps self.old) more.now) }
         ensures later { IfErr result (IsLater K.keeps K.wants self.old) }
     {
@@ -79,7 +82,8 @@ impl<K: Keeper> Reading<K> {
 
     /// Takes the next bytes of the file.
     pub(crate) fn feed(&mut self, piece: &[u8]) -> Result<(), FileFault>
-        ensures read { OnOk result (GoesOn (IsReading K.keeps self.old) piece.now (IsReading K.keeps self.new)) }
+        ensures read { OnOk result
+            (GoesOn (IsReading K.keeps self.old) piece.now (IsReading K.keeps self.new)) }
         ensures err { IfErr result (TellsFault (IsReading K.keeps self.old) piece.now) }
         ensures later { IfErr result (IsLater K.keeps K.wants self.old) }
     {

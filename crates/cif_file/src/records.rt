@@ -63,7 +63,8 @@ impl<K: Keeper> Records<K> {
 
     /// The fault of a next record of more than 81 bytes.
     pub(crate) fn too_long(&self) -> FileFault
-        ensures { (limit : ℕ) (records : List (List ℕ)) → HasCounted K.keeps self.now limit records →
+        ensures { (limit : ℕ) (records : List (List ℕ)) →
+            HasCounted K.keeps self.now limit records →
             IsLongNext limit records result }
     {
         let cause = if self.next > self.limit {
