@@ -17,6 +17,3 @@ pub use fault::OfficeFault;
 pub use office::Office;
 pub use reply::{Reply, RunFault};
 pub use runs::run;
-
-#[cfg(test)]
-mod tests;
