@@ -17,6 +17,7 @@ use std::process::Abort;
 use std::test::Fail;
 
 mod endless;
+mod failing;
 mod horizons;
 mod merged;
 mod migrated;
