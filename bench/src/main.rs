@@ -11,6 +11,7 @@ mod plain;
 mod plan;
 mod random;
 mod records;
+mod shapes;
 mod state;
 #[cfg(test)]
 mod tests;
@@ -21,7 +22,7 @@ use std::process::ExitCode;
 
 const USAGE: &str = "usage: extract full SCHEDULES SEED FILE | extract update SCHEDULES BASE_SEED SEED DAY FILE | \
 extract judge FILE | extract flip FILE SEED | extract compare DOCKER FILE SEED FLIPS | extract measure DOCKER FILE.. | extract state STATE_TIMES FILE UPDATE FOLDER | \
-extract commands DOCKER FILE UPDATE FOLDER | extract plain WORD.. | extract mutate DOCKER FOLDER SEED TIMES FILE..";
+extract commands DOCKER FILE UPDATE FOLDER | extract shapes DOCKER RECORDS SEED FOLDER | extract plain WORD.. | extract mutate DOCKER FOLDER SEED TIMES FILE..";
 
 fn main() -> ExitCode {
     let words: Vec<String> = std::env::args().skip(1).collect();
@@ -63,6 +64,7 @@ fn job(words: &[&str]) -> Option<Result<u8>> {
         }
         ["plain", words @ ..] if !words.is_empty() => plain::run(words),
         ["commands", program, path, update, folder] => commands::table(program, path, update, folder).map(|()| 0),
+        ["shapes", program, records, seed, folder] => shapes::table(program, count(records)?, number(seed)?, folder).map(|()| 0),
         ["state", program, path, update, folder] => state::table(program, path, update, folder).map(|()| 0),
         _ => return None,
     })

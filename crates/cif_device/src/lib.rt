@@ -1,8 +1,9 @@
-//! The devices that bytes come from and go to: what a source and a sink promise, the writing of a whole piece, and both in memory.
+//! The devices that bytes come from and go to: what a source and a sink promise, the writing of a whole piece, the feeding of what takes a text, and both in memory.
 #![tactic(auto)]
 
 mod device;
 mod endless;
+mod feed;
 mod fuse;
 mod memory;
 #[cfg(test)]
@@ -10,5 +11,6 @@ mod tests;
 
 pub use device::{Failed, Memory, Sink, Source, write_all};
 pub use endless::Endless;
+pub use feed::{FeedFault, Taker, feed_all};
 pub use fuse::Fuse;
 pub use memory::{Bytes, Kept};

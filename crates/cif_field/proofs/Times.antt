@@ -1,13 +1,14 @@
 -- Times of day, read from their fields.
-use Rattle.std.proofs.Common.{◌≡◌, ℕ, List, [], ◌∷◌, true, false, Bool, ◌&&◌, refl, take, length, ◌≤◌, ◌<◌, arith}
+use Rattle.std.proofs.Common.{◌≡◌, ℕ, List, [], ◌∷◌, true, false, Bool, ◌&&◌, refl, sym, subst, take, length, ◌≤◌, ◌<◌, arith}
 use Rattle.std.specs.Prelude.{codes, ◌==◌, ◌||◌, nat_lt, slice_index}
 use Rattle.std.specs.List.{list_all}
 use Rattle.std.specs.Str.{bytes_eq}
 use Rattle.std.proofs.lemmas.Bool.{ltb-true}
+use Rattle.std.proofs.lemmas.Slice.Eq.{bytes_eq-Decides}
 use Rattle.std.specs.Char.{is_ascii_digit}
 use Rattle.docker_model.specs.records.Date.{two_digits}
-use Rattle.docker_model.specs.records.Clock.{is_blank, is_clock, is_present_time}
-use Rattle.docker_laws.proofs.lists.Tests.{both}
+use Rattle.docker_model.specs.records.Clock.{is_blank, is_clock, is_present_time, is_public_time}
+use Rattle.docker_laws.proofs.lists.BoolsAndOptions.{both}
 use Rattle.docker_laws.proofs.records.ScheduledTimes.{present_not_blank}
 
 -- four digits, one by one
@@ -66,6 +67,13 @@ clock_of_present field there = (both (is_clock field) ((slice_index field 4 == 7
 
 -- the bounds of what a field tells that begins HHMM
 pub ruleset clock_bounds = (hour_bound, minute_bound, clock_of_present)
+
+-- four noughts are a public time
+pub four_noughts : (field : List ℕ) → bytes_eq field (codes "0000") ≡ true → is_public_time field ≡ true
+four_noughts field same = subst (λ f. is_public_time f ≡ true) (sym ((bytes_eq-Decides field (codes "0000")).0 same)) refl
+
+-- what tells a public time by its noughts
+pub ruleset noughts = (four_noughts)
 
 -- what tells a scheduled time that is there from a blank one
 pub ruleset scheduled_times = (present_not_blank)

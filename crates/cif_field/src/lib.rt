@@ -17,7 +17,7 @@ pub use day::Day;
 pub use days::Days;
 pub use letter::{Extract, Stp, Transaction};
 pub use line::{Line, LineFault, is_printable};
-pub use time::{Time, clock, is_clock, is_present_time, is_public_time, is_scheduled_time};
+pub use time::{Time, clock, is_clock, is_public_time};
 pub use tiploc_code::Tiploc;
 pub use uid::Uid;
 pub use until::{NO_END, Until};

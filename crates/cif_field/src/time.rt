@@ -1,5 +1,5 @@
 //! Times of day, as location records (LO, LI and LT) have them.
-ghost use Rattle.std.specs.Prelude.{◌≡◌, ◌↔◌, ◌≤◌, ◌<◌, ◌+◌, length, IsSome, IfSome, IsTrue, ◌*◌, true, take};
+ghost use Rattle.std.specs.Prelude.{◌≡◌, ◌↔◌, ◌≤◌, ◌<◌, ◌+◌, length, IsSome, is_some, IfSome, IsTrue, ◌*◌, true, take};
 ghost use Rattle.std.specs.List.{list_all};
 ghost use Rattle.std.specs.Char.{is_ascii_digit};
 ghost use Rattle.docker_model.specs.records.Date.{two_digits};
@@ -46,6 +46,21 @@ impl Time {
                 half_minutes: 2 * minute,
             }),
             _ => None,
+        }
+    }
+
+    /// The scheduled time of a field, none where it is blank. Nothing of a field that is neither.
+    #[tactic(auto, using(crate::proofs::Times::scheduled_times))]
+    pub fn scheduled(field: &[u8; 5]) -> Option<Option<Time>>
+        ensures some { is_some result ≡ is_scheduled_time field.now }
+        ensures value { IfSome result (λ time. time ≡ scheduled_time field.now) }
+    {
+        if is_blank_time(field) {
+            return Some(None);
+        }
+        match Time::from_field(field) {
+            Some(time) => Some(Some(time)),
+            None => None,
         }
     }
 
@@ -163,24 +178,14 @@ pub fn is_clock(field: &[u8; 4]) -> bool
     clock(field).is_some()
 }
 
-/// Whether a field is a scheduled time that is there: HHMM, and behind it `H` or a space.
-pub fn is_present_time(field: &[u8; 5]) -> bool
-    ensures { result ≡ is_present_time field.now }
-{
-    Time::from_field(field).is_some()
-}
-
-/// Whether a field is a scheduled time that is there, or blank.
-pub fn is_scheduled_time(field: &[u8; 5]) -> bool
-    ensures { result ≡ is_scheduled_time field.now }
-{
-    is_blank_time(field) || is_present_time(field)
-}
-
-/// Whether a field is a public time: HHMM, or blank.
+/// Whether a field is a public time: HHMM, or blank. Where a train passes it is `0000`, which is found at once.
+#[tactic(auto, using(crate::proofs::Times::noughts))]
 pub fn is_public_time(field: &[u8; 4]) -> bool
     ensures { result ≡ is_public_time field.now }
 {
+    if field == b"0000" {
+        return true;
+    }
     is_blank_public_time(field) || is_clock(field)
 }
 

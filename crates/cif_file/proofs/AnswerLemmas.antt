@@ -2,11 +2,6 @@
 use Rattle.std.proofs.Common.{◌≡◌, ℕ, List, true, refl}
 use Rattle.std.specs.Prelude.{Result, Ok, Err, IsOk, OnOk, IfErr}
 
--- what holds if the answer is Ok
-pub on_ok_if : {A E P : Type 0} (answer : Result A E) → (IsOk answer → P) → OnOk answer P
-on_ok_if (Ok value) is = is refl
-on_ok_if (Err error) is = tt
-
 -- what an Ok answer tells, where it is Ok
 pub at_ok : {A E P : Type 0} (answer : Result A E) → OnOk answer P → IsOk answer → P
 at_ok (Ok value) told ok = told

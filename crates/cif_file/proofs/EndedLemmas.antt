@@ -2,6 +2,7 @@
 use Rattle.std.proofs.Common.{◌≡◌, ℕ, ◌+◌, ◌*◌, ◌<◌, ◌≤◌, Bool, true, false, cond, List, [], ◌∷◌, ◌++◌, length, map, Some, None, refl, sym, arith, length-append}
 use Rattle.std.proofs.lemmas.List.{length-map}
 use Rattle.std.specs.Prelude.{Option}
+use Rattle.docker_model.specs.file.File.{most_records}
 use Rattle.docker_model.specs.records.Record.{Kind, kind_of, tiploc_insert, tiploc_amend, tiploc_delete, association, basic_schedule}
 use Rattle.docker_model.specs.file.Change.{Change, Key, Act, acts_by_kind, changes_of_record, changes_from, changes, keeps_code}
 use Rattle.docker_model.specs.file.FileFault.{IsFileText}
@@ -54,7 +55,7 @@ of_file limit text ended is = record {
 }
 
 -- it is read
-pub is_read : (limit : ℕ) (text : List ℕ) (ended : Ended Kept) → limit ≤ 4_294_967_294 → IsEndedText KeepsAll limit text ended → IsRead (file_ended ended)
+pub is_read : (limit : ℕ) (text : List ℕ) (ended : Ended Kept) → limit ≤ most_records → IsEndedText KeepsAll limit text ended → IsRead (file_ended ended)
 unfolding of_file
 is_read limit text ended few is =
     let file = of_file limit text ended is in
@@ -62,7 +63,7 @@ is_read limit text ended few is =
     record { records = is.records; of_records = file.of_records; is_file = is.is_text.is; few = omega arith }
 
 -- no limit is more than what records can be numbered with
-limit_at : (reading : Reading Kept) (limit : ℕ) (text : List ℕ) → IsReading KeepsAll reading limit text → limit ≤ 4_294_967_294
+limit_at : (reading : Reading Kept) (limit : ℕ) (text : List ℕ) → IsReading KeepsAll reading limit text → limit ≤ most_records
 limit_at reading limit text at = let room = reading.records.room in let same = at.counted.limit_is in omega arith
 
 -- and so it is by what a parser was fed, which told no fault
@@ -76,13 +77,13 @@ is_read_some parser ended fed none ends =
 pub reads_text : (limit : ℕ) (left : Option (List ℕ)) (ended : Ended Kept) → ReadsEnded KeepsAll limit left ended → ReadsText limit left (file_ended ended)
 reads_text limit left ended reads = record { text = reads.text; held = reads.held; of_text = of_file limit reads.text ended reads.of_text }
 
-pub reads_read : (limit : ℕ) (left : Option (List ℕ)) (ended : Ended Kept) → limit ≤ 4_294_967_294 → ReadsEnded KeepsAll limit left ended
+pub reads_read : (limit : ℕ) (left : Option (List ℕ)) (ended : Ended Kept) → limit ≤ most_records → ReadsEnded KeepsAll limit left ended
     → IsRead (file_ended ended)
 reads_read limit left ended few reads = is_read limit reads.text ended few reads.of_text
 
 -- ---- its counts
 
-pub of_count : (limit : ℕ) (text : List ℕ) (ended : Ended Tally) → limit ≤ 4_294_967_294 → IsEndedText CountsChanges limit text ended
+pub of_count : (limit : ℕ) (text : List ℕ) (ended : Ended Tally) → limit ≤ most_records → IsEndedText CountsChanges limit text ended
     → IsCountOfFileText (count_ended ended) limit text
 of_count limit text ended few is =
     let within = is.is_text.within in
@@ -97,12 +98,12 @@ of_count limit text ended few is =
       };
     }
 
-pub reads_count : (limit : ℕ) (left : Option (List ℕ)) (ended : Ended Tally) → limit ≤ 4_294_967_294 → ReadsEnded CountsChanges limit left ended
+pub reads_count : (limit : ℕ) (left : Option (List ℕ)) (ended : Ended Tally) → limit ≤ most_records → ReadsEnded CountsChanges limit left ended
     → CountsText limit left (count_ended ended)
 reads_count limit left ended few reads =
     record { text = reads.text; held = reads.held; of_text = of_count limit reads.text ended few reads.of_text }
 
-pub reads_counted : (limit : ℕ) (left : Option (List ℕ)) (ended : Ended Tally) → limit ≤ 4_294_967_294 → ReadsEnded CountsChanges limit left ended
+pub reads_counted : (limit : ℕ) (left : Option (List ℕ)) (ended : Ended Tally) → limit ≤ most_records → ReadsEnded CountsChanges limit left ended
     → IsCounted (count_ended ended)
 unfolding of_count
 reads_counted limit left ended few reads =

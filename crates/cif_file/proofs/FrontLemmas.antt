@@ -12,28 +12,27 @@ use Rattle.docker_model.specs.file.FileFault as fault
 use Rattle.docker_model.specs.file.FileFault.{bad_place, bad_kind, bad_field}
 use Rattle.docker_laws.proofs.files.UnitChanges.{unit_then, schedule_change}
 use Rattle.docker_laws.specs.RecordTest.{is_record, has_good_fields}
-use Rattle.docker_laws.proofs.lists.Tests.{test_by_none, none_by_test}
+use Rattle.docker_laws.proofs.lists.BoolsAndOptions.{test_by_none, none_by_test}
 use Rattle.docker_laws.specs.ScheduleStage.{Stage, after_basic, after_details, in_journey, after_journey, stage_after, stage_of, may_end, is_sound_next, next_stage}
-use Rattle.docker_laws.proofs.schedules.ScheduleStages.{stage_of_more, stage_of_first, begins_iff_stage, no_stage_of_none}
-use Rattle.docker_laws.specs.FileStage.{Place, before_header, between_units, in_schedule, after_end, unit_by_kind, place_in, carried, is_header_kind, place_by_kind, is_sound_at, next_place, IsPlaceOf}
+use Rattle.docker_laws.proofs.schedules.ScheduleStages.{stage_of_more, stage_of_first, first_line_iff_test, schedule_iff_stage, begins_iff_stage, no_stage_of_none}
+use Rattle.docker_laws.specs.FileStage.{Place, before_header, between_units, in_schedule, after_end, unit_by_kind, place_in, in_stage_or, is_header_kind, place_by_kind, is_sound_at, next_place, IsPlaceOf}
 use Rattle.docker_laws.proofs.files.FileStages.{test_by_next, next_by_test, next_behind, stage_stops, file_iff_place, one_place, place_of_more, at_of_place}
 use Rattle.docker_laws.specs.RecordCause.{cause_of, kind_cause, place_cause, field_cause, with_column, is_after_end}
 use Rattle.docker_laws.proofs.schedules.ScheduleCauses.{no_unit_by_kind, next_place_of_stage, cause_of_record, cause_in_schedule, cause_behind_schedule, fault_of_schedule}
 use Rattle.cif_line.specs.declared.kind_of_record.Kind as code
-use Rattle.cif_line.specs.declared.kind_of_record.Kind.TheVariants.{Header, BasicSchedule, Trailer, TiplocInsert, TiplocAmend, TiplocDelete, Association}
+use Rattle.cif_line.specs.declared.kind_of_record.Kind.TheVariants.{Header}
 use Rattle.cif_line.specs.Kind.{meaning}
-use Rattle.cif_file.specs.declared.key.Key.TheVariants as key
+use Rattle.cif_change.specs.declared.key.Key.TheVariants as key
 use Rattle.cif_file.specs.declared.opened.Opened.{Opened}
 use Rattle.cif_file.specs.declared.front.Front.{Front}
 use Rattle.cif_file.specs.declared.front.FileStage.{FileStage}
 use Rattle.cif_file.specs.declared.front.FileStage.TheVariants.{BeforeHeader, BetweenUnits, InSchedule, AfterEnd}
-use Rattle.cif_file.specs.Meaning.{key_meant}
+use Rattle.cif_change.specs.Meaning.{key_meant}
 use Rattle.cif_file.specs.declared.ended.Ended.{Ended}
 use Rattle.cif_file.specs.KeeperRead.{Keeps, change_opened, AddsLine, AddsSingle, Closes}
 use Rattle.cif_file.specs.EndedRead.{IsEnded}
-use Rattle.cif_file.specs.JourneyRead.{progress_meant, HasLines, Advances, IsScheduleCause, is_over_by}
+use Rattle.cif_journey.specs.JourneyRead.{progress_meant, HasLines, Advances, IsScheduleCause, is_over_by}
 use Rattle.cif_file.specs.RecordsRead.{with_new_first, header_of, IsOpen, IsKept, HasRecords, IsOver, GoesOnWith, IsNoNext, IsNoNextCause, IsWholeBy, GoesOnTo, StandsBefore}
-use Rattle.cif_file.proofs.JourneyLemmas.{whole_iff, first_line_is}
 
 abbrev Lines : Type 0
 Lines = List (List ℕ)
@@ -104,6 +103,17 @@ some_lines (basic ∷ others) stage at = omega arith
 
 -- ---- a schedule that is whole
 
+-- lines that have a stage are a schedule exactly where it may end there
+whole_iff : (lines : Lines) (stage : Stage) → stage_of lines ≡ Some stage → IsSchedule lines ↔ (may_end stage lines ≡ true)
+whole_iff lines stage at = (
+  λ is.
+      let told = (schedule_iff_stage lines).0 is in
+      let same : Some told.0 ≡ Some stage = sym told.1.found ∙ at in
+      let one : told.0 ≡ stage = cc in
+      subst (λ s. may_end s lines ≡ true) one told.1.may,
+  λ may. (schedule_iff_stage lines).1 (stage, record { found = at; may = may }),
+)
+
 same_change : (n m : ℕ) (k l : Key) (b c : Bool) (body : Body) → n ≡ m → k ≡ l → b ≡ c
     → ◌≡◌ {A = Change} (record { number = n; key = k; act = cond b delete (put body) }) (record { number = m; key = l; act = cond c delete (put body) })
 same_change n m k l b c body numbers keys tests = λ i. record { number = numbers i; key = keys i; act = cond (tests i) delete (put body) }
@@ -121,7 +131,7 @@ changes_closed opened (basic ∷ others) before has number named is =
     ∙ append-nil _
     ∙ schedule_change (1 + length before) basic others is
     ∙ ap (λ change. change ∷ []) (same_change (1 + length before) opened.number (schedule_named basic) (key_meant (key.Schedule opened.key))
-    (is_deletion basic) opened.progress.deletion
+    (is_deletion basic) (progress_meant opened.progress).deletion
     (schedule_body (as_new basic ∷ others)) (omega arith) (sym named) (sym has.deletion_is))
     )
   where
@@ -207,7 +217,7 @@ basic_added keeps old new opened records line over is kind fields number named h
         lines = line ∷ [];
         before = records;
         place_is = refl;
-        stage_is = stage_of_first line ∙ (λ i. cond (first_line_is line is kind fields i) (Some after_basic) None);
+        stage_is = stage_of_first line ∙ (λ i. cond ((first_line_iff_test line).0 (record { is = is; kind = kind; fields = fields }) i) (Some after_basic) None);
         whole = refl;
         number_is = number;
         key_is = named;
@@ -485,7 +495,7 @@ no_place : (place : Place) (line : List ℕ) → place_by_kind place None line �
 no_place before_header line = refl
 no_place between_units line = refl
 no_place (in_schedule stage lines) line =
-    (λ i. carried (lines ++ line ∷ []) (no_stage_of_none stage i) (cond (may_end stage lines) (unit_by_kind None line) None))
+    (λ i. in_stage_or (lines ++ line ∷ []) (no_stage_of_none stage i) (cond (may_end stage lines) (unit_by_kind None line) None))
     ∙ none_of (may_end stage lines) None refl
 no_place after_end line = refl
 
@@ -682,23 +692,6 @@ on_ok_one (Err error) p one = p
 pub other_kind : (kind : code.Kind) → ¬ (kind ≡ Header) → is_header_kind (Some (meaning kind)) ≡ false
 other_kind Header bad = absurd (bad refl)
 other_kind _ bad = refl
-
--- what begins a unit, but no basic schedule and no trailer, leads to whole units
-pub single_kind : (kind : code.Kind) (line : List ℕ) → HasKind (meaning kind) line → is_some (unit_by_kind (kind_of line) line) ≡ true
-    → ¬ (kind ≡ BasicSchedule) → ¬ (kind ≡ Trailer)
-    → unit_by_kind (kind_of line) line ≡ Some between_units
-single_kind kind line known begins no_basic no_trailer =
-    ap (λ k. unit_by_kind k line) known ∙ by kind (ap (λ k. is_some (unit_by_kind k line)) (sym known) ∙ begins) no_basic no_trailer
-  where
-    by : (k : code.Kind) → is_some (unit_by_kind (Some (meaning k)) line) ≡ true → ¬ (k ≡ BasicSchedule) → ¬ (k ≡ Trailer)
-        → unit_by_kind (Some (meaning k)) line ≡ Some between_units
-    by BasicSchedule h basic last = absurd (basic refl)
-    by Trailer h basic last = absurd (last refl)
-    by TiplocInsert h basic last = refl
-    by TiplocAmend h basic last = refl
-    by TiplocDelete h basic last = refl
-    by Association h basic last = refl
-    by _ h basic last = absurd cc
 
 -- no file goes on behind its trailer
 pub file_at_end : {K : Type 0} (keeps : Keeps K) (front : Front K) (records : Lines) → HasRecords keeps front records → front.stage ≡ AfterEnd → IsFile records

@@ -1,5 +1,5 @@
+pub mod UnitLemmas
 pub mod FrontLemmas
-pub mod JourneyLemmas
 pub mod ParserLemmas
 pub mod TextLemmas
 pub mod PiecesLemmas

@@ -24,8 +24,8 @@ use Rattle.docker_laws.specs.RecordCause.{end_cause, length_cause, is_after_end,
 use Rattle.docker_laws.specs.LinesTold.{HasNoFeed, told_lines, open_line, line_left}
 use Rattle.docker_laws.proofs.files.ToldLines.{lines_of_told, lines_of_ended, lines_of_open, told_lines_plain, open_line_plain, told_lines_ended, open_line_ended, told_lines_stay, lines_told_grow}
 use Rattle.docker_laws.proofs.files.ToldFaults.{cause_of_length, not_80, no_next_place, lines_told_short, length_at_end, fault_at_feed, fault_at_long, fault_at_end, fault_stays, no_fault_told}
-use Rattle.cif_file.specs.declared.fault.FileCause.{FileCause}
-use Rattle.cif_file.specs.declared.fault.FileCause.TheVariants.{Memory}
+use Rattle.cif_journey.specs.declared.cause.FileCause.{FileCause}
+use Rattle.cif_journey.specs.declared.cause.FileCause.TheVariants.{Memory}
 use Rattle.cif_file.specs.declared.fault.FileFault.{FileFault}
 use Rattle.cif_file.specs.declared.front.Front.{Front}
 use Rattle.cif_file.specs.declared.ended.Ended.{Ended}
@@ -33,7 +33,7 @@ use Rattle.cif_file.specs.declared.kept.Kept.{Kept}
 use Rattle.cif_file.specs.declared.records.Records.{Records}
 use Rattle.cif_file.specs.declared.parser.Reading.{Reading}
 use Rattle.cif_file.specs.Cut.{IsCut}
-use Rattle.cif_file.specs.Meaning.{cause_meant}
+use Rattle.cif_journey.specs.Cause.{cause_meant}
 use Rattle.cif_file.specs.KeeperRead.{Keeps, KeepsAll}
 use Rattle.cif_file.specs.RecordsRead.{HasRecords, GoesOnWith, IsNoNextCause}
 use Rattle.cif_file.specs.ParserRead.{IsEndedText, ParserState, HasRead, IsReadingOrFault, HasCounted, IsCauseNext, IsCauseBehind, IsFaultNext, IsNoEndOf, FaultsNext, EndsCounted, EndsUnended, IsLongNext, IsReading, WantsMemoryAt, IsToldSoFar, IsFaultTold, IsCauseOf, IsRefused, HasNotFailed, IsLater, NamesLater, IsLast, NamesLast, GoesOn}
@@ -427,10 +427,6 @@ cut_more piece rest front behind whole cut =
     let count : length piece - length behind ≡ length done = omega arith in
     let same : before_rest piece behind ≡ done = (λ i. take (count i) (sym all i)) ∙ take-append_seam done behind in
     (same, ap (λ l. l ++ behind) same ∙ all)
-
--- what is left gets shorter
-pub cut_shorter : (rest front behind : List ℕ) → IsCut rest front behind → length behind < length rest
-cut_shorter rest front behind cut = let size = ap (λ (l : List ℕ). length l) cut.whole ∙ length-append front (10 ∷ behind) in omega arith
 
 -- at first nothing stands before the rest
 pub cut_first : (piece : List ℕ) → (before_rest piece piece ≡ []) × (before_rest piece piece ++ piece ≡ piece)

@@ -1,116 +1,63 @@
 -- Reading a source: what the parser was fed is what the source had.
-use Rattle.std.proofs.Common.{◌≡◌, ℕ, ◌+◌, ◌<◌, ◌≤◌, ◌≢◌, ◌⊎◌, inl, inr, List, [], ◌∷◌, ◌++◌, length, take, Some, None, Err, Result, refl, sym, ◌∙◌, ap, subst, arith, append_assoc, append-nil, length-append}
-use Rattle.std.specs.Prelude.{Option, option_map, ◌↔◌, drop}
-use Rattle.std.proofs.lemmas.List.{length-take-le, take-append-le, take-take}
+use Rattle.std.proofs.Common.{◌≡◌, ℕ, ◌+◌, ◌≤◌, ◌≢◌, ◌⊎◌, inl, inr, List, [], ◌++◌, length, Some, None, Err, Result, refl, ◌∙◌, ap, subst, arith, append-nil}
+use Rattle.std.specs.Prelude.{Option, ◌↔◌, Ok, OnOk, IfOk, IfErr}
+use Rattle.docker_model.specs.file.File.{most_records}
 use Rattle.docker_model.specs.file.Text.{lines_of}
-use Rattle.docker_model.specs.file.FaultSoFar.{IsFaultSoFar, lines_told}
+use Rattle.docker_model.specs.file.FaultSoFar.{IsFaultSoFar}
 use Rattle.docker_model.specs.file.FileFault as model
-use Rattle.docker_laws.specs.LinesTold.{told_lines}
 use Rattle.docker_laws.proofs.files.ToldFaults.{fault_in_the_end}
-use Rattle.docker_laws.proofs.files.ToldBound.{text_without_fault_is_bounded}
 use Rattle.cif_line.specs.Device.{Reads, IsEnd}
-use Rattle.cif_file.specs.declared.fault.FileCause.{FileCause}
-use Rattle.cif_file.specs.declared.fault.FileCause.TheVariants.{Length, Byte, Kind, Place, Field, Midnights, NoEnd, After, TooMany, Memory}
+use Rattle.cif_line.specs.Taken.{BehindEach, HasFed, HasRefused, LosesOnePieceMore}
+use Rattle.cif_journey.specs.declared.cause.FileCause.{FileCause}
+use Rattle.cif_journey.specs.declared.cause.FileCause.TheVariants.{Length, Byte, Kind, Place, Field, Midnights, NoEnd, After, TooMany, Memory}
 use Rattle.cif_file.specs.declared.fault.FileFault.{FileFault}
 use Rattle.cif_file.specs.declared.fault.ReadFault.{ReadFault}
 use Rattle.cif_file.specs.declared.fault.ReadFault.TheVariants as read
-use Rattle.cif_file.specs.Meaning.{cause_meant}
+use Rattle.cif_journey.specs.Cause.{cause_meant}
 use Rattle.cif_file.specs.declared.ended.Ended.{Ended}
-use Rattle.cif_file.specs.declared.kept.Kept.{Kept}
 use Rattle.cif_file.specs.declared.parser.Reading.{Reading}
-use Rattle.cif_file.specs.FileRead.{IsRead}
-use Rattle.cif_file.specs.KeeperRead.{Keeps, KeepsAll}
-use Rattle.cif_file.specs.EndedRead.{file_ended}
-use Rattle.cif_file.specs.ParserRead.{IsReading, IsLater, IsLast, IsOfFileText, IsEndedText, WantsMemoryAt, IsToldSoFar, IsFaultTold, IsCauseOf, IsRefused}
-use Rattle.cif_file.specs.SourceRead.{Held, IsFaultOf, ReadsEnded, ReadsText, RefusesText, ReadsNoFurther, WantsMemory, WantsMemoryBy}
+use Rattle.cif_file.specs.KeeperRead.{Keeps}
+use Rattle.cif_file.specs.FileTaken.{TakesFile, RefusesPiece}
+use Rattle.cif_file.proofs.ParserLemmas.{reading_tells_none}
+use Rattle.cif_file.specs.ParserRead.{EndsBy, GoesOn, TellsFault, IsReading, IsLater, IsLast, WantsMemoryAt, IsToldSoFar, IsFaultTold, IsCauseOf, IsRefused}
+use Rattle.cif_file.specs.SourceRead.{Held, IsFaultOf, ReadsEnded, RefusesText, ReadsNoFurther, WantsMemory, WantsMemoryBy}
 
--- ---- turns
-
--- after so many turns the reading was fed a text without a fault, which is what the source lost, and told none
-pub record IsAtTurn {K : Type 0} (keeps : Keeps K) (limit : ℕ) (initial : Option (List ℕ)) (reading : Reading K) (now : Option (List ℕ)) (turn : ℕ) : Type 0 where
-  pub text : List ℕ
-  pub read : IsReading keeps reading limit text
-  pub lost : Reads initial text now
-  pub grown : turn ≤ length text
-  pub within : length text ≤ 352187318189
-  pub sound : (fault : model.FileFault) → ¬ IsFaultSoFar limit text fault
-
--- nothing was read
-unread : (left : Option (List ℕ)) → Reads left [] left
-unread None = refl
-unread (Some bytes) = refl
+-- ---- pieces
 
 -- a text of no bytes has no fault
 sound_at_start : (limit : ℕ) (fault : model.FileFault) → ¬ IsFaultSoFar limit [] fault
 sound_at_start limit fault told = let number = told.is.number in let none : fault.number ≤ 0 = told.told in absurd (omega (arith, number, none))
 
--- at first
-pub at_start : {K : Type 0} (keeps : Keeps K) (limit : ℕ) (left : Option (List ℕ)) (reading : Reading K) → IsReading keeps reading limit [] → IsAtTurn keeps limit left reading left 0
-at_start keeps limit left reading has = record {
-  text = [];
-  read = has;
-  lost = unread left;
-  grown = omega arith;
-  within = omega arith;
-  sound = sound_at_start limit;
-}
+-- at first nothing was taken
+pub at_start : {K : Type 0} (keeps : Keeps K) (limit : ℕ) (reading : Reading K) → IsReading keeps reading limit [] → limit ≤ 4294967294
+    → TakesFile keeps reading limit []
+at_start keeps limit reading has few = record { read = has; few = few; sound = sound_at_start limit }
 
--- a text without a fault so far is no longer than this
-bounded : (limit : ℕ) (text : List ℕ) → limit ≤ 4294967294 → ((fault : model.FileFault) → ¬ IsFaultSoFar limit text fault) → length text ≤ 352187318189
-bounded limit text few never = let most = text_without_fault_is_bounded limit text never in omega (arith, most, few)
+-- a piece that was read was taken
+pub takes_more : {K : Type 0} (keeps : Keeps K) (before after : Reading K) (piece : List ℕ) {A : Type 0} (result : Result A FileFault)
+    → OnOk result (GoesOn (IsReading keeps before) piece (IsReading keeps after))
+    → OnOk result (BehindEach (TakesFile keeps) before (λ limit text. TakesFile keeps after limit (text ++ piece)))
+takes_more keeps before after piece (Ok done) read = λ limit text has.
+    let more = read limit text has.read in
+    record { read = more; few = has.few; sound = reading_tells_none keeps after limit (text ++ piece) more }
+takes_more keeps before after piece (Err fault) read = tt
 
--- what is read behind what was read
-lost_more : (initial now next : Option (List ℕ)) (text piece : List ℕ) → Reads initial text now → Reads now piece next → Reads initial (text ++ piece) next
-lost_more initial now None text piece first more = first ∙ ap (option_map (λ rest. text ++ rest)) more
-lost_more initial now (Some rest) text piece first more =
-    first ∙ ap (option_map (λ r. text ++ r)) more ∙ ap Some (sym (append_assoc text piece rest))
-
--- a piece more
-pub next_turn : {K : Type 0} (keeps : Keeps K) (limit : ℕ) (initial now next : Option (List ℕ)) (before after : Reading K) (turn : ℕ) (piece : List ℕ) → limit ≤ 4294967294
-    → (at : IsAtTurn keeps limit initial before now turn) → 0 < length piece → Reads now piece next → IsReading keeps after limit (at.text ++ piece)
-    → ((fault : model.FileFault) → ¬ IsFaultSoFar limit (at.text ++ piece) fault) → IsAtTurn keeps limit initial after next (turn + 1)
-next_turn keeps limit initial now next before after turn piece few at some more has sound = record {
-  text = at.text ++ piece;
-  read = has;
-  lost = lost_more initial now next at.text piece at.lost more;
-  grown = (let grown = at.grown in omega (arith, length-append at.text piece));
-  within = bounded limit (at.text ++ piece) few sound;
-  sound = sound;
-}
+-- and a fault that was told refuses it
+pub refuses_more : {K : Type 0} (keeps : Keeps K) (wants : Type 0) (before : Reading K) (piece : List ℕ) {A : Type 0} (result : Result A FileFault)
+    → IfErr result (TellsFault (IsReading keeps before) piece) → IfErr result (IsLater keeps wants before)
+    → IfErr result (λ fault. BehindEach (TakesFile keeps) before (λ limit text. RefusesPiece wants limit text piece fault))
+refuses_more keeps wants before piece (Ok done) told later = tt
+refuses_more keeps wants before piece (Err fault) told later = λ limit text has.
+    let new = later limit text has.read in
+    record { told = told limit text has.read; later = new.0; wanted = new.1 }
 
 -- ---- how far a source is read
 
--- a source is left one piece further
-pub no_further : {K : Type 0} (keeps : Keeps K) (limit : ℕ) (initial now next : Option (List ℕ)) (reading : Reading K) (turn : ℕ) (piece : List ℕ)
-    → (at : IsAtTurn keeps limit initial reading now turn)
-    → Reads now piece next → length piece ≤ 65536 → ReadsNoFurther 65536 limit initial next
-no_further keeps limit initial now next reading turn piece at more few =
-    record { before = at.text; piece = piece; sound = at.sound; at_once = few; read = lost_more initial now next at.text piece at.lost more }
-
--- or where it was
-pub not_further : {K : Type 0} (keeps : Keeps K) (limit : ℕ) (initial now next : Option (List ℕ)) (reading : Reading K) (turn : ℕ) → IsAtTurn keeps limit initial reading now turn → next ≡ now
+-- it loses no more than one piece behind a text without a fault
+pub no_further : {K : Type 0} (keeps : Keeps K) (limit : ℕ) (initial next : Option (List ℕ)) → LosesOnePieceMore (TakesFile keeps) 65536 limit [] initial next
     → ReadsNoFurther 65536 limit initial next
-not_further keeps limit initial now next reading turn at same =
-    no_further keeps limit initial now next reading turn [] at (subst (λ left. Reads now [] left) (sym same) (unread now)) (omega arith)
-
--- nothing was read of it
-pub nothing_read : (limit : ℕ) (left : Option (List ℕ)) → ReadsNoFurther 65536 limit left left
-nothing_read limit left = record { before = []; piece = []; sound = sound_at_start limit; at_once = omega arith; read = unread left }
-
--- memory was wanting before
-pub wants_at_start : (wants : Type 0) (limit : ℕ) (left : Option (List ℕ)) → WantsMemoryBy wants 65536 limit left left
-wants_at_start wants limit left = inl (unread left)
-
--- what one read gives is no longer than what it was read into
-pub at_once : (n len : ℕ) (into : List ℕ) → length into ≡ len → len ≡ 65536 → n ≤ length into → length (take n into) ≤ 65536
-at_once n len into long room within = let size = length-take-le n into within in omega arith
-
--- behind the end nothing is left
-pub end_stays : (now next : Option (List ℕ)) (piece : List ℕ) → Reads now piece next → IsEnd now → IsEnd next
-end_stays now None piece more end = tt
-end_stays None (Some rest) piece more end = cc
-end_stays (Some left) (Some rest) [] more end = cc
-end_stays (Some left) (Some rest) (byte ∷ piece) more end = let none : ⊥ = cc in absurd none
+no_further keeps limit initial next more =
+    record { before = more.bytes; piece = more.piece; sound = more.taken.sound; at_once = more.few; read = more.lost }
 
 -- what was read to the end is what the source held
 held_all : (initial now : Option (List ℕ)) (text : List ℕ) → Reads initial text now → IsEnd now → Held initial text
@@ -121,10 +68,11 @@ held_all (Some told) (Some rest) text lost end =
     same ∙ ap (λ r. text ++ r) end ∙ append-nil text
 
 -- what is told of the text that was read to the end
-pub file_read : {K : Type 0} (keeps : Keeps K) (limit : ℕ) (initial now : Option (List ℕ)) (reading : Reading K) (turn : ℕ) (ended : Ended K)
-    → (at : IsAtTurn keeps limit initial reading now turn) → IsEnd now
-    → IsEndedText keeps limit at.text ended → ReadsEnded keeps limit initial ended
-file_read keeps limit initial now reading turn ended at end of = record { text = at.text; held = held_all initial now at.text at.lost end; of_text = of }
+pub file_read : {K : Type 0} (keeps : Keeps K) (limit count : ℕ) (initial now : Option (List ℕ)) (reading : Reading K) (result : Result (Ended K) ReadFault)
+    → HasFed (TakesFile keeps) count limit [] initial now reading → IsEnd now → IfOk result (EndsBy keeps reading) → IfOk result (ReadsEnded keeps limit initial)
+file_read keeps limit count initial now reading (Ok ended) at end of =
+    record { text = at.bytes; held = held_all initial now at.bytes at.lost end; of_text = of limit at.bytes at.taken.read }
+file_read keeps limit count initial now reading (Err fault) at end of = tt
 
 -- ---- causes
 
@@ -210,73 +158,64 @@ memory_at_end keeps wants limit text reading fault result has refused later last
     )
 
 -- it is that of what the source held
-pub refused_at_end : {K : Type 0} (keeps : Keeps K) (limit : ℕ) (initial now : Option (List ℕ)) (reading : Reading K) (turn : ℕ) (fault : FileFault)
-    → (at : IsAtTurn keeps limit initial reading now turn)
-    → IsEnd now → IsFaultOf limit at.text fault → RefusesText limit initial fault
-refused_at_end keeps limit initial now reading turn fault at end is = record { text = at.text; held = held_all initial now at.text at.lost end; is = is }
+pub refused_at_end : {K : Type 0} (keeps : Keeps K) (limit count : ℕ) (initial now : Option (List ℕ)) (reading : Reading K) (fault : FileFault)
+    → (at : HasFed (TakesFile keeps) count limit [] initial now reading) → IsEnd now → IsFaultOf limit at.bytes fault → RefusesText limit initial fault
+refused_at_end keeps limit count initial now reading fault at end is =
+    record { text = at.bytes; held = held_all initial now at.bytes at.lost end; is = is }
 
 -- and so is want of memory at the end
-pub wants_at_end : {K : Type 0} (keeps : Keeps K) (wants : Type 0) (limit : ℕ) (initial now next : Option (List ℕ)) (reading : Reading K) (turn : ℕ) → (at : IsAtTurn keeps limit initial reading now turn)
-    → IsEnd now
-    → wants × WantsMemoryAt limit (lines_of at.text) (length (lines_of at.text)) → WantsMemoryBy wants 65536 limit initial next
-wants_at_end keeps wants limit initial now next reading turn at end wanting =
-    inr (wanting.0, inr (record { text = at.text; held = held_all initial now at.text at.lost end; wanting = wanting.1 }))
+pub wants_at_end : {K : Type 0} (keeps : Keeps K) (wants : Type 0) (limit count : ℕ) (initial now : Option (List ℕ)) (reading : Reading K)
+    → (at : HasFed (TakesFile keeps) count limit [] initial now reading) → IsEnd now
+    → wants × WantsMemoryAt limit (lines_of at.bytes) (length (lines_of at.bytes)) → WantsMemoryBy wants 65536 limit initial now
+wants_at_end keeps wants limit count initial now reading at end wanting =
+    inr (wanting.0, inr (record { text = at.bytes; held = held_all initial now at.bytes at.lost end; wanting = wanting.1 }))
 
--- and a fault that was told before
-pub refused_before : {K : Type 0} (keeps : Keeps K) {A : Type 0} (limit : ℕ) (initial now next : Option (List ℕ)) (reading : Reading K) (turn : ℕ) (piece : List ℕ) (fault told : FileFault)
-    (result : ReadFault) → (at : IsAtTurn keeps limit initial reading now turn) → Reads now piece next → IsFaultTold limit (at.text ++ piece) fault
+-- a piece of a file was refused
+abbrev HasRefusedFile : {K : Type 0} → Keeps K → Type 0 → ℕ → Option (List ℕ) → Option (List ℕ) → Reading K → FileFault → Type 0
+HasRefusedFile keeps wants limit initial next reading fault =
+    HasRefused (TakesFile keeps) (λ _ n text piece told. RefusesPiece wants n text piece told) 65536 limit [] initial next reading fault
+
+-- the fault of a piece is that of what the source held
+pub refused_before : {K : Type 0} (keeps : Keeps K) (wants : Type 0) {A : Type 0} (limit : ℕ) (initial next : Option (List ℕ)) (reading : Reading K)
+    (fault told : FileFault) (result : ReadFault) → HasRefusedFile keeps wants limit initial next reading fault
     → (fault.cause ≡ Memory → result ≡ read.Memory) → (fault.cause ≢ Memory → result ≡ read.File fault)
     → ◌≡◌ {A = Result A ReadFault} (Err result) (Err (read.File told)) → RefusesText limit initial told
-refused_before keeps limit initial now next reading turn piece fault told result at more so_far memory file is =
-    by initial next (lost_more initial now next at.text piece at.lost more)
+refused_before keeps wants limit initial next reading fault told result has memory file is = by initial next has.more.lost
   where
+    text : List ℕ
+    text = has.more.bytes ++ has.more.piece
+
     as_file : (fault ≡ told) × (fault.cause ≢ Memory)
     as_file = told_as_file fault told result memory file is
 
-    of : (rest : List ℕ) → IsFaultOf limit ((at.text ++ piece) ++ rest) told
-    of rest = subst (IsFaultOf limit ((at.text ++ piece) ++ rest)) as_file.0 (told_of limit (at.text ++ piece) rest fault so_far as_file.1)
+    of : (rest : List ℕ) → IsFaultOf limit (text ++ rest) told
+    of rest = subst (IsFaultOf limit (text ++ rest)) as_file.0 (told_of limit text rest fault has.refused.told as_file.1)
 
-    by : (initial next : Option (List ℕ)) → Reads initial (at.text ++ piece) next → RefusesText limit initial told
-    by None next lost = record { text = (at.text ++ piece) ++ []; held = tt; is = of [] }
+    by : (initial next : Option (List ℕ)) → Reads initial text next → RefusesText limit initial told
+    by None next lost = record { text = text ++ []; held = tt; is = of [] }
     by (Some bytes) None lost = cc
-    by (Some bytes) (Some rest) lost = record { text = (at.text ++ piece) ++ rest; held = cc; is = of rest }
+    by (Some bytes) (Some rest) lost = record { text = text ++ rest; held = cc; is = of rest }
 
 -- want of memory before the end is at a record that the piece is the first to tell
-pub wants_before : {K : Type 0} (keeps : Keeps K) (wants : Type 0) {A : Type 0} (limit : ℕ) (initial now next : Option (List ℕ)) (reading : Reading K) (turn : ℕ) (piece : List ℕ) (fault : FileFault)
-    (result : ReadFault)
-    → (at : IsAtTurn keeps limit initial reading now turn) → Reads now piece next → length piece ≤ 65536 → IsFaultTold limit (at.text ++ piece) fault
-    → IsLater keeps wants reading fault
+pub wants_before : {K : Type 0} (keeps : Keeps K) (wants : Type 0) {A : Type 0} (limit : ℕ) (initial next : Option (List ℕ)) (reading : Reading K)
+    (fault : FileFault) (result : ReadFault) → HasRefusedFile keeps wants limit initial next reading fault
     → (fault.cause ≢ Memory → result ≡ read.File fault) → ◌≡◌ {A = Result A ReadFault} (Err result) (Err read.Memory) → WantsMemoryBy wants 65536 limit initial next
-wants_before keeps wants limit initial now next reading turn piece fault result at more few so_far later file is =
+wants_before keeps wants limit initial next reading fault result has file is =
     let wanting = told_as_memory fault result file is in
-    let new = later limit at.text at.read in
+    let more = has.more in
+    let refused = has.refused in
     inr (
-      new.1 wanting,
+      refused.wanted wanting,
       inl (record {
-        before = at.text;
-        piece = piece;
-        read = lost_more initial now next at.text piece at.lost more;
-        at_once = few;
+        before = more.bytes;
+        piece = more.piece;
+        read = more.lost;
+        at_once = more.few;
         number = fault.number;
-        first = new.0;
-        wanting = subst (λ cause. IsToldSoFar limit (at.text ++ piece) fault.number (cause_meant cause)) wanting so_far;
+        first = refused.later;
+        wanting = subst (λ cause. IsToldSoFar limit (more.bytes ++ more.piece) fault.number (cause_meant cause)) wanting refused.told;
       }),
     )
-
--- a fault is told as itself
-pub told_apart : {A : Type 0} (result other : ReadFault) → result ≢ other → ◌≡◌ {A = Result A ReadFault} (Err result) (Err other) → ⊥
-told_apart result other apart is = apart cc
-
--- where no read failed, none is told
-pub told_apart_from_source : {A : Type 0} (result : ReadFault) (old new : ℕ) → result ≢ read.Source → new ≡ old
-    → ◌≡◌ {A = Result A ReadFault} (Err result) (Err read.Source) ↔ (new ≡ old + 1)
-told_apart_from_source result old new apart same = (λ is. absurd (apart cc), λ more. absurd (omega arith))
-
--- the bytes of a buffer that were read
-pub same_front : (n len : ℕ) (piece into items : List ℕ) → piece ≡ take len (into ++ drop (length into) items) → length into ≡ len → n ≤ length into
-    → take n piece ≡ take n into
-same_front n len piece into items is whole within =
-    ap (take n) (is ∙ take-append-le len into (drop (length into) items) (omega arith)) ∙ take-take n len into (omega arith)
 
 -- ---- want of memory
 

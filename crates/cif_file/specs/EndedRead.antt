@@ -6,7 +6,7 @@ use Rattle.cif_file.specs.declared.kept.Kept.{Kept}
 use Rattle.cif_file.specs.declared.tally.Tally.{Tally}
 use Rattle.cif_file.specs.KeeperRead.{Keeps}
 use Rattle.cif_file.specs.FileRead.{FileRead, FileCounted}
-use Rattle.cif_file.specs.Meaning.{change_meant}
+use Rattle.cif_change.specs.Meaning.{change_meant}
 
 -- the header and the number of these records are told, and their changes were kept
 pub record IsEnded {K : Type 0} (keeps : Keeps K) (records : List (List ℕ)) (ended : Ended K) : Type 0 where

@@ -1,11 +1,12 @@
 -- What keeps of a file's records what its reader is to tell of them.
 use Rattle.std.specs.Prelude.{◌≡◌, ℕ, ◌<◌, List, [], ◌∷◌, ◌++◌, length, map, if◌then◌else◌}
 use Rattle.docker_model.specs.file.Change.{Change, changes_of_record, schedule_body, delete, put}
-use Rattle.cif_file.specs.declared.key.Key.TheVariants as key
+use Rattle.cif_change.specs.declared.key.Key.TheVariants as key
+use Rattle.cif_journey.specs.JourneyRead.{progress_meant}
 use Rattle.cif_file.specs.declared.opened.Opened.{Opened}
 use Rattle.cif_file.specs.declared.kept.Kept.{Kept}
 use Rattle.cif_file.specs.declared.tally.Tally.{Tally}
-use Rattle.cif_file.specs.Meaning.{key_meant, change_meant}
+use Rattle.cif_change.specs.Meaning.{key_meant, change_meant}
 
 abbrev Lines : Type 0
 Lines = List (List ℕ)
@@ -19,7 +20,7 @@ abbrev pub change_opened : Opened → Lines → Change
 change_opened opened lines = record {
   number = opened.number;
   key = key_meant (key.Schedule opened.key);
-  act = if opened.progress.deletion then delete else put (schedule_body lines);
+  act = if (progress_meant opened.progress).deletion then delete else put (schedule_body lines);
 }
 
 -- a line was added

@@ -1,8 +1,4 @@
-pub mod Meaning
 pub mod FileRead
-pub mod Joined
-pub mod Acts
-pub mod JourneyRead
 pub mod UnitRead
 pub mod KeeperRead
 pub mod EndedRead
@@ -11,3 +7,9 @@ pub mod ParserRead
 pub mod Cut
 pub mod FaultText
 pub mod SourceRead
+pub mod FileTaken
+pub use Rattle.cif_change.specs.Meaning
+pub use Rattle.cif_change.specs.Joined
+pub use Rattle.cif_change.specs.Acts
+pub use Rattle.cif_journey.specs.Cause
+pub use Rattle.cif_journey.specs.JourneyRead

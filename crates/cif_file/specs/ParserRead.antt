@@ -10,14 +10,14 @@ use Rattle.docker_laws.specs.FileStage as law
 use Rattle.docker_laws.specs.RecordCause.{cause_of, cause_of_long}
 use Rattle.docker_laws.specs.LinesTold.{told_lines, open_line}
 use Rattle.cif_file.specs.declared.fault.FileFault.{FileFault}
-use Rattle.cif_file.specs.declared.fault.FileCause.{FileCause}
-use Rattle.cif_file.specs.declared.fault.FileCause.TheVariants.{Memory}
+use Rattle.cif_journey.specs.declared.cause.FileCause.{FileCause}
+use Rattle.cif_journey.specs.declared.cause.FileCause.TheVariants.{Memory}
 use Rattle.cif_file.specs.declared.ended.Ended.{Ended}
 use Rattle.cif_file.specs.declared.front.Front.{Front}
 use Rattle.cif_file.specs.declared.kept.Kept.{Kept}
 use Rattle.cif_file.specs.declared.records.Records.{Records}
 use Rattle.cif_file.specs.declared.parser.Reading.{Reading}
-use Rattle.cif_file.specs.Meaning.{cause_meant}
+use Rattle.cif_journey.specs.Cause.{cause_meant}
 use Rattle.cif_file.specs.FileRead.{FileRead, FileCounted, IsOfRecords, IsCountOfRecords}
 use Rattle.cif_file.specs.KeeperRead.{Keeps, KeepsAll}
 use Rattle.cif_file.specs.EndedRead.{IsEnded}

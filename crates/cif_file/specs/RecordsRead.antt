@@ -9,14 +9,15 @@ use Rattle.docker_laws.specs.ScheduleStage.{Stage, stage_of}
 use Rattle.docker_laws.specs.FileStage.{before_header, between_units, in_schedule, after_end, next_place, IsPlaceOf}
 use Rattle.docker_laws.specs.FileStage as law
 use Rattle.docker_laws.specs.RecordCause.{cause_of}
-use Rattle.cif_file.specs.declared.key.Key.TheVariants as key
+use Rattle.cif_change.specs.declared.key.Key.TheVariants as key
 use Rattle.cif_file.specs.declared.opened.Opened.{Opened}
 use Rattle.cif_file.specs.declared.front.FileStage.{FileStage}
 use Rattle.cif_file.specs.declared.front.FileStage.TheVariants.{BeforeHeader, BetweenUnits, InSchedule, AfterEnd}
 use Rattle.cif_file.specs.declared.front.Front.{Front}
-use Rattle.cif_file.specs.declared.fault.FileCause.{FileCause}
-use Rattle.cif_file.specs.Meaning.{key_meant, cause_meant}
-use Rattle.cif_file.specs.JourneyRead.{progress_meant, HasLines, Advances}
+use Rattle.cif_journey.specs.declared.cause.FileCause.{FileCause}
+use Rattle.cif_change.specs.Meaning.{key_meant}
+use Rattle.cif_journey.specs.Cause.{cause_meant}
+use Rattle.cif_journey.specs.JourneyRead.{progress_meant, HasLines, Advances}
 use Rattle.cif_file.specs.KeeperRead.{Keeps}
 
 abbrev Lines : Type 0

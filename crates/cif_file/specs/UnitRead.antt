@@ -1,13 +1,45 @@
--- Records that stand by themselves between header and trailer, and the changes that they make.
-use Rattle.std.specs.Prelude.{◌≡◌, ℕ, ◌⊎◌, List, ◌++◌, map}
-use Rattle.docker_model.specs.records.Record.{HasKind, tiploc_insert, tiploc_amend, tiploc_delete}
+-- Records that begin anew behind a header or a whole unit, and the changes that those make which are units by themselves.
+use Rattle.std.specs.Prelude.{◌≡◌, ℕ, List, ◌++◌, map}
+use Rattle.docker_model.specs.records.Record.{Kind, HasKind, IsRecord, tiploc_insert, tiploc_amend, tiploc_delete, association, basic_schedule, trailer}
+use Rattle.docker_model.specs.records.Field.{HasGoodFields}
 use Rattle.docker_model.specs.file.Change as model
-use Rattle.cif_file.specs.declared.change.Change.{Change}
-use Rattle.cif_file.specs.Meaning.{change_meant}
+use Rattle.cif_change.specs.declared.change.Change.{Change}
+use Rattle.cif_file.specs.declared.single.Single.{Single}
+use Rattle.cif_file.specs.declared.single.Single.TheVariants.{TiplocInsert, TiplocAmend, TiplocDelete, Association}
+use Rattle.cif_file.specs.declared.unit.Unit.{Unit}
+use Rattle.cif_file.specs.declared.unit.Unit.TheVariants as unit
+use Rattle.cif_change.specs.Meaning.{change_meant}
 
--- the line is a record of a timing point
-abbrev pub IsTiplocRecord : List ℕ → Type 0
-IsTiplocRecord line = HasKind tiploc_insert line ⊎ HasKind tiploc_amend line ⊎ HasKind tiploc_delete line
+-- the kind of a record that is a unit by itself
+abbrev pub kind_of_single : Single → Kind
+kind_of_single (TiplocInsert line) = tiploc_insert
+kind_of_single (TiplocAmend line) = tiploc_amend
+kind_of_single (TiplocDelete line) = tiploc_delete
+kind_of_single (Association line) = association
+
+-- its line
+abbrev pub line_of_single : Single → List ℕ
+line_of_single (TiplocInsert line) = line
+line_of_single (TiplocAmend line) = line
+line_of_single (TiplocDelete line) = line
+line_of_single (Association line) = line
+
+-- what begins anew is this line, by its kind
+abbrev pub IsUnitByKind : List ℕ → Unit → Type 0
+IsUnitByKind line (unit.Single single) = (line_of_single single ≡ line) × HasKind (kind_of_single single) line
+IsUnitByKind line (unit.Schedule view) = (view ≡ line) × HasKind basic_schedule line
+IsUnitByKind line unit.Trailer = HasKind trailer line
+
+-- what begins anew is this line, a record whose checked fields are good
+pub record IsUnitOf (line : List ℕ) (unit : Unit) : Type 0 where
+  pub is : IsRecord line
+  pub good_fields : HasGoodFields line
+  pub by_kind : IsUnitByKind line unit
+
+-- what begins anew is some such line
+pub record IsOfSome (unit : Unit) : Type 0 where
+  pub line : List ℕ
+  pub of : IsUnitOf line unit
 
 -- these changes were appended
 abbrev pub AppendsChanges : List Change → List model.Change → List Change → Type 0

@@ -1,23 +1,20 @@
 //! A file that was judged, and not kept.
 ghost use Rattle.std.specs.Prelude.{◌≡◌};
-ghost use Rattle.docker_model.specs.records.Record.{header as head};
-ghost use Rattle.cif_line.specs.View.{IsGood};
 ghost use Rattle.cif_file.specs.FileRead.{IsCounted};
 
-use cif_line::{Header, Line, header};
+use crate::header_line::HeaderLine;
+use cif_line::Header;
 use std::marker::Model;
 
 /// What a CIF file has: its header, and how many records and changes.
 #[derive(Debug, Drop)]
 pub struct FileCount {
-    header: Line,
+    header: HeaderLine,
     records: u32,
     changes: u64,
 }
 
 impl Model for FileCount {
-    ghost use Rattle.docker_model.specs.records.Record.{header as head};
-    ghost use Rattle.cif_line.specs.View.{IsGood};
     ghost use Rattle.cif_file.specs.FileRead.{FileCounted, IsCounted};
 
     ghost Value = { FileCounted };
@@ -28,7 +25,7 @@ impl Model for FileCount {
       change_count = count.changes;
     } };
 
-    ghost invariant = { λ count. IsGood head count.header × IsCounted (record {
+    ghost invariant = { λ count. IsCounted (record {
       header_line = count.header;
       record_count = count.records;
       change_count = count.changes;
@@ -37,8 +34,7 @@ impl Model for FileCount {
 
 impl FileCount {
     /// The counts of a file with this header.
-    pub(crate) fn of(header: Line, records: u32, changes: u64) -> FileCount
-        requires header { IsGood head header }
+    pub(crate) fn of(header: HeaderLine, records: u32, changes: u64) -> FileCount
         requires counted { IsCounted (record {
           header_line = header;
           record_count = records;
@@ -61,10 +57,7 @@ impl FileCount {
     pub fn header(&self) -> Header<'_>
         ensures { result ≡ self.now.header_line }
     {
-        match header(&self.header) {
-            Ok(view) => view,
-            Err(_) => unreachable!(),
-        }
+        self.header.view()
     }
 
     /// How many records the file has, the header and the trailer among them.

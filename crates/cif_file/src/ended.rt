@@ -29,7 +29,7 @@ impl Ended<Kept> {
             records,
             keeper,
         } = self;
-        CifFile::of(header.into_line(), records, keeper.into_changes())
+        CifFile::of(header, records, keeper.into_changes())
     }
 }
 
@@ -46,6 +46,6 @@ impl Ended<Tally> {
             records,
             keeper,
         } = self;
-        FileCount::of(header.into_line(), records, keeper.count())
+        FileCount::of(header, records, keeper.count())
     }
 }

@@ -1,74 +1,10 @@
 //! Why a text is no file, and why none was read.
 ghost use Rattle.std.specs.Prelude.{◌≡◌, Some};
-ghost use Rattle.cif_file.specs.declared.fault.FileCause.TheVariants.{Field, Memory};
-ghost use Rattle.cif_file.specs.FaultText.{cause_text, fault_text, read_fault_text};
+ghost use Rattle.cif_file.specs.FaultText.{fault_text, read_fault_text};
 
-use cif_line::FieldFault;
-use std::alloc::AllocError;
+use cif_journey::FileCause;
 use std::error::Error;
 use std::fmt;
-
-/// The cause of a fault.
-#[derive(Clone, Copy, PartialEq, Eq, Debug)]
-pub enum FileCause {
-    /// The line has not 80 bytes.
-    Length,
-    /// A byte of the line is not printable: the leftmost such column, from 1.
-    Byte(u8),
-    /// The line begins with the identity of no kind of record.
-    Kind,
-    /// No file that begins with the earlier records has a record of this kind next.
-    Place,
-    /// A checked field of the record is not good: the first column of the leftmost such field, from 1.
-    Field(u8),
-    /// The record's schedule passes midnight a third time there.
-    Midnights,
-    /// The text ends before a trailer.
-    NoEnd,
-    /// The record stands behind the trailer.
-    After,
-    /// There are more records than the limit allows.
-    TooMany,
-    /// A growth was refused: want of memory.
-    Memory,
-}
-
-impl fmt::Display for FileCause {
-    ghost output = { λ cause. Some (cause_text cause) };
-
-    fn fmt<W: fmt::Write>(&self, f: &mut fmt::Formatter<W>) -> fmt::Result {
-        match self {
-            FileCause::Length => f.write_str("Length"),
-            FileCause::Byte(column) => write!(f, "Byte {column}"),
-            FileCause::Kind => f.write_str("Kind"),
-            FileCause::Place => f.write_str("Place"),
-            FileCause::Field(column) => write!(f, "Field {column}"),
-            FileCause::Midnights => f.write_str("Midnights"),
-            FileCause::NoEnd => f.write_str("NoEnd"),
-            FileCause::After => f.write_str("After"),
-            FileCause::TooMany => f.write_str("TooMany"),
-            FileCause::Memory => f.write_str("Memory"),
-        }
-    }
-}
-
-impl Error for FileCause {}
-
-impl From<FieldFault> for FileCause {
-    ghost from_gives = { λ fault cause. cause ≡ Field fault.0 };
-
-    fn from(fault: FieldFault) -> FileCause {
-        FileCause::Field(fault.0)
-    }
-}
-
-impl From<AllocError> for FileCause {
-    ghost from_gives = { λ _ cause. cause ≡ Memory };
-
-    fn from(_refused: AllocError) -> FileCause {
-        FileCause::Memory
-    }
-}
 
 /// A record at which a text is found to be no file, or at which memory was wanting.
 #[derive(Clone, Copy, PartialEq, Eq, Debug)]

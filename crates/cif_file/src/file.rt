@@ -1,31 +1,28 @@
 //! A file that was read.
 ghost use Rattle.std.specs.Prelude.{◌≡◌, map};
-ghost use Rattle.docker_model.specs.records.Record.{header as head};
-ghost use Rattle.cif_line.specs.View.{IsGood};
-ghost use Rattle.cif_file.specs.Meaning.{change_meant};
+ghost use Rattle.cif_change.specs.Meaning.{change_meant};
 ghost use Rattle.cif_file.specs.FileRead.{IsRead};
 
-use crate::change::Change;
-use cif_line::{Header, Line, header};
+use crate::header_line::HeaderLine;
+use cif_change::Change;
+use cif_line::Header;
 use std::marker::Model;
 
 /// A CIF file: its header and the changes that its records make.
 #[derive(Debug, Drop)]
 pub struct CifFile {
-    header: Line,
+    header: HeaderLine,
     records: u32,
     changes: Vec<Change>,
 }
 
 impl Model for CifFile {
     ghost use Rattle.std.specs.Prelude.{map};
-    ghost use Rattle.docker_model.specs.records.Record.{header as head};
-    ghost use Rattle.cif_line.specs.View.{IsGood};
     ghost use Rattle.cif_file.specs.FileRead.{FileRead, IsRead};
 
     ghost Value = { FileRead };
 
-    ghost use Rattle.cif_file.specs.Meaning.{change_meant};
+    ghost use Rattle.cif_change.specs.Meaning.{change_meant};
 
     ghost view = { λ file. record {
       header_line = file.header;
@@ -33,7 +30,7 @@ impl Model for CifFile {
       changes_made = map change_meant file.changes.items;
     } };
 
-    ghost invariant = { λ file. IsGood head file.header × IsRead (record {
+    ghost invariant = { λ file. IsRead (record {
       header_line = file.header;
       record_count = file.records;
       changes_made = map change_meant file.changes.items;
@@ -42,8 +39,7 @@ impl Model for CifFile {
 
 impl CifFile {
     /// The file with this header, so many records and these changes.
-    pub(crate) fn of(header: Line, records: u32, changes: Vec<Change>) -> CifFile
-        requires header { IsGood head header }
+    pub(crate) fn of(header: HeaderLine, records: u32, changes: Vec<Change>) -> CifFile
         requires read { IsRead (record {
           header_line = header;
           record_count = records;
@@ -66,10 +62,7 @@ impl CifFile {
     pub fn header(&self) -> Header<'_>
         ensures { result ≡ self.now.header_line }
     {
-        match header(&self.header) {
-            Ok(view) => view,
-            Err(_) => unreachable!(),
-        }
+        self.header.view()
     }
 
     /// How many records the file has, the header and the trailer among them.

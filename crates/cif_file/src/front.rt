@@ -1,24 +1,23 @@
 //! The records of a file so far.
 ghost use Rattle.std.specs.Prelude.{◌≡◌, ℕ, ◌+◌, ◌↔◌, List, [], ◌∷◌, ◌++◌, length, map, IsOk, IfErr, IsErr, OnOk, OnErr, MatchOption, Some, true, false, is_some, IsTrue};
-ghost use Rattle.docker_model.specs.records.Record.{HasKind, IsRecord, kind_of, basic_schedule};
-ghost use Rattle.docker_model.specs.records.Field.{HasGoodFields};
+ghost use Rattle.docker_model.specs.records.Record.{HasKind, IsRecord};
 ghost use Rattle.docker_model.specs.file.File.{follows_basic, IsFile};
 ghost use Rattle.docker_model.specs.file.Change.{changes};
-ghost use Rattle.docker_laws.specs.FileStage.{unit_by_kind};
 ghost use Rattle.cif_line.specs.Kind.{meaning};
-ghost use Rattle.cif_file.specs.Meaning.{cause_meant};
-ghost use Rattle.cif_file.specs.JourneyRead.{FaultsLine, JudgesLine, is_over_by, progress_meant};
+ghost use Rattle.cif_journey.specs.Cause.{cause_meant};
+ghost use Rattle.cif_journey.specs.JourneyRead.{FaultsLine, JudgesLine, is_over_by, progress_meant};
 ghost use Rattle.cif_file.specs.KeeperRead.{Closes};
+ghost use Rattle.cif_file.specs.UnitRead.{IsUnitOf, IsOfSome};
 ghost use Rattle.cif_file.specs.EndedRead.{IsEnded};
 ghost use Rattle.cif_file.specs.RecordsRead.{HasRecords, StandsBefore, IsWholeBy, GoesOnTo, TakesLine, TakesNext, BeginsAnew, RefusesLine, RefusesUnended};
 
 use crate::ended::Ended;
-use crate::fault::FileCause;
 use crate::header_line::HeaderLine;
 use crate::keeper::Keeper;
 use crate::opened::{Opened, opened_schedule};
-use crate::unit::unit_cause;
-use cif_line::{Kind, Line, header, kind};
+use crate::unit::{Unit, unit_of};
+use cif_journey::FileCause;
+use cif_line::{Basic, Kind, Line, header, kind};
 use std::alloc::AllocError;
 
 /// Where a file is behind its records so far.
@@ -168,8 +167,8 @@ impl<K: Keeper> Front<K> {
         let Kind::Header = kind else {
             return Err(FileCause::Place);
         };
-        header(line)?;
-        self.header = Some(HeaderLine::of(*line));
+        let view = header(line)?;
+        self.header = Some(HeaderLine::of(&view));
         self.stage = FileStage::BetweenUnits;
         Ok(())
     }
@@ -182,10 +181,8 @@ impl<K: Keeper> Front<K> {
         ensures read { OnOk result (TakesNext K.keeps self.old number line.now self.new) }
         ensures err { IfErr result (RefusesLine K.keeps K.wants self.old line.now) }
     {
-        if let Some(cause) = unit_cause(kind, line) {
-            return Err(cause);
-        }
-        self.add_unit(number, kind, line)?;
+        let unit = unit_of(kind, line)?;
+        self.add_unit(number, unit)?;
         Ok(())
     }
 
@@ -209,10 +206,8 @@ impl<K: Keeper> Front<K> {
         if !opened.progress.complete() {
             return Err(FileCause::Place);
         }
-        if let Some(cause) = unit_cause(kind, line) {
-            return Err(cause);
-        }
-        self.begin_anew(number, opened, kind, line)?;
+        let unit = unit_of(kind, line)?;
+        self.begin_anew(number, opened, unit)?;
         Ok(())
     }
 
@@ -263,58 +258,45 @@ impl<K: Keeper> Front<K> {
     }
 
     /// Takes a record that begins anew behind a whole schedule.
-    fn begin_anew(
-        &mut self,
-        number: u32,
-        opened: Opened,
-        kind: Kind,
-        line: &Line,
-    ) -> Result<(), AllocError>
+    fn begin_anew(&mut self, number: u32, opened: Opened, unit: Unit<'_>) -> Result<(), AllocError>
         requires stage { self.old.stage ≡ FileStage.InSchedule opened }
-        requires record { IsRecord line.now }
-        requires kind { HasKind (meaning kind) line.now }
-        requires begins { is_some (unit_by_kind (kind_of line.now) line.now) ≡ true }
-        requires fields { HasGoodFields line.now }
-        ensures read { IsWholeBy opened →
-            OnOk result (TakesNext K.keeps self.old number line.now self.new) }
+        requires unit { IsOfSome unit }
+        ensures read { (line : List ℕ) → IsUnitOf line unit.entry → IsWholeBy opened →
+            OnOk result (TakesNext K.keeps self.old number line self.new) }
         ensures wants { OnErr result K.wants }
     {
         self.close(opened)?;
-        self.add_unit(number, kind, line)
+        self.add_unit(number, unit)
     }
 
     /// Adds a record that begins a unit, or the trailer.
-    fn add_unit(&mut self, number: u32, kind: Kind, line: &Line) -> Result<(), AllocError>
-        requires record { IsRecord line.now }
-        requires kind { HasKind (meaning kind) line.now }
-        requires begins { is_some (unit_by_kind (kind_of line.now) line.now) ≡ true }
-        requires fields { HasGoodFields line.now }
-        ensures read { OnOk result (BeginsAnew K.keeps self.old number line.now self.new) }
+    fn add_unit(&mut self, number: u32, unit: Unit<'_>) -> Result<(), AllocError>
+        requires { IsOfSome unit }
+        ensures read { (line : List ℕ) → IsUnitOf line unit.entry →
+            OnOk result (BeginsAnew K.keeps self.old number line self.new) }
         ensures wants { OnErr result K.wants }
     {
-        match kind {
-            Kind::BasicSchedule => self.open(number, line),
-            Kind::Trailer => {
+        match unit {
+            Unit::Single(single) => {
+                self.stage = FileStage::BetweenUnits;
+                self.keeper.add_single(number, &single)
+            }
+            Unit::Schedule(view) => self.open(number, &view),
+            Unit::Trailer => {
                 self.stage = FileStage::AfterEnd;
                 Ok(())
-            }
-            _ => {
-                self.stage = FileStage::BetweenUnits;
-                self.keeper.add_single(number, kind, line)
             }
         }
     }
 
     /// Adds a basic schedule.
-    fn open(&mut self, number: u32, line: &Line) -> Result<(), AllocError>
-        requires record { IsRecord line.now }
-        requires kind { HasKind basic_schedule line.now }
-        requires fields { HasGoodFields line.now }
-        ensures read { OnOk result (BeginsAnew K.keeps self.old number line.now self.new) }
+    fn open(&mut self, number: u32, view: &Basic<'_>) -> Result<(), AllocError>
+        requires { IsUnitOf view.now (Unit.Schedule view.now) }
+        ensures read { OnOk result (BeginsAnew K.keeps self.old number view.now self.new) }
         ensures wants { OnErr result K.wants }
     {
-        let opened = opened_schedule(number, line);
-        self.keeper.add_line(&line.as_new())?;
+        let opened = opened_schedule(number, view);
+        self.keeper.add_line(&view.line().as_new())?;
         self.stage = FileStage::InSchedule(opened);
         Ok(())
     }

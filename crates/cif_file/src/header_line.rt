@@ -1,9 +1,7 @@
-//! The header of a file that is being read.
+//! The header of a file.
 ghost use Rattle.std.specs.Prelude.{◌≡◌};
-ghost use Rattle.docker_model.specs.records.Record.{header};
-ghost use Rattle.cif_line.specs.View.{IsGood};
 
-use cif_line::Line;
+use cif_line::{Header, Line};
 use std::marker::Model;
 
 /// A header whose checked fields are good.
@@ -25,20 +23,17 @@ impl Model for HeaderLine {
 }
 
 impl HeaderLine {
-    /// The header that a line is.
-    pub(crate) fn of(line: Line) -> HeaderLine
-        requires { IsGood header line }
-        ensures { result ≡ line }
+    /// The line of a header that was read.
+    pub(crate) fn of(view: &Header<'_>) -> HeaderLine
+        ensures { result ≡ view.now }
     {
-        HeaderLine { line }
+        HeaderLine { line: *view.line() }
     }
 
-    /// Its line.
-    pub(crate) fn into_line(self) -> Line
-        ensures line { result ≡ self }
-        ensures good { IsGood header result }
+    /// A view of the header.
+    pub(crate) fn view(&self) -> Header<'_>
+        ensures { result ≡ self.now }
     {
-        let HeaderLine { line } = self;
-        line
+        Header::of(&self.line)
     }
 }

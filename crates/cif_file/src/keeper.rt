@@ -1,14 +1,13 @@
 //! What a reader of a file keeps of its records.
 ghost use Rattle.std.specs.Prelude.{ℕ, List, OnOk, OnErr};
 ghost use Rattle.docker_model.specs.records.Record.{HasKind};
-ghost use Rattle.docker_model.specs.records.Field.{HasGoodFields};
-ghost use Rattle.docker_model.specs.file.File.{IsSingleKind};
 ghost use Rattle.docker_model.specs.file.Change.{Change};
-ghost use Rattle.cif_line.specs.Kind.{meaning};
 ghost use Rattle.cif_file.specs.KeeperRead.{AddsLine, AddsSingle, Closes};
+ghost use Rattle.cif_file.specs.UnitRead.{kind_of_single, line_of_single};
 
 use crate::opened::Opened;
-use cif_line::{Kind, Line};
+use crate::single::Single;
+use cif_line::Line;
 use std::alloc::AllocError;
 
 /// What keeps of a file's records what its reader is to tell of them, beside the header and the number of the records. It is told of the records that make
@@ -30,11 +29,10 @@ pub(crate) trait Keeper: Drop + Sized {
         ensures kept { OnOk result (Closes keeps self.old opened self.new) }
         ensures wants { OnErr result wants };
 
-    /// Makes the changes of a single record.
-    fn add_single(&mut self, number: u32, kind: Kind, line: &Line) -> Result<(), AllocError>
-        requires kind { HasKind (meaning kind) line.now }
-        requires single { IsSingleKind line.now }
-        requires fields { HasGoodFields line.now }
-        ensures kept { OnOk result (AddsSingle keeps self.old number line.now self.new) }
+    /// Makes the changes of a record that is a unit by itself.
+    fn add_single(&mut self, number: u32, single: &Single<'_>) -> Result<(), AllocError>
+        requires { HasKind (kind_of_single single.now) (line_of_single single.now) }
+        ensures kept { OnOk result
+            (AddsSingle keeps self.old number (line_of_single single.now) self.new) }
         ensures wants { OnErr result wants };
 }

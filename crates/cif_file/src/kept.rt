@@ -2,11 +2,11 @@
 ghost use Rattle.std.specs.Prelude.{◌≡◌, [], map};
 ghost use Rattle.cif_file.specs.KeeperRead.{KeepsAll};
 
-use crate::change::Change;
 use crate::keeper::Keeper;
 use crate::opened::Opened;
-use crate::unit::{push, push_changes};
-use cif_line::{Kind, Line};
+use crate::single::{Single, push, push_changes};
+use cif_change::Change;
+use cif_line::Line;
 use std::alloc::{AllocError, Global};
 
 /// The changes of a file's records so far, and the lines of the schedule that is being read.
@@ -57,7 +57,7 @@ impl Keeper for Kept {
         Ok(())
     }
 
-    fn add_single(&mut self, number: u32, kind: Kind, line: &Line) -> Result<(), AllocError> {
-        push_changes(&mut self.changes, number, kind, line)
+    fn add_single(&mut self, number: u32, single: &Single<'_>) -> Result<(), AllocError> {
+        push_changes(&mut self.changes, number, single)
     }
 }

@@ -1,19 +1,15 @@
 //! A schedule whose lines are being read.
 ghost use Rattle.std.specs.Prelude.{◌≡◌, [], ◌∷◌, true, false, IsOk, IfOk, IfErr, OnOk, MatchOption, if◌then◌else◌};
-ghost use Rattle.docker_model.specs.records.Record.{HasKind, IsRecord, basic_schedule};
-ghost use Rattle.docker_model.specs.records.Field.{HasGoodFields};
+ghost use Rattle.docker_model.specs.records.Record.{HasKind, IsRecord};
+ghost use Rattle.docker_laws.specs.ScheduleStage.{is_first_line};
 ghost use Rattle.docker_model.specs.file.Change.{schedule_named, schedule_body, delete, put};
-ghost use Rattle.cif_file.specs.JourneyRead.{progress_meant, HasLines, Advances, FaultsLine, JudgesLine, is_over_by};
+ghost use Rattle.cif_journey.specs.JourneyRead.{progress_meant, HasLines, Advances, FaultsLine, JudgesLine, is_over_by};
 ghost use Rattle.cif_line.specs.Kind.{meaning};
-ghost use Rattle.cif_file.specs.Meaning.{change_meant, key_meant};
+ghost use Rattle.cif_change.specs.Meaning.{change_meant, key_meant};
 
-use crate::change::{Act, Body, Change};
-use crate::fault::FileCause;
-use crate::key::{Key, ScheduleKey};
-use crate::lines::Lines;
-use crate::progress::Progress;
-use crate::steps::behind_basic;
-use cif_line::{Basic, Kind, Line, basic};
+use cif_change::{Act, Body, Change, Key, Lines, ScheduleKey};
+use cif_journey::{FileCause, Progress, behind_basic};
+use cif_line::{Basic, Kind, Line};
 use std::alloc::{AllocError, Global};
 
 /// A schedule whose lines are being read: the number of its basic schedule, its key, and how far it has come.
@@ -35,13 +31,7 @@ impl Opened {
         ensures number { self.new.number ≡ self.old.number }
         ensures key { self.new.key ≡ self.old.key }
     {
-        match self.progress.with_kind(kind, line) {
-            Ok(progress) => {
-                self.progress = progress;
-                Ok(())
-            }
-            Err(cause) => Err(cause),
-        }
+        self.progress.advance(kind, line)
     }
 
     /// The schedule, if its journey is whole.
@@ -62,7 +52,7 @@ impl Opened {
         ensures { IfOk result (λ change. change_meant change ≡ record {
           number = self.number;
           key = key_meant (Key.Schedule self.key);
-          act = if self.progress.deletion then delete else put (schedule_body lines.now);
+          act = if (progress_meant self.progress).deletion then delete else put (schedule_body lines.now);
         }) }
     {
         let act = if self.progress.is_deletion() {
@@ -88,21 +78,16 @@ fn body_of(alloc: Global, lines: &[Line]) -> Result<Lines, AllocError>
 }
 
 /// The schedule that a basic schedule begins, which has this number.
-pub(crate) fn opened_schedule(number: u32, line: &Line) -> Opened
-    requires record { IsRecord line.now }
-    requires kind { HasKind basic_schedule line.now }
-    requires fields { HasGoodFields line.now }
+pub(crate) fn opened_schedule(number: u32, view: &Basic<'_>) -> Opened
+    requires { is_first_line view.now ≡ true }
     ensures number { result.number ≡ number }
-    ensures key { key_meant (Key.Schedule result.key) ≡ schedule_named line.now }
-    ensures progress { HasLines (progress_meant result.progress) (line.now ∷ []) }
+    ensures key { key_meant (Key.Schedule result.key) ≡ schedule_named view.now }
+    ensures progress { HasLines (progress_meant result.progress) (view.now ∷ []) }
 {
-    match basic(line) {
-        Ok(view) => Opened {
-            number,
-            key: schedule_key(&view),
-            progress: behind_basic(&view),
-        },
-        Err(_) => unreachable!(),
+    Opened {
+        number,
+        key: schedule_key(view),
+        progress: behind_basic(view),
     }
 }
 

@@ -6,20 +6,15 @@ ghost use Rattle.cif_file.specs.ParserRead.{IsReading, WantsMemoryAt, EndsBy};
 ghost use Rattle.cif_file.specs.SourceRead.{IsFaultOf, ReadsEnded, ReadsText, RefusesText, ReadsNoFurther, WantsMemory, WantsMemoryBy};
 
 use crate::ended::Ended;
-use crate::fault::{FileCause, FileFault, ReadFault};
+use crate::fault::{FileFault, ReadFault};
 use crate::file::CifFile;
 use crate::keeper::Keeper;
 use crate::kept::Kept;
 use crate::parser::Reading;
 use crate::records::MOST_RECORDS;
-use cif_line::Source;
+use cif_journey::FileCause;
+use cif_line::{FeedFault, Source, Taker, feed_all};
 use std::alloc::Global;
-
-/// How many bytes are read at once.
-const PIECE: usize = 65_536;
-
-/// The most bytes that a text without a fault has, of as many records as there may be: 82 for each of them, and 81 behind them.
-const MOST_BYTES: usize = 352_187_318_189;
 
 /// Reads a source to its end, and answers the file whose text it held, of at most `limit` records. It is read no further than to the piece, of at most 65,536
 /// bytes, that tells the first fault: so a source that never ends is read to the piece with the record above the limit at the latest.
@@ -44,6 +39,25 @@ pub fn read_file<S: Source>(alloc: Global, source: &mut S, limit: u32) -> Result
     }
 }
 
+impl<K: Keeper> Taker for Reading<K> {
+    ghost use Rattle.std.specs.Prelude.{ℕ};
+    ghost use Rattle.cif_file.specs.FileTaken.{TakesFile, RefusesPiece, taken_is_bounded};
+
+    type Fault = FileFault;
+
+    ghost Terms = { ℕ };
+
+    ghost takes = { TakesFile K.keeps };
+
+    ghost refuses = { λ _ limit text piece fault. RefusesPiece K.wants limit text piece fault };
+
+    fn take(&mut self, piece: &[u8]) -> Result<(), FileFault> {
+        self.feed(piece)
+    }
+
+    ghost bounded = { taken_is_bounded K.keeps };
+}
+
 /// Reads a source to its end, or to the piece that tells the first fault, and answers what is told of the file whose text it held.
 pub(crate) fn read_source<S: Source, K: Keeper>(
     alloc: Global,
@@ -66,22 +80,13 @@ pub(crate) fn read_source<S: Source, K: Keeper>(
     ensures no_failure { result ≢ Err ReadFault.Source →
         S.failures source.new ≡ S.failures source.old }
 {
-    let Ok(mut piece) = vec![in alloc; 0u8; PIECE] else {
-        return Err(ReadFault::Memory);
-    };
     let mut reading = Reading::new(keeper, limit);
-    for _ in 0..=MOST_BYTES {
-        let Ok(n) = source.read(piece.as_mut_slice()) else {
-            return Err(ReadFault::Source);
-        };
-        if n == 0 {
-            return ended_of(reading);
-        }
-        if let Err(fault) = reading.feed(&piece[..n]) {
-            return Err(fault_of(fault));
-        }
+    match feed_all(alloc, source, &mut reading) {
+        Ok(_) => ended_of(reading),
+        Err(FeedFault::Source) => Err(ReadFault::Source),
+        Err(FeedFault::Memory) => Err(ReadFault::Memory),
+        Err(FeedFault::Refused(fault)) => Err(fault_of(fault)),
     }
-    unreachable!()
 }
 
 /// What is told of the file that was read.

@@ -2,10 +2,11 @@
 ghost use Rattle.std.specs.Prelude.{◌≤◌};
 
 use crate::ended::Ended;
-use crate::fault::{FileCause, FileFault};
+use crate::fault::FileFault;
 use crate::front::Front;
 use crate::keeper::Keeper;
 use crate::next_record::take_within;
+use cif_journey::FileCause;
 
 /// The most records that a file may have.
 pub const MOST_RECORDS: u32 = 4_294_967_294;
@@ -24,7 +25,7 @@ impl<K: Keeper> Records<K> {
     ghost use Rattle.std.specs.Prelude.{◌≡◌, ℕ, ◌+◌, ◌≤◌, ◌<◌, List, [], ◌∷◌, ◌++◌, length, IsOk, IfOk, IfErr, OnOk, Some};
     ghost use Rattle.docker_model.specs.file.File.{IsFile};
     ghost use Rattle.docker_model.specs.file.FileFault.{no_end};
-    ghost use Rattle.cif_file.specs.Meaning.{cause_meant};
+    ghost use Rattle.cif_journey.specs.Cause.{cause_meant};
     ghost use Rattle.cif_file.specs.ParserRead.{HasCounted, CountsNext, FaultsNext, IsLongNext, EndsCounted, EndsUnended};
 
     /// Before the first record, of `limit` at most.

@@ -4,8 +4,8 @@ ghost use Rattle.cif_file.specs.KeeperRead.{CountsChanges};
 
 use crate::keeper::Keeper;
 use crate::opened::Opened;
-use crate::unit::count_changes;
-use cif_line::{Kind, Line};
+use crate::single::{Single, count_changes};
+use cif_line::Line;
 use std::alloc::AllocError;
 
 /// How many changes a file's records have made so far. No file has so many that they can't be counted, for a record makes two at most.
@@ -44,8 +44,8 @@ impl Keeper for Tally {
         Ok(())
     }
 
-    fn add_single(&mut self, _number: u32, kind: Kind, line: &Line) -> Result<(), AllocError> {
-        self.changes = self.changes.saturating_add(count_changes(kind, line));
+    fn add_single(&mut self, _number: u32, single: &Single<'_>) -> Result<(), AllocError> {
+        self.changes = self.changes.saturating_add(count_changes(single));
         Ok(())
     }
 }

@@ -3,7 +3,7 @@ use Rattle.std.proofs.Common.{◌≡◌, ℕ, List, true, false, cond, [], ◌�
 use Rattle.std.specs.List.{AllByRecursion}
 use Rattle.docker_model.specs.records.Record.{Kind, header, tiploc_insert, tiploc_amend, tiploc_delete, association, basic_schedule, extra_details, origin_location, intermediate_location, terminating_location, change_en_route, trailer, HasKind, kind_of, columns, column}
 use Rattle.docker_model.specs.records.Date.{is_date, is_date_day_first, is_end_date, is_days}
-use Rattle.docker_model.specs.records.Clock.{is_clock, is_present_time, is_scheduled_time, is_public_time}
+use Rattle.docker_model.specs.records.Clock.{is_clock, is_public_time}
 use Rattle.docker_model.specs.records.Field.{CheckedField, checked, checked_fields, HasGoodFields, is_tiploc, is_new_tiploc, is_update_indicator, is_transaction, is_stp_indicator, is_stp_letter, is_deletion}
 use Rattle.docker_laws.proofs.records.Columns.{good_fields, IsGoodIn, one_column}
 use Rattle.cif_line.specs.View.{IsGood, IsGoodTiploc, IsTiplocRecord, new_code_of}
@@ -31,31 +31,23 @@ pub ruleset header_fields = (header_day, header_minute, header_extract)
 pub origin_tiploc : (line : List ℕ) → IsGood origin_location line → is_tiploc (columns 3 9 line) ≡ true
 origin_tiploc line good = (each_good origin_location line good).0
 
--- the departure, columns 11 to 15, is there
-pub origin_departure : (line : List ℕ) → IsGood origin_location line → is_present_time (columns 11 15 line) ≡ true
-origin_departure line good = (each_good origin_location line good).1.0
-
 -- the public departure, columns 16 to 19, is HHMM or blank
 pub origin_public : (line : List ℕ) → IsGood origin_location line → is_public_time (columns 16 19 line) ≡ true
 origin_public line good = (each_good origin_location line good).1.1.0
 
 -- the checked fields of an origin location
-pub ruleset origin_fields = (origin_tiploc, origin_departure, origin_public)
+pub ruleset origin_fields = (origin_tiploc, origin_public)
 
 -- the TIPLOC, columns 3 to 9, is one
 pub terminus_tiploc : (line : List ℕ) → IsGood terminating_location line → is_tiploc (columns 3 9 line) ≡ true
 terminus_tiploc line good = (each_good terminating_location line good).0
-
--- the arrival, columns 11 to 15, is there
-pub terminus_arrival : (line : List ℕ) → IsGood terminating_location line → is_present_time (columns 11 15 line) ≡ true
-terminus_arrival line good = (each_good terminating_location line good).1.0
 
 -- the public arrival, columns 16 to 19, is HHMM or blank
 pub terminus_public : (line : List ℕ) → IsGood terminating_location line → is_public_time (columns 16 19 line) ≡ true
 terminus_public line good = (each_good terminating_location line good).1.1.0
 
 -- the checked fields of a terminating location
-pub ruleset terminus_fields = (terminus_tiploc, terminus_arrival, terminus_public)
+pub ruleset terminus_fields = (terminus_tiploc, terminus_public)
 
 -- the transaction, column 3, is N, D or R
 pub basic_transaction : (line : List ℕ) → IsGood basic_schedule line → is_transaction (column 3 line ∷ []) ≡ true
@@ -151,18 +143,6 @@ pub ruleset assoc_fields = (assoc_transaction, assoc_start, assoc_end, assoc_day
 pub call_tiploc : (line : List ℕ) → IsGood intermediate_location line → is_tiploc (columns 3 9 line) ≡ true
 call_tiploc line good = (each_good intermediate_location line good).0
 
--- the arrival, columns 11 to 15, is a scheduled time or blank
-pub call_arrival : (line : List ℕ) → IsGood intermediate_location line → is_scheduled_time (columns 11 15 line) ≡ true
-call_arrival line good = (each_good intermediate_location line good).1.0
-
--- the departure, columns 16 to 20, is a scheduled time or blank
-pub call_departure : (line : List ℕ) → IsGood intermediate_location line → is_scheduled_time (columns 16 20 line) ≡ true
-call_departure line good = (each_good intermediate_location line good).1.1.0
-
--- the pass, columns 21 to 25, is a scheduled time or blank
-pub call_pass : (line : List ℕ) → IsGood intermediate_location line → is_scheduled_time (columns 21 25 line) ≡ true
-call_pass line good = (each_good intermediate_location line good).1.1.1.0
-
 -- the public arrival, columns 26 to 29, is HHMM or blank
 pub call_public_arrival : (line : List ℕ) → IsGood intermediate_location line → is_public_time (columns 26 29 line) ≡ true
 call_public_arrival line good = (each_good intermediate_location line good).1.1.1.1.0
@@ -172,7 +152,7 @@ pub call_public_departure : (line : List ℕ) → IsGood intermediate_location l
 call_public_departure line good = (each_good intermediate_location line good).1.1.1.1.1.0
 
 -- the checked fields of an intermediate location
-pub ruleset call_fields = (call_tiploc, call_arrival, call_departure, call_pass, call_public_arrival, call_public_departure)
+pub ruleset call_fields = (call_tiploc, call_public_arrival, call_public_departure)
 
 -- the code, columns 3 to 9, is a TIPLOC
 pub tiploc_code : (line : List ℕ) → IsGoodTiploc line → is_tiploc (columns 3 9 line) ≡ true

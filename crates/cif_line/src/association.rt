@@ -37,6 +37,14 @@ impl<'a> Assoc<'a> {
         Assoc { line }
     }
 
+    /// The line of the record.
+    pub fn line(&self) -> &'a Line
+        ensures line { result.now ≡ self.now }
+        ensures good { IsGood association self.now }
+    {
+        self.line
+    }
+
     /// The transaction: column 3.
     pub fn transaction(&self) -> Transaction
         ensures { transaction_letter result ≡ column 3 self.now }

@@ -30,11 +30,19 @@ impl<'a> Model for Header<'a> {
 #[tactic(auto, using(crate::proofs::GoodFields::header_fields))]
 impl<'a> Header<'a> {
     /// A view of a line whose fields were checked.
-    pub(crate) fn of(line: &'a Line) -> Header<'a>
+    pub fn of(line: &'a Line) -> Header<'a>
         requires good { IsGood header line.now }
         ensures line { result ≡ line.entry.now }
     {
         Header { line }
+    }
+
+    /// The line of the record.
+    pub fn line(&self) -> &'a Line
+        ensures line { result.now ≡ self.now }
+        ensures good { IsGood header self.now }
+    {
+        self.line
     }
 
     /// The date of extract: columns 23 to 28.

@@ -14,17 +14,18 @@ pub fn kind(line: &Line) -> Option<Kind>
     ensures { option_map meaning result ≡ kind_of line.now }
 {
     match line.field(1) {
-        b"HD" => Some(Kind::Header),
+        // By how often an extract has them: most records are intermediate locations.
+        b"LI" => Some(Kind::IntermediateLocation),
+        b"LO" => Some(Kind::OriginLocation),
+        b"LT" => Some(Kind::TerminatingLocation),
+        b"BS" => Some(Kind::BasicSchedule),
+        b"BX" => Some(Kind::ExtraDetails),
+        b"CR" => Some(Kind::ChangeEnRoute),
+        b"AA" => Some(Kind::Association),
         b"TI" => Some(Kind::TiplocInsert),
         b"TA" => Some(Kind::TiplocAmend),
         b"TD" => Some(Kind::TiplocDelete),
-        b"AA" => Some(Kind::Association),
-        b"BS" => Some(Kind::BasicSchedule),
-        b"BX" => Some(Kind::ExtraDetails),
-        b"LO" => Some(Kind::OriginLocation),
-        b"LI" => Some(Kind::IntermediateLocation),
-        b"LT" => Some(Kind::TerminatingLocation),
-        b"CR" => Some(Kind::ChangeEnRoute),
+        b"HD" => Some(Kind::Header),
         b"ZZ" => Some(Kind::Trailer),
         _ => None,
     }

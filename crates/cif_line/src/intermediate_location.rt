@@ -9,32 +9,46 @@ ghost use Rattle.cif_line.specs.View.{IsGood};
 use cif_field::{Line, Time, Tiploc};
 use std::marker::Model;
 
-/// A view of an intermediate location (LI) whose checked fields are good.
+/// The scheduled times of an intermediate location, each none where it is blank.
+#[derive(Clone, Copy, PartialEq, Eq, Debug)]
+pub(crate) struct CallTimes {
+    pub arrival: Option<Time>,
+    pub departure: Option<Time>,
+    pub pass: Option<Time>,
+}
+
+/// A view of an intermediate location (LI) whose checked fields are good. Its scheduled times are read where they are judged.
 #[derive(Debug, Drop)]
 pub struct Call<'a> {
     line: &'a Line,
+    times: CallTimes,
 }
 
 impl<'a> Model for Call<'a> {
     ghost use Rattle.std.specs.Prelude.{List, ℕ};
     ghost use Rattle.docker_model.specs.records.Record.{intermediate_location};
     ghost use Rattle.cif_line.specs.View.{IsGood};
+    ghost use Rattle.cif_line.specs.CallRead.{AreTimesOf};
 
     ghost Value = { List ℕ };
 
     ghost view = { λ call. call.line.now };
 
-    ghost invariant = { λ call. IsGood intermediate_location call.line.now };
+    ghost invariant = { λ call. IsGood intermediate_location call.line.now ×
+        AreTimesOf call.line.now call.times };
 }
 
 #[tactic(auto, using(crate::proofs::GoodFields::call_fields))]
 impl<'a> Call<'a> {
-    /// A view of a line whose fields were checked.
-    pub(crate) fn of(line: &'a Line) -> Call<'a>
+    ghost use Rattle.cif_line.specs.CallRead.{AreTimesOf};
+
+    /// A view of a line whose fields were checked, and whose scheduled times are these.
+    pub(crate) fn of(line: &'a Line, times: CallTimes) -> Call<'a>
         requires good { IsGood intermediate_location line.now }
+        requires times { AreTimesOf line.now times }
         ensures line { result ≡ line.entry.now }
     {
-        Call { line }
+        Call { line, times }
     }
 
     /// The TIPLOC of the timing point: columns 3 to 9.
@@ -55,21 +69,21 @@ impl<'a> Call<'a> {
     pub fn arrival(&self) -> Option<Time>
         ensures { result ≡ scheduled_time (columns 11 15 self.now) }
     {
-        self.line.scheduled_time(11)
+        self.times.arrival
     }
 
     /// The scheduled departure, in half minutes, none where it is blank: columns 16 to 20.
     pub fn departure(&self) -> Option<Time>
         ensures { result ≡ scheduled_time (columns 16 20 self.now) }
     {
-        self.line.scheduled_time(16)
+        self.times.departure
     }
 
     /// The scheduled pass, in half minutes, none where it is blank: columns 21 to 25.
     pub fn pass(&self) -> Option<Time>
         ensures { result ≡ scheduled_time (columns 21 25 self.now) }
     {
-        self.line.scheduled_time(21)
+        self.times.pass
     }
 
     /// The public arrival, a whole minute, none where it is blank or `0000`: columns 26 to 29.

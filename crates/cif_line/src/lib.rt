@@ -19,7 +19,9 @@ pub use association::Assoc;
 pub use basic_schedule::Basic;
 pub use change_en_route::ChangeEnRoute;
 pub use check::FieldFault;
-pub use cif_device::{Bytes, Endless, Failed, Fuse, Kept, Memory, Sink, Source, write_all};
+pub use cif_device::{
+    Bytes, Endless, Failed, FeedFault, Fuse, Kept, Memory, Sink, Source, Taker, feed_all, write_all,
+};
 pub use cif_field::{
     Day, Days, Extract, Line, LineFault, NO_END, Stp, Time, Tiploc, Transaction, Uid, Until,
     is_printable,

@@ -9,32 +9,37 @@ ghost use Rattle.cif_line.specs.View.{IsGood};
 use cif_field::{Line, Time, Tiploc};
 use std::marker::Model;
 
-/// A view of an origin location (LO) whose checked fields are good.
+/// A view of an origin location (LO) whose checked fields are good. Its scheduled time is read where it is judged.
 #[derive(Debug, Drop)]
 pub struct Origin<'a> {
     line: &'a Line,
+    departure: Time,
 }
 
 impl<'a> Model for Origin<'a> {
     ghost use Rattle.std.specs.Prelude.{List, ℕ};
-    ghost use Rattle.docker_model.specs.records.Record.{origin_location};
+    ghost use Rattle.std.specs.Prelude.{◌≡◌};
+    ghost use Rattle.docker_model.specs.records.Record.{origin_location, columns};
+    ghost use Rattle.docker_model.specs.records.Clock.{half_minutes};
     ghost use Rattle.cif_line.specs.View.{IsGood};
 
     ghost Value = { List ℕ };
 
     ghost view = { λ origin. origin.line.now };
 
-    ghost invariant = { λ origin. IsGood origin_location origin.line.now };
+    ghost invariant = { λ origin. IsGood origin_location origin.line.now ×
+        (origin.departure ≡ half_minutes (columns 11 15 origin.line.now)) };
 }
 
 #[tactic(auto, using(crate::proofs::GoodFields::origin_fields))]
 impl<'a> Origin<'a> {
-    /// A view of a line whose fields were checked.
-    pub(crate) fn of(line: &'a Line) -> Origin<'a>
+    /// A view of a line whose fields were checked, and whose scheduled time is this.
+    pub(crate) fn of(line: &'a Line, departure: Time) -> Origin<'a>
         requires good { IsGood origin_location line.now }
+        requires time { departure ≡ half_minutes (columns 11 15 line.now) }
         ensures line { result ≡ line.entry.now }
     {
-        Origin { line }
+        Origin { line, departure }
     }
 
     /// The TIPLOC of the timing point: columns 3 to 9.
@@ -55,7 +60,7 @@ impl<'a> Origin<'a> {
     pub fn departure(&self) -> Time
         ensures { result ≡ half_minutes (columns 11 15 self.now) }
     {
-        self.line.present_time(11)
+        self.departure
     }
 
     /// The public departure, a whole minute, none where it is blank or `0000`: columns 16 to 19.

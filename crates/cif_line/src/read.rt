@@ -1,7 +1,9 @@
 //! Readers of records: each makes a view of a line whose checked fields are good, and otherwise tells the leftmost that is not.
-ghost use Rattle.std.specs.Prelude.{◌≡◌, IsOk};
-ghost use Rattle.docker_model.specs.records.Record.{HasKind, header, association, basic_schedule, origin_location, intermediate_location, terminating_location, change_en_route};
+ghost use Rattle.std.specs.Prelude.{◌≡◌, IsOk, IfOk, IfErr, Some, None};
+ghost use Rattle.docker_model.specs.records.Clock.{half_minutes};
+ghost use Rattle.docker_model.specs.records.Record.{HasKind, columns, header, association, basic_schedule, origin_location, intermediate_location, terminating_location, change_en_route};
 ghost use Rattle.docker_model.specs.records.Field.{leftmost_bad_field};
+ghost use Rattle.cif_line.specs.CallRead.{AreTimesOf};
 ghost use Rattle.cif_line.specs.RecordRead.{ReadsAs};
 ghost use Rattle.cif_line.specs.View.{IsTiplocRecord, bad_field_of};
 
@@ -14,11 +16,11 @@ use crate::check::{
 };
 use crate::header_record::Header;
 use crate::identity::is_amendment;
-use crate::intermediate_location::Call;
+use crate::intermediate_location::{Call, CallTimes};
 use crate::origin_location::Origin;
 use crate::terminating_location::Terminus;
 use crate::tiploc_record::TiplocRecord;
-use cif_field::{Line, is_clock, is_present_time, is_public_time, is_scheduled_time};
+use cif_field::{Line, Time, is_clock, is_public_time};
 
 #[cfg(test)]
 mod tests;
@@ -165,9 +167,9 @@ pub fn origin(line: &Line) -> Result<Origin<'_>, FieldFault>
     requires kind { HasKind origin_location line.now }
     ensures { ReadsAs line.now result }
 {
-    match end_fault(line) {
-        Some(column) => Err(FieldFault(column)),
-        None => Ok(Origin::of(line)),
+    match end_time(line) {
+        Err(column) => Err(FieldFault(column)),
+        Ok(departure) => Ok(Origin::of(line, departure)),
     }
 }
 
@@ -177,27 +179,32 @@ pub fn terminus(line: &Line) -> Result<Terminus<'_>, FieldFault>
     requires kind { HasKind terminating_location line.now }
     ensures { ReadsAs line.now result }
 {
-    match end_fault(line) {
-        Some(column) => Err(FieldFault(column)),
-        None => Ok(Terminus::of(line)),
+    match end_time(line) {
+        Err(column) => Err(FieldFault(column)),
+        Ok(arrival) => Ok(Terminus::of(line, arrival)),
     }
 }
 
-/// The first column of the leftmost bad field of an origin location, and of a terminating location, whose checked fields stand alike. None where all are good.
-fn end_fault(line: &Line) -> Option<u8>
-    ensures origin { result ≡ bad_field_of origin_location line.now }
-    ensures terminus { result ≡ bad_field_of terminating_location line.now }
+/// The scheduled time of an origin location, and of a terminating location, whose checked fields stand alike; or the first column of its leftmost bad field.
+fn end_time(line: &Line) -> Result<Time, u8>
+    ensures origin { IfOk result (λ time. bad_field_of origin_location line.now ≡ None) }
+    ensures terminus { IfOk result (λ time. bad_field_of terminating_location line.now ≡ None) }
+    ensures time { IfOk result (λ time. time ≡ half_minutes (columns 11 15 line.now)) }
+    ensures bad_origin { IfErr result (λ column.
+        bad_field_of origin_location line.now ≡ Some column) }
+    ensures bad_terminus { IfErr result (λ column.
+        bad_field_of terminating_location line.now ≡ Some column) }
 {
     if !is_tiploc(line.field(3)) {
-        return Some(3);
+        return Err(3);
     }
-    if !is_present_time(line.field(11)) {
-        return Some(11);
-    }
+    let Some(time) = Time::from_field(line.field(11)) else {
+        return Err(11);
+    };
     if !is_public_time(line.field(16)) {
-        return Some(16);
+        return Err(16);
     }
-    None
+    Ok(time)
 }
 
 /// A view of an intermediate location (LI), or the first column of its leftmost bad field: 3 for the TIPLOC, 11 for the arrival, 16 for the departure,
@@ -206,35 +213,42 @@ pub fn call(line: &Line) -> Result<Call<'_>, FieldFault>
     requires kind { HasKind intermediate_location line.now }
     ensures { ReadsAs line.now result }
 {
-    match call_fault(line) {
-        Some(column) => Err(FieldFault(column)),
-        None => Ok(Call::of(line)),
+    match call_times(line) {
+        Err(column) => Err(FieldFault(column)),
+        Ok(times) => Ok(Call::of(line, times)),
     }
 }
 
-/// The first column of an intermediate location's leftmost bad field, none where all are good.
-fn call_fault(line: &Line) -> Option<u8>
-    ensures { result ≡ bad_field_of intermediate_location line.now }
+/// The scheduled times of an intermediate location, or the first column of its leftmost bad field.
+fn call_times(line: &Line) -> Result<CallTimes, u8>
+    ensures good { IfOk result (λ times. bad_field_of intermediate_location line.now ≡ None) }
+    ensures times { IfOk result (AreTimesOf line.now) }
+    ensures bad { IfErr result (λ column.
+        bad_field_of intermediate_location line.now ≡ Some column) }
 {
     if !is_tiploc(line.field(3)) {
-        return Some(3);
+        return Err(3);
     }
-    if !is_scheduled_time(line.field(11)) {
-        return Some(11);
-    }
-    if !is_scheduled_time(line.field(16)) {
-        return Some(16);
-    }
-    if !is_scheduled_time(line.field(21)) {
-        return Some(21);
-    }
+    let Some(arrival) = Time::scheduled(line.field(11)) else {
+        return Err(11);
+    };
+    let Some(departure) = Time::scheduled(line.field(16)) else {
+        return Err(16);
+    };
+    let Some(pass) = Time::scheduled(line.field(21)) else {
+        return Err(21);
+    };
     if !is_public_time(line.field(26)) {
-        return Some(26);
+        return Err(26);
     }
     if !is_public_time(line.field(30)) {
-        return Some(30);
+        return Err(30);
     }
-    None
+    Ok(CallTimes {
+        arrival,
+        departure,
+        pass,
+    })
 }
 
 /// A view of a change en route (CR), which has no checked field, so there is always one.

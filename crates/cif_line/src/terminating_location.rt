@@ -9,32 +9,37 @@ ghost use Rattle.cif_line.specs.View.{IsGood};
 use cif_field::{Line, Time, Tiploc};
 use std::marker::Model;
 
-/// A view of a terminating location (LT) whose checked fields are good.
+/// A view of a terminating location (LT) whose checked fields are good. Its scheduled time is read where it is judged.
 #[derive(Debug, Drop)]
 pub struct Terminus<'a> {
     line: &'a Line,
+    arrival: Time,
 }
 
 impl<'a> Model for Terminus<'a> {
     ghost use Rattle.std.specs.Prelude.{List, ℕ};
-    ghost use Rattle.docker_model.specs.records.Record.{terminating_location};
+    ghost use Rattle.std.specs.Prelude.{◌≡◌};
+    ghost use Rattle.docker_model.specs.records.Record.{terminating_location, columns};
+    ghost use Rattle.docker_model.specs.records.Clock.{half_minutes};
     ghost use Rattle.cif_line.specs.View.{IsGood};
 
     ghost Value = { List ℕ };
 
     ghost view = { λ terminus. terminus.line.now };
 
-    ghost invariant = { λ terminus. IsGood terminating_location terminus.line.now };
+    ghost invariant = { λ terminus. IsGood terminating_location terminus.line.now ×
+        (terminus.arrival ≡ half_minutes (columns 11 15 terminus.line.now)) };
 }
 
 #[tactic(auto, using(crate::proofs::GoodFields::terminus_fields))]
 impl<'a> Terminus<'a> {
-    /// A view of a line whose fields were checked.
-    pub(crate) fn of(line: &'a Line) -> Terminus<'a>
+    /// A view of a line whose fields were checked, and whose scheduled time is this.
+    pub(crate) fn of(line: &'a Line, arrival: Time) -> Terminus<'a>
         requires good { IsGood terminating_location line.now }
+        requires time { arrival ≡ half_minutes (columns 11 15 line.now) }
         ensures line { result ≡ line.entry.now }
     {
-        Terminus { line }
+        Terminus { line, arrival }
     }
 
     /// The TIPLOC of the timing point: columns 3 to 9.
@@ -55,7 +60,7 @@ impl<'a> Terminus<'a> {
     pub fn arrival(&self) -> Time
         ensures { result ≡ half_minutes (columns 11 15 self.now) }
     {
-        self.line.present_time(11)
+        self.arrival
     }
 
     /// The public arrival, a whole minute, none where it is blank or `0000`: columns 16 to 19.

@@ -1,25 +1,26 @@
 -- Reading a source: what the parser was fed is what the source had.
-use Rattle.std.proofs.Common.{◌≡◌, ◌≢◌, ℕ, ◌+◌, ◌-◌, ◌<◌, ◌≤◌, List, [], ◌∷◌, ◌++◌, length, take, drop, refl, ap, sym, ◌∙◌, subst, inl, inr, ◌⊎◌, arith, append_assoc, append-nil, length-append, length-drop, Some, None, Err, Result}
-use Rattle.std.specs.Prelude.{Option, option_map, IfOk}
-use Rattle.std.proofs.lemmas.List.{take-append-drop, take-append-le, take-take}
+use Rattle.std.proofs.Common.{◌≡◌, ◌≢◌, ℕ, ◌+◌, ◌<◌, List, [], ◌∷◌, ◌++◌, length, take, drop, refl, ap, sym, ◌∙◌, subst, inl, inr, ◌⊎◌, arith, append_assoc, append-nil, length-drop, Some, None, Err, Result}
+use Rattle.std.specs.Prelude.{Option, Ok, IfOk, IfErr, IsOk, OnOk, ◌↔◌, ◌^◌}
+use Rattle.std.proofs.lemmas.List.{take-append-drop}
 use Rattle.std.proofs.lemmas.Result.{IfOk-weaker}
 use Rattle.cif_line.specs.Device.{Reads, IsEnd}
+use Rattle.cif_line.specs.Taken.{BehindEach, HasFed, HasRefused, LosesOnePieceMore}
 use Rattle.docker_model.specs.state.State.{State}
 use Rattle.docker_model.specs.state.StateText.{Format}
-use Rattle.docker_model.specs.state.StatePart.{text_before, before_mark}
-use Rattle.docker_model.specs.state.StateFault.{too_short, has_tail, IsStateFault, IsStateText, HasTail}
+use Rattle.docker_model.specs.state.StateFault.{has_tail, IsStateText, HasTail}
 use Rattle.docker_model.specs.state.StateFault as model
 use Rattle.docker_laws.proofs.texts.StateFaultStays.{bad_part_stays, long_stays}
-use Rattle.docker_bytes.specs.declared.fault.StateCause.{StateCause}
-use Rattle.docker_bytes.specs.declared.fault.StateCause.TheVariants as cause
+use Rattle.docker_parts.specs.declared.cause.StateCause.{StateCause}
+use Rattle.docker_parts.specs.declared.cause.StateCause.TheVariants as cause
 use Rattle.docker_bytes.specs.declared.fault.StateFault.{StateFault}
 use Rattle.docker_bytes.specs.declared.fault.Step.{Step}
 use Rattle.docker_bytes.specs.declared.fault.Step.TheVariants.{Done, More}
 use Rattle.docker_bytes.specs.declared.read.ReadFault.{ReadFault}
 use Rattle.docker_bytes.specs.declared.read.ReadFault.TheVariants as fault
-use Rattle.docker_bytes.specs.FaultMeaning.{cause_meant}
-use Rattle.docker_bytes.specs.Reading.{format_of, before_of, text_of, IsToldSoFar, IsFaultTold, IsToldAtEnd, IsUnended, IsWhole, IsWanting, IsStep, JoinsText}
-use Rattle.docker_bytes.specs.ParserRead.{ParserState, HasRead}
+use Rattle.docker_parts.specs.FaultMeaning.{cause_meant}
+use Rattle.docker_bytes.specs.Reading.{format_of, IsToldSoFar, IsFaultTold, IsToldAtEnd, IsUnended, IsWhole, IsWanting, IsStep, JoinsText}
+use Rattle.docker_bytes.specs.ParserRead.{ParserState, HasRead, IsUnread, own_of}
+use Rattle.docker_bytes.specs.StateTaken.{RefusesPart, StateTerms, TakesState}
 use Rattle.docker_bytes.specs.SourceRead.{Held, ReadsState, IsCauseOf, IsFaultOf, RefusesState, ReadsOnePieceMore, ReadsAll, WantsSoFar, WantsMemory, JoinsState}
 use Rattle.docker_bytes.proofs.TextEnd.{sound_text}
 
@@ -157,66 +158,40 @@ pub tail_told : (format : Format) (limit : ℕ) (text piece rest : List ℕ) (us
 tail_told format limit text piece rest used Done found below whole at is = tail_of format limit text piece rest used found below whole at is
 tail_told format limit text piece rest used More found below more at is = absurd (let all = more.0 in omega arith)
 
--- ---- turns
+-- ---- pieces
 
--- after so many turns the parser was fed a text, which is what the source lost
-record IsAtTurn (format : Format) (limit : ℕ) (initial : Option (List ℕ)) (parser : ParserState) (now : Option (List ℕ)) : Type 0 where
-  text : List ℕ
-  read : HasRead parser format limit text
-  lost : Reads initial text now
+-- the terms of a parser
+abbrev pub terms_of : ParserState → StateTerms
+terms_of parser = record { format = format_of parser.reading; limit = parser.reading.limit; own = own_of parser }
 
--- the same, shut so that the search does not open it
-pub HasTurned : Format → ℕ → Option (List ℕ) → ParserState → Option (List ℕ) → Type 0
-HasTurned format limit initial parser now = IsAtTurn format limit initial parser now
+-- a parser that has read nothing has taken nothing
+pub at_start : (parser : ParserState) → IsUnread parser → parser.reading.limit < 2 ^ 64 → TakesState parser (terms_of parser) []
+at_start parser unread small = record { read = unread; own = refl; small = small }
 
--- nothing is lost before the first read
-pub lost_nothing : (left : Option (List ℕ)) → Reads left [] left
-lost_nothing None = refl
-lost_nothing (Some bytes) = refl
+-- a piece that was read was taken
+pub takes_more : (before after : ParserState) (piece : List ℕ) {A : Type 0} (result : Result A ReadFault)
+    → ((format : Format) (limit : ℕ) (text : List ℕ) → HasRead before format limit text → IsOk result → HasRead after format limit (text ++ piece))
+    → own_of after ≡ own_of before
+    → OnOk result (BehindEach TakesState before (λ terms text. TakesState after terms (text ++ piece)))
+takes_more before after piece (Ok done) read own = λ terms text has.
+    record { read = read terms.format terms.limit text has.read refl; own = own ∙ has.own; small = has.small }
+takes_more before after piece (Err told) read own = tt
 
--- at first
-pub at_start : (format : Format) (limit : ℕ) (left : Option (List ℕ)) (parser : ParserState) → HasRead parser format limit []
-    → HasTurned format limit left parser left
-unfolding HasTurned
-at_start format limit left parser read = record { text = []; read = read; lost = lost_nothing left }
-
--- what is read behind what was read
-lost_more : (initial now next : Option (List ℕ)) (text piece : List ℕ) → Reads initial text now → Reads now piece next → Reads initial (text ++ piece) next
-lost_more initial now None text piece first more = first ∙ ap (option_map (λ rest. text ++ rest)) more
-lost_more initial now (Some rest) text piece first more = first ∙ ap (option_map (λ r. text ++ r)) more ∙ ap (λ t. Some t) (sym (append_assoc text piece rest))
-
--- a piece more
-pub next_turn : (format : Format) (limit : ℕ) (initial now next : Option (List ℕ)) (before after : ParserState) (piece : List ℕ)
-    → HasTurned format limit initial before now → 0 < length piece
-    → Reads now piece next → ((text : List ℕ) → HasRead before format limit text → HasRead after format limit (text ++ piece))
-    → HasTurned format limit initial after next
-unfolding HasTurned
-next_turn format limit initial now next before after piece at some more read = record {
-  text = at.text ++ piece;
-  read = read at.text at.read;
-  lost = lost_more initial now next at.text piece at.lost more;
+-- and a fault that was told refuses it
+pub refuses_more : (before after : ParserState) (piece : List ℕ) {A : Type 0} (result : Result A ReadFault)
+    → ((format : Format) (limit : ℕ) (text : List ℕ) → HasRead before format limit text → (found : StateFault) → result ≡ Err (fault.State found)
+    → (rest : List ℕ) → IsFaultOf format limit ((text ++ piece) ++ rest) found)
+    → ((format : Format) (limit : ℕ) (text : List ℕ) → HasRead before format limit text → result ≡ Err fault.Memory
+    → (at : ℕ) × IsWanting format limit text piece at)
+    → result ≢ Err fault.Source → own_of after ≡ own_of before
+    → IfErr result (λ told. BehindEach TakesState before (λ terms text. RefusesPart after terms text piece told))
+refuses_more before after piece (Ok done) state memory source own = tt
+refuses_more before after piece (Err told) state memory source own = λ terms text has. record {
+  own = own ∙ has.own;
+  state = λ found is. state terms.format terms.limit text has.read found (ap Err is);
+  memory = λ is. memory terms.format terms.limit text has.read (ap Err is);
+  apart = λ is. source (ap Err is);
 }
-
--- how many bytes a parser has read
-abbrev pub read_length : ParserState → ℕ
-read_length parser = length (text_of parser.reading)
-
--- each turn reads further, within the limit
-pub fewer_left : (format : Format) (limit : ℕ) (initial now : Option (List ℕ)) (before after : ParserState) (piece : List ℕ)
-    → HasTurned format limit initial before now → 0 < length piece
-    → ((text : List ℕ) → HasRead before format limit text → HasRead after format limit (text ++ piece))
-    → limit + 1 - read_length after < limit + 1 - read_length before
-unfolding HasTurned
-fewer_left format limit initial now before after piece at some read =
-    let was = at.read in
-    let has = read at.text at.read in
-    let old : length (text_of before.reading) ≡ length at.text = ap length was.text_is in
-    let grown : length (text_of after.reading) ≡ length at.text + length piece = ap length has.text_is ∙ length-append at.text piece in
-    let size = length-append (text_before (format_of after.reading) (before_of after.reading)) after.reading.partial.items in
-    let reached = has.sound.reached_is in
-    let within = has.sound.within in
-    let same = has.limit_is in
-    omega arith
 
 -- what was read to the end is what the source held
 held_all : (initial now : Option (List ℕ)) (text : List ℕ) → Reads initial text now → IsEnd now → Held initial text
@@ -226,11 +201,11 @@ held_all (Some told) (Some rest) text lost end =
     let same : told ≡ text ++ rest = cc in
     same ∙ ap (λ r. text ++ r) end ∙ append-nil text
 
--- a parser that has read to the end has read all
-pub reads_all : (format : Format) (limit : ℕ) (initial now : Option (List ℕ)) (parser : ParserState) → HasTurned format limit initial parser now
-    → IsEnd now → ReadsAll format limit initial parser
-unfolding HasTurned
-reads_all format limit initial now parser at end = record { text = at.text; held = held_all initial now at.text at.lost end; read = at.read }
+-- a parser that has taken all up to the end has read all
+pub reads_all : (terms : StateTerms) (count : ℕ) (initial now : Option (List ℕ)) (parser : ParserState)
+    → HasFed TakesState count terms [] initial now parser → IsEnd now → ReadsAll terms.format terms.limit initial parser
+reads_all terms count initial now parser at end =
+    record { text = at.bytes; held = held_all initial now at.bytes at.lost end; read = at.taken.read }
 
 -- a parser that has read nothing of a format under a limit
 pub unread : (parser : ParserState) (format : Format) (limit : ℕ) (text : List ℕ) → HasRead parser format limit text
@@ -278,69 +253,47 @@ joined_of_all format limit initial parser own after all is =
     let joins = is all.text all.read in
     record { received = joins.received; read = record { text = all.text; held = all.held; is = joins.is }; join = joins.join }
 
--- a fault that a text tells is that of what the source held
-pub refused_within : (format : Format) (limit : ℕ) (initial now next : Option (List ℕ)) (parser : ParserState) (found : StateFault) (piece : List ℕ)
-    → HasTurned format limit initial parser now
-    → Reads now piece next → ((text : List ℕ) → HasRead parser format limit text → (rest : List ℕ) → IsFaultOf format limit ((text ++ piece) ++ rest) found)
-    → RefusesState format limit initial found
-unfolding HasTurned
-refused_within format limit initial now next parser found piece at more is = by initial next (lost_more initial now next at.text piece at.lost more)
+-- the fault of a piece is that of what the source held
+pub refused_within : (terms : StateTerms) (initial next : Option (List ℕ)) (parser : ParserState) (told : ReadFault) {A : Type 0} (found : StateFault)
+    → HasRefused TakesState RefusesPart 65536 terms [] initial next parser told → ◌≡◌ {A = Result A ReadFault} (Err told) (Err (fault.State found))
+    → RefusesState terms.format terms.limit initial found
+refused_within terms initial next parser told found has is = by initial next has.more.lost
   where
-    by : (initial next : Option (List ℕ)) → Reads initial (at.text ++ piece) next → RefusesState format limit initial found
-    by None next lost = record { text = (at.text ++ piece) ++ []; held = tt; is = is at.text at.read [] }
-    by (Some told) None lost = cc
-    by (Some told) (Some rest) lost = record { text = (at.text ++ piece) ++ rest; held = cc; is = is at.text at.read rest }
+    text : List ℕ
+    text = has.more.bytes ++ has.more.piece
 
--- nothing is read before the first read
-pub stops_at_first : (format : Format) (most limit : ℕ) (left : Option (List ℕ)) → ReadsOnePieceMore format most limit left left
-stops_at_first format most limit left = record {
-  text = [];
-  piece = [];
-  lost = lost_nothing left;
-  few = omega arith;
-  sound = inl (
-    record { at = 0; cause = too_short },
-    record { before = before_mark; good = tt; rest = []; whole = refl; ends = omega arith; within = omega arith; cause = refl; item_at = refl },
-  );
+    of : (rest : List ℕ) → IsFaultOf terms.format terms.limit (text ++ rest) found
+    of rest = let same : told ≡ fault.State found = cc in has.refused.state found same rest
+
+    by : (initial next : Option (List ℕ)) → Reads initial text next → RefusesState terms.format terms.limit initial found
+    by None next lost = record { text = text ++ []; held = tt; is = of [] }
+    by (Some left) None lost = cc
+    by (Some left) (Some rest) lost = record { text = text ++ rest; held = cc; is = of rest }
+
+-- it loses no more than one piece behind a text that is not at fault
+pub loses_few : (terms : StateTerms) (initial next : Option (List ℕ)) → LosesOnePieceMore TakesState 65536 terms [] initial next
+    → ReadsOnePieceMore terms.format 65536 terms.limit initial next
+loses_few terms initial next more = record {
+  text = more.bytes;
+  piece = more.piece;
+  lost = more.lost;
+  few = more.few;
+  sound = sound_text more.taker terms.format terms.limit more.bytes more.taken.read;
 }
-
--- nothing is read behind a piece
-pub stops_behind : (format : Format) (most limit : ℕ) (initial now next : Option (List ℕ)) (parser : ParserState) (piece : List ℕ)
-    → HasTurned format limit initial parser now → Reads now piece next → length piece ≤ most
-    → ReadsOnePieceMore format most limit initial next
-unfolding HasTurned
-stops_behind format most limit initial now next parser piece at more few = record {
-  text = at.text;
-  piece = piece;
-  lost = lost_more initial now next at.text piece at.lost more;
-  few = few;
-  sound = sound_text parser format limit at.text at.read;
-}
-
--- a source that failed lost nothing more
-pub stops_where_failed : (format : Format) (most limit : ℕ) (initial now next : Option (List ℕ)) (parser : ParserState)
-    → HasTurned format limit initial parser now → next ≡ now → ReadsOnePieceMore format most limit initial next
-stops_where_failed format most limit initial now next parser at same =
-    stops_behind format most limit initial now next parser [] at (subst (Reads now []) (sym same) (lost_nothing now)) (omega arith)
 
 -- want of memory for a part of a piece
-pub wants_part : (format : Format) (most limit : ℕ) (initial now next : Option (List ℕ)) (parser : ParserState) (piece : List ℕ)
-    → HasTurned format limit initial parser now → Reads now piece next → length piece ≤ most
-    → ((text : List ℕ) → HasRead parser format limit text → (at : ℕ) × IsWanting format limit text piece at) → WantsSoFar format most limit initial next
-unfolding HasTurned
-wants_part format most limit initial now next parser piece at more few is =
-    let wanting = is at.text at.read in
-    inr (record {
-      text = at.text;
-      piece = piece;
-      lost = lost_more initial now next at.text piece at.lost more;
-      few = few;
-      at = wanting.0;
-      wanting = wanting.1;
-    })
+pub wants_part : (terms : StateTerms) (initial next : Option (List ℕ)) (parser : ParserState) (told : ReadFault) {A : Type 0}
+    → HasRefused TakesState RefusesPart 65536 terms [] initial next parser told → ◌≡◌ {A = Result A ReadFault} (Err told) (Err fault.Memory)
+    → WantsSoFar terms.format 65536 terms.limit initial next
+wants_part terms initial next parser told has is =
+    let same : told ≡ fault.Memory = cc in
+    let wanting = has.refused.memory same in
+    let more = has.more in
+    inr (record { text = more.bytes; piece = more.piece; lost = more.lost; few = more.few; at = wanting.0; wanting = wanting.1 })
 
--- the bytes of a buffer that were read
-pub same_front : (n len : ℕ) (piece into items : List ℕ) → piece ≡ take len (into ++ drop (length into) items) → length into ≡ len → n ≤ length into
-    → take n piece ≡ take n into
-same_front n len piece into items is whole within = ap (take n) (is ∙ take-append-le len into (drop (length into) items) (omega arith))
-    ∙ take-take n len into (omega arith)
+-- a refused piece is no failure of the source
+pub refused_apart : (terms : StateTerms) (initial next : Option (List ℕ)) (parser : ParserState) (told : ReadFault) {A : Type 0} (old new : ℕ)
+    → HasRefused TakesState RefusesPart 65536 terms [] initial next parser told → new ≡ old
+    → ◌≡◌ {A = Result A ReadFault} (Err told) (Err fault.Source) ↔ (new ≡ old + 1)
+refused_apart terms initial next parser told old new has same =
+    (λ is. absurd (let source : told ≡ fault.Source = cc in has.refused.apart source), λ more. absurd (omega arith))

@@ -15,8 +15,8 @@ use Rattle.std.proofs.Math.Seq.{take-append_seam}
 use Rattle.docker_laws.specs.TextStage.{advance, after_mark, after_items, after_entries, after_lines, after_op, with_entry}
 use Rattle.docker_laws.proofs.texts.PartJudged.{Judged, Good, judge}
 use Rattle.docker_bytes.specs.declared.reading.Reading.{Reading}
-use Rattle.docker_bytes.specs.FaultMeaning.{IsBadHere}
-use Rattle.docker_bytes.specs.Stage.{begins_item, LeadsTo}
+use Rattle.docker_parts.specs.FaultMeaning.{IsBadHere}
+use Rattle.docker_parts.specs.Stage.{begins_item, LeadsTo}
 use Rattle.docker_bytes.specs.Reading.{format_of, before_of, text_of, IsReading, ReadsOn, IsToldSoFar, IsOpen}
 
 -- what of a piece stands before a rest of it

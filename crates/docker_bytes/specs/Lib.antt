@@ -1,15 +1,7 @@
-pub mod Written
-pub mod Entries
-pub mod FormatMeaning
-pub mod Told
-pub mod Receiving
-pub mod Store
-pub mod Stage
-pub mod FaultMeaning
 pub mod FaultText
 pub mod ReadFaultText
-pub mod Judged
-pub mod Lines
 pub mod Reading
 pub mod ParserRead
 pub mod SourceRead
+pub mod StateTaken
+pub use Rattle.docker_parts.specs.FaultMeaning

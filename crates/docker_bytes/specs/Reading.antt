@@ -9,13 +9,13 @@ use Rattle.docker_bytes.specs.declared.fault.StateFault.{StateFault}
 use Rattle.docker_bytes.specs.declared.fault.Step.{Step}
 use Rattle.docker_bytes.specs.declared.fault.Step.TheVariants.{Done, More}
 use Rattle.docker_bytes.specs.declared.reading.Reading.{Reading}
-use Rattle.docker_bytes.specs.FaultMeaning.{cause_meant, IsWantingHere, IsBadHere}
-use Rattle.docker_bytes.specs.FormatMeaning.{format_meant}
-use Rattle.docker_bytes.specs.Stage.{stage_meant, IsReady}
-use Rattle.cif_file.specs.declared.key.ScheduleKey.{ScheduleKey}
-use Rattle.docker_join.specs.declared.stamp.Stamp.{Stamp}
-use Rattle.docker_bytes.specs.declared.stage.Stage.{Stage}
-use Rattle.docker_bytes.specs.declared.stage.Stage.TheVariants.{Line}
+use Rattle.docker_parts.specs.FaultMeaning.{cause_meant, IsWantingHere, IsBadHere}
+use Rattle.docker_parts.specs.FormatMeaning.{format_meant}
+use Rattle.docker_parts.specs.Stage.{stage_meant, IsReady}
+use Rattle.docker_parts.specs.ScheduleKey.{ScheduleKey}
+use Rattle.docker_parts.specs.Stamp.{Stamp}
+use Rattle.docker_parts.specs.declared.stage.Stage.{Stage}
+use Rattle.docker_parts.specs.declared.stage.Stage.TheVariants.{Line}
 
 -- the format of the text
 abbrev pub format_of : Reading → Format

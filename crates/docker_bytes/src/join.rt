@@ -11,7 +11,7 @@ ghost use Rattle.docker_bytes.specs.SourceRead.{RefusesState, IsFaultOf, ReadsOn
 use crate::parser::Parser;
 use crate::read::{ReadFault, fault_of, read_pieces};
 use cif_line::Source;
-use docker_state::State;
+use docker_parts::State;
 use std::alloc::Global;
 use std::mem;
 

@@ -3,10 +3,10 @@ ghost use Rattle.std.specs.Prelude.{◌≡◌, ◌≢◌, ◌+◌, ◌-◌, ◌^
 ghost use Rattle.docker_model.specs.state.StateText.{dks_1};
 ghost use Rattle.docker_bytes.specs.SourceRead.{ReadsState, RefusesState, ReadsOnePieceMore, WantsMemory};
 
-use crate::format::Format;
 use crate::read::{ReadFault, read_format};
 use cif_line::Source;
-use docker_state::State;
+use docker_parts::State;
+use docker_parts::format::Format;
 use std::alloc::Global;
 
 /// Reads a source, as `read_state` does, whose text is of the mark `DKS1`: it tells no horizon, and the state has none. A text of the mark `DKS2` is refused at 0.

@@ -5,15 +5,14 @@ ghost use Rattle.docker_model.specs.state.State.{IsValid};
 ghost use Rattle.docker_model.specs.state.StateText.{dks_2};
 ghost use Rattle.docker_model.specs.state.StateText as formats;
 ghost use Rattle.docker_model.specs.state.StateFault.{IsStateText};
-ghost use Rattle.docker_bytes.specs.FormatMeaning.{format_meant};
+ghost use Rattle.docker_parts.specs.FormatMeaning.{format_meant};
 ghost use Rattle.docker_bytes.specs.Reading.{IsFaultTold, IsUnended, IsStep, IsWhole, JoinsText};
 ghost use Rattle.docker_bytes.specs.ParserRead.{HasRead, HasFailed, own_of};
 
 use crate::fault::{StateFault, Step};
-use crate::format::Format;
 use crate::reading::Reading;
-use crate::told::Told;
-use docker_state::State;
+use docker_parts::format::Format;
+use docker_parts::{State, Told};
 use std::alloc::Global;
 use std::marker::Model;
 

@@ -3,23 +3,20 @@ ghost use Rattle.std.specs.Prelude.{◌≡◌, ◌≢◌, ℕ, ◌+◌, ◌-◌,
 ghost use Rattle.docker_model.specs.state.StateText.{dks_2};
 ghost use Rattle.docker_model.specs.state.StateText as formats;
 ghost use Rattle.docker_model.specs.state.StateFault.{IsStateText};
-ghost use Rattle.docker_bytes.specs.FormatMeaning.{format_meant};
+ghost use Rattle.docker_parts.specs.FormatMeaning.{format_meant};
 ghost use Rattle.docker_bytes.specs.ParserRead.{HasRead, IsUnread, own_of};
 ghost use Rattle.docker_bytes.specs.ReadFaultText.{read_fault_text};
 ghost use Rattle.docker_bytes.specs.SourceRead.{ReadsState, RefusesState, IsFaultOf, ReadsOnePieceMore, ReadsAll, WantsSoFar, WantsMemory};
 ghost use Rattle.docker_bytes.specs.Reading.{format_of, IsWhole, IsWanting};
 
-use crate::fault::{StateCause, StateFault};
-use crate::format::Format;
+use crate::fault::StateFault;
 use crate::parser::Parser;
-use cif_line::Source;
-use docker_state::State;
+use cif_line::{FeedFault, Source, Taker, feed_all};
+use docker_parts::format::Format;
+use docker_parts::{State, StateCause};
 use std::alloc::Global;
 use std::error::Error;
 use std::fmt;
-
-/// How many bytes are read at once.
-const PIECE: usize = 65_536;
 
 /// Why no state was read.
 #[derive(Clone, Copy, PartialEq, Eq, Debug)]
@@ -97,6 +94,7 @@ pub(crate) fn read_pieces<S: Source>(
 ) -> Result<(), ReadFault>
     requires failures { S.failures source.old < 2 ^ 64 - 1 }
     requires unread { IsUnread parser.old }
+    requires limit { parser.old.reading.limit < 2 ^ 64 }
     ensures ok { IsOk result →
         ReadsAll (format_of parser.old.reading) parser.old.reading.limit (S.left source.old)
         parser.new }
@@ -114,18 +112,30 @@ pub(crate) fn read_pieces<S: Source>(
         S.failures source.new ≡ S.failures source.old }
     ensures own { own_of parser.new ≡ own_of parser.old }
 {
-    let Ok(mut piece) = vec![in alloc; 0u8; PIECE] else {
-        return Err(ReadFault::Memory);
-    };
-    'pieces: loop {
-        let Ok(n) = source.read(piece.as_mut_slice()) else {
-            return Err(ReadFault::Source);
-        };
-        if n == 0 {
-            return Ok(());
-        }
-        feed(parser, &piece[..n])?;
+    match feed_all(alloc, source, parser) {
+        Ok(_) => Ok(()),
+        Err(FeedFault::Source) => Err(ReadFault::Source),
+        Err(FeedFault::Memory) => Err(ReadFault::Memory),
+        Err(FeedFault::Refused(fault)) => Err(fault),
     }
+}
+
+impl Taker for Parser {
+    ghost use Rattle.docker_bytes.specs.StateTaken.{RefusesPart, StateTerms, TakesState, taken_is_bounded};
+
+    type Fault = ReadFault;
+
+    ghost Terms = { StateTerms };
+
+    ghost takes = { TakesState };
+
+    ghost refuses = { RefusesPart };
+
+    fn take(&mut self, piece: &[u8]) -> Result<(), ReadFault> {
+        feed(self, piece)
+    }
+
+    ghost bounded = { taken_is_bounded };
 }
 
 /// Feeds bytes to a parser, all of which have to be of the state.

@@ -4,18 +4,13 @@ ghost use Rattle.docker_model.specs.state.State as states;
 ghost use Rattle.arrayvec.specs.ArrayVec.{array_vec_len};
 ghost use Rattle.docker_model.specs.state.StatePart.{width};
 ghost use Rattle.docker_model.specs.state.StateFault.{IsStateText};
-ghost use Rattle.docker_bytes.specs.FormatMeaning.{format_meant};
+ghost use Rattle.docker_parts.specs.FormatMeaning.{format_meant};
 ghost use Rattle.docker_bytes.specs.Reading.{format_of, before_of, text_of, IsReading, ReadsOn, IsPartRefused, IsFaultTold, IsUnended, IsStep, JoinsText, IsLineOf};
 
-use crate::fault::{StateCause, StateFault, Step};
-use crate::format::{Format, LINE};
-use crate::schedule::{Gathered, judged_line};
-use crate::stage::Stage;
-use crate::step::step;
-use crate::told::Told;
+use crate::fault::{StateFault, Step};
 use arrayvec::ArrayVec;
-use cif_file::ScheduleKey;
-use docker_state::State;
+use docker_parts::format::{Format, LINE};
+use docker_parts::{Gathered, ScheduleKey, Stage, State, StateCause, Told, judged_line, step};
 use std::alloc::Global;
 
 /// A text so far: the state that its parts tell, the part that comes next with the bytes of it that came, and where its item began.

@@ -7,9 +7,9 @@ ghost use Rattle.docker_bytes.specs.Reading.{IsFaultTold, IsUnended, IsStep, IsW
 ghost use Rattle.docker_bytes.specs.ParserRead.{HasRead, HasFailed};
 
 use crate::fault::{StateFault, Step};
-use crate::format::Format;
 use crate::parser::Parser;
-use docker_state::State;
+use docker_parts::State;
+use docker_parts::format::Format;
 use std::alloc::Global;
 use std::marker::Model;
 

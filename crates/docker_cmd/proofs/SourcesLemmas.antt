@@ -2,10 +2,11 @@
 use Rattle.std.proofs.Common.{ℕ, List, [], ◌∷◌, refl, sym, ◌∙◌}
 use Rattle.std.specs.Prelude.{Option}
 use Rattle.docker_laws.proofs.lists.Membership.{Contains-single}
+use Rattle.docker_model.specs.file.File.{most_records}
 use Rattle.docker_model.specs.state.State.{State}
 use Rattle.docker_laws.proofs.dockers.PrintedDocker.{live_table_is_plain}
 use Rattle.docker_office.specs.Office.{KnowsFileToo}
-use Rattle.docker_cmd.specs.Prepared.{IsOfOneFile, office_read, most_records}
+use Rattle.docker_cmd.specs.Prepared.{IsOfOneFile, office_read}
 
 -- an office that knew no file, and took one, has its state, whose live table is plain
 pub of_one_file : (left : Option (List ℕ)) (state : State) → KnowsFileToo most_records left [] 0 state → IsOfOneFile left (office_read state)

@@ -1,11 +1,11 @@
 -- How a fault is told: the exit status, and one line on standard error.
 use Rattle.std.specs.Prelude.{ℕ, List, ◌++◌, codes, decimal}
 use Rattle.cif_file.specs.declared.fault.FileFault.{FileFault}
-use Rattle.cif_file.specs.declared.fault.FileCause.{FileCause}
-use Rattle.cif_file.specs.declared.fault.FileCause.TheVariants.{Length, Byte, Kind, Place, Field, Midnights, NoEnd, After, TooMany}
-use Rattle.cif_file.specs.declared.fault.FileCause.TheVariants as cause
-use Rattle.docker_bytes.specs.declared.fault.StateFault.{StateFault}
-use Rattle.docker_bytes.specs.FaultText as state_text
+use Rattle.cif_journey.specs.declared.cause.FileCause.{FileCause}
+use Rattle.cif_journey.specs.declared.cause.FileCause.TheVariants.{Length, Byte, Kind, Place, Field, Midnights, NoEnd, After, TooMany}
+use Rattle.cif_journey.specs.declared.cause.FileCause.TheVariants as cause
+use Rattle.docker_office.specs.StateFault.{StateFault}
+use Rattle.docker_office.specs.FaultText as state_text
 use Rattle.docker_job.specs.declared.fault.JobFault.TheVariants as job
 use Rattle.docker_office.specs.declared.fault.OfficeFault.TheVariants as office
 use Rattle.docker_cmd.specs.declared.fault.Fault.{Fault}

@@ -4,6 +4,7 @@ use Rattle.cif_line.specs.Device.{Reads, Takes, TakesPart, IsEnd}
 use Rattle.cif_file.specs.FileRead.{FileCounted}
 use Rattle.cif_file.specs.SourceRead.{Held, CountsText, RefusesText, ReadsNoFurther}
 use Rattle.cif_file.specs.declared.fault.FileFault.{FileFault}
+use Rattle.docker_model.specs.file.File.{most_records}
 use Rattle.docker_model.specs.file.FileFault.{IsFileText}
 use Rattle.docker_model.specs.state.Lapse.{IsDayRefused}
 use Rattle.docker_model.specs.state.State.{State, live_table, raise_horizon}
@@ -11,17 +12,13 @@ use Rattle.docker_model.specs.state.StateText.{Format, dks_1, dks_2, state_text}
 use Rattle.docker_model.specs.state.Summary.{IsSummary}
 use Rattle.docker_model.specs.state.Table.{IsPlainTable}
 use Rattle.docker_model.specs.docker.DockerText.{IsDockerText, files_text}
-use Rattle.docker_bytes.specs.SourceRead.{ReadsState, JoinsState, RefusesState, ReadsOnePieceMore, WantsMemory}
-use Rattle.docker_bytes.specs.declared.fault.StateFault.{StateFault}
+use Rattle.docker_office.specs.SourceRead.{ReadsState, JoinsState, RefusesState, ReadsOnePieceMore, WantsMemory}
+use Rattle.docker_office.specs.StateFault.{StateFault}
 use Rattle.docker_office.specs.declared.fault.OfficeFault.{OfficeFault}
 use Rattle.docker_office.specs.declared.fault.OfficeFault.TheVariants as office
 use Rattle.docker_office.specs.Office.{no_state, TakesFile, WantsForFile}
 use Rattle.docker_job.specs.Job.{JobView, TaskView, new_task, check_task, day_task, take_task, merge_task, print_task, files_task, horizon_task, migrate_task}
 use Rattle.docker_cmd.specs.CheckLine.{count_line}
-
--- the most records that a file may have
-abbrev pub most_records : ℕ
-most_records = 4294967294
 
 -- the most bytes that a state's text may have
 abbrev pub most_bytes : ℕ
@@ -157,16 +154,17 @@ IsOfSources office.Sink = ⊥
 abbrev pub WantsForState : Format → DeviceBytes → DeviceBytes → Type 0
 WantsForState format old new = WantsMemory format most_at_once most_bytes old new
 
--- memory was wanting for what the sources hold, of which the second is read behind a good first; for a file that is only checked, before it is read
+-- memory was wanting for what the sources hold: for the first, and nothing of the second was read, or for the second behind a good first; for a file that
+-- is only checked, before it is read
 abbrev pub WantsFor : Sources → DeviceBytes → DeviceBytes → DeviceBytes → DeviceBytes → Type 0
 WantsFor no_source old new second_old second_new = ⊥
 WantsFor checked_file old new second_old second_new = Reads old [] new
 WantsFor taken_file old new second_old second_new = WantsForFile most_records old new
 WantsFor (one_state format) old new second_old second_new = WantsForState format old new
 WantsFor state_and_file old new second_old second_new =
-    WantsForState dks_2 old new ⊎ (HoldsSomeState old × WantsForFile most_records second_old second_new)
+    (WantsForState dks_2 old new × (second_new ≡ second_old)) ⊎ (HoldsSomeState old × WantsForFile most_records second_old second_new)
 WantsFor two_states old new second_old second_new =
-    WantsForState dks_2 old new ⊎ (HoldsSomeState old × WantsForState dks_2 second_old second_new)
+    (WantsForState dks_2 old new × (second_new ≡ second_old)) ⊎ (HoldsSomeState old × WantsForState dks_2 second_old second_new)
 
 -- of a file nothing is read behind the piece that decides the answer
 abbrev pub ReadsFewOfFile : DeviceBytes → DeviceBytes → Type 0

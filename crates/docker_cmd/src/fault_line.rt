@@ -2,15 +2,14 @@
 ghost use Rattle.std.specs.Prelude.{◌≡◌, ◌+◌, ◌≤◌, ◌++◌, [], decimal};
 ghost use Rattle.arrayvec.specs.ArrayVec.{array_vec_len};
 ghost use Rattle.docker_cmd.specs.FaultLine.{status_of, fault_line, file_line, state_line, cause_text};
-ghost use Rattle.docker_bytes.specs.FaultText as state_text;
+ghost use Rattle.docker_office.specs.FaultText as state_text;
 
 use crate::buffer::put;
 use crate::fault::Fault;
 use arrayvec::ArrayVec;
 use cif_file::{FileCause, FileFault};
-use docker_bytes::{StateCause, StateFault};
 use docker_job::JobFault;
-use docker_office::OfficeFault;
+use docker_office::{OfficeFault, StateCause, StateFault};
 use itoa::Buffer;
 
 /// The line that tells a fault, with its line feed.

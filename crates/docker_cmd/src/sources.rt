@@ -2,22 +2,20 @@
 ghost use Rattle.std.specs.Prelude.{◌≡◌, ◌≢◌, ◌+◌, ◌-◌, ◌^◌, ◌<◌, ◌⊎◌, ◌↔◌, ℕ, List, IfOk, IfErr, IsOk, Err};
 ghost use Rattle.cif_line.specs.Device.{IsEnd};
 ghost use Rattle.cif_file.specs.SourceRead.{CountsText, RefusesText, WantsMemory};
-ghost use Rattle.docker_bytes.specs.SourceRead.{JoinsState, ReadsState, RefusesState};
+ghost use Rattle.docker_office.specs.SourceRead.{JoinsState, ReadsState, RefusesState};
+ghost use Rattle.docker_model.specs.file.File.{most_records};
 ghost use Rattle.docker_model.specs.state.StateText.{dks_1, dks_2};
 ghost use Rattle.docker_job.specs.Job.{task_meant};
 ghost use Rattle.docker_office.specs.Office.{TakesFile, WantsForFile, no_state};
 ghost use Rattle.docker_office.specs.Faults.{IsOfFile, IsOfState};
 ghost use Rattle.docker_cmd.specs.Content.{FitsTask, content_meant};
-ghost use Rattle.docker_cmd.specs.Prepared.{HasNoSource, HasReadToEnd, HasSecondSource, HoldsSomeState, IsOfOneFile, JoinsBehind, TakesBehind, state_and_file, two_states, IsOfSources, IsReadOf, ReadsFewOfFile, ReadsFewOfFirst, ReadsFewOfSecond, ReadsFewOfState, RefusesFileOf, RefusesStateOf, WantsFor, WantsForState, most_at_once, most_bytes, most_records, office_read, sources_of, taken_file};
+ghost use Rattle.docker_cmd.specs.Prepared.{HasNoSource, HasReadToEnd, HasSecondSource, HoldsSomeState, IsOfOneFile, JoinsBehind, TakesBehind, state_and_file, two_states, IsOfSources, IsReadOf, ReadsFewOfFile, ReadsFewOfFirst, ReadsFewOfSecond, ReadsFewOfState, RefusesFileOf, RefusesStateOf, WantsFor, WantsForState, most_at_once, most_bytes, office_read, sources_of, taken_file};
 
-use cif_file::{FileCount, judge_file};
+use cif_file::{FileCount, MOST_RECORDS, judge_file};
 use cif_line::Source;
 use docker_job::Task;
 use docker_office::{Office, OfficeFault};
 use std::alloc::Global;
-
-/// The most records that a file may have.
-const MOST_RECORDS: u32 = 4_294_967_294;
 
 /// The most bytes that a state's text may have.
 const MOST_BYTES: u64 = 1_099_511_627_776;
@@ -78,13 +76,13 @@ pub(crate) fn read_sources<S: Source, T: Source>(
         Task::Day { .. } => Ok(Content::Office(office_of_file(alloc, first)?)),
         Task::Take => Ok(Content::Office(taken_behind(alloc, first, second)?)),
         Task::Merge => Ok(Content::Office(joined_behind(alloc, first, second)?)),
-        Task::Print { .. } | Task::Files => Ok(Content::Office(reloaded(alloc, first)?)),
+        Task::Print { .. } | Task::Files => Ok(Content::Office(office_of_state(alloc, first)?)),
         Task::Horizon { day } => {
-            let mut office = reloaded(alloc, first)?;
+            let mut office = office_of_state(alloc, first)?;
             office.set_horizon(*day);
             Ok(Content::Office(office))
         }
-        Task::Migrate => Ok(Content::Office(migrated(alloc, first)?)),
+        Task::Migrate => Ok(Content::Office(office_of_older_state(alloc, first)?)),
     }
 }
 
@@ -112,7 +110,7 @@ fn office_of_file<S: Source>(alloc: Global, source: &mut S) -> Result<Office, Of
 }
 
 /// An office with the state that a source holds.
-fn reloaded<S: Source>(alloc: Global, source: &mut S) -> Result<Office, OfficeFault>
+fn office_of_state<S: Source>(alloc: Global, source: &mut S) -> Result<Office, OfficeFault>
     requires { S.failures source.old < 2 ^ 64 - 1 }
     ensures ok { IfOk result (ReadsState dks_2 most_bytes (S.left source.old)) }
     ensures state { (fault : _) → result ≡ Err (OfficeFault.State fault) →
@@ -162,7 +160,7 @@ fn taken_behind<S: Source, T: Source>(
         T.failures second.new ≡ T.failures second.old }
     ensures only { IfErr result IsOfSources }
 {
-    let mut taker = reloaded(alloc, first)?;
+    let mut taker = office_of_state(alloc, first)?;
     taker.take(second, MOST_RECORDS)?;
     Ok(taker)
 }
@@ -195,13 +193,13 @@ fn joined_behind<S: Source, T: Source>(
         T.failures second.new ≡ T.failures second.old }
     ensures only { IfErr result IsOfState }
 {
-    let mut receiver = reloaded(alloc, first)?;
+    let mut receiver = office_of_state(alloc, first)?;
     receiver.receive(second, MOST_BYTES)?;
     Ok(receiver)
 }
 
 /// An office with the state that a source holds in the older format.
-fn migrated<S: Source>(alloc: Global, source: &mut S) -> Result<Office, OfficeFault>
+fn office_of_older_state<S: Source>(alloc: Global, source: &mut S) -> Result<Office, OfficeFault>
     requires { S.failures source.old < 2 ^ 64 - 1 }
     ensures ok { IfOk result (ReadsState dks_1 most_bytes (S.left source.old)) }
     ensures state { (fault : _) → result ≡ Err (OfficeFault.State fault) →

@@ -3,7 +3,7 @@
 use crate::{Fault, JobFault, OfficeFault, emit, fault_text, job, prepare, status};
 use cif_file::{FileCause, FileFault};
 use cif_line::{Bytes, Kept};
-use docker_bytes::{StateCause, StateFault};
+use docker_office::{StateCause, StateFault};
 use std::alloc::Global;
 
 /// An update of 9 June 2024, 21:00, without a change.

@@ -22,7 +22,8 @@ use Rattle.docker_laws.proofs.dockers.LinkOfRows.{links_tell}
 use Rattle.docker_train.specs.Occurrences.{Occurrence, occurrences}
 use Rattle.docker_train.specs.Along.{IsLiveTrain, IsLiveLink}
 use Rattle.docker_train.specs.Midnights.{some_late}
-use Rattle.docker_day.specs.Lines.{line_at_event, is_here, is_today, lines_there, runs_back, is_under_way, row_under_way, row_back, schedule_piece, Adds}
+use Rattle.docker_day.specs.Lines.{line_at_event, is_here, is_today, lines_there, row_lately, row_under_way, row_back, schedule_piece, Adds}
+use Rattle.docker_train.specs.Lately.{runs_back}
 use Rattle.docker_day.proofs.TrainLines.{event_lines_are}
 use Rattle.docker_day.proofs.LinkLines.{three_backs}
 use Rattle.docker_day.proofs.RowPieces.{no_line}
@@ -107,34 +108,45 @@ none_of_both false false true h = inl (refl, refl)
 none_of_both true b true h = absurd (true_false h)
 none_of_both false true true h = absurd (true_false h)
 
+-- none of three tests
+none_of_three : (a b c : Bool) → (a || b || c) ≡ false → (a ≡ false) × (b ≡ false) × (c ≡ false)
+none_of_three false false false h = (refl, refl, refl)
+none_of_three true b c h = absurd (true_false h)
+none_of_three false true c h = absurd (true_false h)
+none_of_three false false true h = absurd (true_false h)
+
 module _ (live : Table) (rows : List Row) (are : AreRowsOf live rows) (place : List ℕ) (day : ℕ) where
   abbrev lines_back : Key → Body → ℕ → List DockerLine
   lines_back key body back = row_back (train_in rows) (link_in rows) place day key body back
 
-  schedule_back : (train : Train) (back : ℕ) → 0 < back → IsLiveTrain live train
-      → (runs_back train.lines day back ≡ false) ⊎ (some_late (occurrences train.lines) ≡ false)
+  -- a schedule that does not run on a day has no line of a train that started then
+  idle_back : (train : Train) (back : ℕ) → IsLiveTrain live train → runs_back train.lines day back ≡ false
       → lines_back (schedule_key train.key) (schedule_body train.lines) back ≡ []
-  schedule_back train back some is_live none = by (nat_le back day) refl none
+  idle_back train back is_live idle = by (nat_le back day) refl
     where
-      piece : List DockerLine
-      piece = schedule_piece (train_in rows) place day train.key train.lines (day - back)
-
-      by : (b : Bool) → nat_le back day ≡ b → (runs_back train.lines day back ≡ false) ⊎ (some_late (occurrences train.lines) ≡ false)
-          → cond b piece [] ≡ []
-      by false h which = refl
-      by true h (inl idle) =
+      by : (b : Bool) → nat_le back day ≡ b → cond b (schedule_piece (train_in rows) place day train.key train.lines (day - back)) [] ≡ []
+      by false h = refl
+      by true h =
           (λ i. cond (runs_not live rows train (day - back) are is_live ((λ j. sym h j && schedule_runs (first_record train.lines) (day - back)) ∙ idle) i)
           (event_lines place day (day - back) train.key train.lines) [])
-      by true h (inr early) =
+
+  -- nor has one that passes no midnight on a day behind its start
+  early_back : (train : Train) (back : ℕ) → 0 < back → some_late (occurrences train.lines) ≡ false
+      → lines_back (schedule_key train.key) (schedule_body train.lines) back ≡ []
+  early_back train back some early = by (nat_le back day) refl
+    where
+      none_either : (b : Bool) → cond b no_line [] ≡ no_line
+      none_either true = refl
+      none_either false = refl
+
+      by : (b : Bool) → nat_le back day ≡ b → cond b (schedule_piece (train_in rows) place day train.key train.lines (day - back)) [] ≡ []
+      by false h = refl
+      by true h =
           let low = leb-true back day h in
           let before : day - back < day = omega arith in
           ap (λ more. cond (runs_by (train_in rows train.key.uid (day - back)) train.key) more [])
           (no_lines_then place day (day - back) train.key train.lines before early)
           ∙ none_either (runs_by (train_in rows train.key.uid (day - back)) train.key)
-        where
-          none_either : (b : Bool) → cond b no_line [] ≡ no_line
-          none_either true = refl
-          none_either false = refl
 
   -- a row of which no train is under way has no line of a train that started before
   pub none_back : (key : Key) (body : Body) → live key ≡ Some body → row_under_way key body day ≡ false
@@ -147,12 +159,30 @@ module _ (live : Table) (rows : List Row) (are : AreRowsOf live rows) (place : L
 
       by : ((runs_back lines day 1 ≡ false) × (runs_back lines day 2 ≡ false)) ⊎ (some_late (occurrences lines) ≡ false)
           → (lines_back (schedule_key key) (schedule_body lines) 1 ≡ []) × (lines_back (schedule_key key) (schedule_body lines) 2 ≡ [])
-      by (inl idle) = (schedule_back train 1 (omega arith) is_live (inl idle.0), schedule_back train 2 (omega arith) is_live (inl idle.1))
-      by (inr early) = (schedule_back train 1 (omega arith) is_live (inr early), schedule_back train 2 (omega arith) is_live (inr early))
+      by (inl idle) = (idle_back train 1 is_live idle.0, idle_back train 2 is_live idle.1)
+      by (inr early) = (early_back train 1 (omega arith) early, early_back train 2 (omega arith) early)
   none_back (schedule_key key) (tiploc_body bytes) is_live not_so = absurd (true_false not_so)
   none_back (schedule_key key) (association_body line) is_live not_so = absurd (true_false not_so)
   none_back (tiploc_key code) body is_live not_so = absurd (true_false not_so)
   none_back (association_key key) body is_live not_so = absurd (true_false not_so)
+
+  -- and one of a schedule that runs on none of the three days has none at all
+  none_lately : (key : Key) (body : Body) → live key ≡ Some body → row_lately key body day ≡ false
+      → (lines_back key body 0 ≡ []) × (lines_back key body 1 ≡ []) × (lines_back key body 2 ≡ [])
+  none_lately (schedule_key key) (schedule_body lines) is_live not_so =
+      let idle = none_of_three (runs_back lines day 0) (runs_back lines day 1) (runs_back lines day 2) not_so in
+      (idle_back train 0 is_live idle.0, idle_back train 1 is_live idle.1, idle_back train 2 is_live idle.2)
+    where
+      train : Train
+      train = record { key = key; lines = lines }
+  none_lately (schedule_key key) (tiploc_body bytes) is_live not_so = absurd (true_false not_so)
+  none_lately (schedule_key key) (association_body line) is_live not_so = absurd (true_false not_so)
+  none_lately (tiploc_key code) body is_live not_so = absurd (true_false not_so)
+  none_lately (association_key key) body is_live not_so = absurd (true_false not_so)
+
+-- adding no lines
+nothing : (before : List DockerLine) {more : List DockerLine} → more ≡ [] → before ≡ before ++ more
+nothing before none = sym (append-nil before) ∙ ap (λ out. before ++ out) (sym none)
 
 -- so its lines are those of the trains that start on the day
 pub first_back_alone : (place : List ℕ) (day : ℕ) (key : Key) (body : Body) (live : Table) (first second : List DockerLine) → live key ≡ Some body
@@ -162,9 +192,15 @@ first_back_alone place day key body live first second is_live not_so one =
     three_backs place day key body live first second second second one
     (λ rows are. nothing second (none_back live rows are place day key body is_live not_so).0)
     (λ rows are. nothing second (none_back live rows are place day key body is_live not_so).1)
-  where
-    nothing : (before : List DockerLine) {more : List DockerLine} → more ≡ [] → before ≡ before ++ more
-    nothing before none = sym (append-nil before) ∙ ap (λ out. before ++ out) (sym none)
+
+-- and it has none where it runs on none of the three days
+pub not_lately : (place : List ℕ) (day : ℕ) (key : Key) (body : Body) (live : Table) (first : List DockerLine) → live key ≡ Some body
+    → row_lately key body day ≡ false → Adds live (λ trains links. row_lines trains links place day key body) first first
+not_lately place day key body live first is_live not_so =
+    three_backs place day key body live first first first first
+    (λ rows are. nothing first (none_lately live rows are place day key body is_live not_so).0)
+    (λ rows are. nothing first (none_lately live rows are place day key body is_live not_so).1)
+    (λ rows are. nothing first (none_lately live rows are place day key body is_live not_so).2)
 
 -- an association that does not run on a start day is not in force then
 pub not_in_force : (live : Table) (rows : List Row) (link : Link) (start : ℕ) → AreRowsOf live rows → IsLiveLink live link

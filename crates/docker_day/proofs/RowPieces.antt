@@ -1,12 +1,13 @@
 -- The lines of a row on a start day, by what the row is of.
-use Rattle.std.proofs.Common.{◌≡◌, ℕ, List, [], refl, ap, sym, ◌∙◌, Some, None}
+use Rattle.std.proofs.Common.{◌≡◌, ℕ, Bool, List, [], refl, ap, sym, ◌∙◌, Some, None}
 use Rattle.std.specs.Prelude.{Option}
 use Rattle.docker_model.specs.file.Change.{Key, tiploc_key, association_key, schedule_key, Body, tiploc_body, association_body, schedule_body}
 use Rattle.docker_model.specs.docker.Choice.{Group}
 use Rattle.docker_model.specs.docker.LiveRows.{Train, Link, schedule_of, association_of}
 use Rattle.docker_model.specs.docker.DockerLine.{DockerLine}
-use Rattle.docker_day.specs.Lines.{schedule_piece, link_here, row_piece, is_under_way, row_under_way}
+use Rattle.docker_day.specs.Lines.{schedule_piece, link_here, row_piece, row_test}
 
+-- no line
 abbrev pub no_line : List DockerLine
 no_line = []
 
@@ -28,15 +29,14 @@ some_train train h = cc
 some_link : (link : Link) → Some link ≡ None → ⊥
 some_link link h = cc
 
--- of a schedule a train may be under way where that of the row may
-pub under_way_of : (key : Key) (body : Body) (train : Train) (day : ℕ) → schedule_of key body ≡ Some train
-    → is_under_way train.lines day ≡ row_under_way key body day
-under_way_of (schedule_key key) (schedule_body lines) train day is =
-    (λ i. is_under_way (sym (same_train (record { key = key; lines = lines }) train is) i).lines day)
-under_way_of (schedule_key key) (tiploc_body bytes) train day is = absurd (none_train train is)
-under_way_of (schedule_key key) (association_body line) train day is = absurd (none_train train is)
-under_way_of (tiploc_key code) body train day is = absurd (none_train train is)
-under_way_of (association_key key) body train day is = absurd (none_train train is)
+-- a test of a schedule's lines is that of its row
+pub test_of : (test : List (List ℕ) → Bool) (key : Key) (body : Body) (train : Train) → schedule_of key body ≡ Some train
+    → test train.lines ≡ row_test test key body
+test_of test (schedule_key key) (schedule_body lines) train is = λ i. test (sym (same_train (record { key = key; lines = lines }) train is) i).lines
+test_of test (schedule_key key) (tiploc_body bytes) train is = absurd (none_train train is)
+test_of test (schedule_key key) (association_body line) train is = absurd (none_train train is)
+test_of test (tiploc_key code) body train is = absurd (none_train train is)
+test_of test (association_key key) body train is = absurd (none_train train is)
 
 module _ (trains : List ℕ → ℕ → Option Train) (links : Group → ℕ → Option Link) (place : List ℕ) (day start : ℕ) where
   -- of a schedule

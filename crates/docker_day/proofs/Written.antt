@@ -39,22 +39,26 @@ on_any_err (Err e) holds = holds
 
 -- three parts, each as it is
 module _ (first second third last : Option (List ℕ)) (a b c front middle back : List ℕ) (a_is : a ≡ front) (b_is : b ≡ middle) (c_is : c ≡ back) where
+  -- all were taken
   pub all_taken : Takes first a second → Takes second b third → Takes third c last → Takes first (front ++ middle ++ back) last
   all_taken one two three =
       both_taken first third last (front ++ middle) back
       (both_taken first second third front middle (subst (λ bytes. Takes first bytes second) a_is one) (subst (λ bytes. Takes second bytes third) b_is two))
       (subst (λ bytes. Takes third bytes last) c_is three)
 
+  -- the first failed
   pub part_of_first : TakesPart first a second → TakesPart first (front ++ middle ++ back) second
   part_of_first one =
       part_of_front first second (front ++ middle) back (part_of_front first second front middle (subst (λ bytes. TakesPart first bytes second) a_is one))
 
+  -- the second failed
   pub part_of_second : Takes first a second → TakesPart second b third → TakesPart first (front ++ middle ++ back) third
   part_of_second one two =
       part_of_front first third (front ++ middle) back
       (part_of_back first second third front middle (subst (λ bytes. Takes first bytes second) a_is one)
       (subst (λ bytes. TakesPart second bytes third) b_is two))
 
+  -- the third failed
   pub part_of_third : Takes first a second → Takes second b third → TakesPart third c last → TakesPart first (front ++ middle ++ back) last
   part_of_third one two three =
       part_of_back first third last (front ++ middle) back

@@ -19,6 +19,7 @@ use Rattle.docker_model.specs.docker.Association.{category_occasion, partner_sta
 use Rattle.docker_model.specs.docker.Gathering.{event_lines, runs_by, partner_identity, is_in_force}
 use Rattle.docker_train.specs.Occurrences.{Occurrence, occurrences}
 use Rattle.docker_train.specs.Midnights.{some_late}
+use Rattle.docker_train.specs.Lately.{runs_back}
 
 -- the line of an event, of a schedule known by the key, on a start day, with these ends
 abbrev pub line_at_event : ScheduleKey → ℕ → Detail → Occurrence → DockerLine
@@ -71,18 +72,26 @@ lines_there place day start key detail (event ∷ events) =
     (if is_here place event && is_today day start event then line_at_event key start detail event ∷ [] else [])
     ++ lines_there place day start key detail events
 
--- the schedule of these lines runs on the day so many days before
-abbrev pub runs_back : List (List ℕ) → ℕ → ℕ → Bool
-runs_back lines day back = nat_le back day && schedule_runs (first_record lines) (day - back)
+-- the schedule of these lines runs on the day or on one of the two before it
+abbrev pub is_lately : List (List ℕ) → ℕ → Bool
+is_lately lines day = runs_back lines day 0 || runs_back lines day 1 || runs_back lines day 2
 
 -- its train may be under way on the day since one of the two days before
 abbrev pub is_under_way : List (List ℕ) → ℕ → Bool
 is_under_way lines day = (runs_back lines day 1 || runs_back lines day 2) && some_late (occurrences lines)
 
--- that of the row, if it is of a schedule
+-- a test of the lines of a row, if it is of a schedule
+abbrev pub row_test : (List (List ℕ) → Bool) → Key → Body → Bool
+row_test test (schedule_key key) (schedule_body lines) = test lines
+row_test test _ _ = true
+
+-- the schedule of the row runs so, if it is of one
+abbrev pub row_lately : Key → Body → ℕ → Bool
+row_lately key body day = row_test (λ lines. is_lately lines day) key body
+
+-- its train may be under way so
 abbrev pub row_under_way : Key → Body → ℕ → Bool
-row_under_way (schedule_key key) (schedule_body lines) day = is_under_way lines day
-row_under_way _ _ day = true
+row_under_way key body day = row_test (λ lines. is_under_way lines day) key body
 
 -- the event is of a call at the place and suffix
 abbrev pub is_call : List ℕ → ℕ → Occurrence → Bool
@@ -142,9 +151,15 @@ row_piece trains links place day _ _ start = []
 abbrev pub row_back : (List ℕ → ℕ → Option Train) → (Group → ℕ → Option Link) → List ℕ → ℕ → Key → Body → ℕ → List DockerLine
 row_back trains links place day key body back = if nat_le back day then row_piece trains links place day key body (day - back) else []
 
+-- the order of lines of one time, occasion and UID
+abbrev pub cmp_of_one_train : DockerLine → DockerLine → Ordering
+cmp_of_one_train a b =
+    ordering_then (nat_cmp a.start b.start) (ordering_then (nat_cmp a.number b.number) (bytes_cmp (associated_uid a.detail) (associated_uid b.detail)))
+
+-- the order of lines of one time and occasion
+abbrev pub cmp_at_one_event : DockerLine → DockerLine → Ordering
+cmp_at_one_event a b = ordering_then (bytes_cmp a.uid b.uid) (cmp_of_one_train a b)
+
 -- the order of lines of one time
 abbrev pub cmp_at_one_time : DockerLine → DockerLine → Ordering
-cmp_at_one_time a b =
-    ordering_then (nat_cmp (occasion_rank a.occasion) (occasion_rank b.occasion))
-    (ordering_then (bytes_cmp a.uid b.uid) (ordering_then (nat_cmp a.start b.start)
-    (ordering_then (nat_cmp a.number b.number) (bytes_cmp (associated_uid a.detail) (associated_uid b.detail)))))
+cmp_at_one_time a b = ordering_then (nat_cmp (occasion_rank a.occasion) (occasion_rank b.occasion)) (cmp_at_one_event a b)

@@ -9,7 +9,7 @@ ghost use Rattle.cif_line.specs.Letter.{stp_letter};
 ghost use Rattle.docker_train.specs.Meaning.{occasion_meant};
 ghost use Rattle.docker_day.specs.Details.{detail_meant};
 ghost use Rattle.docker_train.specs.Walk.{occurrence_meant};
-ghost use Rattle.docker_day.specs.Lines.{line_at_event, line_of_link, cmp_at_one_time};
+ghost use Rattle.docker_day.specs.Lines.{line_at_event, line_of_link, cmp_at_one_time, cmp_at_one_event, cmp_of_one_train};
 
 use crate::detail::Detail;
 use crate::location::{Location, suffix_in};
@@ -222,16 +222,33 @@ impl DockerLine<'_> {
     fn cmp_at_one_time(&self, other: &DockerLine<'_>) -> Ordering
         ensures { result ≡ cmp_at_one_time self.now other.now }
     {
-        let by_occasion = self.occasion.rank().cmp(&other.occasion.rank());
+        match self.occasion.rank().cmp(&other.occasion.rank()) {
+            Ordering::Equal => self.cmp_at_one_event(other),
+            order => order,
+        }
+    }
+
+    /// The order of lines of one time and occasion.
+    fn cmp_at_one_event(&self, other: &DockerLine<'_>) -> Ordering
+        ensures { result ≡ cmp_at_one_event self.now other.now }
+    {
+        match self.uid.bytes().cmp(other.uid.bytes()) {
+            Ordering::Equal => self.cmp_of_one_train(other),
+            order => order,
+        }
+    }
+
+    /// The order of lines of one time, occasion and UID.
+    fn cmp_of_one_train(&self, other: &DockerLine<'_>) -> Ordering
+        ensures { result ≡ cmp_of_one_train self.now other.now }
+    {
+        let by_start = self.start.number().cmp(&other.start.number());
+        let by_number = self.number.cmp(&other.number);
         let by_partner = self
             .detail
             .associated_uid()
             .cmp(other.detail.associated_uid());
-        by_occasion
-            .then(self.uid.bytes().cmp(other.uid.bytes()))
-            .then(self.start.number().cmp(&other.start.number()))
-            .then(self.number.cmp(&other.number))
-            .then(by_partner)
+        by_start.then(by_number).then(by_partner)
     }
 }
 

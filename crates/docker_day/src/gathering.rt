@@ -5,16 +5,15 @@ ghost use Rattle.docker_model.specs.state.State.{IsBodyOf, live_table};
 ghost use Rattle.docker_model.specs.docker.Gathering.{row_lines, gathered};
 ghost use Rattle.docker_model.specs.docker.LiveRows.{schedule_of};
 ghost use Rattle.docker_train.specs.Along.{AreGoodRows, AreLive, IsLiveLink};
-ghost use Rattle.docker_day.specs.Lines.{Adds, link_here, row_piece, row_back, row_under_way};
+ghost use Rattle.docker_day.specs.Lines.{Adds, link_here, row_piece, row_back, row_lately, row_under_way};
 
 use crate::docker_line::DockerLine;
 use crate::link_lines::link_line;
-use crate::starts::day_before;
-use crate::train_lines::{add_schedule, is_under_way};
+use crate::train_lines::{add_schedule, is_lately, is_under_way};
 use cif_file::{Body, Key};
 use cif_line::{Day, Memory, Tiploc};
 use docker_state::{Standing, State};
-use docker_train::{LinkView, association_of, schedule_of};
+use docker_train::{LinkView, association_of, day_before, schedule_of};
 
 /// Adds the lines of rows at a place on a day. `Memory` where the growth is refused.
 pub(crate) fn add_rows<'a>(
@@ -53,12 +52,26 @@ fn add_row<'a>(
         (body_meant body.entry.now))
         lines.old.items lines.new.items) }
 {
+    if !is_row_lately(key, body, day) {
+        return Ok(());
+    }
     add_back(lines, state, key, body, place, day, 0)?;
     if !is_row_under_way(key, body, day) {
         return Ok(());
     }
     add_back(lines, state, key, body, place, day, 1)?;
     add_back(lines, state, key, body, place, day, 2)
+}
+
+/// Whether a row may have lines on a day: of a schedule only where it runs on that day or on one of the two before it, which is asked by one look at its fields.
+fn is_row_lately(key: &Key, body: &Body, day: Day) -> bool
+    requires good { IsBodyOf (key_meant key.now) (body_meant body.now) }
+    ensures { result ≡ row_lately (key_meant key.now) (body_meant body.now) day }
+{
+    match schedule_of(key, body) {
+        Some(train) => is_lately(&train, day),
+        None => true,
+    }
 }
 
 /// Whether a row may have lines on a day of a train that started before it: of a schedule only where its train may be under way.

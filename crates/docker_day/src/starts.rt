@@ -1,6 +1,5 @@
 //! The start days of the trains that can be somewhere on a day.
-ghost use Rattle.std.specs.Prelude.{◌≡◌, ◌+◌, ◌-◌, ◌≤◌, ◌&&◌};
-ghost use Rattle.std.specs.Option.{SomeIff};
+ghost use Rattle.std.specs.Prelude.{◌≡◌, ◌+◌, ◌≤◌};
 ghost use Rattle.docker_model.specs.docker.Association.{partner_start};
 ghost use Rattle.docker_model.specs.records.Record.{columns};
 ghost use Rattle.docker_train.specs.Walk.{occurrence_meant};
@@ -8,15 +7,7 @@ ghost use Rattle.docker_day.specs.Lines.{is_here, is_today};
 
 use crate::location::tiploc_in;
 use cif_line::{Day, Tiploc};
-use docker_train::Occurrence;
-
-/// The day so many days before. None where there is no such day.
-pub(crate) fn day_before(day: Day, back: u16) -> Option<Day>
-    ensures { SomeIff result (back ≤ day) (day - back) }
-{
-    let number = day.number().checked_sub(back)?;
-    Day::from_number(number)
-}
+use docker_train::{Occurrence, day_before};
 
 /// The start day of the associated train, where the base train starts on a day: the next day for the date indicator `N`, the one before for `P`, and else
 /// the same. None where there is no such day.

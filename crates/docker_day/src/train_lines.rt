@@ -1,27 +1,22 @@
 //! The lines of a train's events.
 ghost use Rattle.std.specs.Prelude.{◌≡◌, ◌≤◌, ◌&&◌, ◌++◌, List, [], OnOk, IfSome, IsNone, codes, if◌then◌else◌};
-ghost use Rattle.std.specs.Ordering.{is_eq};
-ghost use Rattle.docker_model.specs.state.Op.{schedule_key_cmp};
 ghost use Rattle.docker_model.specs.state.State.{live_table};
 ghost use Rattle.docker_model.specs.docker.DockerLine.{ends, tiploc_of_first};
-ghost use Rattle.docker_model.specs.docker.Gathering.{event_lines, runs_by};
-ghost use Rattle.docker_model.specs.state.Row.{Row, AreRowsOf};
-ghost use Rattle.docker_model.specs.docker.LiveRows.{train_in};
-ghost use Rattle.docker_train.specs.Keys.{schedule_key_meant};
+ghost use Rattle.docker_model.specs.docker.Gathering.{event_lines};
 ghost use Rattle.docker_day.specs.Details.{detail_meant};
 ghost use Rattle.docker_train.specs.Occurrences.{occurrences};
 ghost use Rattle.docker_train.specs.Walk.{occurrence_meant};
-ghost use Rattle.docker_day.specs.Lines.{Adds, is_here, is_today, lines_there, runs_back, is_under_way, schedule_piece};
+ghost use Rattle.docker_day.specs.Lines.{Adds, is_here, is_today, lines_there, is_lately, is_under_way, schedule_piece};
 ghost use Rattle.docker_train.specs.Along.{IsLiveTrain};
+ghost use Rattle.docker_train.specs.Lately.{runs_back};
 
 use crate::detail::Detail;
 use crate::docker_line::DockerLine;
 use crate::location::tiploc_in;
-use crate::starts::{day_before, is_here, is_today};
-use cif_file::ScheduleKey;
+use crate::starts::{is_here, is_today};
 use cif_line::{Day, Memory, Tiploc};
 use docker_state::State;
-use docker_train::{Occurrence, ScheduleView, ends_of, passes_midnight, train_on};
+use docker_train::{Occurrence, ScheduleView, day_before, ends_of, is_train_on, passes_midnight};
 
 /// Adds the lines of a schedule at a place on a day, where its train runs by it from a start day on. `Memory` where the growth is refused.
 pub(crate) fn add_schedule<'a>(
@@ -42,11 +37,18 @@ pub(crate) fn add_schedule<'a>(
     if !train.runs_on(start) {
         return Ok(());
     }
-    if runs_by(state, train, start) {
+    if is_train_on(state, train, start) {
         add_events(lines, train, place, day, start)
     } else {
         Ok(())
     }
+}
+
+/// Whether a schedule runs on a day or on one of the two before it.
+pub(crate) fn is_lately(train: &ScheduleView<'_>, day: Day) -> bool
+    ensures { result ≡ is_lately train.now.lines day }
+{
+    train.runs_lately(day).is_some()
 }
 
 /// Whether the train of a schedule may be under way on a day since one of the two days before: it runs on one of them, and passes midnight.
@@ -67,33 +69,6 @@ fn runs_back(train: &ScheduleView<'_>, day: Day, back: u16) -> bool
         Some(start) => train.runs_on(start),
         None => false,
     }
-}
-
-/// Whether the train of a schedule runs by it from a start day on.
-fn runs_by(state: &State, train: &ScheduleView<'_>, start: Day) -> bool
-    ensures { (rows : List Row) → AreRowsOf (live_table state.now) rows
-        → result ≡ runs_by (train_in rows train.now.key.uid start) train.now.key }
-{
-    let key = train.key();
-    is_train(train_on(state, &key.uid, start), key)
-}
-
-/// Whether there is a train, and its schedule has this key.
-fn is_train(train: Option<ScheduleView<'_>>, key: &ScheduleKey) -> bool
-    ensures { result ≡ runs_by train.entry (schedule_key_meant key.now) }
-{
-    match train {
-        Some(train) => is_same(train.key(), key),
-        None => false,
-    }
-}
-
-/// Whether two keys are one.
-fn is_same(key: &ScheduleKey, other: &ScheduleKey) -> bool
-    ensures { result ≡ is_eq
-        (schedule_key_cmp (schedule_key_meant key.now) (schedule_key_meant other.now)) }
-{
-    key.cmp(other).is_eq()
 }
 
 /// Adds the lines of those events of a train that are at a place on a day.

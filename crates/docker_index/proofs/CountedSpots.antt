@@ -20,15 +20,15 @@ use Rattle.docker_index.specs.Rooms.{AreMadeBy}
 use Rattle.docker_index.proofs.Positions.{Keyed}
 
 -- a key with its op
-abbrev Pair : Type 0
+abbrev pub Pair : Type 0
 Pair = Key × Op
 
 -- how many places they have in all
-abbrev total : (Key → Op → ℕ) → List Pair → ℕ
+abbrev pub total : (Key → Op → ℕ) → List Pair → ℕ
 total count [] = 0
 total count (pair ∷ pairs) = count pair.0 pair.1 + total count pairs
 
-abbrev pairs_of : List Keyed → List Pair
+abbrev pub pairs_of : List Keyed → List Pair
 pairs_of rows = map (λ (row : Keyed). (row.0, row.1.op)) rows
 
 spots_total : (places : Places) (at : ℕ) (rows : List Keyed) → length (spots_from places at rows) ≡ total (λ key op. length (places key op)) (pairs_of rows)
@@ -105,24 +105,12 @@ at_most_all : (pairs : List Pair) → total (λ key op. length (link_places key 
 at_most_all [] = omega arith
 at_most_all (pair ∷ pairs) = let one = few_links pair.0 pair.1 in let rest = at_most_all pairs in omega arith
 
-rows_sum : (count : Key → Op → ℕ) (rows : List Keyed) → sum_by (λ (row : Keyed). count row.0 row.1.op) rows ≡ total count (pairs_of rows)
-rows_sum count [] = refl
-rows_sum count (row ∷ rows) = sum_by-cons (λ (r : Keyed). count r.0 r.1.op) row rows ∙ ap (λ n. count row.0 row.1.op + n) (rows_sum count rows)
-
-abbrev changed : List model.Change → List Pair
+abbrev pub changed : List model.Change → List Pair
 changed changes = map (λ (change : model.Change). (change.key, op_of change.act)) changes
 
-changes_sum : (count : Key → Op → ℕ) (changes : List model.Change) → sum_by (λ (change : model.Change). count change.key (op_of change.act)) changes
-    ≡ total count (changed changes)
-changes_sum count [] = refl
-changes_sum count (change ∷ changes) =
-    sum_by-cons (λ (c : model.Change). count c.key (op_of c.act)) change changes ∙ ap (λ n. count change.key (op_of change.act) + n) (changes_sum count changes)
-
--- a count of calls, row by row, bounds those of the rows
-pub calls_of_rows : (rows : List Keyed) (count : ℕ) → sum_by (λ (row : Keyed). length (call_places row.0 row.1.op)) rows ≤ count → length
-    (spots_of call_places rows) ≤ count
-calls_of_rows rows count few =
-    let one = spots_total call_places 0 rows in let two = rows_sum (λ key op. length (call_places key op)) rows in omega arith
+-- rows have as many calls as their keys with their ops
+pub places_of_rows : (rows : List Keyed) → length (spots_of call_places rows) ≡ total (λ key op. length (call_places key op)) (pairs_of rows)
+places_of_rows rows = spots_total call_places 0 rows
 
 -- and rows have at most one link each
 pub links_of_rows : (rows : List Keyed) → length (spots_of link_places rows) ≤ length rows
@@ -132,13 +120,12 @@ links_of_rows rows =
     let three = length-map {B = Pair} rows (λ (row : Keyed). (row.0, row.1.op)) in
     omega arith
 
--- the same of rows that changes make
-pub calls_of_changes : (rows : List Keyed) (changes : List model.Change) (count : ℕ) → AreAscending rows → AreMadeBy changes rows
-    → sum_by (λ (change : model.Change). length (call_places change.key (op_of change.act))) changes ≤ count → length (spots_of call_places rows) ≤ count
-calls_of_changes rows changes count up made few =
+-- rows that changes make have no more calls than these
+pub places_of_changes : (rows : List Keyed) (changes : List model.Change) → AreAscending rows → AreMadeBy changes rows
+    → length (spots_of call_places rows) ≤ total (λ key op. length (call_places key op)) (changed changes)
+places_of_changes rows changes up made =
     let one = spots_total call_places 0 rows in
     let two = fewer (λ key op. length (call_places key op)) rows up (changed changes) made in
-    let three = changes_sum (λ key op. length (call_places key op)) changes in
     omega arith
 
 pub links_of_changes : (rows : List Keyed) (changes : List model.Change) → AreAscending rows → AreMadeBy changes rows → length
@@ -149,23 +136,6 @@ links_of_changes rows changes up made =
     let three = at_most_all (changed changes) in
     let four = length-map {B = Pair} changes (λ (change : model.Change). (change.key, op_of change.act)) in
     omega arith
-
-few_chosen : (test : List ℕ → Bool) (lines : List (List ℕ)) → length (filter test lines) ≤ length lines
-few_chosen test [] = omega arith
-few_chosen test (line ∷ lines) = by (test line) (few_chosen test lines)
-  where
-    by : (b : Bool) → length (filter test lines) ≤ length lines → length (cond b (line ∷ filter test lines) (filter test lines)) ≤ suc (length lines)
-    by true rest = omega arith
-    by false rest = omega arith
-
--- a schedule has no more calls than lines
-pub calls_few : (key : Key) (lines : List (List ℕ)) → length (call_places key (put_with (schedule_body lines))) ≤ length lines
-calls_few (schedule_key key) lines =
-    let few = few_chosen (λ line. is_location (kind_of line)) lines in
-    let same = length-map (location_lines lines) (columns 3 9) in
-    omega arith
-calls_few (tiploc_key code) lines = omega arith
-calls_few (association_key key) lines = omega arith
 
 ones : (pairs : List Pair) → total (λ key op. 1) pairs ≡ length pairs
 ones [] = refl

@@ -14,13 +14,13 @@ use Rattle.docker_model.specs.state.Order.{IsBelow, IsStrictlyAscending}
 use Rattle.docker_laws.proofs.orders.Ascending.{same_list}
 use Rattle.docker_laws.proofs.states.KeptEntries.{lapse_ascends}
 use Rattle.docker_laws.proofs.states.LapsedGreatest.{lapsed_from, lapsed_to}
-use Rattle.docker_laws.proofs.lists.Members.{filter_back, filter_forth}
+use Rattle.docker_laws.proofs.lists.FilteredMembers.{filter_back, filter_forth}
 use Rattle.docker_laws.proofs.orders.Orders.{key_total}
 use Rattle.docker_join.specs.Meaning.{row_meant}
 use Rattle.docker_join.specs.Rows.{AreAscending, IsJoinOfRows}
 use Rattle.docker_join.specs.RowLaws.{same_rows}
-use Rattle.docker_join.proofs.Along.{ascending_meant}
-use Rattle.docker_join.proofs.Merged.{walk, walk_joins}
+use Rattle.docker_join.proofs.MeantOrder.{ascending_meant}
+use Rattle.docker_join.proofs.MergedRows.{walk, walk_joins}
 use Rattle.docker_index.specs.Turns.{AtKey, firsts, is_kept, is_put, turns_of, first_moves, second_moves}
 use Rattle.docker_index.specs.declared.moves.Moves.{Moves}
 use Rattle.docker_index.specs.Spots.{Places, call_places, link_places, spots_of}

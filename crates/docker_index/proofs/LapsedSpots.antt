@@ -9,7 +9,7 @@ use Rattle.docker_model.specs.state.Lapse.{lapse, lapse_keyed, lapse_entries}
 use Rattle.docker_model.specs.state.Row.{Row}
 use Rattle.docker_model.specs.state.Order.{IsStrictlyAscending}
 use Rattle.docker_laws.proofs.lists.Membership.{nil-Contains}
-use Rattle.docker_laws.proofs.lists.Members.{filter_back, filter_forth}
+use Rattle.docker_laws.proofs.lists.FilteredMembers.{filter_back, filter_forth}
 use Rattle.docker_index.specs.SpotOrder.{Spot, spot_cmp}
 use Rattle.docker_index.specs.declared.mark.Mark.{Mark}
 use Rattle.docker_index.specs.MarkOrder.{mark_cmp}

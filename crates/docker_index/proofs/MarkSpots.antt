@@ -167,10 +167,3 @@ kept_spots names rows (mark ∷ marks) = by (mark_spot names mark) refl (is_put_
         (λ i. spots_in names (cond (put i) (mark ∷ filter (is_put_at_mark rows) marks) (filter (is_put_at_mark rows) marks)))
         ∙ rest
         ∙ sym (λ i. cond (goes i) (spot ∷ filter (is_put_at rows) (spots_in names marks)) (filter (is_put_at rows) (spots_in names marks)))
-
--- a mark is pushed
-pub spot_pushed : (names : List (List ℕ)) (before after : List Mark) (mark : Mark) (place : List ℕ) → after ≡ before ++ mark ∷ []
-    → slice_get names mark.place ≡ Some place → spots_in names after ≡ spots_in names before ++ spot_at mark.at place ∷ []
-spot_pushed names before after mark place whole is =
-    ap (spots_in names) whole ∙ filter_map-append (mark_spot names) before (mark ∷ [])
-    ∙ (λ i. spots_in names before ++ cons_option (option_map (spot_at mark.at) (is i)) [])

@@ -6,7 +6,7 @@ use Rattle.docker_model.specs.file.Change.{Key, tiploc_key, association_key, sch
 use Rattle.docker_model.specs.state.Op.{Op, deleted, lapsed, put_with}
 use Rattle.docker_model.specs.file.Journey.{CallsAt}
 use Rattle.docker_laws.proofs.lists.Membership.{nil-Contains, Contains-map, map-Contains, Contains-single, single-Contains}
-use Rattle.docker_laws.proofs.lists.Members.{filter_back, filter_forth}
+use Rattle.docker_laws.proofs.lists.FilteredMembers.{filter_back, filter_forth}
 use Rattle.docker_index.specs.Spots.{call_places, link_places}
 use Rattle.docker_index.specs.Turns.{is_put}
 

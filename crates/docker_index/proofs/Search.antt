@@ -11,8 +11,8 @@ use Rattle.std.specs.Cmp.{IsTotalOrder, tied_itself}
 use Rattle.docker_model.specs.state.Order.{IsBelow, IsStrictlyAscending}
 use Rattle.docker_laws.proofs.lists.Membership.{cons-Contains, cons-Contains-first, Contains-map, map-Contains}
 use Rattle.docker_laws.proofs.orders.Ascending.{later_of}
-use Rattle.docker_laws.proofs.lists.Pairs.{pairs_from_later}
-use Rattle.docker_join.proofs.Along.{meant_ascending}
+use Rattle.docker_laws.proofs.lists.Later.{pairs_from_later}
+use Rattle.docker_join.proofs.MeantOrder.{meant_ascending}
 
 -- the element at a place
 member_at : {A : Type 0} (xs : List A) (at : ℕ) → at < length xs → (x : A) × Contains xs x × (get_or xs at x ≡ x)

@@ -8,12 +8,12 @@ use Rattle.std.specs.declared.cmp.Ordering.TheVariants.{Less, Equal, Greater}
 use Rattle.docker_model.specs.state.Stamp.{FileStamp}
 use Rattle.docker_model.specs.state.Op.{entry_cmp}
 use Rattle.docker_laws.proofs.orders.Orders.{exact_key}
-use Rattle.cif_file.specs.declared.key.Key.{Key}
+use Rattle.cif_change.specs.declared.key.Key.{Key}
 use Rattle.cif_file.specs.Meaning.{key_meant}
 use Rattle.docker_join.specs.declared.entry.Entry.{Entry}
 use Rattle.docker_join.specs.Meaning.{entry_meant}
 use Rattle.docker_join.specs.Rows.{row_cmp}
-use Rattle.docker_join.proofs.Merged.{placed, walk_from, walk}
+use Rattle.docker_join.proofs.MergedRows.{row_out, walk_from, walk}
 use Rattle.docker_index.specs.Turns.{AtKey, in_first, in_second, in_both, firsts, seconds, placed_turn, turns_from, turns_of, wins, goes, after, first_moves, second_moves}
 
 -- a row of a table
@@ -61,7 +61,7 @@ module _ (x : Row) (xs : List Row) (rest : List Row → List AtKey) where
   winners_from behind same (y ∷ ys) = by (row_cmp x y) (winners_from behind same ys)
     where
       by : (o : Ordering) → map winner (turns_from x rest ys) ≡ walk_from picked x behind ys
-          → map winner (placed_turn o x y (rest (y ∷ ys)) (rest ys) (turns_from x rest ys)) ≡ placed picked o x y (behind (y ∷ ys)) (behind ys)
+          → map winner (placed_turn o x y (rest (y ∷ ys)) (rest ys) (turns_from x rest ys)) ≡ row_out picked o x y (behind (y ∷ ys)) (behind ys)
           (walk_from picked x behind ys)
       by Less later = ap (λ (zs : List Row). x ∷ zs) (same (y ∷ ys))
       by Equal later = ap (λ (zs : List Row). (x.0, picked x.1 y.1) ∷ zs) (same ys)

@@ -7,3 +7,4 @@ pub mod Rooms
 pub mod Turns
 pub mod Joined
 pub mod StandingRows
+pub mod Noted

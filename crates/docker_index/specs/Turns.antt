@@ -7,7 +7,7 @@ use Rattle.docker_model.specs.state.Stamp.{FileStamp, file_stamp_cmp}
 use Rattle.docker_model.specs.state.Lapse.{lapse}
 use Rattle.docker_model.specs.state.Op as ops
 use Rattle.docker_model.specs.state.Op.{deleted, lapsed, put_with, entry_cmp}
-use Rattle.cif_file.specs.declared.key.Key.{Key}
+use Rattle.cif_change.specs.declared.key.Key.{Key}
 use Rattle.docker_join.specs.declared.entry.Entry.{Entry}
 use Rattle.docker_join.specs.Meaning.{entry_meant}
 use Rattle.docker_join.specs.Rows.{row_cmp}

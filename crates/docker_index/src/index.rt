@@ -9,13 +9,16 @@ ghost use Rattle.docker_join.specs.Meaning.{row_meant};
 ghost use Rattle.docker_index.specs.Spots.{IsIndexOf};
 ghost use Rattle.docker_index.specs.Rooms.{HasRoomFor, HasRoomOf};
 ghost use Rattle.docker_index.specs.Joined.{AreMoves};
+ghost use Rattle.docker_index.specs.Noted.{AreNoted, items_of};
 
-use crate::fill::{call_marks, link_marks};
+use crate::fill::ascending;
 use crate::mark::Mark;
 use crate::merge::{Moved, merged, ranks_of, union_of};
 use crate::moves::Moves;
+use crate::notes::Notes;
 use crate::room::Room;
 use crate::standing::{Standing, is_put_at, marks_at};
+use crate::walk::Walk;
 use cif_file::Key;
 use cif_line::{Memory, Tiploc};
 use docker_join::Entry;
@@ -44,21 +47,27 @@ impl Index {
         }
     }
 
-    /// The index of these rows, in room for it. It takes no memory.
-    pub fn of_rows(room: Room, rows: &[(Key, Entry)]) -> Index
-        requires room { HasRoomFor (map row_meant rows.now) room }
+    /// The index of these rows, by what was noted of them, in room for it. It takes no memory.
+    pub fn of_rows(room: Room, notes: Notes, rows: &[(Key, Entry)]) -> Index
+        requires room { HasRoomFor (map row_meant rows.now) notes.names.list.items room }
+        requires noted { AreNoted notes.names.list.items notes.numbers.items
+            (items_of (map row_meant rows.now)) notes.pieces.items }
         ensures { IsIndexOf (map row_meant rows.now) result }
     {
         let Room {
             places,
+            ranks,
             calls,
             links,
-            call_slots,
-            link_slots,
-            mut memo,
         } = room;
-        let calls = call_marks(rows, places.as_slice(), &mut memo, calls, call_slots);
-        let links = link_marks(rows, places.as_slice(), &mut memo, links, link_slots);
+        let count = rows.len() as u32;
+        let ranks = ranks.as_slice();
+        let numbers = notes.numbers.as_slice();
+        let pieces = notes.pieces.as_slice();
+        let called = Walk::of(ranks, numbers, pieces, count, false);
+        let linked = Walk::of(ranks, numbers, pieces, count, true);
+        let calls = ascending(called, places.len(), calls);
+        let links = ascending(linked, places.len(), links);
         Index {
             places,
             calls,

@@ -18,10 +18,19 @@ pub(crate) struct Memo {
 }
 
 impl Memo {
-    /// A memo of no place. `Memory` where the allocator refuses it.
-    pub(crate) fn new(alloc: Global) -> Result<Memo, Memory> {
-        let slots = vec![in alloc; 0u32; SLOTS]?;
-        Ok(Memo { slots })
+    /// A memo of no place, which keeps none either. It takes no memory.
+    pub(crate) fn new(alloc: Global) -> Memo {
+        Memo {
+            slots: Vec::new(alloc),
+        }
+    }
+
+    /// Makes room for what is to be kept, if there is none yet. `Memory` where the allocator refuses it.
+    pub(crate) fn grow(&mut self) -> Result<(), Memory> {
+        if self.slots.is_empty() {
+            self.slots = vec![in *self.slots.allocator(); 0u32; SLOTS]?;
+        }
+        Ok(())
     }
 
     /// The index of a place among places, if it is kept.
@@ -52,13 +61,6 @@ impl Memo {
         }
         if let Some(kept) = self.slots.get_mut(first) {
             *kept = index;
-        }
-    }
-
-    /// Keeps nothing more.
-    pub(crate) fn clear(&mut self) {
-        for slot in self.slots.iter_mut() {
-            *slot = 0;
         }
     }
 }

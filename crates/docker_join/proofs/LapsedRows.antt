@@ -8,12 +8,12 @@ use Rattle.docker_model.specs.state.Op.{key_cmp}
 use Rattle.docker_model.specs.state.Lapse.{lapse_entry, lapse_keyed, lapse_entries}
 use Rattle.docker_model.specs.state.Order.{IsStrictlyAscending}
 use Rattle.docker_laws.proofs.states.KeptEntries.{lapse_ascends}
-use Rattle.cif_file.specs.declared.key.Key.{Key}
+use Rattle.cif_change.specs.declared.key.Key.{Key}
 use Rattle.cif_file.specs.Meaning.{key_meant}
 use Rattle.docker_join.specs.declared.entry.Entry.{Entry}
 use Rattle.docker_join.specs.Meaning.{entry_meant, row_meant}
 use Rattle.docker_join.specs.Rows.{AreAscending}
-use Rattle.docker_join.proofs.Along.{ascending_meant, meant_ascending}
+use Rattle.docker_join.proofs.MeantOrder.{ascending_meant, meant_ascending}
 
 abbrev Row : Type 0
 Row = Key × Entry

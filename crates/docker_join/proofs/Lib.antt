@@ -1,4 +1,4 @@
-pub mod Merged
+pub mod MergedRows
 pub mod Lookup
-pub mod Along
+pub mod MeantOrder
 pub mod LapsedRows

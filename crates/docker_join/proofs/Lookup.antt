@@ -12,7 +12,7 @@ use Rattle.docker_model.specs.file.Change as model
 use Rattle.docker_model.specs.state.Op.{key_cmp}
 use Rattle.docker_model.specs.state.Order.{IsBelow}
 use Rattle.docker_laws.proofs.orders.Orders.{key_total, exact_key}
-use Rattle.cif_file.specs.declared.key.Key.{Key}
+use Rattle.cif_change.specs.declared.key.Key.{Key}
 use Rattle.cif_file.specs.Meaning.{key_meant}
 use Rattle.docker_join.specs.Rows.{row_cmp, AreAscending, value_at}
 use Rattle.docker_join.specs.RowLaws.{value_of, row_of}
@@ -52,8 +52,9 @@ module _ {E : Type 0} where
           let turned = key_total.antisymm (key_meant y.0) (key_meant x.0) in let r = ap ordering_reverse below in cc)
       by Greater at_x Greater at_y = omega arith
 
-  pub rising : (rows : List (Key × E)) (key : model.Key) → AreAscending rows → IsNonDecreasingBy (λ row. ordering_index (by_key key row)) rows
-  rising rows key up = λ i j d before within. by i j d before within (cases_lt i j)
+  -- how the rows compare with a key never goes down
+  pub rows_rise : (rows : List (Key × E)) (key : model.Key) → AreAscending rows → IsNonDecreasingBy (λ row. ordering_index (by_key key row)) rows
+  rows_rise rows key up = λ i j d before within. by i j d before within (cases_lt i j)
     where
       by : (i j : ℕ) (d : Key × E) → i ≤ j → j < length rows → (i < j) ⊎ (j ≤ i)
           → ordering_index (by_key key (get_or rows i d)) ≤ ordering_index (by_key key (get_or rows j d))
@@ -63,16 +64,16 @@ module _ {E : Type 0} where
           subst (λ k. ordering_index (by_key key (get_or rows i d)) ≤ ordering_index (by_key key (get_or rows k d))) same (omega arith)
 
   -- the row that was found has what the rows have at the key
-  pub found : (rows : List (Key × E)) (key : model.Key) (at : ℕ) (row : Key × E) → AreAscending rows → at < length rows → row ≡ get_or rows at row
+  pub row_found : (rows : List (Key × E)) (key : model.Key) (at : ℕ) (row : Key × E) → AreAscending rows → at < length rows → row ≡ get_or rows at row
       → ((d : Key × E) → by_key key (get_or rows at d) ≡ Equal) → Some row.1 ≡ value_at rows key
-  found rows key at row up within is tied =
+  row_found rows key at row up within is tied =
       let here : by_key key row ≡ Equal = ap (by_key key) is ∙ tied row in
       sym (subst (λ k. value_at rows k ≡ Some row.1) (exact_key (key_meant row.0) key here) (value_of rows row up (at, within, sym is)))
 
   -- rows that are below the key up to a place, and above it from there on, do not have it
-  pub missing : (rows : List (Key × E)) (key : model.Key) (at : ℕ) → AreAscending rows
+  pub row_missing : (rows : List (Key × E)) (key : model.Key) (at : ℕ) → AreAscending rows
       → IsPartitionPoint (λ row. by_key key row ≡ Less) (λ row. by_key key row ≡ Greater) rows at → None ≡ value_at rows key
-  missing rows key at up parts = by (value_at rows key) refl
+  row_missing rows key at up parts = by (value_at rows key) refl
     where
       nowhere : (row : Key × E) (i : ℕ) → i < length rows → get_or rows i row ≡ row → by_key key row ≡ Equal → (i < at) ⊎ (at ≤ i) → ⊥
       nowhere row i within is tied (inl before) = let below = parts.0 i row (omega arith) before in let same = ap (by_key key) is in cc

@@ -12,8 +12,8 @@ use Rattle.docker_model.specs.state.Op.{op_cmp, entry_cmp, body_cmp, body_end, b
 use Rattle.docker_laws.proofs.orders.Orders as laws
 use Rattle.docker_laws.proofs.texts.TextStages.{same_front}
 use Rattle.std.proofs.lemmas.List.Elements.{All-head, All-tail}
-use Rattle.cif_file.specs.declared.change.Body.{Body}
-use Rattle.cif_file.specs.declared.change.Body.TheVariants as body
+use Rattle.cif_change.specs.declared.change.Body.{Body}
+use Rattle.cif_change.specs.declared.change.Body.TheVariants as body
 use Rattle.cif_file.specs.Meaning.{body_meant}
 use Rattle.docker_join.specs.declared.stamp.FileStamp.{FileStamp}
 use Rattle.docker_join.specs.declared.stamp.Stamp.{Stamp}
@@ -31,9 +31,11 @@ same_file_stamp a b same = λ i. record { day = (same i).moment.day; minute = (s
 pub same_stamp : (a b : Stamp) → stamp_meant a ≡ stamp_meant b → a ≡ b
 same_stamp a b same = λ i. record { file = same_file_stamp a.file b.file (λ j. (same j).file) i; number = (same i).number }
 
+-- file stamps that tie are equal
 pub exact_file_stamp : (a b : FileStamp) → ⊤ → ⊤ → on file_stamp_meant file_stamp_cmp a b ≡ Equal → a ≡ b
 exact_file_stamp a b _ _ tied = same_file_stamp a b (laws.exact_file_stamp (file_stamp_meant a) (file_stamp_meant b) tied)
 
+-- stamps that tie are equal
 pub exact_stamp : (a b : Stamp) → ⊤ → ⊤ → on stamp_meant stamp_cmp a b ≡ Equal → a ≡ b
 exact_stamp a b _ _ tied = same_stamp a b (laws.exact_stamp (stamp_meant a) (stamp_meant b) tied)
 

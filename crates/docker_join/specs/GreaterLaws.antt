@@ -13,6 +13,7 @@ abbrev pub IsExact : {A : Type 0} → (A → Type 0) → (A → A → Ordering) 
 IsExact {A} valid cmp = (a b : A) → valid a → valid b → cmp a b ≡ Equal → a ≡ b
 
 module _ {A : Type 0} (valid : A → Type 0) {cmp : A → A → Ordering} (total : IsTotalOrder cmp) where
+  -- the greater of valid values is valid
   pub greater_closed : (a b c : A) → valid a → valid b → IsGreater cmp a b c → valid c
   greater_closed a b c good_a good_b is = by is.among
     where
@@ -28,6 +29,7 @@ module _ {A : Type 0} (valid : A → Type 0) {cmp : A → A → Ordering} (total
       by (inl same) = subst (λ x. IsAtMost cmp x d) (sym same) over_a
       by (inr same) = subst (λ x. IsAtMost cmp x d) (sym same) over_b
 
+  -- the greater is that of the values in either order
   pub greater_commutes : (a b c : A) → valid a → valid b → IsGreater cmp a b c → IsGreater cmp b a c
   greater_commutes a b c good_a good_b is = record { among = by is.among; first = is.second; second = is.first }
     where
@@ -35,14 +37,17 @@ module _ {A : Type 0} (valid : A → Type 0) {cmp : A → A → Ordering} (total
       by (inl same) = inr same
       by (inr same) = inl same
 
+  -- a value is the greater of itself and itself
   pub greater_itself : (a : A) → valid a → IsGreater cmp a a a
   greater_itself a good = record { among = inl refl; first = at_most_itself total a; second = at_most_itself total a }
 
+  -- two valid values have one greater
   pub greater_one : IsExact valid cmp → (a b c d : A) → valid a → valid b → IsGreater cmp a b c → IsGreater cmp a b d → c ≡ d
   greater_one exact a b c d good_a good_b is_c is_d =
       exact c d (greater_closed a b c good_a good_b is_c) (greater_closed a b d good_a good_b is_d)
       (level total c d (greater_least a b c d is_c is_d.first is_d.second) (greater_least a b d c is_d is_c.first is_c.second))
 
+  -- of three valid values the greater is one, by whichever two it begins
   pub greater_associates : IsExact valid cmp → (a b c ab bc left right : A) → valid a → valid b → valid c
       → IsGreater cmp a b ab → IsGreater cmp ab c left → IsGreater cmp b c bc → IsGreater cmp a bc right → left ≡ right
   greater_associates exact a b c ab bc left right good_a good_b good_c is_ab is_left is_bc is_right =

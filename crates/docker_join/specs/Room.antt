@@ -2,7 +2,7 @@
 use Rattle.std.specs.Prelude.{◌≡◌, ℕ, ◌≤◌, []}
 use Rattle.std.specs.Vec.{vec_len, vec_capacity}
 use Rattle.std.specs.Global.{Vec}
-use Rattle.cif_file.specs.declared.key.Key.{Key}
+use Rattle.cif_change.specs.declared.key.Key.{Key}
 
 -- nothing is in the vector, and it has room for so many rows
 pub record HasRoomForRows {E : Type 0} (count : ℕ) (rows : Vec (Key × E)) : Type 0 where

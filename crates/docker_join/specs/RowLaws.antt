@@ -16,10 +16,10 @@ use Rattle.docker_laws.proofs.orders.Ascending.{same_list}
 use Rattle.cif_field.specs.declared.letter.Stp.{Stp}
 use Rattle.cif_field.specs.declared.letter.Stp.TheVariants as stp
 use Rattle.cif_line.specs.Letter.{stp_letter}
-use Rattle.cif_file.specs.declared.key.Key.{Key}
-use Rattle.cif_file.specs.declared.key.Key.TheVariants as key
-use Rattle.cif_file.specs.declared.key.AssocKey.{AssocKey}
-use Rattle.cif_file.specs.declared.key.ScheduleKey.{ScheduleKey}
+use Rattle.cif_change.specs.declared.key.Key.{Key}
+use Rattle.cif_change.specs.declared.key.Key.TheVariants as key
+use Rattle.cif_change.specs.declared.key.AssocKey.{AssocKey}
+use Rattle.cif_change.specs.declared.key.ScheduleKey.{ScheduleKey}
 use Rattle.cif_file.specs.Meaning.{key_meant}
 use Rattle.docker_join.specs.Rows.{row_cmp, AreAscending, AreValidRows, value_at, picked_value, IsJoinOfRows}
 
@@ -234,12 +234,14 @@ module _ {E : Type 0} (valid : E → Type 0) (picked : E → E → E) (laws : Ar
         (valid_at b (key_meant row.0) good_b))),
   )
 
+  -- the join of valid tables is that of the tables in either order
   pub joins_commute : (a b c : List (Key × E)) → AreValidRows valid a → AreValidRows valid b → IsJoinOfRows picked a b c → IsJoinOfRows picked b a c
   joins_commute a b c good_a good_b is = record {
     ascends = is.ascends;
     values = λ key. is.values key ∙ values_commute (value_at a key) (value_at b key) (valid_at a key good_a) (valid_at b key good_b);
   }
 
+  -- of three valid tables the join is one, by whichever two it begins
   pub joins_associate : (a b c ab bc left right : List (Key × E)) → AreValidRows valid a → AreValidRows valid b → AreValidRows valid c
       → IsJoinOfRows picked a b ab → IsJoinOfRows picked ab c left → IsJoinOfRows picked b c bc → IsJoinOfRows picked a bc right → left ≡ right
   joins_associate a b c ab bc left right good_a good_b good_c is_ab is_left is_bc is_right =
@@ -250,5 +252,6 @@ module _ {E : Type 0} (valid : E → Type 0) (picked : E → E → E) (laws : Ar
       ∙ sym (ap (λ value. picked_value picked (value_at a key) value) (is_bc.values key))
       ∙ sym (is_right.values key))
 
+  -- a valid table is its join with itself
   pub joins_itself : (a : List (Key × E)) → AreValidRows valid a → IsJoinOfRows picked a a a
   joins_itself a good = record { ascends = good.0; values = λ key. values_itself (value_at a key) (valid_at a key good) }

@@ -23,7 +23,7 @@ pub struct Table<E> {
 
 impl<E> Model for Table<E> {
     ghost use Rattle.std.specs.Prelude.{List};
-    ghost use Rattle.cif_file.specs.declared.key.Key.{Key};
+    ghost use Rattle.cif_change.specs.declared.key.Key.{Key};
     ghost use Rattle.docker_join.specs.Rows.{AreAscending};
 
     ghost Value = { List (Key × E) };

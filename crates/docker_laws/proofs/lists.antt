@@ -1,9 +1,8 @@
 pub mod Membership
 pub mod AllOf
-pub mod Tests
-pub mod Members
+pub mod BoolsAndOptions
+pub mod FilteredMembers
 pub mod Later
-pub mod Pairs
 pub mod Sorted
 pub mod ZipSteps
 pub mod Decisions

@@ -28,9 +28,9 @@ place_in after_journey lines = between_units
 place_in stage lines = in_schedule stage lines
 
 -- the place with the schedule's next stage, or another place where it has none
-abbrev pub carried : Lines → Option Stage → Option Place → Option Place
-carried lines (Some stage) other = Some (place_in stage lines)
-carried lines None other = other
+abbrev pub in_stage_or : Lines → Option Stage → Option Place → Option Place
+in_stage_or lines (Some stage) other = Some (place_in stage lines)
+in_stage_or lines None other = other
 
 -- the kind of a header
 abbrev pub is_header_kind : Option Kind → Bool
@@ -42,7 +42,7 @@ abbrev pub place_by_kind : Place → Option Kind → List ℕ → Option Place
 place_by_kind before_header kind line = cond (is_header_kind kind) (Some between_units) None
 place_by_kind between_units kind line = unit_by_kind kind line
 place_by_kind (in_schedule stage lines) kind line =
-    carried (lines ++ line ∷ []) (stage_after stage kind) (cond (may_end stage lines) (unit_by_kind kind line) None)
+    in_stage_or (lines ++ line ∷ []) (stage_after stage kind) (cond (may_end stage lines) (unit_by_kind kind line) None)
 place_by_kind after_end kind line = None
 
 -- one more record here has good fields and, in a journey, no third fall; a deletion's may have any

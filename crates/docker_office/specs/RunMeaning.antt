@@ -1,6 +1,6 @@
 -- What events, replies and messages of a run mean, as the definitions name them.
 use Rattle.std.specs.Prelude.{ℕ, ◌<◌, ◌≤◌, List, map, Option, Some, None, Result, Ok, Err, ⊤}
-use Rattle.cif_file.specs.Meaning.{cause_meant}
+use Rattle.cif_file.specs.Cause.{cause_meant}
 use Rattle.cif_line.specs.Device.{Store}
 use Rattle.docker_model.specs.file.FileFault as files
 use Rattle.docker_model.specs.run.Run as model

@@ -11,6 +11,7 @@ mod reply;
 mod runs;
 mod steps;
 
+pub use docker_bytes::{StateCause, StateFault};
 pub use event::Event;
 pub use exchange::Exchange;
 pub use fault::OfficeFault;

@@ -3,8 +3,8 @@ use Rattle.std.proofs.Common.{◌≡◌, refl, sym, ◌∙◌, subst, inl, inr, 
 use Rattle.std.specs.Prelude.{Result, ◌⊎◌, ⊤}
 use Rattle.docker_job.specs.Job.{JobView}
 use Rattle.docker_cmd.specs.Prepared.{DeviceBytes, PreparedView}
-use Rattle.docker_office.specs.declared.fault.OfficeFault.{OfficeFault}
-use Rattle.docker_office.specs.declared.fault.OfficeFault.TheVariants as office
+use Rattle.docker_cmd.specs.OfficeFault.{OfficeFault}
+use Rattle.docker_cmd.specs.OfficeFault.TheVariants as office
 use Rattle.docker_program.specs.Devices.{AreOpened, AreThere, FileDevice, Given, LeavesOthers, first_held, first_left, given, second_held, second_left}
 use Rattle.docker_job.specs.Words.{Text}
 use Rattle.docker_program.specs.declared.names.Names as declared
@@ -88,8 +88,8 @@ reads_named job names is rest input before left first second one two result open
     (subst (λ names. AreRead names (now input left first one second two) job rest result) is (record {
       there = still_there names input before left first second one two opened.there;
       others = others;
-      reads = subst (λ held. ReadsInOrder job (first_held names rest (now input left first one second two)) (first_left names (now input left first one second two))
-          held (second_left names (now input left first one second two)) result)
+      reads = subst (λ held. ReadsInOrder job (first_held names rest (now input left first one second two))
+          (first_left names (now input left first one second two)) held (second_left names (now input left first one second two)) result)
           (opened.second ∙ same_second names rest input before left first second one two)
           (subst (λ held. ReadsInOrder job held (first_left names (now input left first one second two))
           (second_left names (given input before first second)) (second_left names (now input left first one second two)) result)

@@ -50,6 +50,10 @@ IsUnwritten written = (written.output_now ≡ written.output) × (written.files_
 abbrev pub LeavesOtherFiles : Text → (Text → DeviceBytes) → (Text → DeviceBytes) → Type 0
 LeavesOtherFiles name files files_now = (other : Text) → other ≢ name → files_now other ≡ files other
 
+-- a file holds what it did, or what was to be put in its place
+abbrev pub IsEither : DeviceBytes → DeviceBytes → DeviceBytes → Type 0
+IsEither old put now = (now ≡ old) ⊎ (now ≡ put)
+
 -- what the first source held, as it was opened; rest is what standard input held then
 abbrev pub first_held : Names → DeviceBytes → Given → DeviceBytes
 first_held no_source rest given = given.first.before

@@ -3,13 +3,13 @@ use Rattle.std.specs.Prelude.{◌≡◌, ◌≢◌, ◌↔◌, ℕ, ◌+◌, Lis
 use Rattle.cif_line.specs.Device.{Takes, TakesPart}
 use Rattle.cif_file.specs.SourceRead.{Held}
 use Rattle.cif_file.specs.declared.fault.FileFault.{FileFault}
-use Rattle.docker_bytes.specs.declared.fault.StateFault.{StateFault}
+use Rattle.docker_cmd.specs.StateFault.{StateFault}
 use Rattle.docker_job.specs.Words.{Text}
 use Rattle.docker_job.specs.Job.{JobView, IsJobOf, NameNoJob}
 use Rattle.docker_job.specs.JobLine.{ReadsAtMost, ReadsJob, HasJob, HasNoJob}
 use Rattle.docker_job.specs.declared.fault.JobFault.TheVariants as job
-use Rattle.docker_office.specs.declared.fault.OfficeFault.{OfficeFault}
-use Rattle.docker_office.specs.declared.fault.OfficeFault.TheVariants as office
+use Rattle.docker_cmd.specs.OfficeFault.{OfficeFault}
+use Rattle.docker_cmd.specs.OfficeFault.TheVariants as office
 use Rattle.docker_cmd.specs.Prepared.{DeviceBytes, PreparedView, IsReadOf, HasReadToEnd, ReadsFewOfFirst, ReadsFewOfSecond, RefusesFileOf, RefusesStateOf, WantsFor, GainsOutput, GainsPart, IsOutputText, IsRefused, PrintsDocker, output_of, sources_of}
 use Rattle.docker_cmd.specs.FaultLine.{fault_line, status_of}
 use Rattle.docker_cmd.specs.declared.fault.Fault.{Fault}
@@ -138,10 +138,15 @@ abbrev pub WritesTo : Option Text → Written → PreparedView → Type 0
 WritesTo None written prepared = GainsOutput prepared written.output written.output_now × (written.files_now ≡ written.files)
 WritesTo (Some name) written prepared = StoresOutput written prepared name × (written.output_now ≡ written.output)
 
--- the output gained a beginning of that, and not all of it; or the file that is written may hold anything
+-- the file of this name is as it was, or holds the whole of what the job writes, and each other is as it was
+pub record StoresAllOrNothing (written : Written) (prepared : PreparedView) (name : Text) : Type 0 where
+  pub either : (written.files_now name ≡ written.files name) ⊎ StoresOutput written prepared name
+  pub others : LeavesOtherFiles name written.files written.files_now
+
+-- the output gained a beginning of that, and not all of it; or the file that is written holds all of it, or what it held before
 abbrev pub WritesPartTo : Option Text → Written → PreparedView → Type 0
 WritesPartTo None written prepared = GainsPart prepared written.output written.output_now × (written.files_now ≡ written.files)
-WritesPartTo (Some name) written prepared = LeavesOtherFiles name written.files written.files_now × (written.output_now ≡ written.output)
+WritesPartTo (Some name) written prepared = StoresAllOrNothing written prepared name × (written.output_now ≡ written.output)
 
 -- what a job has read is written where the job writes
 abbrev pub Writes : Written → PreparedView → Type 0

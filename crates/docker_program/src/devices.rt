@@ -36,7 +36,7 @@ impl Input {
     }
 
     /// No file yet.
-    pub(crate) fn closed(rt: &HostRuntime) -> Input
+    pub(crate) fn without_file(rt: &HostRuntime) -> Input
         ensures { result.failures ≡ 0 }
     {
         Input {

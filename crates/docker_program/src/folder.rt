@@ -1,11 +1,11 @@
 //! The real files that are written anew. A regular file is written beside its place, and then renamed over it: whenever that ends, the file is whole, as it was
 //! or as it is to be. A pipe or a device is written where it stands.
-ghost use Rattle.std.specs.Prelude.{◌≡◌, ◌<◌, ◌^◌, ◌-◌, ◌+◌, None, option_map, string_bytes};
+ghost use Rattle.std.specs.Prelude.{◌≡◌, ◌≢◌, ◌↔◌, ◌<◌, ◌^◌, ◌-◌, ◌+◌, None, Some, Err, IfOk, OnOk, option_map, string_bytes};
 
 use crate::beside::Beside;
 use crate::devices::write_some;
 use crate::files::OpenFault;
-use crate::stores::Stores;
+use crate::stores::{Looked, Stores};
 use cif_line::{Failed, Sink};
 use std::alloc::AllocError;
 use std::fs::{File, Metadata};
@@ -15,7 +15,7 @@ use std::{fs, io};
 
 /// Which file stood under a name, and when it was written last.
 #[derive(Clone, Copy, PartialEq, Eq)]
-struct Seen {
+pub(crate) struct Seen {
     device: u64,
     node: u64,
     size: u64,
@@ -40,7 +40,6 @@ impl Seen {
 #[derive(Drop)]
 pub(crate) struct Folder {
     rt: HostRuntime,
-    seen: Option<Seen>,
     target: Option<String>,
     beside: Option<Beside>,
     pub(crate) failures: u64,
@@ -108,7 +107,6 @@ impl Folder {
     {
         Folder {
             rt: *rt,
-            seen: None,
             target: None,
             beside: None,
             failures: 0,
@@ -116,18 +114,19 @@ impl Folder {
     }
 
     /// Which file stands under a name, if one does.
-    fn seen(&self, name: &str) -> Option<Seen> {
+    fn look_under(&self, name: &str) -> Option<Seen> {
         fs::metadata(&self.rt, name)
             .ok()
             .map(|file| Seen::of(&file))
     }
 
-    /// Opens a draft of the file of this name. A file that isn't there yet is written beside its place too, but a link that leads nowhere is followed.
-    fn open(&self, name: &str) -> Result<(File, Option<Beside>), OpenFault> {
+    /// Opens a draft of the file that was looked at. A file that isn't there yet is written beside its place too, but a link that leads nowhere is followed.
+    fn open(&self, looked: &Looked<'_, Option<Seen>>) -> Result<(File, Option<Beside>), OpenFault> {
+        let name = looked.name;
         match fs::metadata(&self.rt, name) {
             Ok(file) if file.is_file() => {
                 let path = fs::canonicalize(&self.rt, name)?.into_string();
-                self.open_beside(name, path, Some(file))
+                self.open_beside(looked, path, Some(file))
             }
             Ok(_) => Ok((File::create(&self.rt, name)?, None)),
             Err(error) if error.kind() == ErrorKind::NotFound => {
@@ -135,7 +134,7 @@ impl Folder {
                     return Ok((File::create(&self.rt, name)?, None));
                 }
                 let path = String::from_str(self.rt.alloc(), name)?;
-                self.open_beside(name, path, None)
+                self.open_beside(looked, path, None)
             }
             Err(error) => Err(OpenFault::from(error)),
         }
@@ -144,12 +143,12 @@ impl Folder {
     /// Opens a draft beside a file that is still the one that was looked at.
     fn open_beside(
         &self,
-        name: &str,
+        looked: &Looked<'_, Option<Seen>>,
         file: String,
         old: Option<Metadata>,
     ) -> Result<(File, Option<Beside>), OpenFault> {
         let (made, beside) = Beside::make(&self.rt, file, old)?;
-        if self.seen(name) != self.seen {
+        if self.look_under(looked.name) != looked.seen {
             beside.remove(&self.rt);
             return Err(OpenFault::Failed);
         }
@@ -175,21 +174,35 @@ impl Folder {
 impl Stores for Folder {
     type Draft = Draft;
 
+    type Seen = Option<Seen>;
+
     ghost held = { λ _ _. None };
 
     ghost target = { λ folder. option_map (λ name. string_bytes name) folder.target };
 
     ghost failures = { λ folder. folder.failures };
 
-    fn look(&mut self, name: &str) {
-        self.seen = self.seen(name);
+    fn look<'a>(&self, name: &'a str) -> Looked<'a, Option<Seen>> {
+        Looked {
+            name,
+            seen: self.look_under(name),
+        }
     }
 
-    fn create(&mut self, name: &str) -> Result<Draft, OpenFault> {
-        let opened = match String::from_str(self.rt.alloc(), name) {
+    fn create(&mut self, looked: Looked<'_, Option<Seen>>) -> Result<Draft, OpenFault>
+        requires { self.old.failures < 2 ^ 64 - 1 }
+        ensures target { OnOk result
+            (option_map (λ name. string_bytes name) self.new.target ≡ Some looked.entry.name.now) }
+        ensures sound { IfOk result (λ draft. draft.failures ≡ 0) }
+        ensures counted { (result ≡ Err OpenFault.Failed)
+            ↔ (self.new.failures ≡ self.old.failures + 1) }
+        ensures no_failure { result ≢ Err OpenFault.Failed
+            → self.new.failures ≡ self.old.failures }
+    {
+        let opened = match String::from_str(self.rt.alloc(), looked.name) {
             Ok(target) => {
                 self.target = Some(target);
-                self.open(name)
+                self.open(&looked)
             }
             Err(_) => Err(OpenFault::Memory),
         };

@@ -20,7 +20,7 @@ pub(crate) fn names(job: &Job) -> Names<'_>
 }
 
 /// The name of the file that a job writes, where it writes one.
-pub(crate) fn stored(job: &Job) -> Option<&str>
+pub(crate) fn stored_name(job: &Job) -> Option<&str>
     ensures { option_map (λ name. name.now) result ≡ stored_by job.now }
 {
     match job.task() {

@@ -1,24 +1,23 @@
 //! Where a job writes.
-ghost use Rattle.std.specs.Prelude.{◌≡◌, ◌≢◌, ◌+◌, ◌-◌, ◌^◌, ◌<◌, ◌↔◌, Some, OnOk, OnErr, Err};
+ghost use Rattle.std.specs.Prelude.{◌≡◌, ◌≢◌, ◌+◌, ◌-◌, ◌^◌, ◌<◌, ◌↔◌, Some, OnOk, OnErr, Err, option_map};
 ghost use Rattle.docker_cmd.specs.Prepared.{output_of, state_written};
 ghost use Rattle.docker_program.specs.Devices.{IsCounted, written};
 ghost use Rattle.docker_program.specs.Names.{stored_by};
 ghost use Rattle.docker_program.specs.Program.{EndsWriting, result_status};
 
 use crate::files::OpenFault;
-use crate::job_names::stored;
-use crate::stores::Stores;
+use crate::stores::{Looked, Stores};
 use cif_line::Sink;
-use docker_cmd::{Job, OfficeFault, Prepared, emit};
+use docker_cmd::{OfficeFault, Prepared, emit};
 
-/// Writes what a job has read: to the file that it writes anew, or else to the output.
+/// Writes what a job has read: to the file that was looked at for it, or, where it writes none, to the output.
 pub(crate) fn write_output<W: Stores, K: Sink>(
-    job: &Job,
+    looked: Option<Looked<'_, W::Seen>>,
     prepared: &Prepared<'_>,
     store: &mut W,
     output: &mut K,
 ) -> Result<(), OfficeFault>
-    requires job { prepared.now.job ≡ job.now }
+    requires name { option_map (λ it. it.name.now) looked ≡ stored_by prepared.now.job }
     requires store { W.failures store.old < 2 ^ 64 - 1 }
     requires output { K.failures output.old < 2 ^ 64 - 1 }
     ensures ends { EndsWriting
@@ -28,26 +27,26 @@ pub(crate) fn write_output<W: Stores, K: Sink>(
         (W.failures store.old + K.failures output.old)
         (W.failures store.new + K.failures output.new) }
 {
-    match stored(job) {
+    match looked {
         None => emit(prepared, output),
-        Some(name) => write_file(prepared, name, store),
+        Some(looked) => write_file(prepared, looked, store),
     }
 }
 
-/// Writes what a job has read to the file of this name.
+/// Writes what a job has read to the file that was looked at.
 fn write_file<W: Stores>(
     prepared: &Prepared<'_>,
-    name: &str,
+    looked: Looked<'_, W::Seen>,
     store: &mut W,
 ) -> Result<(), OfficeFault>
-    requires name { stored_by prepared.now.job ≡ Some name.now }
+    requires name { stored_by prepared.now.job ≡ Some looked.name.now }
     requires store { W.failures store.old < 2 ^ 64 - 1 }
     ensures ends { (output : _) → EndsWriting
         (written output output (W.held store.old) (W.held store.new)) prepared.now result }
     ensures counted { IsCounted (result_status result)
         (W.failures store.old) (W.failures store.new) }
 {
-    let mut draft = match store.create(name) {
+    let mut draft = match store.create(looked) {
         Ok(draft) => draft,
         Err(OpenFault::Failed) => return Err(OfficeFault::Sink),
         Err(OpenFault::Memory) => return Err(OfficeFault::Memory),

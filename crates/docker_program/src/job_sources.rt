@@ -60,42 +60,6 @@ fn read_in_order<'a, S: Source, T: Source>(
     prepare(alloc, job, first, second)
 }
 
-/// Reads a file, and then what is left of standard input.
-fn read_file_and_input<'a, F: Source, S: Source>(
-    alloc: Global,
-    job: &'a Job,
-    file: &mut F,
-    stdin: &mut S,
-) -> Result<Prepared<'a>, OfficeFault>
-    requires file { F.failures file.old < 2 ^ 64 - 1 }
-    requires stdin { S.failures stdin.old < 2 ^ 64 - 1 }
-    ensures reads { ReadsInOrder job.now (F.left file.old) (F.left file.new)
-        (S.left stdin.old) (S.left stdin.new) result }
-    ensures counted { IsCounted (result_status result)
-        (F.failures file.old + S.failures stdin.old)
-        (F.failures file.new + S.failures stdin.new) }
-{
-    read_in_order(alloc, job, file, stdin)
-}
-
-/// Reads a file, and then another.
-fn read_files<'a, F: Source>(
-    alloc: Global,
-    job: &'a Job,
-    file: &mut F,
-    other: &mut F,
-) -> Result<Prepared<'a>, OfficeFault>
-    requires file { F.failures file.old < 2 ^ 64 - 1 }
-    requires other { F.failures other.old < 2 ^ 64 - 1 }
-    ensures reads { ReadsInOrder job.now (F.left file.old) (F.left file.new)
-        (F.left other.old) (F.left other.new) result }
-    ensures counted { IsCounted (result_status result)
-        (F.failures file.old + F.failures other.old)
-        (F.failures file.new + F.failures other.new) }
-{
-    read_in_order(alloc, job, file, other)
-}
-
 /// Opens the files that a job reads, in the order of its words, and then reads its sources. One of them may be what is left of standard input.
 pub(crate) fn read_sources<'a, S: Source, F: Files>(
     alloc: Global,
@@ -119,7 +83,9 @@ pub(crate) fn read_sources<'a, S: Source, F: Files>(
     open_files(&names, first, second)?;
     match names {
         Names::Stdin => read_in_order(alloc, job, stdin, second),
-        Names::FileAndStdin(_) => read_file_and_input(alloc, job, first, stdin),
-        Names::None | Names::File(_) | Names::Files(..) => { read_files(alloc, job, first, second) }
+        Names::FileAndStdin(_) => read_in_order(alloc, job, first, stdin),
+        Names::None | Names::File(_) | Names::Files(..) => {
+            read_in_order(alloc, job, first, second)
+        }
     }
 }

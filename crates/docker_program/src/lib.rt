@@ -20,4 +20,4 @@ pub use fault_report::tell;
 pub use files::{Files, OpenFault};
 pub use host::{run, run_words};
 pub use program::perform;
-pub use stores::Stores;
+pub use stores::{Looked, Stores};

@@ -1,29 +1,27 @@
 //! The order of the program's work.
-ghost use Rattle.std.specs.Prelude.{◌≡◌, ◌≢◌, ◌+◌, ◌-◌, ◌^◌, ◌<◌, ◌↔◌, None, Some};
+ghost use Rattle.std.specs.Prelude.{◌≡◌, ◌≢◌, ◌+◌, ◌-◌, ◌^◌, ◌<◌, ◌↔◌, None, Some, option_map};
 ghost use Rattle.docker_job.specs.Words.{texts};
 ghost use Rattle.docker_program.specs.Devices.{IsCounted, device_of, given, written};
+ghost use Rattle.docker_program.specs.Names.{stored_by};
 ghost use Rattle.docker_program.specs.Program.{EndsBy, Performs, ending_status, fault_in, fault_sink};
 
 use crate::fault_report::tell;
 use crate::files::Files;
-use crate::job_names::stored;
+use crate::job_names::stored_name;
 use crate::job_output::write_output;
 use crate::job_sources::read_sources;
 use crate::request::requested_job;
-use crate::stores::Stores;
+use crate::stores::{Looked, Stores};
 use cif_line::{Sink, Source};
 use docker_cmd::{Fault, Job};
 use std::alloc::Global;
 use std::mem;
 
-/// Looks at the file that a job writes, before anything is read.
-fn look_at_stored<W: Stores>(job: &Job, store: &mut W)
-    ensures held { W.held store.new ≡ W.held store.old }
-    ensures no_failure { W.failures store.new ≡ W.failures store.old }
+/// Looks at the file that a job writes, if it writes one, before anything is read.
+fn look_at_stored<'a, W: Stores>(job: &'a Job, store: &W) -> Option<Looked<'a, W::Seen>>
+    ensures { option_map (λ it. it.name.now) result ≡ stored_by job.now }
 {
-    if let Some(name) = stored(job) {
-        store.look(name);
-    }
+    stored_name(job).map(|name| store.look(name))
 }
 
 /// Does the job that is asked for: reads its sources, and then writes its output.
@@ -54,9 +52,9 @@ fn do_job<S: Source, F: Files, W: Stores, K: Sink>(
         + W.failures store.new + K.failures output.new) }
 {
     let job = requested_job(alloc, words, stdin)?;
-    look_at_stored(&job, store);
+    let looked = look_at_stored(&job, store);
     let prepared = read_sources(alloc, &job, stdin, first, second)?;
-    let done = write_output(&job, &prepared, store, output);
+    let done = write_output(looked, &prepared, store, output);
     // The program ends here: what it has read is left to the system, not freed piece by piece.
     mem::forget(prepared);
     Ok(done?)

@@ -1,15 +1,28 @@
 //! Files that are written anew by their names.
 ghost use Rattle.std.specs.Prelude.{◌≡◌, ℕ, ◌+◌, ◌-◌, ◌^◌, ◌<◌, ◌↔◌, ◌≢◌, [], Some, List, Option, IfOk, IsErr, OnOk, OnErr, Err};
 ghost use Rattle.cif_file.specs.SourceRead.{Held};
-ghost use Rattle.docker_program.specs.Devices.{LeavesOtherFiles};
+ghost use Rattle.docker_program.specs.Devices.{IsEither, LeavesOtherFiles};
 
 use crate::files::OpenFault;
 use cif_line::{Failed, Sink};
 
-/// Where files are written anew. The new text of one is a draft, which takes the file's place once it is complete.
+/// A file that was looked at: its name, and what was seen under it.
+#[derive(Drop)]
+pub struct Looked<'a, T> {
+    /// The name.
+    pub name: &'a str,
+    /// What stood under it.
+    pub seen: T,
+}
+
+/// Where files are written anew. The new text of one is a draft, which takes the file's place once it is complete. A draft is made from a look alone, so
+/// that none is made for a file that wasn't looked at.
 pub trait Stores {
     /// A new text, as far as it is written.
     type Draft: Sink + Drop;
+
+    /// What is seen of a file, which tells it from one that came in its place since.
+    type Seen: Drop;
 
     // The bytes that the file of a name holds, or None where they can't be told.
     ghost held: { Self → List ℕ → Option (List ℕ) };
@@ -22,28 +35,29 @@ pub trait Stores {
 
     /// Looks at the file of this name before it is read, so that a draft made from what it held then never takes the place of a text
     /// that came since.
-    fn look(&mut self, name: &str)
-        ensures held { held self.new ≡ held self.old }
-        ensures no_failure { failures self.new ≡ failures self.old };
+    fn look<'a>(&self, name: &'a str) -> Looked<'a, Self::Seen>
+        ensures { result.name.now ≡ name.now };
 
-    /// An empty draft for the file of this name. Where there is none, for a device that fails or for want of memory, every file is as it was.
-    fn create(&mut self, name: &str) -> Result<Self::Draft, OpenFault>
+    /// An empty draft for the file that was looked at; none for a device that fails, for a text that came since, or for want of memory. Every file that can
+    /// be told is as it was.
+    fn create(&mut self, looked: Looked<'_, Self::Seen>) -> Result<Self::Draft, OpenFault>
         requires { failures self.old < 2 ^ 64 - 1 }
-        ensures target { OnOk result (target self.new ≡ Some name.now) }
+        ensures target { OnOk result (target self.new ≡ Some looked.entry.name.now) }
         ensures empty { IfOk result (λ draft. Held (Self.Draft.taken draft) []) }
         ensures sound { IfOk result (λ draft. Self.Draft.failures draft ≡ 0) }
-        ensures others { LeavesOtherFiles name.now (held self.old) (held self.new) }
-        ensures unmade { OnErr result (held self.new ≡ held self.old) }
+        ensures kept { held self.new ≡ held self.old }
         ensures counted { (result ≡ Err OpenFault.Failed)
             ↔ (failures self.new ≡ failures self.old + 1) }
         ensures no_failure { result ≢ Err OpenFault.Failed
             → failures self.new ≡ failures self.old };
 
-    /// Puts a draft in the place of its file, which then holds what the draft took. Where that fails the file may hold anything.
+    /// Puts a draft in the place of its file, which then holds what the draft took. Where that fails, the file holds that too, or what it held before.
     fn complete(&mut self, draft: Self::Draft) -> Result<(), Failed>
         requires { failures self.old + Self.Draft.failures draft < 2 ^ 64 - 1 }
         ensures held { OnOk result ((name : List ℕ) → target self.old ≡ Some name
             → held self.new name ≡ Self.Draft.taken draft) }
+        ensures either { OnErr result ((name : List ℕ) → target self.old ≡ Some name
+            → IsEither (held self.old name) (Self.Draft.taken draft) (held self.new name)) }
         ensures others { (name : List ℕ) → target self.old ≡ Some name
             → LeavesOtherFiles name (held self.old) (held self.new) }
         ensures no_failure { OnOk result
@@ -51,11 +65,10 @@ pub trait Stores {
         ensures counted { OnErr result
             (failures self.new ≡ failures self.old + Self.Draft.failures draft + 1) };
 
-    /// Takes a draft back that isn't to be completed.
+    /// Takes a draft back that isn't to be completed. Every file that can be told is as it was.
     fn discard(&mut self, draft: Self::Draft)
         requires { failures self.old + Self.Draft.failures draft < 2 ^ 64 }
-        ensures others { (name : List ℕ) → target self.old ≡ Some name
-            → LeavesOtherFiles name (held self.old) (held self.new) }
+        ensures kept { held self.new ≡ held self.old }
         ensures counted { failures self.new ≡ failures self.old + Self.Draft.failures draft };
 
     /// How often it has failed so far.

@@ -1,13 +1,13 @@
 //! Commands, from their words and what their sources hold to what they write.
 
+use crate::dockers::ASHFELD_0900;
 use crate::files::*;
 use crate::offices::text_of;
 use crate::records::{HD, SHORT, ZZ};
 use crate::state_texts::*;
 use cif_file::{FileCause, FileFault};
 use cif_line::{Bytes, Kept};
-use docker_cmd::{Fault, OfficeFault, emit, fault_text, prepare, status};
-use docker_job::{JobFault, job, job_line};
+use docker_cmd::{Fault, JobFault, OfficeFault, emit, fault_text, job, job_line, prepare, status};
 use std::alloc::Global;
 use std::test::Fail;
 
@@ -24,13 +24,6 @@ fn written(alloc: Global, words: &[&str], first: &[u8], second: &[u8]) -> Result
     Ok(sink)
 }
 
-/// The docker of the train of the morning.
-const DOCKER: &str = "\
-DOCKER ASHFELD 2024-06-10                               
-0900  D 1A10 C10001 P   1   SL      0900 ASHFELD BRAYTON
-END                                                     
-";
-
 /// Words of a command that reads a file alone, the file, and what is written.
 const OF_FILES: &[(&[&str], File, &str)] = &[
     (&["check", "F"], MORNING, "accepted: 5 records, 1 changes\n"),
@@ -41,7 +34,11 @@ const OF_FILES: &[(&[&str], File, &str)] = &[
         DELETED_AT_NO_TIME,
         "accepted: 5 records, 1 changes\n",
     ),
-    (&["day", "F", "ASHFELD", "2024-06-10"], MORNING, DOCKER),
+    (
+        &["day", "F", "ASHFELD", "2024-06-10"],
+        MORNING,
+        ASHFELD_0900,
+    ),
 ];
 
 #[test]
@@ -74,7 +71,7 @@ const OF_STATES: &[(&[&str], Parts, Parts, Parts)] = &[
         &["print", "S", "ASHFELD", "2024-06-10"],
         MORNING_STATE,
         &[],
-        &[DOCKER],
+        &[ASHFELD_0900],
     ),
     (
         &["files", "S"],
@@ -125,7 +122,7 @@ fn a_file_taken_into_a_state(rt: HostRuntime) -> Result<(), Fail> {
     assert_eq!(rt; sink.bytes(), want.as_slice());
     let words = ["print", "S", "ASHFELD", "2024-06-10"];
     let docker = written(alloc, &words, sink.bytes(), b"")?;
-    assert_eq!(rt; docker.bytes(), DOCKER.as_bytes());
+    assert_eq!(rt; docker.bytes(), ASHFELD_0900.as_bytes());
     Ok(())
 }
 
@@ -170,6 +167,6 @@ fn a_job_line_before_the_file_that_it_names(rt: HostRuntime) -> Result<(), Fail>
     let prepared = prepare(alloc, &job, &mut source, &mut second)?;
     let mut sink = Kept::new(alloc, 171)?;
     emit(&prepared, &mut sink)?;
-    assert_eq!(rt; sink.bytes(), DOCKER.as_bytes());
+    assert_eq!(rt; sink.bytes(), ASHFELD_0900.as_bytes());
     Ok(())
 }

@@ -6,8 +6,7 @@ use crate::offices::{has, office_of, text_of};
 use crate::state_texts::{MORNING_STATE, REVISED_STATE, REVISION_STATE, text_of_parts};
 use cif_file::{FileCause, FileFault};
 use cif_line::{Bytes, Day, Endless, Fuse, Kept, Tiploc};
-use docker_bytes::{StateCause, StateFault};
-use docker_office::{Office, OfficeFault};
+use docker_office::{Office, OfficeFault, StateCause, StateFault};
 use std::alloc::Global;
 use std::test::Fail;
 

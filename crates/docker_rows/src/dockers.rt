@@ -9,6 +9,74 @@ use std::test::Fail;
 /// The files that an office took in turn, a place, a day, and the docker there.
 type Row = (&'static [File], &'static str, &'static str, &'static str);
 
+/// The train of the morning leaves Ashfeld.
+pub(crate) const ASHFELD_0900: &str = "\
+DOCKER ASHFELD 2024-06-10                               
+0900  D 1A10 C10001 P   1   SL      0900 ASHFELD BRAYTON
+END                                                     
+";
+
+/// It leaves five minutes later.
+const ASHFELD_0905: &str = "\
+DOCKER ASHFELD 2024-06-10                               
+0905  D 1A10 C10001 P   1   SL      0905 ASHFELD BRAYTON
+END                                                     
+";
+
+/// It leaves ten minutes earlier.
+const ASHFELD_0850: &str = "\
+DOCKER ASHFELD 2024-06-10                               
+0850  D 1A10 C10001 P   1   SL      0850 ASHFELD BRAYTON
+END                                                     
+";
+
+/// C10002 leaves Ashfeld, and the train of the morning two hours later than else.
+pub(crate) const TWO_TRAINS: &str = "\
+DOCKER ASHFELD 2024-06-10                               
+1000  D 1A20 C10002 P   1   SL      1000 ASHFELD BRAYTON
+1100  D 1A10 C10001 P   1   SL      1100 ASHFELD BRAYTON
+END                                                     
+";
+
+/// Nothing happens at Ashfeld.
+const NONE_AT_ASHFELD: &str = "\
+DOCKER ASHFELD 2024-06-10                               
+END                                                     
+";
+
+/// Nothing happens at Brayton.
+const NONE_AT_BRAYTON: &str = "\
+DOCKER BRAYTON 2024-06-10                               
+END                                                     
+";
+
+/// Nothing happens at Colwell.
+const NONE_AT_COLWELL: &str = "\
+DOCKER COLWELL 2024-06-10                               
+END                                                     
+";
+
+/// A train ends at Colwell, and becomes no other.
+const COLWELL_ALONE: &str = "\
+DOCKER COLWELL 2024-06-10                               
+2350  A 4D40 C40001 P   1                ASHFELD COLWELL
+END                                                     
+";
+
+/// It becomes one that does not run.
+const COLWELL_UNKNOWN: &str = "\
+DOCKER COLWELL 2024-06-10                               
+2350  A 4D40 C40001 P   1                ASHFELD COLWELL
+2350  N 4D40 C40001 P   1                C40002  ????   
+END                                                     
+";
+
+/// Nothing happens at Ashfeld on 18 June.
+pub(crate) const NONE_ON_18_JUNE: &str = "\
+DOCKER ASHFELD 2024-06-18                               
+END                                                     
+";
+
 /// Looks whether each of these dockers is printed.
 fn are_printed(rt: &impl Abort, alloc: Global, rows: &[Row]) -> Result<(), Fail> {
     for (files, place, day, docker) in rows {
@@ -30,16 +98,7 @@ DOCKER ELM     2024-06-10
 END                                                     
 ",
     ),
-    (
-        &[MORNING],
-        "ASHFELD",
-        "2024-06-10",
-        "\
-DOCKER ASHFELD 2024-06-10                               
-0900  D 1A10 C10001 P   1   SL      0900 ASHFELD BRAYTON
-END                                                     
-",
-    ),
+    (&[MORNING], "ASHFELD", "2024-06-10", ASHFELD_0900),
     (
         &[MORNING],
         "BRAYTON",
@@ -68,25 +127,8 @@ DOCKER BRAYTON 2024-06-15
 END                                                     
 ",
     ),
-    (
-        &[REVISED],
-        "ASHFELD",
-        "2024-06-10",
-        "\
-DOCKER ASHFELD 2024-06-10                               
-0900  D 1A10 C10001 P   1   SL      0900 ASHFELD BRAYTON
-END                                                     
-",
-    ),
-    (
-        &[EVENING],
-        "BRAYTON",
-        "2024-06-10",
-        "\
-DOCKER BRAYTON 2024-06-10                               
-END                                                     
-",
-    ),
+    (&[REVISED], "ASHFELD", "2024-06-10", ASHFELD_0900),
+    (&[EVENING], "BRAYTON", "2024-06-10", NONE_AT_BRAYTON),
     (
         &[EVENING],
         "BRAYTON",
@@ -127,54 +169,25 @@ fn one_train(rt: HostRuntime) -> Result<(), Fail> {
 
 /// Dockers of files in an order and in another.
 const ORDERS: &[Row] = &[
-    (
-        &[MORNING, REVISION],
-        "ASHFELD",
-        "2024-06-10",
-        "\
-DOCKER ASHFELD 2024-06-10                               
-0905  D 1A10 C10001 P   1   SL      0905 ASHFELD BRAYTON
-END                                                     
-",
-    ),
-    (
-        &[REVISION, MORNING],
-        "ASHFELD",
-        "2024-06-10",
-        "\
-DOCKER ASHFELD 2024-06-10                               
-0905  D 1A10 C10001 P   1   SL      0905 ASHFELD BRAYTON
-END                                                     
-",
-    ),
+    (&[MORNING, REVISION], "ASHFELD", "2024-06-10", ASHFELD_0905),
+    (&[REVISION, MORNING], "ASHFELD", "2024-06-10", ASHFELD_0905),
     (
         &[NINTH, FIFTH, SEVENTH],
         "ASHFELD",
         "2024-06-10",
-        "\
-DOCKER ASHFELD 2024-06-10                               
-1000  D 1A20 C10002 P   1   SL      1000 ASHFELD BRAYTON
-1100  D 1A10 C10001 P   1   SL      1100 ASHFELD BRAYTON
-END                                                     
-",
+        TWO_TRAINS,
     ),
     (
         &[DELETION, EIGHTH],
         "ASHFELD",
         "2024-06-10",
-        "\
-DOCKER ASHFELD 2024-06-10                               
-END                                                     
-",
+        NONE_AT_ASHFELD,
     ),
     (
         &[EIGHTH, DELETION],
         "ASHFELD",
         "2024-06-10",
-        "\
-DOCKER ASHFELD 2024-06-10                               
-END                                                     
-",
+        NONE_AT_ASHFELD,
     ),
     (
         &[PLACE, RENAMED],
@@ -185,15 +198,7 @@ DOCKER ASHFLDN 2024-06-10 ASHFIELD NEW
 END                                                     
 ",
     ),
-    (
-        &[PLACE, RENAMED],
-        "ASHFELD",
-        "2024-06-10",
-        "\
-DOCKER ASHFELD 2024-06-10                               
-END                                                     
-",
-    ),
+    (&[PLACE, RENAMED], "ASHFELD", "2024-06-10", NONE_AT_ASHFELD),
 ];
 
 #[test]
@@ -203,16 +208,7 @@ fn files_in_any_order(rt: HostRuntime) -> Result<(), Fail> {
 
 /// Dockers of a train with an overlay, a cancellation and a later schedule.
 const WEEKS: &[Row] = &[
-    (
-        &[WEEK],
-        "ASHFELD",
-        "2024-06-10",
-        "\
-DOCKER ASHFELD 2024-06-10                               
-0900  D 1A10 C10001 P   1   SL      0900 ASHFELD BRAYTON
-END                                                     
-",
-    ),
+    (&[WEEK], "ASHFELD", "2024-06-10", ASHFELD_0900),
     (
         &[WEEK],
         "ASHFELD",
@@ -301,15 +297,7 @@ fn a_week(rt: HostRuntime) -> Result<(), Fail> {
 
 /// Dockers of trains past midnight.
 const NIGHTS: &[Row] = &[
-    (
-        &[NIGHT],
-        "COLWELL",
-        "2024-06-10",
-        "\
-DOCKER COLWELL 2024-06-10                               
-END                                                     
-",
-    ),
+    (&[NIGHT], "COLWELL", "2024-06-10", NONE_AT_COLWELL),
     (
         &[NIGHT],
         "COLWELL",
@@ -392,10 +380,7 @@ END
         &[DELETION, EIGHTH],
         "BRAYTON",
         "2024-06-10",
-        "\
-DOCKER BRAYTON 2024-06-10                               
-END                                                     
-",
+        NONE_AT_BRAYTON,
     ),
 ];
 
@@ -432,59 +417,11 @@ DOCKER COLWELL 2024-06-10
 END                                                     
 ",
     ),
-    (
-        &[SAME_DAY],
-        "COLWELL",
-        "2024-06-10",
-        "\
-DOCKER COLWELL 2024-06-10                               
-2350  A 4D40 C40001 P   1                ASHFELD COLWELL
-2350  N 4D40 C40001 P   1                C40002  ????   
-END                                                     
-",
-    ),
-    (
-        &[NO_INDICATOR],
-        "COLWELL",
-        "2024-06-10",
-        "\
-DOCKER COLWELL 2024-06-10                               
-2350  A 4D40 C40001 P   1                ASHFELD COLWELL
-2350  N 4D40 C40001 P   1                C40002  ????   
-END                                                     
-",
-    ),
-    (
-        &[DAY_BEFORE],
-        "COLWELL",
-        "2024-06-10",
-        "\
-DOCKER COLWELL 2024-06-10                               
-2350  A 4D40 C40001 P   1                ASHFELD COLWELL
-2350  N 4D40 C40001 P   1                C40002  ????   
-END                                                     
-",
-    ),
-    (
-        &[UNKNOWN_INDICATOR],
-        "COLWELL",
-        "2024-06-10",
-        "\
-DOCKER COLWELL 2024-06-10                               
-2350  A 4D40 C40001 P   1                ASHFELD COLWELL
-END                                                     
-",
-    ),
-    (
-        &[UNKNOWN_CATEGORY],
-        "COLWELL",
-        "2024-06-10",
-        "\
-DOCKER COLWELL 2024-06-10                               
-2350  A 4D40 C40001 P   1                ASHFELD COLWELL
-END                                                     
-",
-    ),
+    (&[SAME_DAY], "COLWELL", "2024-06-10", COLWELL_UNKNOWN),
+    (&[NO_INDICATOR], "COLWELL", "2024-06-10", COLWELL_UNKNOWN),
+    (&[DAY_BEFORE], "COLWELL", "2024-06-10", COLWELL_UNKNOWN),
+    (&[UNKNOWN_INDICATOR], "COLWELL", "2024-06-10", COLWELL_ALONE),
+    (&[UNKNOWN_CATEGORY], "COLWELL", "2024-06-10", COLWELL_ALONE),
     (
         &[LAST_DAY],
         "COLWELL",
@@ -500,22 +437,9 @@ END
         &[PARTNER_CANCELLED],
         "COLWELL",
         "2024-06-10",
-        "\
-DOCKER COLWELL 2024-06-10                               
-2350  A 4D40 C40001 P   1                ASHFELD COLWELL
-2350  N 4D40 C40001 P   1                C40002  ????   
-END                                                     
-",
+        COLWELL_UNKNOWN,
     ),
-    (
-        &[BASE_CANCELLED],
-        "COLWELL",
-        "2024-06-10",
-        "\
-DOCKER COLWELL 2024-06-10                               
-END                                                     
-",
-    ),
+    (&[BASE_CANCELLED], "COLWELL", "2024-06-10", NONE_AT_COLWELL),
 ];
 
 #[test]
@@ -525,66 +449,12 @@ fn associations(rt: HostRuntime) -> Result<(), Fail> {
 
 /// Dockers of entries of one stamp.
 const TIES: &[Row] = &[
-    (
-        &[MORNING, LONGER],
-        "ASHFELD",
-        "2024-06-10",
-        "\
-DOCKER ASHFELD 2024-06-10                               
-0850  D 1A10 C10001 P   1   SL      0850 ASHFELD BRAYTON
-END                                                     
-",
-    ),
-    (
-        &[LONGER, MORNING],
-        "ASHFELD",
-        "2024-06-10",
-        "\
-DOCKER ASHFELD 2024-06-10                               
-0850  D 1A10 C10001 P   1   SL      0850 ASHFELD BRAYTON
-END                                                     
-",
-    ),
-    (
-        &[MORNING, LATER],
-        "ASHFELD",
-        "2024-06-10",
-        "\
-DOCKER ASHFELD 2024-06-10                               
-0905  D 1A10 C10001 P   1   SL      0905 ASHFELD BRAYTON
-END                                                     
-",
-    ),
-    (
-        &[LATER, MORNING],
-        "ASHFELD",
-        "2024-06-10",
-        "\
-DOCKER ASHFELD 2024-06-10                               
-0905  D 1A10 C10001 P   1   SL      0905 ASHFELD BRAYTON
-END                                                     
-",
-    ),
-    (
-        &[MORNING, DELETED],
-        "ASHFELD",
-        "2024-06-10",
-        "\
-DOCKER ASHFELD 2024-06-10                               
-0900  D 1A10 C10001 P   1   SL      0900 ASHFELD BRAYTON
-END                                                     
-",
-    ),
-    (
-        &[DELETED, MORNING],
-        "ASHFELD",
-        "2024-06-10",
-        "\
-DOCKER ASHFELD 2024-06-10                               
-0900  D 1A10 C10001 P   1   SL      0900 ASHFELD BRAYTON
-END                                                     
-",
-    ),
+    (&[MORNING, LONGER], "ASHFELD", "2024-06-10", ASHFELD_0850),
+    (&[LONGER, MORNING], "ASHFELD", "2024-06-10", ASHFELD_0850),
+    (&[MORNING, LATER], "ASHFELD", "2024-06-10", ASHFELD_0905),
+    (&[LATER, MORNING], "ASHFELD", "2024-06-10", ASHFELD_0905),
+    (&[MORNING, DELETED], "ASHFELD", "2024-06-10", ASHFELD_0900),
+    (&[DELETED, MORNING], "ASHFELD", "2024-06-10", ASHFELD_0900),
 ];
 
 #[test]

@@ -47,34 +47,29 @@ pub(crate) const PLACE: File = &[HD, TI, ZZ];
 /// Its new code, a day later.
 pub(crate) const RENAMED: File = &[HD_10B, TA, ZZ];
 
+/// A file of a train with an overlay on two days, of its cancellation on another, and of further records.
+macro_rules! week {
+    ($($more:expr),*) => {
+        &[
+            HD,
+            BS_WEEK,
+            LO,
+            LT,
+            BS_OVERLAY,
+            LO_0915,
+            LT,
+            BS_CANCELLED,
+            $($more,)*
+            ZZ,
+        ]
+    };
+}
+
 /// A train with an overlay on two days, and a cancellation on another.
-pub(crate) const WEEK: File = &[
-    HD,
-    BS_WEEK,
-    LO,
-    LT,
-    BS_OVERLAY,
-    LO_0915,
-    LT,
-    BS_CANCELLED,
-    ZZ,
-];
+pub(crate) const WEEK: File = week!();
 
 /// The same with another schedule at its end.
-pub(crate) const WEEKEND: File = &[
-    HD,
-    BS_WEEK,
-    LO,
-    LT,
-    BS_OVERLAY,
-    LO_0915,
-    LT,
-    BS_CANCELLED,
-    BS_WEEKEND,
-    LO_0910,
-    LT,
-    ZZ,
-];
+pub(crate) const WEEKEND: File = week!(BS_WEEKEND, LO_0910, LT);
 
 /// A train past midnight, that calls at Colwell and passes Dunmere.
 pub(crate) const NIGHT: File = &[HD, BS_NIGHT, LO_2355, LI_0000, LI_0010, LT_0020, ZZ];
@@ -137,124 +132,49 @@ pub(crate) const HALF: File = &[HD, BS, LO_HALF, LT, ZZ];
 /// A train from Ashfeld to Ashfeld, that comes when it leaves.
 pub(crate) const ROUND: File = &[HD, BS, LO, LT_ASHFELD_0900, ZZ];
 
+/// A file of a train to Colwell, of one from there past midnight, and of further records.
+macro_rules! two_trains {
+    ($first:expr, $($more:expr),*) => {
+        &[
+            HD,
+            $first,
+            LO_2300,
+            LT_COLWELL_2350,
+            BS_C40002,
+            LO_COLWELL_0010,
+            LT_ASHFELD_0100,
+            $($more,)*
+            ZZ,
+        ]
+    };
+}
+
 /// A train to Colwell that becomes another one there on the next day.
-pub(crate) const NEXT_DAY: File = &[
-    HD,
-    BS_C40001,
-    LO_2300,
-    LT_COLWELL_2350,
-    BS_C40002,
-    LO_COLWELL_0010,
-    LT_ASHFELD_0100,
-    AA_N,
-    ZZ,
-];
+pub(crate) const NEXT_DAY: File = two_trains!(BS_C40001, AA_N);
 
 /// The same on the same day.
-pub(crate) const SAME_DAY: File = &[
-    HD,
-    BS_C40001,
-    LO_2300,
-    LT_COLWELL_2350,
-    BS_C40002,
-    LO_COLWELL_0010,
-    LT_ASHFELD_0100,
-    AA_S,
-    ZZ,
-];
+pub(crate) const SAME_DAY: File = two_trains!(BS_C40001, AA_S);
 
 /// The same without an indicator.
-pub(crate) const NO_INDICATOR: File = &[
-    HD,
-    BS_C40001,
-    LO_2300,
-    LT_COLWELL_2350,
-    BS_C40002,
-    LO_COLWELL_0010,
-    LT_ASHFELD_0100,
-    AA_BLANK,
-    ZZ,
-];
+pub(crate) const NO_INDICATOR: File = two_trains!(BS_C40001, AA_BLANK);
 
 /// The same on the day before.
-pub(crate) const DAY_BEFORE: File = &[
-    HD,
-    BS_C40001,
-    LO_2300,
-    LT_COLWELL_2350,
-    BS_C40002,
-    LO_COLWELL_0010,
-    LT_ASHFELD_0100,
-    AA_P,
-    ZZ,
-];
+pub(crate) const DAY_BEFORE: File = two_trains!(BS_C40001, AA_P);
 
 /// The same by an unknown indicator.
-pub(crate) const UNKNOWN_INDICATOR: File = &[
-    HD,
-    BS_C40001,
-    LO_2300,
-    LT_COLWELL_2350,
-    BS_C40002,
-    LO_COLWELL_0010,
-    LT_ASHFELD_0100,
-    AA_X,
-    ZZ,
-];
+pub(crate) const UNKNOWN_INDICATOR: File = two_trains!(BS_C40001, AA_X);
 
 /// The same by an unknown category.
-pub(crate) const UNKNOWN_CATEGORY: File = &[
-    HD,
-    BS_C40001,
-    LO_2300,
-    LT_COLWELL_2350,
-    BS_C40002,
-    LO_COLWELL_0010,
-    LT_ASHFELD_0100,
-    AA_OTHER,
-    ZZ,
-];
+pub(crate) const UNKNOWN_CATEGORY: File = two_trains!(BS_C40001, AA_OTHER);
 
 /// The same on the last day of the calendar.
-pub(crate) const LAST_DAY: File = &[
-    HD,
-    BS_C40001_LAST,
-    LO_2300,
-    LT_COLWELL_2350,
-    BS_C40002,
-    LO_COLWELL_0010,
-    LT_ASHFELD_0100,
-    AA_LAST,
-    ZZ,
-];
+pub(crate) const LAST_DAY: File = two_trains!(BS_C40001_LAST, AA_LAST);
 
 /// The train that becomes another one, which is cancelled.
-pub(crate) const PARTNER_CANCELLED: File = &[
-    HD,
-    BS_C40001,
-    LO_2300,
-    LT_COLWELL_2350,
-    BS_C40002,
-    LO_COLWELL_0010,
-    LT_ASHFELD_0100,
-    AA_N,
-    BS_C40002_CANCELLED,
-    ZZ,
-];
+pub(crate) const PARTNER_CANCELLED: File = two_trains!(BS_C40001, AA_N, BS_C40002_CANCELLED);
 
 /// The same where itself is cancelled.
-pub(crate) const BASE_CANCELLED: File = &[
-    HD,
-    BS_C40001,
-    LO_2300,
-    LT_COLWELL_2350,
-    BS_C40002,
-    LO_COLWELL_0010,
-    LT_ASHFELD_0100,
-    AA_N,
-    BS_C40001_CANCELLED,
-    ZZ,
-];
+pub(crate) const BASE_CANCELLED: File = two_trains!(BS_C40001, AA_N, BS_C40001_CANCELLED);
 
 /// The train of the morning, and its deletion in the same file.
 pub(crate) const WITHDRAWN: File = &[HD, BS, LO, LT, BS_DELETED, ZZ];

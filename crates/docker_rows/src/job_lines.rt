@@ -2,7 +2,7 @@
 ghost use Rattle.std.specs.Prelude.{None};
 
 use cif_line::{Bytes, Failed, Source};
-use docker_job::{JobFault, Subcommand, Task, job_line};
+use docker_cmd::{JobFault, Subcommand, Task, job_line};
 use std::alloc::Global;
 use std::test::Fail;
 

@@ -1,6 +1,6 @@
 //! The jobs that words name.
 
-use docker_job::{JobFault, Subcommand, job};
+use docker_cmd::{JobFault, Subcommand, job};
 use std::test::Fail;
 
 /// Words, and the job that they name: its subcommand, its timing point and the number of its day.

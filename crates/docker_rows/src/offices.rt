@@ -82,22 +82,19 @@ pub(crate) fn printed(
     Ok(kept)
 }
 
-/// Whether Ashfeld on a day is printed with these lines, or refused where there are none.
+/// Whether this is the docker of Ashfeld on a day, or it is refused where there is none.
 pub(crate) fn prints(
     alloc: Global,
     office: &Office,
     day: &str,
-    lines: Option<&[&str]>,
+    docker: Option<&str>,
 ) -> Result<bool, Fail> {
     let place = Tiploc::from_text("ASHFELD").ok_or("a TIPLOC")?;
     let day = Day::from_iso(day).ok_or("a day")?;
     let mut kept = Kept::new(alloc, ROOM)?;
     let answer = office.print(&place, day, &mut kept);
-    match lines {
-        Some(lines) => {
-            let text = text_of(alloc, lines)?;
-            Ok(answer == Ok(()) && kept.bytes() == text.as_slice())
-        }
+    match docker {
+        Some(docker) => Ok(answer == Ok(()) && kept.bytes() == docker.as_bytes()),
         None => Ok(answer == Err(OfficeFault::Lapsed) && kept.bytes().is_empty()),
     }
 }

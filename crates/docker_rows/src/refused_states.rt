@@ -4,8 +4,7 @@ use crate::files::*;
 use crate::offices::{has, office_of, sent};
 use crate::state_texts::*;
 use cif_line::Bytes;
-use docker_bytes::{StateCause, StateFault};
-use docker_office::{Office, OfficeFault};
+use docker_office::{Office, OfficeFault, StateCause, StateFault};
 use std::alloc::Global;
 use std::process::Abort;
 use std::test::Fail;
@@ -17,6 +16,12 @@ enum Ask {
     Reload,
     Migrate,
 }
+
+/// How it reads one of the format of today.
+const NEWER: &[Ask] = &[Ask::Receive, Ask::Reload];
+
+/// How it reads one of the older format.
+const OLDER: &[Ask] = &[Ask::Migrate];
 
 /// Asks an office to read a text, in pieces of 9 bytes, of at most `limit` bytes.
 fn read_in(how: Ask, office: &mut Office, text: &[u8], limit: u64) -> Result<(), OfficeFault> {
@@ -57,9 +62,12 @@ fn changed(alloc: Global, text: &[u8], at: usize, bytes: &[u8]) -> Result<Vec<u8
     Ok(other)
 }
 
-/// The text of the state of one file, with these bytes at an offset, and the fault: of the mark, the horizon, the ledger's day, the tag, the stamp, the op,
+/// The bytes that stand at an offset, and the fault.
+type Change = (usize, &'static [u8], u64, StateCause);
+
+/// Changes of the text of the state of one file: of the mark, the horizon, the ledger's day, the tag, the stamp, the op,
 /// the first line and the number of entries.
-const CHANGED: &[(usize, &[u8], u64, StateCause)] = &[
+const CHANGED: &[Change] = &[
     (3, b"1", 0, StateCause::Mark),
     (4, b"\x8e\xad", 4, StateCause::Horizon),
     (4, b"\x5b\xf6", 41, StateCause::Body),
@@ -77,21 +85,31 @@ const CHANGED: &[(usize, &[u8], u64, StateCause)] = &[
     ),
 ];
 
-#[test]
-fn changed_states(rt: HostRuntime) -> Result<(), Fail> {
-    let alloc = rt.alloc();
-    let text = text_of_parts(alloc, MORNING_STATE)?;
-    for (offset, bytes, at, cause) in CHANGED {
+/// That a text is refused in these ways with each of these changes.
+fn refuses_changed(
+    rt: &impl Abort,
+    alloc: Global,
+    ways: &[Ask],
+    parts: Parts,
+    changes: &[Change],
+) -> Result<(), Fail> {
+    let text = text_of_parts(alloc, parts)?;
+    for (offset, bytes, at, cause) in changes {
         let other = changed(alloc, text.as_slice(), *offset, bytes)?;
-        for how in [Ask::Receive, Ask::Reload] {
-            refuses(&rt, alloc, how, other.as_slice(), 1000, fault(*at, *cause))?;
+        for how in ways {
+            refuses(rt, alloc, *how, other.as_slice(), 1000, fault(*at, *cause))?;
         }
     }
     Ok(())
 }
 
+#[test]
+fn changed_states(rt: HostRuntime) -> Result<(), Fail> {
+    refuses_changed(&rt, rt.alloc(), NEWER, MORNING_STATE, CHANGED)
+}
+
 /// The same of the older format.
-const OLD_CHANGED: &[(usize, &[u8], u64, StateCause)] = &[
+const OLD_CHANGED: &[Change] = &[
     (3, b"2", 0, StateCause::Mark),
     (12, b"\x8e\xad", 12, StateCause::Item),
     (39, b"\x04", 39, StateCause::Tag),
@@ -108,59 +126,26 @@ const OLD_CHANGED: &[(usize, &[u8], u64, StateCause)] = &[
 
 #[test]
 fn changed_older_states(rt: HostRuntime) -> Result<(), Fail> {
-    let alloc = rt.alloc();
-    let text = text_of_parts(alloc, OLD_STATE)?;
-    for (offset, bytes, at, cause) in OLD_CHANGED {
-        let other = changed(alloc, text.as_slice(), *offset, bytes)?;
-        refuses(
-            &rt,
-            alloc,
-            Ask::Migrate,
-            other.as_slice(),
-            1000,
-            fault(*at, *cause),
-        )?;
-    }
-    Ok(())
+    refuses_changed(&rt, rt.alloc(), OLDER, OLD_STATE, OLD_CHANGED)
 }
 
 /// What stands behind the mark, the limit behind it, and the fault in the older format: an item twice, a full extract above the first item, an entry twice, a
 /// byte behind the state, and a limit that is too low.
 const OTHERS: &[(Parts, u64, u64, StateCause)] = &[
     (
-        &[
-            TWO,
-            ITEM,
-            ITEM,
-            ONE,
-            ENTRY,
-            THREE_LINES,
-            FIRST,
-            FROM_ASHFELD,
-            TO_BRAYTON,
-        ],
+        train_behind!(TWO, ITEM, ITEM, ONE),
         1000,
         31,
         StateCause::Order,
     ),
     (
-        &[
-            TWO,
-            ITEM_5A,
-            ITEM_7B,
-            ONE,
-            ENTRY,
-            THREE_LINES,
-            FIRST,
-            FROM_ASHFELD,
-            TO_BRAYTON,
-        ],
+        train_behind!(TWO, ITEM_5A, ITEM_7B, ONE),
         1000,
         31,
         StateCause::Floor,
     ),
     (
-        &[
+        train_behind!(
             ONE,
             ITEM,
             TWO,
@@ -168,13 +153,8 @@ const OTHERS: &[(Parts, u64, u64, StateCause)] = &[
             THREE_LINES,
             FIRST,
             FROM_ASHFELD,
-            TO_BRAYTON,
-            ENTRY,
-            THREE_LINES,
-            FIRST,
-            FROM_ASHFELD,
-            TO_BRAYTON,
-        ],
+            TO_BRAYTON
+        ),
         1000,
         309,
         StateCause::Order,
@@ -195,21 +175,7 @@ const OTHERS: &[(Parts, u64, u64, StateCause)] = &[
         309,
         StateCause::Tail,
     ),
-    (
-        &[
-            ONE,
-            ITEM,
-            ONE,
-            ENTRY,
-            THREE_LINES,
-            FIRST,
-            FROM_ASHFELD,
-            TO_BRAYTON,
-        ],
-        308,
-        308,
-        StateCause::Long,
-    ),
+    (train_behind!(ONE, ITEM, ONE), 308, 308, StateCause::Long),
 ];
 
 /// These parts behind a mark.
@@ -224,24 +190,12 @@ fn items_and_entries_out_of_place(rt: HostRuntime) -> Result<(), Fail> {
     let alloc = rt.alloc();
     for (parts, limit, at, cause) in OTHERS {
         let old = marked(alloc, OLD_MARK, parts)?;
-        refuses(
-            &rt,
-            alloc,
-            Ask::Migrate,
-            old.as_slice(),
-            *limit,
-            fault(*at, *cause),
-        )?;
+        let found = fault(*at, *cause);
+        refuses(&rt, alloc, Ask::Migrate, old.as_slice(), *limit, found)?;
         let new = marked(alloc, MARK, parts)?;
-        for how in [Ask::Receive, Ask::Reload] {
-            refuses(
-                &rt,
-                alloc,
-                how,
-                new.as_slice(),
-                limit + 2,
-                fault(at + 2, *cause),
-            )?;
+        let found = fault(at + 2, *cause);
+        for how in NEWER {
+            refuses(&rt, alloc, *how, new.as_slice(), limit + 2, found)?;
         }
     }
     Ok(())
@@ -277,29 +231,28 @@ const OLD_CUT: &[(usize, u64)] = &[
     (308, 39),
 ];
 
-#[test]
-fn states_that_are_cut(rt: HostRuntime) -> Result<(), Fail> {
-    let alloc = rt.alloc();
-    let text = text_of_parts(alloc, MORNING_STATE)?;
-    for (bytes, at) in CUT {
+/// That a text is refused in these ways where it is cut.
+fn refuses_cut(
+    rt: &impl Abort,
+    alloc: Global,
+    ways: &[Ask],
+    parts: Parts,
+    cuts: &[(usize, u64)],
+) -> Result<(), Fail> {
+    let text = text_of_parts(alloc, parts)?;
+    for (bytes, at) in cuts {
         let front = text.as_slice().get(..*bytes).ok_or("a length")?;
-        for how in [Ask::Receive, Ask::Reload] {
-            refuses(&rt, alloc, how, front, 1000, fault(*at, StateCause::Short))?;
+        for how in ways {
+            refuses(rt, alloc, *how, front, 1000, fault(*at, StateCause::Short))?;
         }
     }
-    let old = text_of_parts(alloc, OLD_STATE)?;
-    for (bytes, at) in OLD_CUT {
-        let front = old.as_slice().get(..*bytes).ok_or("a length")?;
-        refuses(
-            &rt,
-            alloc,
-            Ask::Migrate,
-            front,
-            1000,
-            fault(*at, StateCause::Short),
-        )?;
-    }
     Ok(())
+}
+
+#[test]
+fn states_that_are_cut(rt: HostRuntime) -> Result<(), Fail> {
+    refuses_cut(&rt, rt.alloc(), NEWER, MORNING_STATE, CUT)?;
+    refuses_cut(&rt, rt.alloc(), OLDER, OLD_STATE, OLD_CUT)
 }
 
 #[test]

@@ -1,5 +1,6 @@
 //! Runs of events: their replies, and what is known at the end.
 
+use crate::dockers::{ASHFELD_0900, NONE_ON_18_JUNE, TWO_TRAINS};
 use crate::files::*;
 use crate::offices::{has, prints, text_of};
 use crate::state_texts::*;
@@ -9,21 +10,6 @@ use docker_office::{Event, Exchange, OfficeFault, Reply, RunFault, run};
 use std::alloc::Global;
 use std::process::Abort;
 use std::test::Fail;
-
-/// The docker of Ashfeld on 10 June 2024, of C10001 alone.
-const EARLY_DOCKER: &[&str] = &[
-    "DOCKER ASHFELD 2024-06-10                               ",
-    "0900  D 1A10 C10001 P   1   SL      0900 ASHFELD BRAYTON",
-    "END                                                     ",
-];
-
-/// The same behind the full extract and the update after it.
-const LATE_DOCKER: &[&str] = &[
-    "DOCKER ASHFELD 2024-06-10                               ",
-    "1000  D 1A20 C10002 P   1   SL      1000 ASHFELD BRAYTON",
-    "1100  D 1A10 C10001 P   1   SL      1100 ASHFELD BRAYTON",
-    "END                                                     ",
-];
 
 /// A Take of a text under the greatest limit.
 macro_rules! take {
@@ -73,16 +59,16 @@ macro_rules! horizon {
     };
 }
 
-/// Whether an office prints these lines of Ashfeld on a day, or refuses it where there are none.
+/// Whether an office prints this docker of Ashfeld on a day, or refuses it where there is none.
 fn prints_there(
     alloc: Global,
     left: &Exchange,
     office: usize,
     day: &str,
-    lines: Option<&[&str]>,
+    docker: Option<&str>,
 ) -> Result<bool, Fail> {
     let office = left.offices().get(office).ok_or("an office")?;
-    prints(alloc, office, day, lines)
+    prints(alloc, office, day, docker)
 }
 
 /// That an office has this text at the end.
@@ -130,6 +116,28 @@ fn no_office(rt: HostRuntime) -> Result<(), Fail> {
     Ok(())
 }
 
+/// The events of three offices up to the reload of the first, and further ones.
+macro_rules! up_to_reload {
+    ([$early:expr, $full:expr, $late:expr], $($more:expr),*) => {
+        &[
+            take!(0, $early),
+            send!(0),
+            take!(1, $full),
+            send!(1),
+            take!(2, $late),
+            send!(2),
+            deliver!(0, 2),
+            deliver!(0, 2),
+            send!(0),
+            deliver!(1, 2),
+            deliver!(1, 0),
+            send!(1),
+            reload!(0, 0),
+            $($more,)*
+        ]
+    };
+}
+
 #[test]
 fn three_offices(rt: HostRuntime) -> Result<(), Fail> {
     let alloc = rt.alloc();
@@ -142,26 +150,14 @@ fn three_offices(rt: HostRuntime) -> Result<(), Fail> {
     let left = run(
         alloc,
         3,
-        &[
-            take!(0, early),
-            send!(0),
-            take!(1, full),
-            send!(1),
-            take!(2, late),
-            send!(2),
-            deliver!(0, 2),
-            deliver!(0, 2),
-            send!(0),
-            deliver!(1, 2),
-            deliver!(1, 0),
-            send!(1),
-            reload!(0, 0),
+        up_to_reload!(
+            [early, full, late],
             deliver!(0, 4),
             deliver!(2, 1),
             deliver!(3, 0),
             deliver!(0, 5),
-            take!(2, open),
-        ],
+            take!(2, open)
+        ),
     )?;
     let no_end = FileFault {
         number: 5,
@@ -176,7 +172,7 @@ fn three_offices(rt: HostRuntime) -> Result<(), Fail> {
     assert_eq!(rt; left.messages().len(), 5);
     for office in 0..3 {
         ends(&rt, alloc, &left, office, LATE_STATE)?;
-        assert!(rt; prints_there(alloc, &left, office, "2024-06-10", Some(LATE_DOCKER))?);
+        assert!(rt; prints_there(alloc, &left, office, "2024-06-10", Some(TWO_TRAINS))?);
     }
     tells(&rt, alloc, &left, 4, LATE_STATE)
 }
@@ -189,27 +185,9 @@ fn three_offices_up_to_a_reload(rt: HostRuntime) -> Result<(), Fail> {
         text_of(alloc, SEVENTH)?,
         text_of(alloc, NINTH)?,
     );
-    let left = run(
-        alloc,
-        3,
-        &[
-            take!(0, early),
-            send!(0),
-            take!(1, full),
-            send!(1),
-            take!(2, late),
-            send!(2),
-            deliver!(0, 2),
-            deliver!(0, 2),
-            send!(0),
-            deliver!(1, 2),
-            deliver!(1, 0),
-            send!(1),
-            reload!(0, 0),
-        ],
-    )?;
+    let left = run(alloc, 3, up_to_reload!([early, full, late],))?;
     replies(&rt, &left, 13, &[]);
-    assert!(rt; prints_there(alloc, &left, 0, "2024-06-10", Some(EARLY_DOCKER))?);
+    assert!(rt; prints_there(alloc, &left, 0, "2024-06-10", Some(ASHFELD_0900))?);
     ends(&rt, alloc, &left, 0, FIFTH_STATE)?;
     tells(&rt, alloc, &left, 0, FIFTH_STATE)?;
     ends(&rt, alloc, &left, 1, LATE_STATE)
@@ -237,15 +215,11 @@ fn two_offices_and_a_horizon(rt: HostRuntime) -> Result<(), Fail> {
     replies(&rt, &left, 7, &[Reply::Refused(RunFault::NoOffice)]);
     tells(&rt, alloc, &left, 1, LAPSED_STATE)?;
     ends(&rt, alloc, &left, 1, LAPSED_STATE)?;
-    let empty: &[&str] = &[
-        "DOCKER ASHFELD 2024-06-18                               ",
-        "END                                                     ",
-    ];
     assert!(rt; prints_there(alloc, &left, 1, "2024-06-17", None)?);
-    assert!(rt; prints_there(alloc, &left, 1, "2024-06-18", Some(empty))?);
+    assert!(rt; prints_there(alloc, &left, 1, "2024-06-18", Some(NONE_ON_18_JUNE))?);
     tells(&rt, alloc, &left, 0, MORNING_STATE)?;
     ends(&rt, alloc, &left, 0, MORNING_STATE)?;
-    assert!(rt; prints_there(alloc, &left, 0, "2024-06-10", Some(EARLY_DOCKER))?);
+    assert!(rt; prints_there(alloc, &left, 0, "2024-06-10", Some(ASHFELD_0900))?);
     Ok(())
 }
 
@@ -266,7 +240,7 @@ fn a_delivery_before_the_horizon(rt: HostRuntime) -> Result<(), Fail> {
         ],
     )?;
     replies(&rt, &left, 5, &[]);
-    assert!(rt; prints_there(alloc, &left, 1, "2024-06-10", Some(EARLY_DOCKER))?);
+    assert!(rt; prints_there(alloc, &left, 1, "2024-06-10", Some(ASHFELD_0900))?);
     Ok(())
 }
 
@@ -349,7 +323,7 @@ fn a_late_full_extract(rt: HostRuntime) -> Result<(), Fail> {
         replies(&rt, &left, 12, &[]);
         for office in [0, 4] {
             ends(&rt, alloc, &left, office, LATE_STATE)?;
-            assert!(rt; prints_there(alloc, &left, office, "2024-06-10", Some(LATE_DOCKER))?);
+            assert!(rt; prints_there(alloc, &left, office, "2024-06-10", Some(TWO_TRAINS))?);
         }
     }
     Ok(())

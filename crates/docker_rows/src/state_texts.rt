@@ -84,34 +84,23 @@ pub(crate) const FROM_ASHFELD: &str = LO;
 
 pub(crate) const TO_BRAYTON: &str = LT;
 
+/// Parts, and the schedule of the train of the morning behind them.
+macro_rules! train_behind {
+    ($($part:expr),*) => {
+        &[$($part,)* ENTRY, THREE_LINES, FIRST, FROM_ASHFELD, TO_BRAYTON]
+    };
+}
+
+pub(crate) use train_behind;
+
 /// No file is known.
 pub(crate) const EMPTY_STATE: Parts = &[MARK, NONE, NONE];
 
 /// The train of the morning is known: 311 bytes.
-pub(crate) const MORNING_STATE: Parts = &[
-    MARK,
-    ONE,
-    ITEM,
-    ONE,
-    ENTRY,
-    THREE_LINES,
-    FIRST,
-    FROM_ASHFELD,
-    TO_BRAYTON,
-];
+pub(crate) const MORNING_STATE: Parts = train_behind!(MARK, ONE, ITEM, ONE);
 
 /// The same in the older format: 309 bytes.
-pub(crate) const OLD_STATE: Parts = &[
-    OLD_MARK,
-    ONE,
-    ITEM,
-    ONE,
-    ENTRY,
-    THREE_LINES,
-    FIRST,
-    FROM_ASHFELD,
-    TO_BRAYTON,
-];
+pub(crate) const OLD_STATE: Parts = train_behind!(OLD_MARK, ONE, ITEM, ONE);
 
 /// The same, behind a horizon: 67 bytes.
 pub(crate) const LAPSED_STATE: Parts = &[MARK_15, ONE, ITEM, ONE, ENTRY, PASSED];
@@ -224,18 +213,7 @@ pub(crate) const LATER_STATE: Parts = &[
 ];
 
 /// An update and a full extract of one stamp: 330 bytes.
-pub(crate) const BOTH_STATE: Parts = &[
-    MARK,
-    TWO,
-    ITEM_FULL,
-    ITEM,
-    ONE,
-    ENTRY,
-    THREE_LINES,
-    FIRST,
-    FROM_ASHFELD,
-    TO_BRAYTON,
-];
+pub(crate) const BOTH_STATE: Parts = train_behind!(MARK, TWO, ITEM_FULL, ITEM, ONE);
 
 /// Parts joined, a byte for each character.
 pub(crate) fn text_of_parts(alloc: Global, parts: &[&str]) -> Result<Vec<u8>, AllocError> {

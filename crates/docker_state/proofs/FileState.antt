@@ -5,7 +5,7 @@ use Rattle.std.specs.Cmp.{tied_itself}
 use Rattle.std.proofs.lemmas.Bool.Decides.{eqb_tells}
 use Rattle.docker_model.specs.file.Change as model
 use Rattle.docker_model.specs.file.Change.{changes}
-use Rattle.docker_model.specs.file.File.{IsFile, first_record}
+use Rattle.docker_model.specs.file.File.{IsFile, first_record, most_records}
 use Rattle.docker_model.specs.state.Stamp as stamps
 use Rattle.docker_model.specs.state.Stamp.{FileStamp, ledger_item_cmp, file_stamp_cmp, file_stamp_of, ledger_item_of, IsFull, IsFloor, IsKept}
 use Rattle.docker_model.specs.state.Op as ops
@@ -17,8 +17,8 @@ use Rattle.docker_laws.proofs.orders.Orders.{file_stamp_total}
 use Rattle.docker_laws.proofs.lists.Membership.{Contains-cons, cons-Contains-first, nil-Contains, Contains-map, map-Contains, all_members}
 use Rattle.docker_laws.proofs.states.SummaryValid.{file_change, summary_is_valid}
 use Rattle.docker_laws.proofs.joins.RaisedHorizon.{plain_summary}
-use Rattle.cif_file.specs.declared.key.Key.{Key}
-use Rattle.cif_file.specs.declared.change.Change as change
+use Rattle.cif_change.specs.declared.key.Key.{Key}
+use Rattle.cif_change.specs.declared.change.Change as change
 use Rattle.cif_file.specs.FileRead.{FileRead, IsOfRecords}
 use Rattle.cif_file.specs.Meaning.{change_meant}
 use Rattle.docker_join.specs.declared.entry.Entry.{Entry}
@@ -30,7 +30,7 @@ use Rattle.docker_state.specs.declared.item.LedgerItem.{LedgerItem}
 use Rattle.docker_state.specs.Meaning.{item_meant, row_meant, state_meant}
 use Rattle.docker_index.specs.Rooms.{AreMadeBy}
 use Rattle.docker_state.specs.Rows.{made_by}
-use Rattle.docker_join.proofs.Along.{ascending_meant}
+use Rattle.docker_join.proofs.MeantOrder.{ascending_meant}
 use Rattle.docker_state.proofs.StateJoin.{op_records}
 
 -- the first of some lines, however it is named
@@ -73,7 +73,7 @@ one_floor item = by (item.indicator == 70) (eqb_tells item.indicator 70)
     by b (inr update) = (None, λ other among is_full. update.1 (subst (λ (i : stamps.LedgerItem). IsFull i) (sym (only item other among)) is_full), tt)
 
 -- the rows that the changes of a file make are of records
-module _ (file : List (List ℕ)) (is_file : IsFile file) (few : length file ≤ 4_294_967_294) (made : List (Key × Entry))
+module _ (file : List (List ℕ)) (is_file : IsFile file) (few : length file ≤ most_records) (made : List (Key × Entry))
     (made_is : map row_meant made ≡ map (made_by (file_stamp_of file)) (changes file)) where
   -- the rows made have records
   pub made_records : All (λ (row : Key × Entry). HasRecords (op_meant row.1.op)) made
@@ -138,11 +138,11 @@ module _ (file : List (List ℕ)) (ledger : List LedgerItem) (ledger_is : map it
   file_summary = let told = one_floor (ledger_item_of file) in summary_under told.0 told.1 told.2
 
   -- and valid
-  pub file_valid : IsFile file → length file ≤ 4_294_967_294 → IsValid (state_meant 0 ledger rows)
+  pub file_valid : IsFile file → length file ≤ most_records → IsValid (state_meant 0 ledger rows)
   file_valid is_file few =
       summary_is_valid (file ∷ []) 0 (state_meant 0 ledger rows) (omega arith)
       (all_members IsFile (file ∷ []) (λ f among. subst IsFile (only file f among) is_file))
-      (all_members (λ f. length f ≤ 4_294_967_294) (file ∷ []) (λ f among. subst (λ (x : List (List ℕ)). length x ≤ 4_294_967_294) (only file f among) few))
+      (all_members (λ f. length f ≤ most_records) (file ∷ []) (λ f among. subst (λ (x : List (List ℕ)). length x ≤ most_records) (only file f among) few))
       file_summary
 
 -- what the steps of the code tell: the ledger item and the rows made are those of the file

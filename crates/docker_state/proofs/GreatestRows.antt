@@ -15,7 +15,7 @@ use Rattle.docker_model.specs.state.State.{IsGreatestAmong}
 use Rattle.docker_laws.proofs.orders.Orders.{key_total, exact_key, entry_total}
 use Rattle.docker_laws.proofs.lists.Membership.{Contains-cons, cons-Contains, cons-Contains-first, nil-Contains, Contains-map, map-Contains}
 use Rattle.docker_laws.proofs.orders.AtMost.{level}
-use Rattle.cif_file.specs.declared.key.Key.{Key}
+use Rattle.cif_change.specs.declared.key.Key.{Key}
 use Rattle.cif_file.specs.Meaning.{key_meant}
 use Rattle.docker_join.specs.declared.entry.Entry.{Entry}
 use Rattle.docker_join.specs.Meaning.{op_meant, entry_meant}
@@ -26,29 +26,12 @@ use Rattle.docker_state.specs.Meaning.{row_meant}
 use Rattle.docker_state.specs.Rows.{last_rows}
 use Rattle.docker_state.proofs.LastRows.{by_entry, AreSorted, lasts_among, lasts_top}
 
-by_entry_total : IsTotalOrder by_entry
+pub by_entry_total : IsTotalOrder by_entry
 by_entry_total = then_total (on_total (λ (r : Key × Entry). key_meant r.0) key_total) (on_total (λ (r : Key × Entry). entry_meant r.1) entry_total)
 
-all_at : {A : Type 0} (P : A → Type 0) (xs : List A) → ((j : ℕ) (d : A) → j < length xs → P (get_or xs j d)) → AllByRecursion P xs
-all_at P [] each = tt
-all_at P (x ∷ xs) each = (each 0 x (omega arith), all_at P xs (λ j d within. each (suc j) d (omega arith)))
-
-not_under : (a b : Key × Entry) → is_lt (by_entry b a) ≡ false → IsAtMost by_entry a b
+pub not_under : (a b : Key × Entry) → is_lt (by_entry b a) ≡ false → IsAtMost by_entry a b
 not_under a b h above = let turned : by_entry b a ≡ Less = by_entry_total.antisymm b a ∙ ap ordering_reverse above in
     let bad : true ≡ false = sym (ap is_lt turned) ∙ h in cc
-
-from_far : (xs : List (Key × Entry)) → ((i j : ℕ) (d : Key × Entry) → i < j → j < length xs → is_lt (by_entry (get_or xs j d) (get_or xs i d)) ≡ false)
-    → AreSorted xs
-from_far [] far = tt
-from_far (x ∷ xs) far = (
-  all_at (IsAtMost by_entry x) xs (λ j d within. not_under x (get_or xs j d) (far 0 (suc j) d (omega arith) (omega arith))),
-  from_far xs (λ i j d before within. far (suc i) (suc j) d (omega arith) (omega arith)),
-)
-
--- what a sort leaves is sorted, row by row
-pub sorted_rows : (xs : List (Key × Entry)) → IsSorted by_entry xs → AreSorted xs
-sorted_rows xs up = from_far xs
-    (λ i j d before within. sorted_far (λ x y. is_lt (by_entry x y)) (ranks_by by_entry_total (λ r. r)) xs up i j d (omega arith) within)
 
 -- each key of the rows has a last row
 abbrev LastOf : List (Key × Entry) → Key × Entry → Type 0

@@ -7,6 +7,7 @@ pub mod TableJoin
 pub mod StateJoin
 pub mod LastRows
 pub mod GreatestRows
+pub mod LastMade
 pub mod FileState
 pub mod PartsLemmas
 pub mod LiveTable
@@ -15,3 +16,4 @@ pub mod TestLemmas
 pub mod StagingLemmas
 pub mod LedgerSearch
 pub mod UidRows
+pub mod NoFile

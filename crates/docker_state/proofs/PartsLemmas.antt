@@ -7,10 +7,12 @@ use Rattle.docker_model.specs.state.State.{State, IsValid, IsOpOf}
 use Rattle.docker_laws.proofs.joins.RaisedHorizon.{none_has_to}
 use Rattle.docker_model.specs.state.StatePart.{IsStampHere}
 use Rattle.docker_laws.proofs.texts.StateGrown.{valid_more}
-use Rattle.cif_file.specs.declared.key.Key.{Key}
+use Rattle.cif_change.specs.declared.key.Key.{Key}
 use Rattle.cif_file.specs.Meaning.{key_meant}
 use Rattle.docker_join.specs.declared.entry.Entry.{Entry}
-use Rattle.docker_join.specs.Meaning.{entry_meant}
+use Rattle.docker_join.specs.Meaning.{entry_meant, op_meant}
+use Rattle.docker_index.specs.declared.notes.Notes.{Notes}
+use Rattle.docker_index.specs.Noted.{Item, HasNoted, items_of}
 use Rattle.docker_state.specs.declared.item.LedgerItem.{LedgerItem}
 use Rattle.docker_state.specs.Meaning.{item_meant, row_meant, state_meant}
 
@@ -24,3 +26,12 @@ valid_with_entry ledger rows state view valid key entry here of after pushed =
     (sym (ap (map row_meant) pushed ∙ map-append row_meant rows ((key, entry) ∷ [])))
     (valid_more (state_meant 0 ledger rows) (key_meant key) (entry_meant entry).stamp (entry_meant entry).op valid
     (subst (λ (s : State). IsStampHere s (key_meant key) (entry_meant entry).stamp) (sym view) here) of (none_has_to (entry_meant entry).op))
+
+-- and what its rows name is noted, where that of the entry is
+pub noted_with_entry : (rows after : List (Key × Entry)) (key : Key) (entry : Entry) (notes : Notes) → after ≡ rows ++ (key, entry) ∷ []
+    → HasNoted (items_of (map row_meant rows) ++ (key_meant key, op_meant entry.op) ∷ []) notes → HasNoted (items_of (map row_meant after)) notes
+noted_with_entry rows after key entry notes pushed has =
+    subst (λ (items : List Item). HasNoted items notes)
+    (sym (ap (λ (all : List (Key × Entry)). items_of (map row_meant all)) pushed
+    ∙ ap items_of (map-append row_meant rows ((key, entry) ∷ []))
+    ∙ map-append {B = Item} (λ (row : model.Key × ops.Entry). (row.0, row.1.op)) (map row_meant rows) (row_meant (key, entry) ∷ []))) has

@@ -15,7 +15,7 @@ use Rattle.docker_model.specs.state.State.{State, IsValid, IsGoodEntry, IsOpOf, 
 use Rattle.docker_model.specs.state.Lapse.{lapse_entry, HasNotToLapse}
 use Rattle.docker_laws.proofs.states.Lapse.{entry_stays}
 use Rattle.docker_laws.proofs.joins.RaisedHorizon.{none_has_to}
-use Rattle.cif_file.specs.declared.key.Key.{Key}
+use Rattle.cif_change.specs.declared.key.Key.{Key}
 use Rattle.docker_join.specs.declared.entry.Entry.{Entry}
 use Rattle.docker_join.specs.Meaning.{entry_meant}
 use Rattle.docker_join.specs.Records.{HasRecords}
@@ -25,8 +25,8 @@ use Rattle.docker_state.specs.Meaning.{item_meant, row_meant, state_meant}
 use Rattle.docker_state.specs.Rows.{LapsesTo}
 use Rattle.docker_laws.proofs.states.OneJoin.{floor_unique}
 use Rattle.docker_index.specs.Joined.{AreJoined}
-use Rattle.docker_join.proofs.Merged.{walk, walk_joins}
-use Rattle.docker_join.proofs.Along.{ascending_meant, meant_ascending}
+use Rattle.docker_join.proofs.MergedRows.{walk, walk_joins}
+use Rattle.docker_join.proofs.MeantOrder.{ascending_meant, meant_ascending}
 use Rattle.docker_state.proofs.TableJoin.{higher, joined_greatest, greatest_joined}
 
 -- the items are those of both ledgers

@@ -22,8 +22,8 @@ use Rattle.docker_model.specs.state.Order.{bytes_cmp, IsBelow, IsStrictlyAscendi
 use Rattle.docker_model.specs.state.State.{State, AreAscending as AscendMeant, IsValid, IsGoodEntry, IsOpOf, live_table}
 use Rattle.docker_laws.proofs.lists.Membership.{Contains-cons, nil-Contains, Contains-map}
 use Rattle.docker_laws.proofs.orders.Ascending.{later_of}
-use Rattle.docker_laws.proofs.lists.Pairs.{pairs_from_later}
-use Rattle.cif_file.specs.declared.key.Key.{Key}
+use Rattle.docker_laws.proofs.lists.Later.{pairs_from_later}
+use Rattle.cif_change.specs.declared.key.Key.{Key}
 use Rattle.cif_file.specs.Meaning.{key_meant}
 use Rattle.docker_join.specs.declared.entry.Entry.{Entry}
 use Rattle.docker_join.specs.Rows.{row_cmp, AreAscending}

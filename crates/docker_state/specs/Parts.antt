@@ -1,8 +1,20 @@
 -- What the parts of a state tell.
-use Rattle.std.specs.Prelude.{List, length, ◌-◌, slice_get, Option}
+use Rattle.std.specs.Prelude.{List, map, length, ◌-◌, slice_get, Option}
 use Rattle.std.specs.Option.{option_map}
 use Rattle.docker_model.specs.file.Change.{Key}
 use Rattle.docker_model.specs.state.Op.{Entry}
+use Rattle.docker_model.specs.state.State.{IsValid}
+use Rattle.cif_change.specs.declared.key.Key.{Key as Kept}
+use Rattle.docker_join.specs.declared.entry.Entry.{Entry as Row}
+use Rattle.docker_index.specs.declared.notes.Notes.{Notes}
+use Rattle.docker_index.specs.Noted.{HasNoted, items_of}
+use Rattle.docker_state.specs.declared.item.LedgerItem.{LedgerItem}
+use Rattle.docker_state.specs.Meaning.{row_meant, state_meant}
+
+-- the state of ledger items and rows is valid, and what the rows name is noted
+pub record AreParts (ledger : List LedgerItem) (rows : List (Kept × Row)) (notes : Notes) : Type 0 where
+  pub valid : IsValid (state_meant 0 ledger rows)
+  pub noted : HasNoted (items_of (map row_meant rows)) notes
 
 -- the key of the last entry, if there is one
 abbrev pub last_key : List (Key × Entry) → Option Key

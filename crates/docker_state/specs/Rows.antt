@@ -1,15 +1,17 @@
 -- The rows that changes of a file make.
-use Rattle.std.specs.Prelude.{◌≡◌, ℕ, Contains, Bool, false, if◌then◌else◌, List, [], ◌∷◌, Option, Some, None}
+use Rattle.std.specs.Prelude.{◌≡◌, ℕ, Contains, Bool, false, if◌then◌else◌, List, [], ◌∷◌, map, slice_get, Option, Some, None}
 use Rattle.std.specs.Ordering.{is_eq}
 use Rattle.docker_model.specs.file.Change as model
 use Rattle.docker_model.specs.state.Stamp.{FileStamp, IsKept}
 use Rattle.docker_model.specs.state.Lapse.{lapse_entry}
 use Rattle.docker_model.specs.state.Op as ops
 use Rattle.docker_model.specs.state.Op.{op_of, key_cmp}
-use Rattle.cif_file.specs.declared.key.Key.{Key}
+use Rattle.cif_change.specs.declared.key.Key.{Key}
 use Rattle.cif_file.specs.Meaning.{key_meant}
 use Rattle.docker_join.specs.declared.entry.Entry.{Entry}
+use Rattle.docker_join.specs.Meaning.{row_meant}
 pub use Rattle.docker_index.specs.Joined.{LapsesTo}
+use Rattle.docker_index.specs.Noted.{Item}
 
 -- the key of a change, with the entry that it makes in a file of this stamp
 abbrev pub made_by : FileStamp → model.Change → model.Key × ops.Entry
@@ -29,3 +31,34 @@ last_or row (next ∷ rows) rest = if is_of_key (Some next) (key_meant row.0) th
 abbrev pub last_rows : List (Key × Entry) → List (Key × Entry)
 last_rows [] = []
 last_rows (row ∷ rows) = last_or row rows (last_rows rows)
+
+-- a row that a change makes, with the number of the change
+abbrev pub Made : Type 0
+Made = (Key × Entry) × ℕ
+
+-- the rows of those
+abbrev pub rows_in : List Made → List (Key × Entry)
+rows_in made = map (λ (m : Made). m.0) made
+
+-- their numbers
+abbrev pub numbers_in : List Made → List ℕ
+numbers_in made = map (λ (m : Made). m.1) made
+
+-- at the number of each row its key stands with its op
+abbrev pub AreNumbered : List Item → List Made → Type 0
+AreNumbered items made = (m : Made) → Contains made m → slice_get items m.1 ≡ Some ((row_meant m.0).0, (row_meant m.0).1.op)
+
+-- there is one, and its row is of this key
+abbrev pub is_made_of_key : Option Made → model.Key → Bool
+is_made_of_key None key = false
+is_made_of_key (Some made) key = is_eq (key_cmp (key_meant made.0.0) key)
+
+-- one, unless the next one's row is of its key, before the rest
+abbrev pub last_made_or : Made → List Made → List Made → List Made
+last_made_or made [] rest = made ∷ rest
+last_made_or made (next ∷ more) rest = if is_made_of_key (Some next) (key_meant made.0.0) then rest else made ∷ rest
+
+-- of each run of rows of one key the last
+abbrev pub last_made : List Made → List Made
+last_made [] = []
+last_made (made ∷ more) = last_made_or made more (last_made more)

@@ -12,7 +12,7 @@ use crate::item::LedgerItem;
 use crate::state::State;
 use cif_file::Key;
 use cif_line::Memory;
-use docker_index::Room;
+use docker_index::{Notes, Room};
 use docker_join::Entry;
 use std::alloc::Global;
 use std::marker::Model;
@@ -22,18 +22,20 @@ use std::marker::Model;
 pub struct Parts {
     ledger: Vec<LedgerItem>,
     entries: Vec<(Key, Entry)>,
+    notes: Notes,
 }
 
 impl Model for Parts {
     ghost use Rattle.docker_model.specs.state.State as states;
-    ghost use Rattle.docker_model.specs.state.State.{IsValid};
     ghost use Rattle.docker_state.specs.Meaning.{state_meant};
+    ghost use Rattle.docker_state.specs.Parts.{AreParts};
 
     ghost Value = { states.State };
 
     ghost view = { λ parts. state_meant 0 parts.ledger.items parts.entries.items };
 
-    ghost invariant = { λ parts. IsValid (state_meant 0 parts.ledger.items parts.entries.items) };
+    ghost invariant = { λ parts.
+        AreParts parts.ledger.items parts.entries.items parts.notes };
 }
 
 impl Parts {
@@ -44,6 +46,7 @@ impl Parts {
         Parts {
             ledger: Vec::new(alloc),
             entries: Vec::new(alloc),
+            notes: Notes::new(alloc),
         }
     }
 
@@ -71,7 +74,9 @@ impl Parts {
             } }
         ensures err { IsErr result → self.new ≡ self.old }
     {
-        self.entries.push((key, entry))?;
+        self.entries.reserve(1)?;
+        self.notes.note(&key, &entry.op)?;
+        self.entries.push_reserved((key, entry));
         Ok(())
     }
 
@@ -103,7 +108,7 @@ impl Parts {
     pub fn finish(self) -> Result<State, Memory>
         ensures { IfOk result (λ state. state ≡ self) }
     {
-        let room = Room::for_rows(*self.entries.allocator(), self.entries.as_slice())?;
-        Ok(State::of_rows(self.ledger, self.entries, room))
+        let room = Room::for_notes(*self.entries.allocator(), &self.notes)?;
+        Ok(State::of_rows(self.ledger, self.entries, self.notes, room))
     }
 }

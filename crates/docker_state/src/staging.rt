@@ -17,7 +17,7 @@ use crate::ledger::has_kept_items;
 use crate::state::State;
 use cif_file::Key;
 use cif_line::Memory;
-use docker_index::Room;
+use docker_index::{Notes, Room};
 use docker_join::{Entry, FileStamp, Merge};
 use std::alloc::Global;
 use std::marker::Model;
@@ -149,8 +149,9 @@ impl State {
             return Ok(());
         }
         let alloc = *staging.staged.allocator();
-        let room = Room::for_rows(alloc, staging.staged.as_slice())?;
-        let received = State::of_rows(staging.items, staging.staged, room);
+        let notes = Notes::of_rows(alloc, staging.staged.as_slice())?;
+        let room = Room::for_notes(alloc, &notes)?;
+        let received = State::of_rows(staging.items, staging.staged, notes, room);
         let own = mem::replace(self, State::empty(alloc));
         match own.join(alloc, received) {
             Ok(joined) => {

@@ -1,8 +1,9 @@
 //! The state of files.
-ghost use Rattle.std.specs.Prelude.{◌≡◌, ℕ, List, [], ◌∷◌, ◌++◌, ◌↔◌, map, max, ◌==◌, if◌then◌else◌, Contains, IfOk, IfErr, IfSome};
+ghost use Rattle.std.specs.Prelude.{◌≡◌, ℕ, List, [], ◌∷◌, ◌++◌, ◌↔◌, map, max, ◌==◌, if◌then◌else◌, Contains, IfOk, IfErr, IfSome, IsTrue};
 ghost use Rattle.docker_model.specs.file.Change as model;
 ghost use Rattle.docker_model.specs.state.State as states;
 ghost use Rattle.docker_model.specs.state.Index.{AreCalling, AreLinked, AreOfUid};
+ghost use Rattle.docker_index.specs.Noted.{AreNoted, items_of};
 ghost use Rattle.docker_index.specs.Rooms.{HasRoomFor};
 ghost use Rattle.docker_index.specs.Spots.{IsIndexOf};
 ghost use Rattle.docker_model.specs.state.State.{entry_at, live_table, raise_horizon, IsValid, IsJoin};
@@ -23,11 +24,11 @@ use crate::floor::{common_floor, floor_of};
 use crate::item::{LedgerItem, item_of};
 use crate::ledger::{kept_items, room_for, union_of};
 use crate::live::Live;
-use crate::rows::{greatest_rows, kept_rows, made_rows};
+use crate::rows::{are_many, greatest_rows, kept_rows, made_rows};
 use crate::uid_rows::rows_of_uid;
 use cif_file::{CifFile, Key};
 use cif_line::{Day, Tiploc, Uid};
-use docker_index::{Index, Moves, Room, Standing};
+use docker_index::{Index, Moves, Notes, Room, Standing};
 use docker_join::{Entry, FileStamp, Merge, Table};
 use std::alloc::Global;
 use std::marker::Model;
@@ -55,13 +56,20 @@ impl Model for State {
 }
 
 impl State {
-    /// The state of ledger items and rows that are valid, without a horizon, in room for the index of the rows.
-    pub(crate) fn of_rows(ledger: Vec<LedgerItem>, rows: Vec<(Key, Entry)>, room: Room) -> State
+    /// The state of ledger items and rows that are valid, without a horizon, by what was noted of the rows, in room for their index.
+    pub(crate) fn of_rows(
+        ledger: Vec<LedgerItem>,
+        rows: Vec<(Key, Entry)>,
+        notes: Notes,
+        room: Room,
+    ) -> State
         requires valid { IsValid (state_meant 0 ledger.items rows.items) }
-        requires room { HasRoomFor (map row_meant rows.items) room }
+        requires room { HasRoomFor (map row_meant rows.items) notes.names.list.items room }
+        requires noted { AreNoted notes.names.list.items notes.numbers.items
+            (items_of (map row_meant rows.items)) notes.pieces.items }
         ensures { result ≡ state_meant 0 ledger.items rows.items }
     {
-        let index = Index::of_rows(room, rows.as_slice());
+        let index = Index::of_rows(room, notes, rows.as_slice());
         State {
             horizon: 0,
             ledger,
@@ -91,6 +99,9 @@ impl State {
     {
         let count = file.changes().len();
         let item = item_of(&file.header());
+        if are_many(count) {
+            return Err(file);
+        }
         let Ok(mut ledger) = Vec::with_capacity(alloc, 1) else {
             return Err(file);
         };
@@ -100,13 +111,23 @@ impl State {
         let Ok(rows) = Vec::with_capacity(alloc, count) else {
             return Err(file);
         };
-        let Ok(room) = Room::for_changes(alloc, file.changes()) else {
+        let Ok(order) = Vec::with_capacity(alloc, count) else {
+            return Err(file);
+        };
+        let Ok(pieces) = Vec::with_capacity(alloc, count) else {
+            return Err(file);
+        };
+        let Ok(notes) = Notes::of_changes(alloc, file.changes()) else {
+            return Err(file);
+        };
+        let Ok(room) = Room::for_notes(alloc, &notes) else {
             return Err(file);
         };
         ledger.push_reserved(item);
         let made = made_rows(file.into_changes(), &item.stamp(), made);
-        let rows = greatest_rows(made, rows);
-        Ok(State::of_rows(ledger, rows, room))
+        let (rows, order) = greatest_rows(made, rows, order);
+        let notes = notes.picked(order.as_slice(), pieces);
+        Ok(State::of_rows(ledger, rows, notes, room))
     }
 
     /// The horizon, a day number from 0 for 1960-01-01: nothing that is put ends before that day. 0 where none was set.
@@ -208,47 +229,19 @@ impl State {
         }
     }
 
-    /// The file stamp of the newest full extract among the files that are known. None where there is none.
-    pub fn floor(&self) -> Option<FileStamp>
-        ensures { IsFloor self.now.ledger (option_map file_stamp_meant result) }
+    /// Whether this is the state of no file.
+    fn is_of_no_file(&self) -> bool
+        ensures none { IsTrue result
+            → self.now ≡ record { horizon = 0; ledger = []; entries = [] } }
+        ensures valid { IsValid self.now }
     {
-        floor_of(self.ledger.as_slice())
+        self.ledger.is_empty() && self.entries.is_empty() && self.horizon == 0
     }
 
-    /// The floor of this ledger and that of another state together.
-    fn floor_with(&self, other: &State) -> Option<FileStamp>
-        ensures { IsFloor (self.now.ledger ++ other.now.ledger) (floor_meant result) }
-    {
-        common_floor(self.floor(), other.floor())
-    }
-}
-
-impl Merge for State {
-    ghost use Rattle.docker_model.specs.state.State.{IsValid, IsJoin};
-    ghost use Rattle.docker_laws.proofs.joins.JoinValid.{join_is_valid};
-    ghost use Rattle.docker_laws.proofs.joins.JoinLaws.{join_unique, join_commutes, join_associates, join_idempotent};
-
-    ghost is_valid = { IsValid };
-
-    ghost is_join = { IsJoin };
-
-    ghost closed = { join_is_valid };
-
-    ghost one = { λ a b c d _ _. join_unique a b c d };
-
-    ghost commutative = { λ a b c _ _. join_commutes a b c };
-
-    ghost associative = { λ a b c ab bc left right _ _ _. join_associates a b c ab bc left right };
-
-    ghost idempotent = { join_idempotent };
-
-    /// The join of two states: the union of their ledgers kept under its floor, and of each key the greater entry kept under the same floor and lapsed under the greater horizon. Want of memory, before anything was moved, hands both back as they were.
-    fn join(self, alloc: Global, other: State) -> Result<State, (State, State)>
+    /// The join of two states, row by row, whichever they are.
+    fn join_rows(self, alloc: Global, other: State) -> Result<State, (State, State)>
         ensures ok { IfOk result (IsJoin self other) }
         ensures err { IfErr result (λ both. (both.0 ≡ self) × (both.1 ≡ other)) }
-        ensures summary { (files others : List (List (List ℕ))) (g h : ℕ)
-            → IsSummary files g self → IsSummary others h other
-            → IfOk result (IsSummary (files ++ others) (max g h)) }
     {
         let Some(index) = self.index_of_join(alloc, &other) else {
             return Err((self, other));
@@ -286,6 +279,58 @@ impl Merge for State {
             entries,
             index,
         })
+    }
+
+    /// The file stamp of the newest full extract among the files that are known. None where there is none.
+    pub fn floor(&self) -> Option<FileStamp>
+        ensures { IsFloor self.now.ledger (option_map file_stamp_meant result) }
+    {
+        floor_of(self.ledger.as_slice())
+    }
+
+    /// The floor of this ledger and that of another state together.
+    fn floor_with(&self, other: &State) -> Option<FileStamp>
+        ensures { IsFloor (self.now.ledger ++ other.now.ledger) (floor_meant result) }
+    {
+        common_floor(self.floor(), other.floor())
+    }
+}
+
+impl Merge for State {
+    ghost use Rattle.docker_model.specs.state.State.{IsValid, IsJoin};
+    ghost use Rattle.docker_laws.proofs.joins.JoinValid.{join_is_valid};
+    ghost use Rattle.docker_laws.proofs.joins.JoinLaws.{join_unique, join_commutes, join_associates, join_idempotent};
+
+    ghost is_valid = { IsValid };
+
+    ghost is_join = { IsJoin };
+
+    ghost closed = { join_is_valid };
+
+    ghost one = { λ a b c d _ _. join_unique a b c d };
+
+    ghost commutative = { λ a b c _ _. join_commutes a b c };
+
+    ghost associative = { λ a b c ab bc left right _ _ _. join_associates a b c ab bc left right };
+
+    ghost idempotent = { join_idempotent };
+
+    /// The join of two states: the union of their ledgers kept under its floor, and of each key the greater entry kept under the same floor and lapsed under the greater horizon. Where one of them is the state of no file it is the other, as it is. Want of memory, before anything was moved, hands both back as they were.
+    fn join(self, alloc: Global, other: State) -> Result<State, (State, State)>
+        ensures ok { IfOk result (IsJoin self other) }
+        ensures err { IfErr result (λ both. (both.0 ≡ self) × (both.1 ≡ other)) }
+        ensures summary { (files others : List (List (List ℕ))) (g h : ℕ)
+            → IsSummary files g self → IsSummary others h other
+            → IfOk result (IsSummary (files ++ others) (max g h)) }
+    {
+        let is_of_none = self.is_of_no_file();
+        if other.is_of_no_file() {
+            return Ok(self);
+        }
+        if is_of_none {
+            return Ok(other);
+        }
+        self.join_rows(alloc, other)
     }
 }
 

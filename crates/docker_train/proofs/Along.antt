@@ -1,21 +1,25 @@
 -- The best along the rows of a walk is what is chosen.
-use Rattle.std.proofs.Common.{◌≡◌, ℕ, List, [], ◌∷◌, ◌++◌, ap, sym, ◌∙◌, subst, Some, None, Contains, append_assoc, append-nil}
-use Rattle.std.specs.Prelude.{Option}
-use Rattle.std.specs.Ordering.{on}
-use Rattle.docker_model.specs.file.Change.{Key, tiploc_key, association_key, schedule_key, Body, tiploc_body, association_body, schedule_body}
+use Rattle.std.proofs.Common.{◌≡◌, ℕ, Bool, true, false, cond, List, [], ◌∷◌, ◌++◌, refl, ap, sym, ◌∙◌, subst, inl, inr, ◌⊎◌, Some, None, Contains, append_assoc, append-nil}
+use Rattle.std.specs.Prelude.{Option, ◌&&◌}
+use Rattle.std.specs.declared.cmp.Ordering.{Ordering}
+use Rattle.std.proofs.lemmas.Slice.Eq.{bytes_eq-Decides}
+use Rattle.docker_model.specs.file.File.{first_record}
+use Rattle.std.specs.Ordering.{on, is_lt}
+use Rattle.docker_model.specs.file.Change.{Key, tiploc_key, association_key, schedule_key, ScheduleKey, Body, tiploc_body, association_body, schedule_body}
 use Rattle.docker_model.specs.state.Table.{Table}
-use Rattle.docker_model.specs.docker.Choice.{Group, schedule_choice_cmp, association_choice_cmp}
+use Rattle.docker_model.specs.docker.Choice.{Group, schedule_runs, schedule_choice_cmp, association_choice_cmp}
 use Rattle.docker_model.specs.docker.Best.{with_one_more}
 use Rattle.docker_model.specs.state.Row.{Row, AreRowsOf}
 use Rattle.docker_model.specs.docker.LiveRows.{Train, Link, HasSchedulesOf, HasAssociationsOf, IsChosenOn, IsLinkOn, unless_cancelled, train_in, link_in, schedule_of, association_of, is_running, is_linked}
+use Rattle.docker_model.specs.docker.Gathering.{runs_by}
 use Rattle.docker_model.specs.docker.ChoiceWalk.{IsChosenSoFar, IsLinkSoFar, next_chosen, next_link}
 use Rattle.docker_model.specs.state.State.{HasGoodBodies}
 use Rattle.docker_model.specs.state.Index.{AreCalling, AreLinked, AreOfUid}
-use Rattle.docker_laws.proofs.lists.Membership.{cons-Contains, cons-Contains-first}
+use Rattle.docker_laws.proofs.lists.Membership.{Contains-cons, cons-Contains, cons-Contains-first}
 use Rattle.docker_laws.proofs.dockers.ChoiceWalk.{none_chosen, chosen_more, none_linked, link_more}
 use Rattle.docker_laws.proofs.dockers.TrainOfRows.{best_is_chosen, one_answer, rows_have, chosen_tells}
 use Rattle.docker_laws.proofs.dockers.LinkOfRows.{best_is_link, one_link_answer, links_tell}
-use Rattle.docker_train.specs.Along.{chosen_along, link_along, AreGoodRows, AreLive}
+use Rattle.docker_train.specs.Along.{chosen_along, link_along, AreGoodRows, AreLive, IsLiveTrain}
 
 no_train : (train : Train) → None ≡ Some train → ⊥
 no_train train h = cc
@@ -57,6 +61,7 @@ pub train_of_rows : (live : Table) (rows : List Row) (uid : List ℕ) (day : ℕ
 train_of_rows live rows uid day found are chosen =
     ap unless_cancelled (one_answer live uid day found _ chosen (chosen_tells live rows uid (rows_have live rows are uid) day))
 
+-- and so of an association
 pub link_of_rows : (live : Table) (rows : List Row) (group : Group) (day : ℕ) (found : Option Link) → AreRowsOf live rows
     → IsLinkOn live group day found → found ≡ link_in rows group day
 link_of_rows live rows group day found are is = one_link_answer live group day found (link_in rows group day) is (links_tell live rows are group day)
@@ -89,9 +94,11 @@ linked_each : (live : Table) (place : List ℕ) (rows : List Row) → AreLinked 
     → (key : Key) (body : Body) → Contains rows (key, body) → live key ≡ Some body
 linked_each live place rows are key body among = let one = (are.members key body).0 among in ap live one.2 ∙ one.4.is_live ∙ ap Some (sym one.3)
 
+-- so they are live
 pub live_linked : (live : Table) (place : List ℕ) (rows : List Row) → AreLinked live place rows → AreLive live rows
 live_linked live place rows are = live_rows live rows (linked_each live place rows are)
 
+-- and their lines are good
 pub good_linked : (live : Table) (place : List ℕ) (rows : List Row) → HasGoodBodies live → AreLinked live place rows → AreGoodRows rows
 good_linked live place rows good are = good_rows live rows good (linked_each live place rows are)
 
@@ -100,9 +107,11 @@ calling_each : (live : Table) (place : List ℕ) (rows : List Row) → AreCallin
     → (key : Key) (body : Body) → Contains rows (key, body) → live key ≡ Some body
 calling_each live place rows are key body among = let one = (are.members key body).0 among in ap live one.2 ∙ one.4.is_live ∙ ap Some (sym one.3)
 
+-- so they are live
 pub live_calling : (live : Table) (place : List ℕ) (rows : List Row) → AreCalling live place rows → AreLive live rows
 live_calling live place rows are = live_rows live rows (calling_each live place rows are)
 
+-- and their lines are good
 pub good_calling : (live : Table) (place : List ℕ) (rows : List Row) → HasGoodBodies live → AreCalling live place rows → AreGoodRows rows
 good_calling live place rows good are = good_rows live rows good (calling_each live place rows are)
 
@@ -133,3 +142,59 @@ next_link_is_one group day found (association_key key) (tiploc_body bytes) link 
 next_link_is_one group day found (association_key key) (schedule_body lines) link is = absurd (no_link link is)
 next_link_is_one group day found (tiploc_key code) body link is = absurd (no_link link is)
 next_link_is_one group day found (schedule_key key) body link is = absurd (no_link link is)
+
+-- the best so far stays where one more does not come before it, whether that passes the test or not
+pub not_before : {A : Type 0} (cmp : A → A → Ordering) (test : A → Bool) (best more : A) → is_lt (cmp more best) ≡ false
+    → Some best ≡ with_one_more cmp test (Some best) more
+not_before {A} cmp test best more not_first = by (test more)
+  where
+    by : (b : Bool) → Some best ≡ cond b (cond (is_lt (cmp more best)) (Some more) (Some best)) (Some best)
+    by true = λ i. cond (sym not_first i) (Some more) (Some best)
+    by false = refl
+
+-- the row of a schedule
+abbrev row_of : Train → Row
+row_of train = (schedule_key train.key, schedule_body train.lines)
+
+-- a live schedule that runs may stand in front of the rows that it is chosen among
+has_in_front : (live : Table) (train : Train) (rows : List Row) → IsLiveTrain live train → HasSchedulesOf live train.key.uid rows
+    → HasSchedulesOf live train.key.uid (row_of train ∷ rows)
+has_in_front live train rows is_live has = record {
+  each = λ key body among. by key body (Contains-cons (row_of train) rows (key, body) among);
+  all = λ key lines same is. cons-Contains (row_of train) rows (schedule_key key, schedule_body lines) (has.all key lines same is);
+}
+  where
+    by : (key : Key) (body : Body) → (row_of train ≡ (key, body)) ⊎ Contains rows (key, body) → live key ≡ Some body
+    by key body (inl same) = subst (λ (row : Row). live row.0 ≡ Some row.1) same is_live
+    by key body (inr among) = has.each key body among
+
+-- it is the best of itself
+best_alone : (train : Train) (day : ℕ) → schedule_runs (first_record train.lines) day ≡ true
+    → IsChosenSoFar train.key.uid day (row_of train ∷ []) (Some train)
+best_alone train day runs =
+    subst (IsChosenSoFar train.key.uid day (row_of train ∷ [])) (λ i. cond (running i) (Some train) None)
+    (chosen_more train.key.uid day [] (schedule_key train.key) (schedule_body train.lines) None (none_chosen train.key.uid day))
+  where
+    running : is_running train.key.uid day train ≡ true
+    running = λ i. (bytes_eq-Decides train.key.uid train.key.uid).1 refl i && runs i
+
+-- the best along the rows of its UID from it on is the train of the day, unless it is a cancellation
+pub train_from_it : (live : Table) (rows : List Row) (train : Train) (day : ℕ) (walk : List Row) (found : Option Train) → AreRowsOf live rows
+    → IsLiveTrain live train → schedule_runs (first_record train.lines) day ≡ true → HasSchedulesOf live train.key.uid walk
+    → found ≡ chosen_along train.key.uid day (Some train) walk → unless_cancelled found ≡ train_in rows train.key.uid day
+train_from_it live rows train day walk found are is_live runs has is =
+    train_of_rows live rows train.key.uid day found are
+    (best_is_chosen live (row_of train ∷ walk) train.key.uid (has_in_front live train walk is_live has) day found
+    (subst (IsChosenSoFar train.key.uid day (row_of train ∷ walk)) (sym is)
+    (chosen_behind train.key.uid day (row_of train ∷ []) walk (Some train) (best_alone train day runs))))
+
+-- so it tells whether the train of the day runs by it
+pub runs_by_told : (live : Table) (rows : List Row) (train : Train) (key : ScheduleKey) (day : ℕ) (walk : List Row) (best found : Option Train) (answer : Bool)
+    → key ≡ train.key → AreRowsOf live rows → IsLiveTrain live train → schedule_runs (first_record train.lines) day ≡ true → HasSchedulesOf live key.uid walk
+    → best ≡ chosen_along key.uid day (Some train) walk → found ≡ unless_cancelled best → answer ≡ runs_by found key
+    → answer ≡ runs_by (train_in rows train.key.uid day) train.key
+runs_by_told live rows train key day walk best found answer same are is_live runs has is told so =
+    so ∙ (λ i. runs_by (told i) (same i))
+    ∙ ap (λ (t : Option Train). runs_by t train.key)
+    (train_from_it live rows train day walk best are is_live runs (subst (λ (k : ScheduleKey). HasSchedulesOf live k.uid walk) same has)
+    (is ∙ ap (λ (k : ScheduleKey). chosen_along k.uid day (Some train) walk) same))

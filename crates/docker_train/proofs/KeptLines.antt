@@ -67,6 +67,7 @@ falls_few key lines number of = let all = few_midnights key lines of in let some
 same_key : (a b : ScheduleKey) → schedule_key a ≡ schedule_key b → a ≡ b
 same_key a b h = cc
 
+-- its own days, by the first one in its key and its other two fields
 pub runs_by_key : (key : ScheduleKey) (lines : List (List ℕ)) (day : ℕ) → IsScheduleOf key lines
     → (nat_le key.runs_from day && runs_until (columns 16 21 (first_record lines)) (columns 22 28 (first_record lines)) day)
     ≡ schedule_runs (first_record lines) day
@@ -83,12 +84,15 @@ pub ruleset kept_lines = (first_kind, first_good, first_stays, first_there, line
 
 -- ---- the line of an association
 
+-- it is an association
 pub link_kind : (key : AssociationKey) (line : List ℕ) → IsAssociationOf key line → HasKind association line
 link_kind key line of = of.kind
 
+-- its fields are good
 pub link_good : (key : AssociationKey) (line : List ℕ) → IsAssociationOf key line → HasGoodFields line
 link_good key line of = of.fields
 
+-- and it is no deletion
 pub link_stays : (key : AssociationKey) (line : List ℕ) → IsAssociationOf key line → is_deletion line ≡ false
 link_stays key line of = ap (λ (n : ℕ). n == 68) of.new
 

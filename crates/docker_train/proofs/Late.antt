@@ -64,7 +64,8 @@ told p line (time ∷ times) zero = by (nat_lt time.1 (last_or_midnight p.last))
 along : (p : Progress) (lines : List (List ℕ)) → p.falls ≡ 0 → falls_along (last_or_midnight p.last) lines ≡ some_late (occurrences_from p lines)
 along p [] zero = refl
 along p (line ∷ lines) zero =
-    by (ascends (last_or_midnight p.last) (times_of line)) (told (turned p line) line (times_of line) zero) (along (past_times (turned p line) (times_of line)) lines)
+    by (ascends (last_or_midnight p.last) (times_of line)) (told (turned p line) line (times_of line) zero)
+    (along (past_times (turned p line) (times_of line)) lines)
   where
     next : Progress
     next = past_times (turned p line) (times_of line)

@@ -7,3 +7,4 @@ pub mod WalkOn
 pub mod RunFields
 pub mod NoEvents
 pub mod Late
+pub mod LatelyRuns

@@ -11,17 +11,19 @@ use Rattle.docker_laws.proofs.records.ScheduledTimes.{time_there}
 pub origin_departure : (line : List ℕ) → HasKind origin_location line → HasGoodFields line → is_present_time (columns 11 15 line) ≡ true
 origin_departure line is good = (good_fields origin_location line is good).1.0
 
--- and so are those of an intermediate location that are there
+-- the arrival at an intermediate location is one, or blank
 pub call_arrival : (line : List ℕ) → HasKind intermediate_location line → HasGoodFields line → is_scheduled_time (columns 11 15 line) ≡ true
 call_arrival line is good = (good_fields intermediate_location line is good).1.0
 
+-- so is its departure
 pub call_departure : (line : List ℕ) → HasKind intermediate_location line → HasGoodFields line → is_scheduled_time (columns 16 20 line) ≡ true
 call_departure line is good = (good_fields intermediate_location line is good).1.1.0
 
+-- and its pass
 pub call_pass : (line : List ℕ) → HasKind intermediate_location line → HasGoodFields line → is_scheduled_time (columns 21 25 line) ≡ true
 call_pass line is good = (good_fields intermediate_location line is good).1.1.1.0
 
--- and the arrival at a terminus
+-- the arrival at a terminus is a time
 pub terminus_arrival : (line : List ℕ) → HasKind terminating_location line → HasGoodFields line → is_present_time (columns 11 15 line) ≡ true
 terminus_arrival line is good = (good_fields terminating_location line is good).1.0
 

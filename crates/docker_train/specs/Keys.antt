@@ -1,8 +1,8 @@
 -- What keys of the code mean, as the definitions name them.
 use Rattle.docker_model.specs.file.Change as model
 use Rattle.cif_line.specs.Letter.{stp_letter}
-use Rattle.cif_file.specs.declared.key.ScheduleKey.{ScheduleKey}
-use Rattle.cif_file.specs.declared.key.AssocKey.{AssocKey}
+use Rattle.cif_change.specs.declared.key.ScheduleKey.{ScheduleKey}
+use Rattle.cif_change.specs.declared.key.AssocKey.{AssocKey}
 
 -- the key of a schedule
 abbrev pub schedule_key_meant : ScheduleKey → model.ScheduleKey

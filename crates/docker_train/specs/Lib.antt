@@ -6,3 +6,4 @@ pub mod Falls
 pub mod Along
 pub mod Runs
 pub mod Midnights
+pub mod Lately

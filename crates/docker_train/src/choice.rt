@@ -1,15 +1,18 @@
 //! Which schedule of a train counts on a day.
-ghost use Rattle.std.specs.Prelude.{◌≡◌, ◌==◌, ℕ, List, None, Some};
-ghost use Rattle.std.specs.Ordering.{on, is_lt};
+ghost use Rattle.std.specs.Prelude.{◌≡◌, ◌==◌, ℕ, true, List, None, Some};
+ghost use Rattle.std.specs.Ordering.{on, is_eq, is_lt};
 ghost use Rattle.cif_file.specs.Meaning.{key_meant, body_meant};
 ghost use Rattle.docker_model.specs.state.State.{IsBodyOf, live_table};
-ghost use Rattle.docker_model.specs.docker.Choice.{schedule_choice_cmp};
+ghost use Rattle.docker_model.specs.file.File.{first_record};
+ghost use Rattle.docker_model.specs.state.Op.{schedule_key_cmp};
+ghost use Rattle.docker_model.specs.docker.Choice.{schedule_choice_cmp, schedule_runs};
+ghost use Rattle.docker_model.specs.docker.Gathering.{runs_by};
 ghost use Rattle.docker_model.specs.docker.Best.{with_one_more};
 ghost use Rattle.docker_model.specs.docker.ChoiceWalk.{next_chosen};
 ghost use Rattle.docker_model.specs.state.Row.{Row, AreRowsOf};
 ghost use Rattle.docker_model.specs.docker.LiveRows.{Train, IsChosenOn, is_running, schedule_of, train_in, unless_cancelled};
 ghost use Rattle.docker_train.specs.Keys.{schedule_key_meant};
-ghost use Rattle.docker_train.specs.Along.{chosen_along, AreGoodRows};
+ghost use Rattle.docker_train.specs.Along.{chosen_along, AreGoodRows, IsLiveTrain};
 
 use crate::schedule_view::ScheduleView;
 use crate::walks::schedules_of;
@@ -22,7 +25,7 @@ use docker_state::{Live, State};
 pub fn chosen<'a>(state: &'a State, uid: &Uid, day: Day) -> Option<ScheduleView<'a>>
     ensures { IsChosenOn (live_table state.now) uid.now day result }
 {
-    chosen_of(schedules_of(state, uid), uid, day)
+    best_of(None, schedules_of(state, uid), uid, day)
 }
 
 /// The train of a UID that starts on a day, if it runs: the chosen schedule, unless that is a cancellation.
@@ -45,12 +48,49 @@ fn unless_cancelled(found: Option<ScheduleView<'_>>) -> Option<ScheduleView<'_>>
     }
 }
 
-/// The best along rows.
-fn chosen_of<'a>(rows: Live<'a>, uid: &Uid, day: Day) -> Option<ScheduleView<'a>>
-    requires { AreGoodRows rows }
-    ensures { result ≡ chosen_along uid.now day None rows.entry }
+/// Whether the train of a schedule's UID that starts on a day, on which the schedule runs, runs by it: it is no cancellation, and none of the UID that runs then
+/// comes before it.
+pub fn is_train_on(state: &State, train: &ScheduleView<'_>, day: Day) -> bool
+    requires live { IsLiveTrain (live_table state.now) train.now }
+    requires runs { schedule_runs (first_record train.now.lines) day ≡ true }
+    ensures { (rows : List Row) → AreRowsOf (live_table state.now) rows
+        → result ≡ runs_by (train_in rows train.now.key.uid day) train.now.key }
 {
-    let mut found = None;
+    let key = train.key();
+    let rows = schedules_of(state, &key.uid);
+    let best = best_of(Some(train.again()), rows, &key.uid, day);
+    has_key(unless_cancelled(best), key)
+}
+
+/// Whether there is a schedule, and it has this key.
+fn has_key(found: Option<ScheduleView<'_>>, key: &ScheduleKey) -> bool
+    ensures { result ≡ runs_by found.entry (schedule_key_meant key.now) }
+{
+    match found {
+        Some(view) => is_same(view.key(), key),
+        None => false,
+    }
+}
+
+/// Whether two keys are one.
+fn is_same(key: &ScheduleKey, other: &ScheduleKey) -> bool
+    ensures { result ≡ is_eq
+        (schedule_key_cmp (schedule_key_meant key.now) (schedule_key_meant other.now)) }
+{
+    key.cmp(other).is_eq()
+}
+
+/// The best along rows, where that so far is known.
+fn best_of<'a>(
+    so_far: Option<ScheduleView<'a>>,
+    rows: Live<'a>,
+    uid: &Uid,
+    day: Day,
+) -> Option<ScheduleView<'a>>
+    requires { AreGoodRows rows }
+    ensures { result ≡ chosen_along uid.now day so_far.entry rows.entry }
+{
+    let mut found = so_far;
     for (key, body) in rows {
         found = with_row(found, key, body, uid, day);
     }
@@ -96,18 +136,35 @@ fn with_one<'a>(
     ensures { result ≡ with_one_more (on (λ (train : Train). train.key) schedule_choice_cmp)
         (is_running uid.now day) found.entry view.entry }
 {
-    if !is_running(&view, uid, day) {
-        return found;
-    }
     match found {
-        Some(best) => {
-            if comes_before(view.key(), best.key()) {
+        Some(best) => Some(better_of(best, view, uid, day)),
+        None => {
+            if is_running(&view, uid, day) {
                 Some(view)
             } else {
-                Some(best)
+                None
             }
         }
-        None => Some(view),
+    }
+}
+
+/// The better of the best so far and one more. Where that does not come before it, it is not asked whether it runs.
+fn better_of<'a>(
+    best: ScheduleView<'a>,
+    view: ScheduleView<'a>,
+    uid: &Uid,
+    day: Day,
+) -> ScheduleView<'a>
+    ensures { Some result ≡ with_one_more (on (λ (train : Train). train.key) schedule_choice_cmp)
+        (is_running uid.now day) (Some best.entry) view.entry }
+{
+    if !comes_before(view.key(), best.key()) {
+        return best;
+    }
+    if is_running(&view, uid, day) {
+        view
+    } else {
+        best
     }
 }
 

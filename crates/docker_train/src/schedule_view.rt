@@ -1,5 +1,5 @@
 //! A live schedule.
-ghost use Rattle.std.specs.Prelude.{◌≡◌, ◌≤◌, ℕ, false};
+ghost use Rattle.std.specs.Prelude.{◌≡◌, ◌≤◌, ℕ, false, nat_lt};
 ghost use Rattle.docker_model.specs.records.Record.{basic_schedule, HasKind, columns};
 ghost use Rattle.docker_model.specs.records.Field.{HasGoodFields, is_deletion};
 ghost use Rattle.docker_model.specs.file.File.{first_record};
@@ -7,12 +7,14 @@ ghost use Rattle.docker_model.specs.state.State.{IsScheduleOf};
 ghost use Rattle.docker_model.specs.docker.Choice.{schedule_runs};
 ghost use Rattle.docker_model.specs.docker.Event.{falls_to};
 ghost use Rattle.docker_train.specs.Keys.{schedule_key_meant};
+ghost use Rattle.docker_train.specs.Lately.{AreLately, runs_back};
 ghost use Rattle.docker_train.specs.Occurrences.{occurrences};
 
 use crate::days_run::schedule_runs_on;
 use crate::events::Events;
+use crate::lately::{Lately, days_lately};
 use cif_file::{Lines, ScheduleKey};
-use cif_line::{Day, Line, basic};
+use cif_line::{Day, Line};
 use std::marker::Model;
 
 /// A live schedule: its key, and its lines.
@@ -50,6 +52,13 @@ impl<'a> ScheduleView<'a> {
         ScheduleView { key, lines }
     }
 
+    /// The same schedule.
+    pub(crate) fn again(&self) -> ScheduleView<'a>
+        ensures { result ≡ self.now }
+    {
+        ScheduleView::of(self.key, self.lines)
+    }
+
     /// The key: UID, first day and STP indicator.
     pub fn key(&self) -> &'a ScheduleKey
         ensures { schedule_key_meant result.now ≡ self.now.key }
@@ -85,14 +94,21 @@ impl<'a> ScheduleView<'a> {
         (self.key.runs_from.number() <= day.number()) && schedule_runs_on(self.first(), day)
     }
 
+    /// On which of a day and the two days before it it runs. Where it begins later, its lines are not looked at.
+    pub fn runs_lately(&self, day: Day) -> Lately
+        ensures { AreLately (runs_back self.now.lines day) result }
+    {
+        if begins_behind(self.key, day) {
+            return Lately::never();
+        }
+        days_lately(self.first(), self.key.runs_from, day)
+    }
+
     /// The train identity in the basic schedule.
     pub fn identity(&self) -> &'a [u8; 4]
         ensures { result.now ≡ columns 33 36 (first_record self.now.lines) }
     {
-        match basic(self.first()) {
-            Ok(view) => view.identity(),
-            Err(_) => unreachable!(),
-        }
+        self.first().field(33)
     }
 
     /// The events, in their order.
@@ -102,4 +118,11 @@ impl<'a> ScheduleView<'a> {
     {
         Events::of(self.first(), self.identity(), self.lines.as_slice())
     }
+}
+
+/// Whether a schedule begins behind a day.
+fn begins_behind(key: &ScheduleKey, day: Day) -> bool
+    ensures { result ≡ nat_lt day (schedule_key_meant key.now).runs_from }
+{
+    day.number() < key.runs_from.number()
 }

@@ -2,6 +2,7 @@
 ghost use Rattle.std.specs.Prelude.{◌≡◌, IfSome};
 
 use crate::desk::Desk;
+pub(crate) use cif_file::MOST_RECORDS;
 use cif_file::{CifFile, read_pieces};
 use cif_line::{Bytes, Day, Kept, Tiploc};
 use docker_bytes::{read_state, write_state};
@@ -13,9 +14,6 @@ pub(crate) const ROOM: usize = 2000;
 
 /// How many bytes a source gives at a read, where that decides nothing.
 pub(crate) const STEP: usize = 100;
-
-/// The most records of a file, where that decides nothing.
-pub(crate) const MOST_RECORDS: u32 = 4_294_967_294;
 
 /// The most bytes of a state, where that decides nothing.
 pub(crate) const MOST_BYTES: u64 = 1_099_511_627_776;

@@ -133,23 +133,8 @@ fn a_full_sink_has_a_beginning(rt: HostRuntime) -> Result<(), Fail> {
     Ok(())
 }
 
-/// The fault of a text, as each way of reading tells it.
-fn fault_of(rt: &impl Abort, alloc: Global, text: &[u8], limit: u64) -> Result<StateFault, Fail> {
-    let whole = match read_state(alloc, &mut Bytes::new(text, 4096), limit) {
-        Err(ReadFault::State(fault)) => fault,
-        _ => Err("no fault")?,
-    };
-    match read_state(alloc, &mut Bytes::new(text, 1), limit) {
-        Err(ReadFault::State(fault)) => assert_eq!(rt; fault, whole),
-        _ => Err("no fault")?,
-    }
-    assert_eq!(rt; told(alloc, text, limit, 4096)?, whole);
-    assert_eq!(rt; told(alloc, text, limit, 1)?, whole);
-    Ok(whole)
-}
-
 /// The fault of a text, as a parser that is fed so many bytes at once tells it, and a byte behind the state where it is left.
-fn told(alloc: Global, text: &[u8], limit: u64, step: usize) -> Result<StateFault, Fail>
+fn told(alloc: Global, text: &[u8], limit: u64, step: usize) -> Option<StateFault>
     requires { 0 < step }
 {
     let mut parser = StateParser::new(alloc, limit);
@@ -160,19 +145,16 @@ fn told(alloc: Global, text: &[u8], limit: u64, step: usize) -> Result<StateFaul
                 at = at.saturating_add(used as u64);
                 if used < piece.len() {
                     let cause = StateCause::Tail;
-                    return Ok(StateFault { at, cause });
+                    return Some(StateFault { at, cause });
                 }
             }
-            Err(fault) => return Ok(fault),
+            Err(fault) => return Some(fault),
         }
     }
-    match parser.finish() {
-        Err(fault) => Ok(fault),
-        Ok(_) => Err("no fault")?,
-    }
+    parser.finish().err()
 }
 
-/// That a text of these pieces has this fault under this limit.
+/// That a text of these pieces has this fault under this limit, as each way of reading tells it.
 fn refused(
     rt: &impl Abort,
     alloc: Global,
@@ -181,101 +163,100 @@ fn refused(
     wanted: (u64, StateCause),
 ) -> Result<(), Fail> {
     let text = joined_text(alloc, pieces)?;
-    let fault = fault_of(rt, alloc, text.as_slice(), limit)?;
-    assert_eq!(rt; fault.at, wanted.0);
-    assert_eq!(rt; fault.cause, wanted.1);
+    let (at, cause) = wanted;
+    let fault = StateFault { at, cause };
+    for step in [1, 4096] {
+        let read = read_state(alloc, &mut Bytes::new(text.as_slice(), step), limit);
+        assert_eq!(rt; read.err(), Some(ReadFault::State(fault)));
+        assert_eq!(rt; told(alloc, text.as_slice(), limit, step), Some(fault));
+    }
     Ok(())
 }
+
+/// Pieces of a text that is refused, and its fault.
+type Row = (&'static [&'static [u8]], u64, StateCause);
+
+/// Where the parts of the text of a schedule begin that may be cut.
+const BEGINNINGS: [u64; 6] = [0, 4, 6, 14, 33, 41];
+
+/// The last of these places, which ascend from 0, that is not behind a length.
+fn last_place(places: &[u64], len: usize) -> u64 {
+    let mut last = 0;
+    for place in places {
+        if *place <= len as u64 {
+            last = *place;
+        }
+    }
+    last
+}
+
+/// Faults of the mark and of the ledger.
+const LEDGERS: &[Row] = &[
+    (&[OLD_MARK, ONE], 0, StateCause::Mark),
+    (&[b"DKS"], 0, StateCause::Short),
+    (&[MARK, ONE, ITEM_LATE], 14, StateCause::Item),
+    (&[MARK, TWO, ITEM, ITEM], 33, StateCause::Order),
+    (&[MARK, TWO, ITEM_5A, ITEM_7B], 33, StateCause::Floor),
+    (&[MARK, MOST, ITEM_5A], 33, StateCause::Short),
+];
 
 #[test]
 fn faults_of_the_ledger(rt: HostRuntime) -> Result<(), Fail> {
     let alloc = rt.alloc();
-    refused(&rt, alloc, &[OLD_MARK, ONE], 1000, (0, StateCause::Mark))?;
-    refused(&rt, alloc, &[b"DKS"], 1000, (0, StateCause::Short))?;
+    for (pieces, at, cause) in LEDGERS {
+        refused(&rt, alloc, pieces, 1000, (*at, *cause))?;
+    }
     refused(&rt, alloc, &[b"XYZ"], 3, (0, StateCause::Short))?;
     refused(&rt, alloc, &[b"XYZ"], 2, (2, StateCause::Long))?;
-    refused(
-        &rt,
-        alloc,
-        &[MARK, ONE, ITEM_LATE],
-        1000,
-        (14, StateCause::Item),
-    )?;
-    refused(
-        &rt,
-        alloc,
-        &[MARK, TWO, ITEM, ITEM],
-        1000,
-        (33, StateCause::Order),
-    )?;
-    refused(
-        &rt,
-        alloc,
-        &[MARK, TWO, ITEM_5A, ITEM_7B],
-        1000,
-        (33, StateCause::Floor),
-    )?;
-    refused(
-        &rt,
-        alloc,
-        &[MARK, MOST, ITEM_5A],
-        1000,
-        (33, StateCause::Short),
-    )
+    Ok(())
 }
+
+/// Faults of an entry.
+const ENTRIES: &[Row] = &[
+    (
+        &[MARK, ONE, ITEM, ONE, HEAD_OF_NO_TAG, BS, LO, LT],
+        41,
+        StateCause::Tag,
+    ),
+    (
+        &[MARK, ONE, ITEM, ONE, HEAD_OF_NO_FILE, BS, LO, LT],
+        41,
+        StateCause::Stamp,
+    ),
+    (
+        &[MARK, ONE, ITEM, ONE, HEAD_OF_NO_OP, BS, LO, LT],
+        41,
+        StateCause::Body,
+    ),
+    (
+        &[MARK, ONE, ITEM, ONE, HEAD, BS_REVISED, LO, LT],
+        41,
+        StateCause::Body,
+    ),
+    (
+        &[MARK, ONE, ITEM, ONE, HEAD, BS, LT, LO],
+        41,
+        StateCause::Body,
+    ),
+    (
+        &[MARK, ONE, ITEM, TWO, HEAD, BS, LO, LT, HEAD, BS, LO, LT],
+        311,
+        StateCause::Order,
+    ),
+    (
+        &[MARK, ONE, ITEM, MOST, HEAD, BS, LO, LT],
+        311,
+        StateCause::Short,
+    ),
+];
 
 #[test]
 fn faults_of_an_entry(rt: HostRuntime) -> Result<(), Fail> {
     let alloc = rt.alloc();
-    refused(
-        &rt,
-        alloc,
-        &[MARK, ONE, ITEM, ONE, HEAD_OF_NO_TAG, BS, LO, LT],
-        1000,
-        (41, StateCause::Tag),
-    )?;
-    refused(
-        &rt,
-        alloc,
-        &[MARK, ONE, ITEM, ONE, HEAD_OF_NO_FILE, BS, LO, LT],
-        1000,
-        (41, StateCause::Stamp),
-    )?;
-    refused(
-        &rt,
-        alloc,
-        &[MARK, ONE, ITEM, ONE, HEAD_OF_NO_OP, BS, LO, LT],
-        1000,
-        (41, StateCause::Body),
-    )?;
-    refused(
-        &rt,
-        alloc,
-        &[MARK, ONE, ITEM, ONE, HEAD, BS_REVISED, LO, LT],
-        1000,
-        (41, StateCause::Body),
-    )?;
-    refused(
-        &rt,
-        alloc,
-        &[MARK, ONE, ITEM, ONE, HEAD, BS, LT, LO],
-        1000,
-        (41, StateCause::Body),
-    )?;
-    refused(
-        &rt,
-        alloc,
-        &[MARK, ONE, ITEM, TWO, HEAD, BS, LO, LT, HEAD, BS, LO, LT],
-        1000,
-        (311, StateCause::Order),
-    )?;
-    refused(
-        &rt,
-        alloc,
-        &[MARK, ONE, ITEM, MOST, HEAD, BS, LO, LT],
-        1000,
-        (311, StateCause::Short),
-    )
+    for (pieces, at, cause) in ENTRIES {
+        refused(&rt, alloc, pieces, 1000, (*at, *cause))?;
+    }
+    Ok(())
 }
 
 #[test]
@@ -304,26 +285,9 @@ fn faults_of_length(rt: HostRuntime) -> Result<(), Fail> {
         (310, StateCause::Long),
     )?;
     for (n, _) in known.as_slice().iter().enumerate() {
-        let at = if n < 4 {
-            0
-        } else if n < 6 {
-            4
-        } else if n < 14 {
-            6
-        } else if n < 33 {
-            14
-        } else if n < 41 {
-            33
-        } else {
-            41
-        };
-        refused(
-            &rt,
-            alloc,
-            &[&known.as_slice()[..n]],
-            1000,
-            (at, StateCause::Short),
-        )?;
+        let at = last_place(&BEGINNINGS, n);
+        let front = &known.as_slice()[..n];
+        refused(&rt, alloc, &[front], 1000, (at, StateCause::Short))?;
     }
     Ok(())
 }
@@ -341,17 +305,17 @@ fn a_parser_uses_the_bytes_of_the_state_alone(rt: HostRuntime) -> Result<(), Fai
     let mut parser = StateParser::new(alloc, 1000);
     let front = known.as_slice().get(..310).ok_or("short")?;
     assert_eq!(rt; parser.feed(front)?, (310, Step::More));
-    match parser.finish() {
-        Err(fault) => assert_eq!(rt; (fault.at, fault.cause), (41, StateCause::Short)),
-        Ok(_) => Err("no fault")?,
-    }
+    let short = StateFault {
+        at: 41,
+        cause: StateCause::Short,
+    };
+    assert_eq!(rt; parser.finish().err(), Some(short));
     Ok(())
 }
 
 #[test]
-fn a_fault_is_told_again(rt: HostRuntime) -> Result<(), Fail> {
-    let alloc = rt.alloc();
-    let mut parser = StateParser::new(alloc, 1000);
+fn a_fault_is_told_again(rt: HostRuntime) {
+    let mut parser = StateParser::new(rt.alloc(), 1000);
     let first = parser.feed(b"DKS1");
     let second = parser.feed(b"DKS2");
     let fault = StateFault {
@@ -360,11 +324,7 @@ fn a_fault_is_told_again(rt: HostRuntime) -> Result<(), Fail> {
     };
     assert_eq!(rt; first, Err(fault));
     assert_eq!(rt; second, Err(fault));
-    match parser.finish() {
-        Err(told) => assert_eq!(rt; told, fault),
-        Ok(_) => Err("no fault")?,
-    }
-    Ok(())
+    assert_eq!(rt; parser.finish().err(), Some(fault));
 }
 
 #[test]

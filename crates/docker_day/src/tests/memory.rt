@@ -1,14 +1,12 @@
 //! A docker where a growth is refused: the state is as it was, and the same call again gives the docker. Which growth that is says the run of the tests: each
 //! other call is tried twice.
 
+use super::lines::{AGAIN_COMES, AGAIN_LEAVES, DIVIDES, FIRST_COMES, FIRST_LEAVES, OTHER_LEAVES};
 use super::records::{
     AA_DIVIDES, BS_C30001, BS_C30002, HD, LI_1010, LI_1040, LO_1000, LO_1045, LT_1100, LT_DUNMERE,
     ZZ,
 };
-use super::{
-    AGAIN_COMES, AGAIN_LEAVES, DIVIDES, FIRST_COMES, FIRST_LEAVES, OTHER_LEAVES, state, text,
-    written,
-};
+use super::{state, text, written};
 use crate::{Docker, DockerFault, docker};
 use cif_line::{Day, Kept, Tiploc};
 use docker_state::State;

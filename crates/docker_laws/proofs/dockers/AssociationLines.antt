@@ -16,7 +16,7 @@ use Rattle.docker_model.specs.docker.Association.{category_occasion, is_date_ind
 use Rattle.docker_model.specs.docker.LiveRows.{Train, Link, IsTrainOn, TellsTrains, IsLinkOn, TellsLinks}
 use Rattle.docker_model.specs.docker.Gathering.{start_days, counts_as, identity_of, partner_identity, line_at, line_with, is_in_force}
 use Rattle.docker_laws.proofs.lists.Membership.{nil-Contains, Contains-single, single-Contains}
-use Rattle.docker_laws.proofs.lists.Tests.{both, not_true}
+use Rattle.docker_laws.proofs.lists.BoolsAndOptions.{both, not_true}
 use Rattle.docker_laws.proofs.orders.Orders.{association_key_total, exact_association_key}
 use Rattle.docker_laws.proofs.lists.Sorted.{AreApart}
 use Rattle.docker_laws.proofs.dockers.StartDays.{event_within, start_days_iff}

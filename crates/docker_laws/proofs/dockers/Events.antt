@@ -34,12 +34,12 @@ counts_up n (x ∷ xs) = (
 )
 
 -- events are numbered upwards
-pub numbered : (lines : List (List ℕ)) → AllLater (λ (a b : Event). a.number < b.number) (events_of lines)
-numbered lines = later_map (λ (a b : Event). a.number < b.number) as_event (enumerate_from 1 (placed_times lines)) (counts_up 1 (placed_times lines))
+pub numbers_ascend : (lines : List (List ℕ)) → AllLater (λ (a b : Event). a.number < b.number) (events_of lines)
+numbers_ascend lines = later_map (λ (a b : Event). a.number < b.number) as_event (enumerate_from 1 (placed_times lines)) (counts_up 1 (placed_times lines))
 
 -- so a number has one event
 pub one_event : (lines : List (List ℕ)) (a b : Event) → Contains (events_of lines) a → Contains (events_of lines) b → a.number ≡ b.number → a ≡ b
-one_event lines a b in_a in_b same = by (one_before (λ (x y : Event). x.number < y.number) (events_of lines) a b (numbered lines) in_a in_b)
+one_event lines a b in_a in_b same = by (one_before (λ (x y : Event). x.number < y.number) (events_of lines) a b (numbers_ascend lines) in_a in_b)
   where
     by : (a ≡ b) ⊎ (a.number < b.number) ⊎ (b.number < a.number) → a ≡ b
     by (inl e) = e

@@ -50,8 +50,8 @@ falls_below lines number =
     (fewer_falls (take number (times_along lines)) (drop number (times_along lines)))
 
 -- a train with an event on a day started at most two days before
-pub started : (start : ℕ) (lines : List (List ℕ)) (event : Event) (day : ℕ) → midnights lines ≤ 2 → event_day start lines event ≡ day → day ≤ start + 2
-started start lines event day few today =
+pub starts_near : (start : ℕ) (lines : List (List ℕ)) (event : Event) (day : ℕ) → midnights lines ≤ 2 → event_day start lines event ≡ day → day ≤ start + 2
+starts_near start lines event day few today =
     let falls = falls_below lines event.number in
     let is : start + falls_to lines event.number ≡ day = today in
     omega arith

@@ -24,11 +24,11 @@ use Rattle.docker_model.specs.docker.Gathering.{IsDockerLine, start_days, IsWalk
 use Rattle.docker_laws.proofs.lists.Membership.{nil-Contains, Contains-flat_map, flat_map-Contains}
 use Rattle.docker_laws.proofs.orders.Ascending.{irreflexive}
 use Rattle.docker_laws.proofs.orders.Orders.{key_total, docker_line_total}
-use Rattle.docker_laws.proofs.lists.Members.{filter_back}
+use Rattle.docker_laws.proofs.lists.FilteredMembers.{filter_back}
 use Rattle.docker_laws.proofs.lists.Later.{AllLater, later_weaker, later_flat_map, later_map, later_filter}
 use Rattle.docker_laws.proofs.lists.Sorted.{AreApart, sort_ascends}
 use Rattle.docker_laws.proofs.dockers.Events.{event_calls}
-use Rattle.docker_laws.proofs.dockers.OneDockerLine.{tied, same_event_line, same_association_line, event_apart}
+use Rattle.docker_laws.proofs.dockers.OneDockerLine.{tied_lines_agree, same_event_line, same_association_line, event_apart}
 use Rattle.docker_laws.proofs.dockers.ScheduleLines.{schedule_piece, IsOfSchedule, schedule_piece_back, schedule_piece_forth, schedule_piece_apart, event_starts}
 use Rattle.docker_laws.proofs.dockers.AssociationLines.{link_piece, IsOfAssociation, link_piece_back, link_piece_forth, link_piece_apart, association_starts}
 
@@ -59,9 +59,9 @@ same_source live place day first second start other a b (inr (x, x_is, one)) (in
       sym one.of_start ∙ same.starts ∙ two.of_start,
     )
 same_source live place day first second start other a b (inl (x, x_is, one)) (inr (y, y_is, two)) e =
-    absurd (event_apart live place day a b one.made two.made (tied a b e).occasions)
+    absurd (event_apart live place day a b one.made two.made (tied_lines_agree a b e).occasions)
 same_source live place day first second start other a b (inr (x, x_is, one)) (inl (y, y_is, two)) e =
-    absurd (event_apart live place day b a two.made one.made (sym (tied a b e).occasions))
+    absurd (event_apart live place day b a two.made one.made (sym (tied_lines_agree a b e).occasions))
 
 -- the start days differ
 counted_up : AllLater (λ (a b : ℕ). a < b) (0 ∷ 1 ∷ 2 ∷ [])

@@ -10,7 +10,7 @@ use Rattle.docker_model.specs.state.Op.{readable_end}
 use Rattle.docker_model.specs.state.Table.{Table}
 use Rattle.docker_model.specs.state.Lapse.{lapse_table}
 use Rattle.docker_model.specs.docker.Choice.{runs_within, IsRunning, IsChosen, TrainRuns, Group, IsAssociated, IsChosenAssociation}
-use Rattle.docker_laws.proofs.lists.Tests.{both}
+use Rattle.docker_laws.proofs.lists.BoolsAndOptions.{both}
 use Rattle.docker_laws.proofs.states.TableLapsed.{live_stays, was_live}
 
 -- what runs on a day doesn't end before it

@@ -17,7 +17,7 @@ use Rattle.docker_model.specs.docker.DockerList.{IsEventLine, Lists, IsDockerLis
 use Rattle.docker_model.specs.docker.DockerText.{description_in, docker_text, IsDockerText, ended, line_text, last_line}
 use Rattle.docker_laws.proofs.states.TableLapsed.{was_live, body_stays}
 use Rattle.docker_laws.proofs.dockers.LapsedChoice.{train_iff, association_iff}
-use Rattle.docker_laws.proofs.dockers.FewMidnights.{HasFewMidnights, started}
+use Rattle.docker_laws.proofs.dockers.FewMidnights.{HasFewMidnights, starts_near}
 
 -- a docker text whose heading has this description
 abbrev text_with : List ℕ → ℕ → List DockerLine → List ℕ → List ℕ
@@ -124,7 +124,7 @@ module _ (horizon : ℕ) (bound : horizon ≤ no_end_number) (live : Table) wher
     started_after : (uid : List ℕ) (start : ℕ) (key : ScheduleKey) (lines : List (List ℕ)) → TrainRuns live uid start key lines → (event : Event)
         → event_day start lines event ≡ day → horizon + 1 ≤ start
     started_after uid start key lines runs event today =
-        let late = started start lines event day (few key lines runs.chosen.running.is_live) today in
+        let late = starts_near start lines event day (few key lines runs.chosen.running.is_live) today in
         omega arith
 
     was_running : (uid : List ℕ) (start : ℕ) (key : ScheduleKey) (lines : List (List ℕ)) → TrainRuns (lapse_table horizon live) uid start key lines
@@ -132,7 +132,7 @@ module _ (horizon : ℕ) (bound : horizon ≤ no_end_number) (live : Table) wher
         → event_day start lines event ≡ day → horizon + 1 ≤ start
     was_running uid start key lines runs event today =
         let is = was_live horizon live (schedule_key key) (schedule_body lines) runs.chosen.running.is_live in
-        let late = started start lines event day (few key lines is) today in
+        let late = starts_near start lines event day (few key lines is) today in
         omega arith
 
     bounded : (indicator start : ℕ) → horizon + 1 ≤ start → (n : ℕ) → partner_start indicator start ≡ Some n → horizon ≤ n

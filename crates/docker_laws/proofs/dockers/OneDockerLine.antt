@@ -20,8 +20,8 @@ use Rattle.docker_model.specs.docker.Association.{category_occasion, partner_sta
 use Rattle.docker_model.specs.docker.DockerList.{IsEventLine}
 use Rattle.docker_model.specs.docker.Gathering.{IsDockerLine}
 use Rattle.docker_laws.proofs.orders.Orders.{then_equal}
-use Rattle.docker_laws.proofs.lists.Tests.{both, none_some}
-use Rattle.docker_laws.proofs.lists.Members.{find_some}
+use Rattle.docker_laws.proofs.lists.BoolsAndOptions.{both, none_some}
+use Rattle.docker_laws.proofs.lists.FilteredMembers.{find_some}
 use Rattle.docker_laws.proofs.dockers.OneChoice.{one_train, one_link}
 use Rattle.docker_laws.proofs.dockers.Events.{one_event, IsOfTrain, event_occasion}
 
@@ -34,8 +34,8 @@ pub record AreTied (a b : DockerLine) : Type 0 where
   pub associated : associated_uid a.detail ≡ associated_uid b.detail
 
 -- lines that the order does not tell apart agree in all that the order looks at
-pub tied : (a b : DockerLine) → docker_line_cmp a b ≡ Equal → AreTied a b
-tied a b e =
+pub tied_lines_agree : (a b : DockerLine) → docker_line_cmp a b ≡ Equal → AreTied a b
+tied_lines_agree a b e =
     let p = then_equal (nat_cmp a.time b.time) _ e in
     let q = then_equal (nat_cmp (occasion_rank a.occasion) (occasion_rank b.occasion)) _ p.1 in
     let r = then_equal (bytes_cmp a.uid b.uid) _ q.1 in
@@ -62,7 +62,7 @@ pub record AreOneEvent (live : Table) (place : List ℕ) (day : ℕ) (a b : Dock
 pub same_event_line : (live : Table) (place : List ℕ) (day : ℕ) (a b : DockerLine) (one : IsEventLine live place day a) (two : IsEventLine live place day b)
     → docker_line_cmp a b ≡ Equal → AreOneEvent live place day a b one two
 same_event_line live place day a b one two e =
-    let common = tied a b e in
+    let common = tied_lines_agree a b e in
     let uids : one.key.uid ≡ two.key.uid = sym (ap (λ (l : DockerLine). l.uid) one.is) ∙ common.uids ∙ ap (λ (l : DockerLine). l.uid) two.is in
     let starts : one.start ≡ two.start = sym (ap (λ (l : DockerLine). l.start) one.is) ∙ common.starts ∙ ap (λ (l : DockerLine). l.start) two.is in
     let numbers : one.event.number ≡ two.event.number = sym (ap (λ (l : DockerLine). l.number) one.is) ∙ common.numbers
@@ -160,7 +160,7 @@ pub same_association_line : (live : Table) (place : List ℕ) (day : ℕ) (a b :
     (two : IsAssociationLine live place day b)
     → docker_line_cmp a b ≡ Equal → AreOneAssociation live place day a b one two
 same_association_line live place day a b one two e =
-    let common = tied a b e in
+    let common = tied_lines_agree a b e in
     let uids : one.base_key.uid ≡ two.base_key.uid = sym (ap (λ (l : DockerLine). l.uid) one.is) ∙ common.uids ∙ ap (λ (l : DockerLine). l.uid) two.is in
     let bases : one.key.base ≡ two.key.base = sym one.base_runs.chosen.running.uid_is ∙ uids ∙ two.base_runs.chosen.running.uid_is in
     let starts : one.start ≡ two.start = sym (ap (λ (l : DockerLine). l.start) one.is) ∙ common.starts ∙ ap (λ (l : DockerLine). l.start) two.is in
@@ -211,6 +211,6 @@ same_association_line live place day a b one two e =
 pub one_line : (live : Table) (place : List ℕ) (day : ℕ) (a b : DockerLine) → IsDockerLine live place day a → IsDockerLine live place day b
     → docker_line_cmp a b ≡ Equal → a ≡ b
 one_line live place day a b (inl one) (inl two) e = (same_event_line live place day a b one two e).lines
-one_line live place day a b (inl one) (inr two) e = absurd (event_apart live place day a b one two (tied a b e).occasions)
-one_line live place day a b (inr one) (inl two) e = absurd (event_apart live place day b a two one (sym (tied a b e).occasions))
+one_line live place day a b (inl one) (inr two) e = absurd (event_apart live place day a b one two (tied_lines_agree a b e).occasions)
+one_line live place day a b (inr one) (inl two) e = absurd (event_apart live place day b a two one (sym (tied_lines_agree a b e).occasions))
 one_line live place day a b (inr one) (inr two) e = (same_association_line live place day a b one two e).lines

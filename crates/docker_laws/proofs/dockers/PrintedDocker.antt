@@ -4,7 +4,7 @@ use Rattle.std.specs.Prelude.{Option, ◌↔◌, nat_lt, fold, option_and_then}
 use Rattle.std.proofs.lemmas.Bool.{ltb-true, ltb-false}
 use Rattle.std.proofs.lemmas.List.Elements.{All-contains}
 use Rattle.docker_model.specs.records.Date.{no_end_number, IsDay}
-use Rattle.docker_model.specs.file.File.{IsFile}
+use Rattle.docker_model.specs.file.File.{IsFile, most_records}
 use Rattle.docker_model.specs.file.Change.{Key, Act, delete, put, Body}
 use Rattle.docker_model.specs.state.Stamp.{FileStamp, ledger_item_of, IsFloor}
 use Rattle.docker_model.specs.state.Op.{Entry, op_of, body_of}
@@ -50,7 +50,7 @@ put_of : (act : Act) (body : Body) → body_of (op_of act) ≡ Some body → act
 put_of delete body none = cc
 put_of (put here) body some = let same : here ≡ body = cc in ap put same
 
-module _ (files : List (List (List ℕ))) (each : All IsFile files) (few : All (λ file. length file ≤ 4_294_967_294) files) (table : Table)
+module _ (files : List (List (List ℕ))) (each : All IsFile files) (few : All (λ file. length file ≤ most_records) files) (table : Table)
     (plain : IsPlainTable files table)
     (floor : Option FileStamp) (is_floor : IsFloor (map ledger_item_of files) floor) where
   body_made_good : (key : Key) (entry : Entry) (body : Body) → IsEntryOf files floor key entry → body_of entry.op ≡ Some body → IsBodyOf key body
@@ -58,7 +58,7 @@ module _ (files : List (List (List ℕ))) (each : All IsFile files) (few : All (
       let puts = put_of made.change.act body (ap (λ (e : Entry). body_of e.op) made.entry_is ∙ is) in
       subst (λ k. IsBodyOf k body) made.key_is
       (body_of_file made.file (All-contains IsFile files made.file each made.kept.among)
-      (All-contains (λ file. length file ≤ 4_294_967_294) files made.file few made.kept.among)
+      (All-contains (λ file. length file ≤ most_records) files made.file few made.kept.among)
       made.change made.among body puts)
 
   -- the plain table of files within the limit has good bodies
@@ -92,7 +92,7 @@ live_is_lapsed_plain files horizon state table summary plain = λ i key. live_is
 
 -- a docker that is printed of a summary is that of the plain table
 pub printed_is_plain : (files : List (List (List ℕ))) (horizon : ℕ) (state : State) (table : Table) (place : List ℕ) (day : ℕ) (text : List ℕ)
-    → All IsFile files → All (λ file. length file ≤ 4_294_967_294) files → IsDay horizon → IsSummary files horizon state → IsPlainTable files table
+    → All IsFile files → All (λ file. length file ≤ most_records) files → IsDay horizon → IsSummary files horizon state → IsPlainTable files table
     → ¬ IsDayRefused horizon day
     → IsDockerText (live_table state) place day text ↔ IsDockerText table place day text
 printed_is_plain files horizon state table place day text each few is_day summary plain printed = by (nat_lt 0 horizon) (nat_lt day (horizon + 3)) refl refl

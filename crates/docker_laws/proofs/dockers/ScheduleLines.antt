@@ -18,16 +18,16 @@ use Rattle.docker_model.specs.docker.DockerList.{IsEventLine}
 use Rattle.docker_model.specs.docker.LiveRows.{Train, IsTrainOn, TellsTrains}
 use Rattle.docker_model.specs.docker.Gathering.{event_lines, runs_by, start_days}
 use Rattle.docker_laws.proofs.lists.Membership.{Contains-map, map-Contains, nil-Contains}
-use Rattle.docker_laws.proofs.lists.Tests.{both}
+use Rattle.docker_laws.proofs.lists.BoolsAndOptions.{both}
 use Rattle.docker_laws.proofs.orders.Orders.{schedule_key_total, exact_schedule_key}
-use Rattle.docker_laws.proofs.lists.Members.{filter_back, filter_forth}
+use Rattle.docker_laws.proofs.lists.FilteredMembers.{filter_back, filter_forth}
 use Rattle.docker_laws.proofs.lists.Later.{later_weaker, later_filter, later_map}
 use Rattle.docker_laws.proofs.lists.Sorted.{AreApart}
 use Rattle.docker_laws.proofs.dockers.StartDays.{event_within, start_days_iff}
 use Rattle.docker_laws.proofs.dockers.FewMidnights.{bodies_few}
 use Rattle.docker_laws.proofs.dockers.OneChoice.{one_schedule, one_train}
-use Rattle.docker_laws.proofs.dockers.Events.{numbered}
-use Rattle.docker_laws.proofs.dockers.OneDockerLine.{tied}
+use Rattle.docker_laws.proofs.dockers.Events.{numbers_ascend}
+use Rattle.docker_laws.proofs.dockers.OneDockerLine.{tied_lines_agree}
 use Rattle.docker_laws.proofs.orders.AtMost.{eq_is}
 
 -- a number equals itself, as a test
@@ -78,9 +78,10 @@ module _ (place : List ℕ) (day start : ℕ) (key : ScheduleKey) (lines : List 
       later_map (λ (a b : DockerLine). ¬ (docker_line_cmp a b ≡ Equal)) (line_of_event key start lines) (filter test (events_of lines))
       (later_weaker (λ (a b : Event). a.number < b.number)
       (λ a b. ¬ (docker_line_cmp (line_of_event key start lines a) (line_of_event key start lines b) ≡ Equal)) (filter test (events_of lines))
-      (λ a b in_a in_b below same. let e : a.number ≡ b.number = (tied (line_of_event key start lines a) (line_of_event key start lines b) same).numbers in
+      (λ a b in_a in_b below same. let e : a.number ≡ b.number =
+      (tied_lines_agree (line_of_event key start lines a) (line_of_event key start lines b) same).numbers in
       omega arith)
-      (later_filter (λ (a b : Event). a.number < b.number) test (events_of lines) (numbered lines)))
+      (later_filter (λ (a b : Event). a.number < b.number) test (events_of lines) (numbers_ascend lines)))
 
 -- the lines on one start day
 abbrev pub schedule_piece : (List ℕ → ℕ → Option Train) → List ℕ → ℕ → ScheduleKey → List (List ℕ) → ℕ → List DockerLine

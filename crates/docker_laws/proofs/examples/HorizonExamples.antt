@@ -30,11 +30,11 @@ tiploc_stays : lapse 36524 (put_with (tiploc_body [])) ≡ put_with (tiploc_body
 tiploc_stays = refl
 
 -- under the horizon of 14 June the docker of the 16th is refused, and that of the 17th is printed
-refused : IsDayRefused 23541 23543
-refused = (lit< tt, lit< tt)
+day_is_refused : IsDayRefused 23541 23543
+day_is_refused = (lit< tt, lit< tt)
 
-printed : ¬ IsDayRefused 23541 23544
-printed told = let before = told.1 in omega arith
+day_is_printed : ¬ IsDayRefused 23541 23544
+day_is_printed told = let before = told.1 in omega arith
 
 -- ---- texts
 
@@ -65,9 +65,9 @@ length_of_second : length (state_text dks_2 f2_state) ≡ 311
 length_of_second = refl
 
 -- the horizon of 15 June set: the entry has lapsed, with its stamp, and has no body
-pub raised : raise_horizon 23542 f2_state ≡ state_with 23542 (lapsed_entry ∷ [])
+pub raised_state : raise_horizon 23542 f2_state ≡ state_with 23542 (lapsed_entry ∷ [])
 unfolding days_from_civil day_count days_of_years days_of_months
-raised = refl
+raised_state = refl
 
 length_of_lapsed : length (state_text dks_2 (state_with 23542 (lapsed_entry ∷ []))) ≡ 67
 length_of_lapsed = refl
@@ -209,8 +209,8 @@ last_day_state = record { horizon = 23541; ledger = f2_state.ledger; entries = f
 lives_on_last_day : 23541 ≤ body_end (schedule_body f2_schedule)
 lives_on_last_day = let end = end_of_f2 in omega arith
 
-accepted : IsStateText dks_2 311 (take 4 text ++ 0x5b ∷ 0xf5 ∷ drop 6 text) last_day_state
-accepted = record { valid = (told, lit< tt, lit< tt); is = refl; within = lit≤ tt }
+last_day_is_read : IsStateText dks_2 311 (take 4 text ++ 0x5b ∷ 0xf5 ∷ drop 6 text) last_day_state
+last_day_is_read = record { valid = (told, lit< tt, lit< tt); is = refl; within = lit≤ tt }
   where
     told : IsToldState dks_2 last_day_state
     told = record {

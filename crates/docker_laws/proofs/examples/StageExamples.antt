@@ -32,8 +32,8 @@ behind_trailer = refl
 short_record : cause_of 6 1 between_units (codes "AB") ≡ bad_length
 short_record = refl
 
-tabbed : cause_of 6 1 between_units (wide 19 (codes "TIASHFELD") ++ 9 ∷ wide 60 no_text) ≡ bad_byte 20
-tabbed = refl
+tab_is_bad_byte : cause_of 6 1 between_units (wide 19 (codes "TIASHFELD") ++ 9 ∷ wide 60 no_text) ≡ bad_byte 20
+tab_is_bad_byte = refl
 
 unknown_kind : cause_of 6 1 between_units (wide 80 (codes "LN")) ≡ bad_kind
 unknown_kind = refl

@@ -7,7 +7,7 @@ use Rattle.docker_model.specs.state.Lapse.{lapse_entry}
 use Rattle.docker_model.specs.state.State.{State, raise_horizon}
 use Rattle.docker_model.specs.state.Staging.{IsStaged, IsPutIn, IsCommit}
 use Rattle.docker_laws.proofs.lists.Membership.{nil-Contains, Contains-single}
-use Rattle.docker_laws.proofs.examples.HorizonExamples.{f2_state, state_with, lapsed_entry, raised}
+use Rattle.docker_laws.proofs.examples.HorizonExamples.{f2_state, state_with, lapsed_entry, raised_state}
 use Rattle.docker_laws.proofs.states.LapsedGreatest.{lapsed_from, lapsed_to}
 use Rattle.docker_laws.proofs.examples.StateExamples.{f2_item}
 
@@ -15,8 +15,8 @@ abbrev own : State
 own = record { horizon = 23542; ledger = []; entries = [] }
 
 -- the put is staged as it was offered
-staged : IsStaged own None f2_state.entries f2_state.entries
-staged = record {
+all_are_staged : IsStaged own None f2_state.entries f2_state.entries
+all_are_staged = record {
   ascending = (tt, tt);
   members = λ key entry. (λ among. (among, record { kept = tt; greater = λ other here. absurd (nil-Contains (key, other) here) }), λ told. told.0);
 }
@@ -45,5 +45,5 @@ committed_so = record {
     back key entry before (inr mine) is = absurd (nil-Contains (key, before) mine.0)
 
 -- and comes in lapsed by the commit, with its stamp
-committed : IsCommit own f2_state.ledger f2_state.entries (state_with 23542 (lapsed_entry ∷ []))
-committed = subst (IsCommit own f2_state.ledger f2_state.entries) raised committed_so
+commit_raises : IsCommit own f2_state.ledger f2_state.entries (state_with 23542 (lapsed_entry ∷ []))
+commit_raises = subst (IsCommit own f2_state.ledger f2_state.entries) raised_state committed_so

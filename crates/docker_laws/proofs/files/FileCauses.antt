@@ -12,12 +12,12 @@ use Rattle.docker_model.specs.file.Text.{lines_of}
 use Rattle.docker_model.specs.file.FileFault.{EndsInSchedule, HasThirdFall, FileCause, too_many, after_trailer, bad_length, bad_byte, bad_kind, bad_place, bad_field, third_midnight, no_end, cause_rank, IsOutOfPlace, HoldsOf, IsCause, IsRecordFault, IsUnended, FileFault, IsFileFault, IsFileText}
 use Rattle.docker_laws.specs.RecordTest.{has_good_fields, is_record}
 use Rattle.docker_laws.specs.ScheduleStage.{may_end, Stage, stage_after, after_basic, after_details, in_journey, after_journey, is_sound_next}
-use Rattle.docker_laws.specs.FileStage.{Place, after_end, next_place, place_from, before_header, between_units, in_schedule, carried, place_by_kind, unit_by_kind, is_sound_at, IsPlaceOf, place_at}
+use Rattle.docker_laws.specs.FileStage.{Place, after_end, next_place, place_from, before_header, between_units, in_schedule, in_stage_or, place_by_kind, unit_by_kind, is_sound_at, IsPlaceOf, place_at}
 use Rattle.docker_laws.specs.RecordCause.{is_after_end, with_column, cause_of, place_cause, length_cause, field_cause, end_cause, byte_cause, kind_cause}
 use Rattle.docker_laws.proofs.lists.Membership.{Contains-cons, nil-Contains, cons-Contains-first}
 use Rattle.docker_laws.proofs.lists.AllOf.{all_weaker, all_append}
 use Rattle.docker_laws.proofs.files.GoodChanges.{Follows, follows_by, journey_follows}
-use Rattle.docker_laws.proofs.lists.Tests.{then_some, test_by_none, and_true, some_by_test}
+use Rattle.docker_laws.proofs.lists.BoolsAndOptions.{then_some, test_by_none, and_true, some_by_test}
 use Rattle.docker_laws.proofs.records.RecordTests.{record_iff_test, printable_by_none}
 use Rattle.docker_laws.proofs.schedules.ScheduleStages.{HasShape, details_of, IsSound, IsFront, midnights_of_journey, witness, witness_kind}
 use Rattle.docker_laws.proofs.files.FileStages.{next_by_test, stage_stops, IsWithin, IsAt, next_at, at_of_place, witness_next, at_begins, begins_iff_place, file_iff_place, place_of_more, begins_next_iff, one_place}
@@ -40,7 +40,7 @@ trailer_place between_units next line found = cc
 trailer_place (in_schedule stage lines) next line found = by (may_end stage lines) refl
   where
     reached : cond (may_end stage lines) (Some after_end) None ≡ Some next
-    reached = (λ i. carried (lines ++ line ∷ []) (sym (stage_stops stage (Some trailer) refl) i) (cond (may_end stage lines) (Some after_end) None)) ∙ found
+    reached = (λ i. in_stage_or (lines ++ line ∷ []) (sym (stage_stops stage (Some trailer) refl) i) (cond (may_end stage lines) (Some after_end) None)) ∙ found
 
     by : (b : Bool) → may_end stage lines ≡ b → next ≡ after_end
     by true h = let same : Some after_end ≡ Some next = (λ i. cond (sym h i) (Some after_end) None) ∙ reached in cc
@@ -86,8 +86,8 @@ same_place_by_kind between_units kind first second = same_unit_by_kind kind firs
 same_place_by_kind (in_schedule stage lines) kind first second = by (stage_after stage kind) (same_unit_by_kind kind first second)
   where
     by : (after : Option Stage) → is_some (unit_by_kind kind first) ≡ is_some (unit_by_kind kind second)
-        → is_some (carried (lines ++ first ∷ []) after (cond (may_end stage lines) (unit_by_kind kind first) None))
-        ≡ is_some (carried (lines ++ second ∷ []) after (cond (may_end stage lines) (unit_by_kind kind second) None))
+        → is_some (in_stage_or (lines ++ first ∷ []) after (cond (may_end stage lines) (unit_by_kind kind first) None))
+        ≡ is_some (in_stage_or (lines ++ second ∷ []) after (cond (may_end stage lines) (unit_by_kind kind second) None))
     by (Some next) same = refl
     by None same = ended (may_end stage lines)
       where
@@ -345,9 +345,9 @@ module _ (limit : ℕ) (earlier : Lines) (place : Place) (line : List ℕ) (foun
           let bad : None ≡ Some reached.0 = sym nowhere ∙ sym (place_of_more earlier place line found) ∙ reached.1 in cc)
 
 -- the records are no file yet
-pub unended : (limit : ℕ) (records : Lines) (place : Place) → IsPlaceOf records place → is_after_end place ≡ false → length records ≤ limit
+pub no_end_behind : (limit : ℕ) (records : Lines) (place : Place) → IsPlaceOf records place → is_after_end place ≡ false → length records ≤ limit
     → IsUnended limit records (record { number = length records + 1; cause = no_end })
-unended limit records place found open_end within = record {
+no_end_behind limit records place found open_end within = record {
   within = within;
   begin = at_begins place records (at_of_place records place found);
   unended =
@@ -405,7 +405,7 @@ file_or_fault limit text = by (pass_or_fault limit (lines_of text))
         ended : (b : Bool) → is_after_end pass.0 ≡ b → ((file : Lines) × IsFileText limit text file) ⊎ ((fault : FileFault) × IsFileFault limit text fault)
         ended true h =
             inl (lines_of text, record { lines = refl; is = (file_iff_place (lines_of text)).1 (pass.1 ∙ ap Some (end_by_test pass.0 h)); within = pass.2 })
-        ended false h = inr (record { number = length (lines_of text) + 1; cause = no_end }, inr (unended limit (lines_of text) pass.0 pass.1 h pass.2))
+        ended false h = inr (record { number = length (lines_of text) + 1; cause = no_end }, inr (no_end_behind limit (lines_of text) pass.0 pass.1 h pass.2))
     by (inr fault) = inr (fault.0, inl fault.1)
 
 -- the records are a file, or they are none

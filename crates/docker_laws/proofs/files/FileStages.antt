@@ -9,11 +9,11 @@ use Rattle.docker_model.specs.records.Field.{HasGoodFields, leftmost_bad_field}
 use Rattle.docker_model.specs.file.File.{IsUnit, IsFile, BeginsFile, follows_basic, IsSingleKind}
 use Rattle.docker_laws.specs.RecordTest.{is_record, has_good_fields}
 use Rattle.docker_laws.specs.ScheduleStage.{Stage, after_basic, may_end, after_details, in_journey, after_journey, next_stage, stage_after, is_sound_next, stage_from, is_first_line, stage_of}
-use Rattle.docker_laws.specs.FileStage.{in_schedule, Place, after_end, between_units, before_header, place_by_kind, is_sound_at, next_place, unit_by_kind, place_in, carried, is_header_kind, place_from, IsPlaceOf, place_at}
+use Rattle.docker_laws.specs.FileStage.{in_schedule, Place, after_end, between_units, before_header, place_by_kind, is_sound_at, next_place, unit_by_kind, place_in, in_stage_or, is_header_kind, place_from, IsPlaceOf, place_at}
 use Rattle.docker_laws.proofs.files.OneFileFault.{begins_front}
 use Rattle.docker_laws.proofs.lists.AllOf.{all_append}
 use Rattle.docker_laws.proofs.records.Columns.{fields_good}
-use Rattle.docker_laws.proofs.lists.Tests.{both, and_true, none_by_test, test_by_none, then_some, some_then}
+use Rattle.docker_laws.proofs.lists.BoolsAndOptions.{both, and_true, none_by_test, test_by_none, then_some, some_then}
 use Rattle.docker_laws.proofs.files.GoodChanges.{StopsHere, units_stop}
 use Rattle.docker_laws.proofs.records.RecordTests.{record_iff_test}
 use Rattle.docker_laws.proofs.schedules.ScheduleStages.{IsFront, front_of_basic, schedule_of_front, next_front, test_by_next_line, witness, witness_kind, witness_record, witness_fields, witness_sound, next_line_by_test, IsNextLine, first_line_iff_test, stage_of_schedule, stage_of_more}
@@ -174,7 +174,7 @@ next_at (in_schedule stage lines) records line next at found =
     by : IsNext (in_schedule stage lines) line next → (after : Option Stage) → stage_after stage (kind_of line) ≡ after → IsAt next (records ++ line ∷ [])
     by told (Some after) h =
         let reached : Some (place_in after (lines ++ line ∷ [])) ≡ Some next =
-        (λ i. carried (lines ++ line ∷ []) (sym h i) (cond (may_end stage lines) (unit_by_kind (kind_of line) line) None)) ∙ told.place_is in
+        (λ i. in_stage_or (lines ++ line ∷ []) (sym h i) (cond (may_end stage lines) (unit_by_kind (kind_of line) line) None)) ∙ told.place_is in
         let same : place_in after (lines ++ line ∷ []) ≡ next = cc in
         let sound : is_sound_next lines line ≡ true = (λ i. cond (is_some (sym h i)) (is_sound_next lines line) (has_good_fields line)) ∙ told.sound in
         subst (λ p. IsAt p (records ++ line ∷ [])) same (at_place_in after (lines ++ line ∷ []) (records ++ line ∷ [])
@@ -182,7 +182,7 @@ next_at (in_schedule stage lines) records line next at found =
     by told None h = ended (may_end stage lines) refl
       where
         reached : cond (may_end stage lines) (unit_by_kind (kind_of line) line) None ≡ Some next
-        reached = (λ i. carried (lines ++ line ∷ []) (sym h i) (cond (may_end stage lines) (unit_by_kind (kind_of line) line) None)) ∙ told.place_is
+        reached = (λ i. in_stage_or (lines ++ line ∷ []) (sym h i) (cond (may_end stage lines) (unit_by_kind (kind_of line) line) None)) ∙ told.place_is
 
         good : has_good_fields line ≡ true
         good = (λ i. cond (is_some (sym h i)) (is_sound_next lines line) (has_good_fields line)) ∙ told.sound
@@ -280,7 +280,7 @@ next_of_stage stage lines line next found =
     test_by_next (in_schedule stage lines) line (place_in next (lines ++ line ∷ [])) (record {
       is = told.is;
       sound = (λ i. cond (is_some (told.stage_is i)) (is_sound_next lines line) (has_good_fields line)) ∙ told.sound;
-      place_is = λ i. carried (lines ++ line ∷ []) (told.stage_is i) (cond (may_end stage lines) (unit_by_kind (kind_of line) line) None);
+      place_is = λ i. in_stage_or (lines ++ line ∷ []) (told.stage_is i) (cond (may_end stage lines) (unit_by_kind (kind_of line) line) None);
     })
 
 -- the same at a place that may lie behind a whole journey
@@ -345,7 +345,7 @@ pub next_behind : (stage : Stage) (lines : Lines) (line : List ℕ) → may_end 
 next_behind stage lines line may anew =
     let none = stage_stops stage (kind_of line) anew in
     (λ i. cond (is_record line && cond (is_some (none i)) (is_sound_next lines line) (has_good_fields line))
-    (carried (lines ++ line ∷ []) (none i) (cond (may i) (unit_by_kind (kind_of line) line) None)) None)
+    (in_stage_or (lines ++ line ∷ []) (none i) (cond (may i) (unit_by_kind (kind_of line) line) None)) None)
 
 behind : (stage : Stage) (lines rest : Lines) → may_end stage lines ≡ true → StopsHere rest → 0 < length rest
     → place_from (place_in stage lines) rest ≡ place_from between_units rest
@@ -478,7 +478,7 @@ next_tracked between_units line next tracked told = tracked_unit (kind_of line) 
 next_tracked (in_schedule stage lines) line next tracked told = by (stage_after stage (kind_of line)) refl told.sound told.place_is
   where
     by : (after : Option Stage) → stage_after stage (kind_of line) ≡ after → cond (is_some after) (is_sound_next lines line) (has_good_fields line) ≡ true
-        → carried (lines ++ line ∷ []) after (cond (may_end stage lines) (unit_by_kind (kind_of line) line) None) ≡ Some next → IsTracked next
+        → in_stage_or (lines ++ line ∷ []) after (cond (may_end stage lines) (unit_by_kind (kind_of line) line) None) ≡ Some next → IsTracked next
     by (Some after) h sound found =
         let same : place_in after (lines ++ line ∷ []) ≡ next = cc in
         let reached = test_by_next_line stage lines line after (record { is = told.is; sound = sound; stage_is = h }) in

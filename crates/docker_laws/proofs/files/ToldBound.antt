@@ -10,7 +10,7 @@ use Rattle.docker_model.specs.file.FileFault.{FileFault}
 use Rattle.docker_model.specs.file.FaultSoFar.{last_of, IsFaultSoFar}
 use Rattle.docker_laws.specs.FileStage.{Place, next_place, place_from, before_header}
 use Rattle.docker_laws.specs.LinesTold.{but_last, pieces_of, told_lines}
-use Rattle.docker_laws.proofs.lists.Tests.{then_some}
+use Rattle.docker_laws.proofs.lists.BoolsAndOptions.{then_some}
 use Rattle.docker_laws.proofs.files.FileStages.{next_by_test, begins_iff_place}
 use Rattle.docker_laws.proofs.files.ToldFaults.{strip_long, TellsNoFault, fault_so_far_or_none}
 

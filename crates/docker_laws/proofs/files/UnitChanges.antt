@@ -10,8 +10,8 @@ use Rattle.docker_model.specs.file.UnitChange.{changes_of_unit, changes_of_units
 use Rattle.docker_laws.proofs.files.GoodChanges.{StopsHere, Follows, rest_is, schedule_follows, units_stop}
 
 -- an act as the change of a record with this number
-abbrev numbered : ℕ → Key × Act → Change
-numbered n act = record { number = n; key = act.0; act = act.1 }
+abbrev change_of_act : ℕ → Key × Act → Change
+change_of_act n act = record { number = n; key = act.0; act = act.1 }
 
 -- ---- the first record of a unit
 
@@ -19,7 +19,7 @@ numbered n act = record { number = n; key = act.0; act = act.1 }
 alike_by : (n : ℕ) (kind : Kind) (line : List ℕ) (following others : List (List ℕ)) → HasKind kind line
     → acts_by_kind (Some kind) line following ≡ acts_by_kind (Some kind) line others → changes_of_record n line following ≡ changes_of_record n line others
 alike_by n kind line following others is same =
-    ap (map (numbered n)) (subst (λ k. acts_by_kind k line following ≡ acts_by_kind k line others) (sym is) same)
+    ap (map (change_of_act n)) (subst (λ k. acts_by_kind k line following ≡ acts_by_kind k line others) (sym is) same)
 
 -- what follows a single record does not change what it does
 single_alike : (n : ℕ) (line : List ℕ) (following others : List (List ℕ)) → IsSingleKind line
@@ -33,7 +33,7 @@ single_alike n line following others (inr (inr (inr is))) = alike_by n associati
 basic_alike : (n : ℕ) (basic : List ℕ) (following others : List (List ℕ)) → HasKind basic_schedule basic → schedule_rest following ≡ others
     → changes_of_record n basic following ≡ change_of_schedule n basic others ∷ []
 basic_alike n basic following others is run =
-    (λ i. map (numbered n) (acts_by_kind (is i) basic following)) ∙ ap (λ lines. change_of_schedule n basic lines ∷ []) run
+    (λ i. map (change_of_act n) (acts_by_kind (is i) basic following)) ∙ ap (λ lines. change_of_schedule n basic lines ∷ []) run
 
 -- ---- the records behind a basic schedule
 
@@ -50,7 +50,7 @@ follower_changes_nothing _ line following h = cc
 behind_followers : (n : ℕ) (lines rest : List (List ℕ)) → AllByRecursion Follows lines → changes_from n (lines ++ rest) ≡ changes_from (n + length lines) rest
 behind_followers n [] rest all = ap (λ k. changes_from k rest) (omega arith)
 behind_followers n (line ∷ lines) rest all =
-    ap (λ acts. map (numbered n) acts ++ changes_from (n + 1) (lines ++ rest)) (follower_changes_nothing (kind_of line) line (lines ++ rest) all.0)
+    ap (λ acts. map (change_of_act n) acts ++ changes_from (n + 1) (lines ++ rest)) (follower_changes_nothing (kind_of line) line (lines ++ rest) all.0)
     ∙ behind_followers (n + 1) lines rest all.1
     ∙ ap (λ k. changes_from k rest) (omega arith)
 
@@ -106,7 +106,7 @@ unit_then n unit rest (inr schedule) stops = by unit schedule schedule.whole
 -- the changes of units with a trailer behind them
 units_then : (n : ℕ) (units : List (List (List ℕ))) (last : List ℕ) → AllByRecursion IsUnit units → HasKind trailer last
     → changes_from n (flat_map (λ unit. unit) units ++ last ∷ []) ≡ changes_of_units n units
-units_then n [] last all end = λ i. map (numbered n) (acts_by_kind (end i) last []) ++ []
+units_then n [] last all end = λ i. map (change_of_act n) (acts_by_kind (end i) last []) ++ []
 units_then n (unit ∷ units) last all end =
     ap (changes_from n) (append_assoc unit (flat_map (λ u. u) units) (last ∷ []))
     ∙ unit_then n unit (flat_map (λ u. u) units ++ last ∷ []) all.0 (units_stop units last all.1 end)
@@ -116,6 +116,6 @@ units_then n (unit ∷ units) last all end =
 pub changes_by_units : (file : List (List ℕ)) (is : IsFile file) → changes file ≡ changes_of_units 2 is.units
 changes_by_units file is =
     ap changes is.whole
-    ∙ (λ i. map (numbered 1) (acts_by_kind (is.header_kind i) is.first (flat_map (λ unit. unit) is.units ++ is.last ∷ [])) ++ changes_from 2
+    ∙ (λ i. map (change_of_act 1) (acts_by_kind (is.header_kind i) is.first (flat_map (λ unit. unit) is.units ++ is.last ∷ [])) ++ changes_from 2
     (flat_map (λ unit. unit) is.units ++ is.last ∷ []))
     ∙ units_then 2 is.units is.last (recursion_from_All IsUnit is.units is.each) is.trailer_kind

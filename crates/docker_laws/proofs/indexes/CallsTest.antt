@@ -15,8 +15,8 @@ use Rattle.docker_model.specs.docker.DockerLine.{DockerLine}
 use Rattle.docker_model.specs.docker.LiveRows.{Train}
 use Rattle.docker_model.specs.docker.Gathering.{start_days, runs_by, event_lines, schedule_lines}
 use Rattle.docker_laws.proofs.lists.Membership.{Contains-cons, cons-Contains, cons-Contains-first, nil-Contains, Contains-flat_map, flat_map-Contains, Contains-single, single-Contains, Contains-map, map-Contains}
-use Rattle.docker_laws.proofs.lists.Tests.{both, either}
-use Rattle.docker_laws.proofs.lists.Members.{filter_back, filter_forth}
+use Rattle.docker_laws.proofs.lists.BoolsAndOptions.{both, either}
+use Rattle.docker_laws.proofs.lists.FilteredMembers.{filter_back, filter_forth}
 use Rattle.docker_laws.proofs.dockers.Events.{IsLocation, event_calls}
 use Rattle.docker_laws.proofs.dockers.ScheduleLines.{event_lines_back}
 

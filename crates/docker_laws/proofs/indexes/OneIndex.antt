@@ -18,7 +18,7 @@ use Rattle.docker_model.specs.state.Index.{CallingRow, calling_cmp, LinkedRow, l
 use Rattle.docker_laws.proofs.orders.Ascending.{same_list, ascending_of, later_of}
 use Rattle.docker_laws.proofs.orders.Orders.{schedule_key_total, association_key_total, key_total}
 use Rattle.docker_laws.proofs.lists.Membership.{Contains-map, map-Contains}
-use Rattle.docker_laws.proofs.lists.Members.{filter_back, filter_forth}
+use Rattle.docker_laws.proofs.lists.FilteredMembers.{filter_back, filter_forth}
 use Rattle.docker_laws.proofs.lists.Later.{AllLater, later_weaker, later_filter, later_map}
 
 -- the order of the index of calls is total

@@ -9,7 +9,7 @@ use Rattle.docker_model.specs.state.Stamp.{FileStamp, LedgerItem, IsFloor, IsKep
 use Rattle.docker_model.specs.state.Op.{Entry, entry_cmp}
 use Rattle.docker_model.specs.state.Lapse.{lapse_entry, HasNotToLapse}
 use Rattle.docker_model.specs.state.State.{State, IsJoin, IsValid, IsGoodEntry}
-use Rattle.docker_laws.proofs.lists.Membership.{turned, rotated, Contains-map, member_of}
+use Rattle.docker_laws.proofs.lists.Membership.{same_members_turned, same_members_rotated, Contains-map, member_of}
 use Rattle.docker_laws.proofs.orders.AtMost.{at_most_itself}
 use Rattle.docker_laws.proofs.orders.Orders.{entry_total}
 use Rattle.docker_laws.proofs.states.Lapse.{max_most, entry_stays}
@@ -46,8 +46,8 @@ reduced_join a b c horizon is = record {
 pub join_commutes : (a b c : State) → IsJoin a b c → IsJoin b a c
 join_commutes a b c is =
     reduced_join b a c (is.horizon ∙ max_comm a.horizon b.horizon)
-    (reduced_along (a.ledger ++ b.ledger) (b.ledger ++ a.ledger) (a.entries ++ b.entries) (b.entries ++ a.entries) (turned a.ledger b.ledger)
-    (turned a.entries b.entries) c (join_reduced a b c is))
+    (reduced_along (a.ledger ++ b.ledger) (b.ledger ++ a.ledger) (a.entries ++ b.entries) (b.entries ++ a.entries) (same_members_turned a.ledger b.ledger)
+    (same_members_turned a.entries b.entries) c (join_reduced a b c is))
 
 -- two states have one join
 pub join_unique : (a b c d : State) → IsJoin a b c → IsJoin a b d → c ≡ d
@@ -94,7 +94,7 @@ join_associates a b c ab bc x y is_ab is_x is_bc is_y =
     reduced_unique ((b.ledger ++ c.ledger) ++ a.ledger) ((b.entries ++ c.entries) ++ a.entries) x y horizons
     (reduced_along ((a.ledger ++ b.ledger) ++ c.ledger) ((b.ledger ++ c.ledger) ++ a.ledger) ((a.entries ++ b.entries) ++ c.entries)
     ((b.entries ++ c.entries) ++ a.entries)
-    (rotated a.ledger b.ledger c.ledger) (rotated a.entries b.entries c.entries) x left)
+    (same_members_rotated a.ledger b.ledger c.ledger) (same_members_rotated a.entries b.entries c.entries) x left)
     right
 
 -- ---- a state joined with itself

@@ -10,7 +10,7 @@ use Rattle.docker_model.specs.state.Stamp.{FileStamp, IsFloor, IsKept}
 use Rattle.docker_model.specs.state.Op.{Entry, entry_cmp, key_cmp}
 use Rattle.docker_model.specs.state.State.{State, without_horizon, AreAscending, IsValid, IsJoin, raise_horizon, entry_at}
 use Rattle.docker_model.specs.state.Staging.{IsGreaterThan, IsToStage, IsStaged, IsCommit}
-use Rattle.docker_laws.proofs.lists.Tests.{none_some}
+use Rattle.docker_laws.proofs.lists.BoolsAndOptions.{none_some}
 use Rattle.docker_laws.proofs.lists.Membership.{nil-Contains, Contains-single}
 use Rattle.docker_laws.proofs.orders.Ascending.{irreflexive, later_of, ascending_of}
 use Rattle.docker_laws.proofs.orders.Orders.{entry_total}

@@ -1,8 +1,10 @@
 -- Lists each of whose members stands in a relation to all behind it.
-use Rattle.std.proofs.Common.{List, [], ◌∷◌, ◌≡◌, sym, ◌∙◌, subst, inl, inr, ◌⊎◌, Contains, Bool, true, false, cond, map, ◌++◌}
+use Rattle.std.proofs.Common.{arith, List, [], ◌∷◌, ◌≡◌, sym, ◌∙◌, subst, inl, inr, ◌⊎◌, Contains, Bool, true, false, cond, map, ◌++◌}
 use Rattle.std.specs.Prelude.{⊤, filter}
-use Rattle.std.specs.List.{AllByRecursion, flat_map}
-use Rattle.std.proofs.lemmas.List.Elements.{Contains-append_cases}
+use Rattle.std.specs.List.{AllByRecursion, AllPairs, flat_map}
+use Rattle.std.proofs.lemmas.List.Elements.{All-from_recursion, Contains-append_cases}
+use Rattle.std.proofs.lemmas.List.Kept.{AllPairs-cons}
+use Rattle.docker_laws.proofs.lists.AllOf.{all_append, all_map, all_weaker}
 use Rattle.docker_laws.proofs.lists.Membership.{Contains-cons, nil-Contains, below_by_recursion, cons-Contains, cons-Contains-first, each_member, Contains-flat_map}
 
 -- each member, with each behind it
@@ -81,3 +83,27 @@ later_flat_map R S f (x ∷ xs) later each across =
     (λ a b in_a in_b.
     let found = Contains-flat_map f xs b in_b in
     across x found.0 (cons-Contains-first x xs) (cons-Contains x xs found.0 found.1) (below_by_recursion (S x) xs found.0 later.0 found.1) a b in_a found.2)
+
+-- the same of two lists of which the relation holds by recursion
+pub later_append_all : {A : Type 0} (R : A → A → Type 0) (xs ys : List A) → AllLater R xs → AllLater R ys → AllByRecursion (λ x. AllByRecursion (R x) ys) xs
+    → AllLater R (xs ++ ys)
+later_append_all R [] ys left right across = right
+later_append_all R (x ∷ xs) ys left right across = (all_append (R x) xs ys left.0 across.0, later_append_all R xs ys left.1 right across.1)
+
+-- the images stand in a relation that follows from that of the elements
+pub later_map_weaker : {A B : Type 0} (f : A → B) (R : A → A → Type 0) (S : B → B → Type 0) → ((x y : A) → R x y → S (f x) (f y))
+    → (xs : List A) → AllLater R xs
+    → AllLater S (map f xs)
+later_map_weaker f R S keeps [] all = tt
+later_map_weaker f R S keeps (x ∷ xs) all =
+    (all_map f (S (f x)) xs (all_weaker (R x) (λ y. S (f x) (f y)) (λ y r. keeps x y r) xs all.0), later_map_weaker f R S keeps xs all.1)
+
+-- the members stand in a relation that follows from another of any two elements
+pub later_weaker_always : {A : Type 0} (R S : A → A → Type 0) → ((x y : A) → R x y → S x y) → (xs : List A) → AllLater R xs → AllLater S xs
+later_weaker_always R S weaker [] all = tt
+later_weaker_always R S weaker (x ∷ xs) all = (all_weaker (R x) (S x) (weaker x) xs all.0, later_weaker_always R S weaker xs all.1)
+
+-- each element stands in the relation to each at a later place
+pub pairs_from_later : {A : Type 0} (R : A → A → Type 0) (xs : List A) → AllLater R xs → AllPairs R xs
+pairs_from_later R [] all = λ i j d below within. absurd (omega arith)
+pairs_from_later R (x ∷ xs) all = AllPairs-cons R x xs (All-from_recursion (R x) xs all.0) (pairs_from_later R xs all.1)

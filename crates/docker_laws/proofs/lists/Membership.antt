@@ -105,12 +105,12 @@ abbrev pub SameMembers : {A : Type 0} → List A → List A → Type 0
 SameMembers xs ys = (x : _) → Contains xs x ↔ Contains ys x
 
 -- having the same members goes both ways
-pub turned_members : {A : Type 0} (xs ys : List A) → SameMembers xs ys → SameMembers ys xs
-turned_members xs ys same x = ((same x).1, (same x).0)
+pub same_members_back : {A : Type 0} (xs ys : List A) → SameMembers xs ys → SameMembers ys xs
+same_members_back xs ys same x = ((same x).1, (same x).0)
 
 -- two lists joined in either order have the same members
-pub turned : {A : Type 0} (xs ys : List A) → SameMembers (xs ++ ys) (ys ++ xs)
-turned xs ys x = (by xs ys, by ys xs)
+pub same_members_turned : {A : Type 0} (xs ys : List A) → SameMembers (xs ++ ys) (ys ++ xs)
+same_members_turned xs ys x = (by xs ys, by ys xs)
   where
     by : (us vs : List _) → Contains (us ++ vs) x → Contains (vs ++ us) x
     by us vs among = which (Contains-append_cases us vs x among)
@@ -119,8 +119,8 @@ turned xs ys x = (by xs ys, by ys xs)
         which (inl left) = Contains-append_right vs us x left
         which (inr right) = Contains-append_left vs us x right
 
-rotated_one : {A : Type 0} (a b c : List A) (x : A) → Contains ((a ++ b) ++ c) x → Contains ((b ++ c) ++ a) x
-rotated_one a b c x among = outer (Contains-append_cases (a ++ b) c x among)
+member_rotated : {A : Type 0} (a b c : List A) (x : A) → Contains ((a ++ b) ++ c) x → Contains ((b ++ c) ++ a) x
+member_rotated a b c x among = outer (Contains-append_cases (a ++ b) c x among)
   where
     inner : Contains a x ⊎ Contains b x → Contains ((b ++ c) ++ a) x
     inner (inl here) = Contains-append_right (b ++ c) a x here
@@ -131,5 +131,5 @@ rotated_one a b c x among = outer (Contains-append_cases (a ++ b) c x among)
     outer (inr here) = Contains-append_left (b ++ c) a x (Contains-append_right b c x here)
 
 -- three lists joined in two ways
-pub rotated : {A : Type 0} (a b c : List A) → SameMembers ((a ++ b) ++ c) ((b ++ c) ++ a)
-rotated a b c x = (rotated_one a b c x, λ among. rotated_one c a b x (rotated_one b c a x among))
+pub same_members_rotated : {A : Type 0} (a b c : List A) → SameMembers ((a ++ b) ++ c) ((b ++ c) ++ a)
+same_members_rotated a b c x = (member_rotated a b c x, λ among. member_rotated c a b x (member_rotated b c a x among))

@@ -8,9 +8,9 @@ use Rattle.std.specs.Ordering.{is_gt}
 use Rattle.std.specs.Cmp.{IsTotalOrder}
 use Rattle.docker_model.specs.state.Order.{IsAtMost, IsBelow}
 use Rattle.docker_laws.proofs.lists.Membership.{Contains-cons, cons-Contains, cons-Contains-first, nil-Contains}
-use Rattle.docker_laws.proofs.lists.Tests.{both}
+use Rattle.docker_laws.proofs.lists.BoolsAndOptions.{both}
 use Rattle.docker_laws.proofs.orders.AtMost.{at_most_trans, at_most_itself, at_most_below, at_most_or}
-use Rattle.docker_laws.proofs.lists.Members.{find_some, find_none, all_of, all_by}
+use Rattle.docker_laws.proofs.lists.FilteredMembers.{find_some, find_none, all_of, all_by}
 
 module _ {A : Type 0} {cmp : A → A → Ordering} (total : IsTotalOrder cmp) (test : A → Bool) where
   -- it passes, and comes behind none that does

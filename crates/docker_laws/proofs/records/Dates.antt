@@ -10,7 +10,7 @@ use Rattle.jiff_core.proofs.SignedLemmas.{signed_arith}
 use Rattle.jiff_core.proofs.CalendarLemmas.{days_in_month_bounds, day_count-lt_year, day_count-lt_month, day_count-day, days_from_civil-day_count}
 use Rattle.docker_model.specs.records.Date.{is_calendar_day, day_number, year_of, month_of, day_of_month}
 use Rattle.docker_model.specs.records.PrintedTime.{day_text, date_text}
-use Rattle.docker_laws.proofs.lists.Tests.{and_true as and_both, both}
+use Rattle.docker_laws.proofs.lists.BoolsAndOptions.{and_true as and_both, both}
 
 -- the test is the calendar's own fact
 pub is_calendar_day-IsDate : (year month day : ℕ) → year ≤ 9999 → (is_calendar_day year month day ≡ true) ↔ IsDate (pos year) (pos month) (pos day)

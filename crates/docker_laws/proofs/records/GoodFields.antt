@@ -11,7 +11,7 @@ use Rattle.docker_model.specs.records.Date.{two_digits, full_year, is_calendar_d
 use Rattle.docker_model.specs.records.Clock.{is_clock, minute_of, is_blank}
 use Rattle.docker_model.specs.records.Field.{is_tiploc, is_new_tiploc}
 use Rattle.docker_laws.proofs.records.Dates.{is_calendar_day-IsDate, day_number-day_count}
-use Rattle.docker_laws.proofs.lists.Tests.{both, either}
+use Rattle.docker_laws.proofs.lists.BoolsAndOptions.{both, either}
 
 -- ---- days
 

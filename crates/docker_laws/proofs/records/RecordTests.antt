@@ -14,7 +14,7 @@ use Rattle.docker_laws.specs.RecordTest.{is_record}
 use Rattle.docker_laws.specs.TimesSoFar.{falls_after, last_of, later_or}
 use Rattle.docker_laws.proofs.lists.AllOf.{all_append, all_map}
 use Rattle.docker_laws.proofs.records.Columns.{good_fields}
-use Rattle.docker_laws.proofs.lists.Tests.{both, test_by_none, none_by_test, and_true, either}
+use Rattle.docker_laws.proofs.lists.BoolsAndOptions.{both, test_by_none, none_by_test, and_true, either}
 use Rattle.docker_laws.proofs.records.GoodFields.{clock_minute}
 
 -- ---- a record

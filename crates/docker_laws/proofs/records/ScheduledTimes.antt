@@ -6,7 +6,7 @@ use Rattle.std.specs.Char.{is_ascii_digit}
 use Rattle.std.proofs.lemmas.Bool.{eqb-true}
 use Rattle.docker_model.specs.records.Date.{two_digits}
 use Rattle.docker_model.specs.records.Clock.{is_blank, is_clock, is_present_time, half_minutes, scheduled_time}
-use Rattle.docker_laws.proofs.lists.Tests.{both}
+use Rattle.docker_laws.proofs.lists.BoolsAndOptions.{both}
 
 -- a time that is there is not blank
 pub present_not_blank : (field : List ℕ) → is_present_time field ≡ true → is_blank field ≡ false

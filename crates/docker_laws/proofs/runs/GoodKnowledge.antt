@@ -6,7 +6,7 @@ use Rattle.std.proofs.Math.Nat.{zero-max}
 use Rattle.std.proofs.lemmas.Bool.{ltb-true, ltb-false}
 use Rattle.std.proofs.lemmas.List.Elements.{All-cons, All-append, All-set, All-push, All-nil, All-replicate, All-head, All-tail}
 use Rattle.docker_model.specs.records.Date.{last_day}
-use Rattle.docker_model.specs.file.File.{IsFile}
+use Rattle.docker_model.specs.file.File.{IsFile, most_records}
 use Rattle.docker_model.specs.file.Text.{lines_of}
 use Rattle.docker_model.specs.file.FileFault.{IsFileText}
 use Rattle.docker_model.specs.state.StateText.{Format, dks_1, dks_2, IsHorizonOf}
@@ -26,7 +26,7 @@ none_good dks_1 = λ i. 0
 none_good dks_2 = omega arith
 
 no_files_good : AreFiles []
-no_files_good = (All-nil IsFile, All-nil (λ file. length file ≤ 4_294_967_294))
+no_files_good = (All-nil IsFile, All-nil (λ file. length file ≤ most_records))
 
 -- nothing is good
 pub nothing_good : (format : Format) → IsGoodKnown format nothing
@@ -35,20 +35,20 @@ nothing_good format = (no_files_good, none_good format)
 -- what two know together
 pub united_good : (format : Format) (first second : Known) → IsGoodKnown format first → IsGoodKnown format second → IsGoodKnown format (united first second)
 united_good format first second one two = (
-  (All-append IsFile first.files second.files one.0.0 two.0.0, All-append (λ file. length file ≤ 4_294_967_294) first.files second.files one.0.1 two.0.1),
+  (All-append IsFile first.files second.files one.0.0 two.0.0, All-append (λ file. length file ≤ most_records) first.files second.files one.0.1 two.0.1),
   max_good format first.horizon second.horizon one.1 two.1,
 )
 
 -- a file that was read under a limit
-pub file_good : (format : Format) (text : List ℕ) (limit : ℕ) → limit ≤ 4_294_967_294 → IsFileText limit text (lines_of text)
+pub file_good : (format : Format) (text : List ℕ) (limit : ℕ) → limit ≤ most_records → IsFileText limit text (lines_of text)
     → IsGoodKnown format (record { files = lines_of text ∷ []; horizon = 0 })
 file_good format text limit low file =
     let within : length (lines_of text) ≤ limit = file.within in
-    let few : length (lines_of text) ≤ 4_294_967_294 = omega arith in (
+    let few : length (lines_of text) ≤ most_records = omega arith in (
       (
         All-cons IsFile (lines_of text) [] file.is (All-nil IsFile),
-        All-cons (λ f. length f ≤ 4_294_967_294) (lines_of text) [] few
-            (All-nil (λ f. length f ≤ 4_294_967_294)),
+        All-cons (λ f. length f ≤ most_records) (lines_of text) [] few
+            (All-nil (λ f. length f ≤ most_records)),
       ),
       none_good format,
     )

@@ -2,6 +2,7 @@
 use Rattle.std.proofs.Common.{◌≡◌, ℕ, ◌^◌, ◌<◌, ◌≤◌, List, [], ◌∷◌, ◌++◌, length, refl, sym, ◌∙◌, subst, arith, All, set}
 use Rattle.std.proofs.Math.Nat.{max_comm}
 use Rattle.std.proofs.lemmas.List.Elements.{All-set, All-push, All-nil, All-replicate, All-get_or}
+use Rattle.docker_model.specs.file.File.{most_records}
 use Rattle.docker_model.specs.file.Text.{lines_of}
 use Rattle.docker_model.specs.file.FileFault.{IsFileText}
 use Rattle.docker_model.specs.state.State.{State, IsJoin, raise_horizon}
@@ -74,9 +75,9 @@ module _ (format : Format) (known : KnownSets) (states : List State) (messages :
   after_refusal event why = holds
 
   -- what an office knows and its state are replaced
-  replaced : (office : ℕ) (now : Known) (state : State) → IsGoodKnown format now → IsStateOf now state
+  with_office_holds : (office : ℕ) (now : Known) (state : State) → IsGoodKnown format now → IsStateOf now state
       → Holds format (record { offices = set known.offices office now; messages = known.messages }) (set states office state) messages
-  replaced office now state good is = record {
+  with_office_holds office now state good is = record {
     offices = All-set (IsGoodKnown format) known.offices office now good holds.offices;
     sent = holds.sent;
     states_are = zip_set IsStateOf known.offices states office now state holds.states_are is;
@@ -89,13 +90,14 @@ module _ (format : Format) (known : KnownSets) (states : List State) (messages :
       → Holds format (record { offices = set known.offices office (united more (office_known known office)); messages = known.messages })
       (set states office joined) messages
   joined_in office more one joined there good summary join =
-      replaced office (united more (office_known known office)) joined (united_good format more (office_known known office) good (office_good office there))
+      with_office_holds office (united more (office_known known office))
+      joined (united_good format more (office_known known office) good (office_good office there))
       (join_is_summary more.files (office_known known office).files more.horizon (office_known known office).horizon one
       (office_state states office) joined summary (office_is office there)
       (join_commutes (office_state states office) one joined join))
 
   -- a file is taken
-  pub after_take : (office : ℕ) (text : List ℕ) (limit : ℕ) (one joined : State) → IsOffice known office → limit ≤ 4_294_967_294
+  pub after_take : (office : ℕ) (text : List ℕ) (limit : ℕ) (one joined : State) → IsOffice known office → limit ≤ most_records
       → IsFileText limit text (lines_of text)
       → IsSummary (lines_of text ∷ []) 0 one → IsJoin (office_state states office) one joined
       → Holds format (after_reply known (take_file office text limit, done)) (set states office joined) messages
@@ -128,13 +130,13 @@ module _ (format : Format) (known : KnownSets) (states : List State) (messages :
       → IsStateText format limit (message_text messages message) received
       → Holds format (after_reply known (reload office message, done)) (set states office received) messages
   after_reload office message limit received there sent short is =
-      replaced office (message_known known message) received (message_good message sent) (what_is_read message sent short limit received is)
+      with_office_holds office (message_known known message) received (message_good message sent) (what_is_read message sent short limit received is)
 
   -- a horizon is set
   pub after_horizon : (office day : ℕ) → IsOffice known office → IsHorizonOf format day
       → Holds format (after_reply known (horizon_event office day, done)) (set states office (raise_horizon day (office_state states office))) messages
   after_horizon office day there good =
-      replaced office (united (record { files = []; horizon = day }) (office_known known office)) (raise_horizon day (office_state states office))
+      with_office_holds office (united (record { files = []; horizon = day }) (office_known known office)) (raise_horizon day (office_state states office))
       (united_good format (record { files = []; horizon = day }) (office_known known office) (horizon_good format day good) (office_good office there))
       (subst (λ h. IsSummary (office_known known office).files h (raise_horizon day (office_state states office)))
       (max_comm (office_known known office).horizon day)

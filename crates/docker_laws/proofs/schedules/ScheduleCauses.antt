@@ -10,7 +10,7 @@ use Rattle.docker_model.specs.file.FileFault.{FileCause, too_many, after_trailer
 use Rattle.docker_model.specs.file.ScheduleFault.{HoldsInSchedule, IsScheduleFault, IsOutOfSchedule}
 use Rattle.docker_laws.specs.RecordTest.{is_record, has_good_fields}
 use Rattle.docker_laws.specs.ScheduleStage.{after_basic, is_first_line, is_basic_kind, Stage, next_stage, stage_of, stage_after, may_end, is_sound_next}
-use Rattle.docker_laws.specs.FileStage.{unit_by_kind, in_schedule, place_in, carried, is_sound_at, next_place, Place, between_units, IsPlaceOf}
+use Rattle.docker_laws.specs.FileStage.{unit_by_kind, in_schedule, place_in, in_stage_or, is_sound_at, next_place, Place, between_units, IsPlaceOf}
 use Rattle.docker_laws.specs.RecordCause.{with_column, field_cause, first_line_cause, schedule_cause, is_after_end, kind_cause, byte_cause, length_cause, end_cause, cause_of}
 use Rattle.docker_laws.proofs.files.OneFileFault.{column_of, column_told, same_cause}
 use Rattle.docker_laws.proofs.records.RecordTests.{record_iff_test, no_bad_byte}
@@ -79,8 +79,8 @@ witness_begins = front_begins after_basic (witness basic_schedule ∷ []) (front
   fields = witness_fields basic_schedule;
 }))
 
-known : (line : List ℕ) (kind : Kind) → kind_of line ≡ Some kind → ¬ (kind_of line ≡ None)
-known line kind is none = let bad : None ≡ Some kind = sym none ∙ is in cc
+kind_is_known : (line : List ℕ) (kind : Kind) → kind_of line ≡ Some kind → ¬ (kind_of line ≡ None)
+kind_is_known line kind is none = let bad : None ≡ Some kind = sym none ∙ is in cc
 
 -- a record that is no schedule's first line has this cause
 pub first_line_fault : (line : List ℕ) → IsRecord line → is_first_line line ≡ false → IsScheduleFault [] line (first_line_cause line)
@@ -106,7 +106,7 @@ first_line_fault line is test = by (kind_of line) refl
       earlier_begin = no_lines_begin;
       here = here;
       holds = h;
-      first = none_below [] line 6 (omega arith) (λ _. known line basic_schedule kind) (λ _. inside kind) (λ below. absurd (omega arith));
+      first = none_below [] line 6 (omega arith) (λ _. kind_is_known line basic_schedule kind) (λ _. inside kind) (λ below. absurd (omega arith));
     }
 
     placed : (kind : Kind) → kind_of line ≡ Some kind → (b : Bool) → is_basic_kind (Some kind) ≡ b
@@ -116,7 +116,7 @@ first_line_fault line is test = by (kind_of line) refl
       earlier_begin = no_lines_begin;
       here = here;
       holds = out (ap is_basic_kind h ∙ basic);
-      first = none_below [] line 5 (omega arith) (λ _. known line kind h) (λ below. absurd (omega arith)) (λ below. absurd (omega arith));
+      first = none_below [] line 5 (omega arith) (λ _. kind_is_known line kind h) (λ below. absurd (omega arith)) (λ below. absurd (omega arith));
     }
 
     by : (kind : Option Kind) → kind_of line ≡ kind
@@ -181,14 +181,15 @@ schedule_fault (basic ∷ rest) stage line at is nowhere = by (kind_of line) ref
           earlier_begin = begin;
           here = here;
           holds = field.1;
-          first = none_below (basic ∷ rest) line 6 (omega arith) (λ _. known line kind h) (λ _. inside kind next h after) (λ below. absurd (omega arith));
+          first = none_below (basic ∷ rest) line 6 (omega arith) (λ _. kind_is_known line kind h) (λ _. inside kind next h after)
+              (λ below. absurd (omega arith));
         })
     told kind next h after (inr (inr third)) =
         subst (λ bad. IsScheduleFault (basic ∷ rest) line (with_column bad_field bad third_midnight)) (sym third.0) (record {
           earlier_begin = begin;
           here = here;
           holds = (few third.2 front.sound, third.1);
-          first = none_below (basic ∷ rest) line 7 (omega arith) (λ _. known line kind h) (λ _. inside kind next h after) (λ _. third.0);
+          first = none_below (basic ∷ rest) line 7 (omega arith) (λ _. kind_is_known line kind h) (λ _. inside kind next h after) (λ _. third.0);
         })
 
     placed : (kind : Kind) → kind_of line ≡ Some kind → (after : Option Stage) → stage_after stage (Some kind) ≡ after → IsScheduleFault (basic ∷ rest) line
@@ -197,7 +198,7 @@ schedule_fault (basic ∷ rest) stage line at is nowhere = by (kind_of line) ref
       earlier_begin = begin;
       here = here;
       holds = schedule_out_of_place basic rest stage line at (ap (stage_after stage) h ∙ after);
-      first = none_below (basic ∷ rest) line 5 (omega arith) (λ _. known line kind h) (λ below. absurd (omega arith)) (λ below. absurd (omega arith));
+      first = none_below (basic ∷ rest) line 5 (omega arith) (λ _. kind_is_known line kind h) (λ below. absurd (omega arith)) (λ below. absurd (omega arith));
     }
     placed kind h (Some next) after = told kind next h after (no_next_line stage (basic ∷ rest) line is nowhere)
 
@@ -258,7 +259,7 @@ no_other stage lines line (inr none) = by (may_end stage lines)
 pub next_place_of_stage : (stage : Stage) (lines : Lines) (line : List ℕ) → IsOfSchedule stage lines line
     → next_place (in_schedule stage lines) line ≡ option_map (λ next. place_in next (lines ++ line ∷ [])) (next_stage stage lines line)
 next_place_of_stage stage lines line of =
-    (λ i. cond (is_record line && is_sound_at (in_schedule stage lines) line) (carried (lines ++ line ∷ []) (stage_after stage (kind_of line))
+    (λ i. cond (is_record line && is_sound_at (in_schedule stage lines) line) (in_stage_or (lines ++ line ∷ []) (stage_after stage (kind_of line))
     (no_other stage lines line of i)) None)
     ∙ by (stage_after stage (kind_of line))
   where
@@ -274,7 +275,7 @@ next_place_of_stage stage lines line of =
     none false false = refl
 
     by : (after : Option Stage) → cond (is_record line && cond (is_some after) (is_sound_next lines line) (has_good_fields line))
-        (carried (lines ++ line ∷ []) after None) None
+        (in_stage_or (lines ++ line ∷ []) after None) None
         ≡ option_map (λ s. place_in s (lines ++ line ∷ [])) (cond (is_record line && is_sound_next lines line) after None)
     by None = none (is_record line && has_good_fields line) (is_record line && is_sound_next lines line)
     by (Some next) = tested (is_record line && is_sound_next lines line) next
@@ -294,10 +295,10 @@ pub cause_in_schedule : (limit count : ℕ) (stage : Stage) (lines : Lines) (lin
 cause_in_schedule limit count stage lines line under is of =
     cause_of_record limit count (in_schedule stage lines) line under refl is
     ∙ (λ i. cond (is_none (kind_of line)) bad_kind
-    (cond (is_none (carried (lines ++ line ∷ []) (stage_after stage (kind_of line)) (no_other stage lines line of i))) bad_place (field_cause line)))
+    (cond (is_none (in_stage_or (lines ++ line ∷ []) (stage_after stage (kind_of line)) (no_other stage lines line of i))) bad_place (field_cause line)))
     ∙ ap (λ b. cond (is_none (kind_of line)) bad_kind (cond b bad_place (field_cause line))) (by (stage_after stage (kind_of line)))
   where
-    by : (after : Option Stage) → is_none (carried (lines ++ line ∷ []) after None) ≡ is_none after
+    by : (after : Option Stage) → is_none (in_stage_or (lines ++ line ∷ []) after None) ≡ is_none after
     by None = refl
     by (Some next) = refl
 
@@ -308,7 +309,8 @@ pub cause_behind_schedule : (limit count : ℕ) (stage : Stage) (lines : Lines) 
 cause_behind_schedule limit count stage lines line under is may anew =
     cause_of_record limit count (in_schedule stage lines) line under refl is
     ∙ (λ i. cond (is_none (kind_of line)) bad_kind
-    (cond (is_none (carried (lines ++ line ∷ []) (stage_stops stage (kind_of line) anew i) (cond (may i) (unit_by_kind (kind_of line) line) None))) bad_place
+    (cond (is_none (in_stage_or (lines ++ line ∷ []) (stage_stops stage (kind_of line) anew i) (cond (may i) (unit_by_kind (kind_of line) line) None)))
+    bad_place
     (field_cause line)))
     ∙ sym (cause_of_record limit count between_units line under refl is)
 

@@ -16,7 +16,7 @@ use Rattle.docker_laws.proofs.records.Builders.{lt, no_text, f2_origin, f2_termi
 use Rattle.docker_laws.proofs.examples.FileExamples.{record_by_test, f2_journey, f2_is_schedule}
 use Rattle.docker_laws.proofs.lists.AllOf.{all_append, all_front}
 use Rattle.docker_laws.proofs.lists.Decisions.{Decided, both_decided, bool_decided, nat_decided, All_decided, kind_decided, none_decided, either_decided, empty_decided, le_decided, all_decided, decided_along}
-use Rattle.docker_laws.proofs.lists.Tests.{both}
+use Rattle.docker_laws.proofs.lists.BoolsAndOptions.{both}
 
 abbrev AreRecords : Lines → Type 0
 AreRecords lines = AllByRecursion IsRecord lines

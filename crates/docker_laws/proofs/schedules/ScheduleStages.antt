@@ -14,7 +14,7 @@ use Rattle.docker_laws.specs.ScheduleStage.{in_journey, after_basic, Stage, afte
 use Rattle.docker_laws.proofs.records.Builders.{no_text, hd, ti, ta, aa, bs, lo, li, lt, cr, zz, wide}
 use Rattle.docker_laws.proofs.lists.AllOf.{all_append}
 use Rattle.docker_laws.proofs.records.Columns.{fields_good}
-use Rattle.docker_laws.proofs.lists.Tests.{both, none_by_test, test_by_none, and_true, either, then_some, some_then}
+use Rattle.docker_laws.proofs.lists.BoolsAndOptions.{both, none_by_test, test_by_none, and_true, either, then_some, some_then}
 use Rattle.docker_laws.proofs.records.RecordTests.{record_iff_test, no_times, no_times_before, midnights_step, last_time, no_fall_last, times_append, along_within, fewer_midnights}
 
 -- ---- what a stage tells of the lines

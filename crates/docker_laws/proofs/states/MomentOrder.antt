@@ -15,14 +15,14 @@ abbrev File : Type 0
 File = List (List ℕ)
 
 -- the file put in its place
-abbrev placed : Ordering → File → File → List File → List File → List File
-placed Less file first rest below = file ∷ first ∷ rest
-placed Equal file first rest below = first ∷ rest
-placed Greater file first rest below = first ∷ below
+abbrev put_in_place : Ordering → File → File → List File → List File → List File
+put_in_place Less file first rest below = file ∷ first ∷ rest
+put_in_place Equal file first rest below = first ∷ rest
+put_in_place Greater file first rest below = first ∷ below
 
 abbrev insert_file : File → List File → List File
 insert_file file [] = file ∷ []
-insert_file file (first ∷ rest) = placed (moment_cmp (moment_of file) (moment_of first)) file first rest (insert_file file rest)
+insert_file file (first ∷ rest) = put_in_place (moment_cmp (moment_of file) (moment_of first)) file first rest (insert_file file rest)
 
 abbrev Above : File → List File → Type 0
 Above file files = AllByRecursion (IsBelow (on moment_of moment_cmp) file) files
@@ -36,7 +36,7 @@ insert_above : (low file : File) (files : List File) → IsBelow (on moment_of m
 insert_above low file [] below all = (below, tt)
 insert_above low file (first ∷ rest) below all = by (moment_cmp (moment_of file) (moment_of first)) (insert_above low file rest below all.1)
   where
-    by : (o : Ordering) → Above low (insert_file file rest) → Above low (placed o file first rest (insert_file file rest))
+    by : (o : Ordering) → Above low (insert_file file rest) → Above low (put_in_place o file first rest (insert_file file rest))
     by Less inside = (below, all)
     by Equal inside = all
     by Greater inside = (all.0, inside)
@@ -47,7 +47,7 @@ insert_ascends file [] up = (tt, tt)
 insert_ascends file (first ∷ rest) up = by (moment_cmp (moment_of file) (moment_of first)) refl (insert_ascends file rest up.1)
   where
     by : (o : Ordering) → moment_cmp (moment_of file) (moment_of first) ≡ o → IsStrictlyAscending (on moment_of moment_cmp) (insert_file file rest)
-        → IsStrictlyAscending (on moment_of moment_cmp) (placed o file first rest (insert_file file rest))
+        → IsStrictlyAscending (on moment_of moment_cmp) (put_in_place o file first rest (insert_file file rest))
     by Less h inside = ((h, above_weaker file first rest h up.0), up)
     by Equal h inside = up
     by Greater h inside =
@@ -67,7 +67,7 @@ insert_has file (first ∷ rest) other among = by (moment_cmp (moment_of file) (
     head inner (inr inside) = put_back (inner inside)
 
     by : (o : Ordering) → (Contains (insert_file file rest) other → (file ≡ other) ⊎ Contains rest other)
-        → Contains (placed o file first rest (insert_file file rest)) other → (file ≡ other) ⊎ Contains (first ∷ rest) other
+        → Contains (put_in_place o file first rest (insert_file file rest)) other → (file ≡ other) ⊎ Contains (first ∷ rest) other
     by Less inner here = Contains-cons file (first ∷ rest) other here
     by Equal inner here = inr here
     by Greater inner here = head inner (Contains-cons first (insert_file file rest) other here)
@@ -78,7 +78,7 @@ insert_keeps file (first ∷ rest) other among =
     by (moment_cmp (moment_of file) (moment_of first)) (insert_keeps file rest other) (Contains-cons first rest other among)
   where
     by : (o : Ordering) → (Contains rest other → Contains (insert_file file rest) other) → (first ≡ other) ⊎ Contains rest other
-        → Contains (placed o file first rest (insert_file file rest)) other
+        → Contains (put_in_place o file first rest (insert_file file rest)) other
     by Less inner here = cons-Contains file (first ∷ rest) other among
     by Equal inner here = among
     by Greater inner (inl same) = subst (Contains (first ∷ insert_file file rest)) same (cons-Contains-first first (insert_file file rest))
@@ -91,7 +91,7 @@ insert_puts file (first ∷ rest) distinct =
     by (moment_cmp (moment_of file) (moment_of first)) refl (insert_puts file rest (λ other inside. distinct other (cons-Contains first rest other inside)))
   where
     by : (o : Ordering) → moment_cmp (moment_of file) (moment_of first) ≡ o → Contains (insert_file file rest) file
-        → Contains (placed o file first rest (insert_file file rest)) file
+        → Contains (put_in_place o file first rest (insert_file file rest)) file
     by Less h inner = cons-Contains-first file (first ∷ rest)
     by Equal h inner =
         let same = distinct first (cons-Contains-first first rest) (exact_moment (moment_of file) (moment_of first) h) in

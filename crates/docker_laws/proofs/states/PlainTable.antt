@@ -17,9 +17,8 @@ use Rattle.docker_model.specs.state.Summary.{entry_of, IsEntryOf}
 use Rattle.docker_laws.proofs.orders.Orders.{same_key, other_key, file_stamp_total, key_total}
 use Rattle.docker_laws.proofs.lists.Membership.{Contains-cons, cons-Contains-first, cons-Contains, below_by_recursion, nil-Contains, Contains-map, map-Contains, flat_map-Contains, Contains-flat_map}
 use Rattle.docker_laws.proofs.orders.Ascending.{irreflexive}
-use Rattle.docker_laws.proofs.lists.Later.{AllLater}
+use Rattle.docker_laws.proofs.lists.Later.{AllLater, later_append_all, later_map_weaker}
 use Rattle.docker_laws.proofs.lists.AllOf.{all_append, all_map, all_weaker}
-use Rattle.docker_laws.proofs.lists.Pairs.{later_append, later_map}
 use Rattle.docker_laws.proofs.files.ChangeOrder.{Apart, changes_apart}
 use Rattle.docker_laws.proofs.orders.AtMost.{less_not_greater, at_most_trans}
 
@@ -92,20 +91,20 @@ last_there (entry ∷ entries) table key up = by (last_there entries (step table
 -- ---- the entries of files
 
 -- a change of a file as a key with its entry
-abbrev pub keyed : List (List ℕ) → Change → Keyed
-keyed file change = (change.key, entry_of file change)
+abbrev pub entry_of_change : List (List ℕ) → Change → Keyed
+entry_of_change file change = (change.key, entry_of file change)
 
 -- the entries of a file's changes
 abbrev pub entries_of : List (List ℕ) → List Keyed
-entries_of file = map (keyed file) (changes file)
+entries_of file = map (entry_of_change file) (changes file)
 
 -- the entries of the changes of files in order
 abbrev pub entries_along : List (List (List ℕ)) → List Keyed
 entries_along files = flat_map entries_of files
 
-fold_keyed : (file : List (List ℕ)) (table : Table) (cs : List Change) → fold after_change table cs ≡ fold step table (map (keyed file) cs)
-fold_keyed file table [] = refl
-fold_keyed file table (change ∷ cs) = fold_keyed file (after_change table change) cs
+fold_entries : (file : List (List ℕ)) (table : Table) (cs : List Change) → fold after_change table cs ≡ fold step table (map (entry_of_change file) cs)
+fold_entries file table [] = refl
+fold_entries file table (change ∷ cs) = fold_entries file (after_change table change) cs
 
 fold_append : (table : Table) (xs ys : List Keyed) → fold step table (xs ++ ys) ≡ fold step (fold step table xs) ys
 fold_append table [] ys = refl
@@ -116,13 +115,13 @@ pub after_files_is : (table : Table) (files : List (List (List ℕ))) → after_
 after_files_is table [] = refl
 after_files_is table (file ∷ files) =
     after_files_is (after_file table file) files
-    ∙ (λ i. fold step (fold_keyed file table (changes file) i) (entries_along files))
+    ∙ (λ i. fold step (fold_entries file table (changes file) i) (entries_along files))
     ∙ sym (fold_append table (entries_of file) (entries_along files))
 
 number_below : (m n : ℕ) → m < n → nat_cmp m n ≡ Less
 number_below m n below = λ i. cond (lt-ltb m n below i) Less (cond (m == n) Equal Greater)
 
-within_file : (file : List (List ℕ)) (first second : Change) → Apart first second → Ascends (keyed file first) (keyed file second)
+within_file : (file : List (List ℕ)) (first second : Change) → Apart first second → Ascends (entry_of_change file first) (entry_of_change file second)
 within_file file first second (inl below) same =
     (λ i. ordering_then (tied_itself file_stamp_total (file_stamp_of file) i) (number_below first.number second.number below i))
 within_file file first second (inr apart) same = absurd (apart same)
@@ -132,7 +131,7 @@ abbrev IsLaterThan : List (List ℕ) → Keyed → Type 0
 IsLaterThan file entry = IsBelow moment_cmp (moment_of file) entry.1.stamp.file.moment
 
 later_entries : (file later : List (List ℕ)) → IsBelow (on moment_of moment_cmp) file later → (cs : List Change) → AllByRecursion (IsLaterThan file)
-    (map (keyed later) cs)
+    (map (entry_of_change later) cs)
 later_entries file later below [] = tt
 later_entries file later below (change ∷ cs) = (below, later_entries file later below cs)
 
@@ -142,7 +141,7 @@ later_along file [] all = tt
 later_along file (later ∷ files) all =
     all_append (IsLaterThan file) (entries_of later) (entries_along files) (later_entries file later all.0 (changes later)) (later_along file files all.1)
 
-across_files : (file : List (List ℕ)) (change : Change) (second : Keyed) → IsLaterThan file second → Ascends (keyed file change) second
+across_files : (file : List (List ℕ)) (change : Change) (second : Keyed) → IsLaterThan file second → Ascends (entry_of_change file change) second
 across_files file change second below same =
     λ i. ordering_then (ordering_then (below i) (bytes_cmp (file_stamp_of file).reference second.1.stamp.file.reference))
     (nat_cmp change.number second.1.stamp.number)
@@ -151,16 +150,19 @@ across_files file change second below same =
 pub entries_ascend : (files : List (List (List ℕ))) → IsStrictlyAscending (on moment_of moment_cmp) files → AllLater Ascends (entries_along files)
 entries_ascend [] up = tt
 entries_ascend (file ∷ files) up =
-    later_append Ascends (entries_of file) (entries_along files)
-    (later_map (keyed file) Apart Ascends (within_file file) (changes file) (changes_apart 1 file))
+    later_append_all Ascends (entries_of file) (entries_along files)
+    (later_map_weaker (entry_of_change file) Apart Ascends (within_file file) (changes file) (changes_apart 1 file))
     (entries_ascend files up.1)
-    (all_map (keyed file) (λ x. AllByRecursion (Ascends x) (entries_along files)) (changes file)
+    (all_map (entry_of_change file) (λ x. AllByRecursion (Ascends x) (entries_along files)) (changes file)
     (each (changes file)))
   where
-    each : (cs : List Change) → AllByRecursion (λ change. AllByRecursion (Ascends (keyed file change)) (entries_along files)) cs
+    each : (cs : List Change) → AllByRecursion (λ change. AllByRecursion (Ascends (entry_of_change file change)) (entries_along files)) cs
     each [] = tt
-    each (change ∷ cs) =
-        (all_weaker (IsLaterThan file) (Ascends (keyed file change)) (across_files file change) (entries_along files) (later_along file files up.0), each cs)
+    each (change ∷ cs) = (
+      all_weaker (IsLaterThan file) (Ascends (entry_of_change file change))
+          (across_files file change) (entries_along files) (later_along file files up.0),
+      each cs,
+    )
 
 -- ---- the files that are kept are the last full extract and those after it
 
@@ -317,9 +319,9 @@ module _ (files ordered : List (List (List ℕ))) (order : IsInMomentOrder files
   in_entries key entry made =
       let there = (order.same made.file).1 made.kept.among in
       let kept : Contains (from_last_full ordered) made.file = by (kept_or_dropped ordered order.ascending made.file there) in
-      let pair : keyed made.file made.change ≡ (key, entry) = (λ i. (made.key_is i, made.entry_is i)) in
+      let pair : entry_of_change made.file made.change ≡ (key, entry) = (λ i. (made.key_is i, made.entry_is i)) in
       flat_map-Contains entries_of (from_last_full ordered) made.file (key, entry) kept
-      (subst (Contains (entries_of made.file)) pair (map-Contains (keyed made.file) (changes made.file) made.change made.among))
+      (subst (Contains (entries_of made.file)) pair (map-Contains (entry_of_change made.file) (changes made.file) made.change made.among))
     where
       by : Contains (from_last_full ordered) made.file ⊎ SomeAbove ordered made.file → Contains (from_last_full ordered) made.file
       by (inl kept) = kept
@@ -329,7 +331,7 @@ module _ (files ordered : List (List (List ℕ))) (order : IsInMomentOrder files
   pub out_entries : (key : Key) (entry : Entry) → Contains (entries_along (from_last_full ordered)) (key, entry) → IsEntryOf files floor key entry
   out_entries key entry among =
       let found = Contains-flat_map entries_of (from_last_full ordered) (key, entry) among in
-      let change = Contains-map (keyed found.0) (changes found.0) (key, entry) found.2 in
+      let change = Contains-map (entry_of_change found.0) (changes found.0) (key, entry) found.2 in
       let kept = kept_in ordered order.ascending found.0 found.1 in
       record {
         file = found.0;

@@ -12,7 +12,7 @@ use Rattle.docker_laws.proofs.orders.Ascending.{same_list}
 use Rattle.docker_laws.proofs.states.OneJoin.{floor_unique}
 use Rattle.docker_laws.proofs.states.PlainTable.{Keyed}
 use Rattle.docker_laws.proofs.states.ReducedEntries.{KeptOf, IsReduced}
-use Rattle.docker_laws.proofs.lists.Membership.{SameMembers, turned_members}
+use Rattle.docker_laws.proofs.lists.Membership.{SameMembers, same_members_back}
 
 floor_along : (items more : List LedgerItem) → SameMembers items more → (floor : Option FileStamp) → IsFloor items floor → IsFloor more floor
 floor_along items more same None none = λ item among. none item ((same item).1 among)
@@ -51,7 +51,7 @@ reduced_along items more entries others same same_entries state is = record {
   entries_ascend = is.entries_ascend;
   of_keys = λ key entry. (
     λ among. kept_of_along entries others same_entries is.floor is.floor (λ i. is.floor) state.horizon key entry ((is.of_keys key entry).0 among),
-    λ told. (is.of_keys key entry).1 (kept_of_along others entries (turned_members entries others same_entries) is.floor is.floor
+    λ told. (is.of_keys key entry).1 (kept_of_along others entries (same_members_back entries others same_entries) is.floor is.floor
         (λ i. is.floor) state.horizon key entry told),
   );
 }

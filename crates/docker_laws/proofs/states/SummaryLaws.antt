@@ -10,7 +10,7 @@ use Rattle.docker_model.specs.state.Op.{Entry}
 use Rattle.docker_model.specs.state.Lapse.{lapse_entry}
 use Rattle.docker_model.specs.state.State.{State, IsJoin, lapse_state, raise_horizon}
 use Rattle.docker_model.specs.state.Summary.{IsSummary}
-use Rattle.docker_laws.proofs.lists.Membership.{Contains-flat_map, flat_map-Contains, Contains-map, map-Contains, SameMembers, turned}
+use Rattle.docker_laws.proofs.lists.Membership.{Contains-flat_map, flat_map-Contains, Contains-map, map-Contains, SameMembers, same_members_turned}
 use Rattle.docker_laws.proofs.states.PlainTable.{entries_of, entries_along}
 use Rattle.docker_laws.proofs.states.Lapse.{entry_twice}
 use Rattle.docker_laws.proofs.states.LapsedGreatest.{lapsed_from, lapsed_to}
@@ -22,28 +22,29 @@ use Rattle.docker_laws.proofs.states.SummaryReduced.{File, summary_reduced, redu
 
 -- ---- members of what is made of files
 
-mapped : {A B : Type 0} (f : A → B) (xs ys : List A) → ((x : A) → Contains xs x → Contains ys x) → (y : B) → Contains (map f xs) y → Contains (map f ys) y
-mapped f xs ys to y among =
+members_of_map : {A B : Type 0} (f : A → B) (xs ys : List A) → ((x : A) → Contains xs x → Contains ys x) → (y : B) → Contains (map f xs) y
+    → Contains (map f ys) y
+members_of_map f xs ys to y among =
     let found = Contains-map f xs y among in
     subst (Contains (map f ys)) found.2 (map-Contains f ys found.0 (to found.0 found.1))
 
-flattened : {A B : Type 0} (f : A → List B) (xs ys : List A) → ((x : A) → Contains xs x → Contains ys x) → (y : B) → Contains (flat_map f xs) y
+members_of_flat_map : {A B : Type 0} (f : A → List B) (xs ys : List A) → ((x : A) → Contains xs x → Contains ys x) → (y : B) → Contains (flat_map f xs) y
     → Contains (flat_map f ys) y
-flattened f xs ys to y among =
+members_of_flat_map f xs ys to y among =
     let found = Contains-flat_map f xs y among in
     flat_map-Contains f ys found.0 y (to found.0 found.1) found.2
 
 same_items : (files others : List File) → SameMembers files others → SameMembers (map ledger_item_of files) (map ledger_item_of others)
 same_items files others same item =
-    (mapped ledger_item_of files others (λ file. (same file).0) item, mapped ledger_item_of others files (λ file. (same file).1) item)
+    (members_of_map ledger_item_of files others (λ file. (same file).0) item, members_of_map ledger_item_of others files (λ file. (same file).1) item)
 
 same_entries : (files others : List File) → SameMembers files others → SameMembers (entries_along files) (entries_along others)
 same_entries files others same entry =
-    (flattened entries_of files others (λ file. (same file).0) entry, flattened entries_of others files (λ file. (same file).1) entry)
+    (members_of_flat_map entries_of files others (λ file. (same file).0) entry, members_of_flat_map entries_of others files (λ file. (same file).1) entry)
 
-split : {A : Type 0} (xs ys zs : List A) → ((x : A) → Contains xs x → Contains zs x) → ((x : A) → Contains ys x → Contains zs x) → (x : A)
+members_of_append : {A : Type 0} (xs ys zs : List A) → ((x : A) → Contains xs x → Contains zs x) → ((x : A) → Contains ys x → Contains zs x) → (x : A)
     → Contains (xs ++ ys) x → Contains zs x
-split xs ys zs left right x among = by (Contains-append_cases xs ys x among)
+members_of_append xs ys zs left right x among = by (Contains-append_cases xs ys x among)
   where
     by : Contains xs x ⊎ Contains ys x → Contains zs x
     by (inl here) = left x here
@@ -52,9 +53,9 @@ split xs ys zs left right x among = by (Contains-append_cases xs ys x among)
 -- of files and others: what is made of the others and of the files is what is made of all
 items_of_union : (files others : List File) → SameMembers (map ledger_item_of others ++ map ledger_item_of files) (map ledger_item_of (files ++ others))
 items_of_union files others item = (
-  split (map ledger_item_of others) (map ledger_item_of files) (map ledger_item_of (files ++ others))
-      (mapped ledger_item_of others (files ++ others) (λ file here. Contains-append_right files others file here))
-      (mapped ledger_item_of files (files ++ others) (λ file here. Contains-append_left files others file here)) item,
+  members_of_append (map ledger_item_of others) (map ledger_item_of files) (map ledger_item_of (files ++ others))
+      (members_of_map ledger_item_of others (files ++ others) (λ file here. Contains-append_right files others file here))
+      (members_of_map ledger_item_of files (files ++ others) (λ file here. Contains-append_left files others file here)) item,
   λ among.
       let found = Contains-map ledger_item_of (files ++ others) item among in
       subst (Contains (map ledger_item_of others ++ map ledger_item_of files)) found.2 (by found.0 (Contains-append_cases files others found.0 found.1)),
@@ -68,9 +69,9 @@ items_of_union files others item = (
 
 entries_of_union : (files others : List File) → SameMembers (entries_along others ++ entries_along files) (entries_along (files ++ others))
 entries_of_union files others entry = (
-  split (entries_along others) (entries_along files) (entries_along (files ++ others))
-      (flattened entries_of others (files ++ others) (λ file here. Contains-append_right files others file here))
-      (flattened entries_of files (files ++ others) (λ file here. Contains-append_left files others file here)) entry,
+  members_of_append (entries_along others) (entries_along files) (entries_along (files ++ others))
+      (members_of_flat_map entries_of others (files ++ others) (λ file here. Contains-append_right files others file here))
+      (members_of_flat_map entries_of files (files ++ others) (λ file here. Contains-append_left files others file here)) entry,
   λ among.
       let found = Contains-flat_map entries_of (files ++ others) entry among in
       by found.0 found.2 (Contains-append_cases files others found.0 found.1),
@@ -103,7 +104,7 @@ join_is_summary files others g h one two joined of_files of_others is =
     (join_reduced one two joined is) (horizon_left one two joined is) in
     let turn = reduced_along (map ledger_item_of files ++ two.ledger) (two.ledger ++ map ledger_item_of files) (entries_along files ++ two.entries)
     (two.entries ++ entries_along files)
-    (turned (map ledger_item_of files) two.ledger) (turned (entries_along files) two.entries) joined first in
+    (same_members_turned (map ledger_item_of files) two.ledger) (same_members_turned (entries_along files) two.entries) joined first in
     let second = reduced_twice (map ledger_item_of others) (map ledger_item_of files) (entries_along others) (entries_along files) two joined
     (summary_reduced others h two of_others) turn (horizon_right one two joined is) in
     reduced_summary (files ++ others) (max g h) joined (is.horizon ∙ (λ i. max (of_files.horizon_is i) (of_others.horizon_is i)))

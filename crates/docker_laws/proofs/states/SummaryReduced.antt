@@ -12,7 +12,7 @@ use Rattle.docker_model.specs.state.Summary.{IsSummary, IsEntryOf, IsGreatestEnt
 use Rattle.docker_laws.proofs.orders.Orders.{file_stamp_total}
 use Rattle.docker_laws.proofs.orders.AtMost.{at_most_trans, at_most_below, at_most_or}
 use Rattle.docker_laws.proofs.lists.Membership.{Contains-flat_map, flat_map-Contains, Contains-map, map-Contains}
-use Rattle.docker_laws.proofs.states.PlainTable.{Keyed, keyed, entries_of, entries_along}
+use Rattle.docker_laws.proofs.states.PlainTable.{Keyed, entry_of_change, entries_of, entries_along}
 use Rattle.docker_laws.proofs.states.ReducedEntries.{IsReduced}
 
 -- a file, as its records
@@ -43,9 +43,9 @@ module _ (files : List File) (floor : Option FileStamp) (key : Key) where
   -- an entry that a kept file makes is among all entries, and kept
   pub entry_in : (entry : Entry) → IsEntryOf files floor key entry → Contains (entries_along files) (key, entry) × IsKept floor entry.stamp.file
   entry_in entry made =
-      let pair : keyed made.file made.change ≡ (key, entry) = (λ i. (made.key_is i, made.entry_is i)) in (
+      let pair : entry_of_change made.file made.change ≡ (key, entry) = (λ i. (made.key_is i, made.entry_is i)) in (
         flat_map-Contains entries_of files made.file (key, entry) made.kept.among
-            (subst (Contains (entries_of made.file)) pair (map-Contains (keyed made.file) (changes made.file) made.change made.among)),
+            (subst (Contains (entries_of made.file)) pair (map-Contains (entry_of_change made.file) (changes made.file) made.change made.among)),
         subst (λ (e : Entry). IsKept floor e.stamp.file) made.entry_is made.kept.kept,
       )
 
@@ -53,7 +53,7 @@ module _ (files : List File) (floor : Option FileStamp) (key : Key) where
   pub entry_out : (entry : Entry) → Contains (entries_along files) (key, entry) → IsKept floor entry.stamp.file → IsEntryOf files floor key entry
   entry_out entry among kept =
       let found = Contains-flat_map entries_of files (key, entry) among in
-      let change = Contains-map (keyed found.0) (changes found.0) (key, entry) found.2 in
+      let change = Contains-map (entry_of_change found.0) (changes found.0) (key, entry) found.2 in
       let is : entry_of found.0 change.0 ≡ entry = ap (λ (pair : Keyed). pair.1) change.2 in
       record {
         file = found.0;

@@ -5,7 +5,7 @@ use Rattle.std.specs.List.{AllByRecursion, flat_map}
 use Rattle.std.proofs.lemmas.List.Elements.{All-contains, recursion_from_All}
 use Rattle.docker_model.specs.records.Record.{header, kind_of, columns, column}
 use Rattle.docker_model.specs.records.Date.{IsDay}
-use Rattle.docker_model.specs.file.File.{IsFile, IsUnit, IsSchedule}
+use Rattle.docker_model.specs.file.File.{IsFile, IsUnit, IsSchedule, most_records}
 use Rattle.docker_model.specs.file.Change.{Key, tiploc_key, association_key, schedule_key, Act, put, Body, schedule_body, Change, acts_by_kind, changes_of_record, changes_from, changes}
 use Rattle.docker_model.specs.state.Stamp.{LedgerItem, ledger_item_of, IsKept}
 use Rattle.docker_model.specs.state.Op.{Entry, op_of}
@@ -47,7 +47,7 @@ pub record IsFileChange (change : Change) : Type 0 where
   pub high : change.number < 2 ^ 32 - 1
 
 -- each change of a file within the limit is well formed
-pub file_change : (file : List (List ℕ)) → IsFile file → length file ≤ 4_294_967_294 → (change : Change) → Contains (changes file) change → IsFileChange change
+pub file_change : (file : List (List ℕ)) → IsFile file → length file ≤ most_records → (change : Change) → Contains (changes file) change → IsFileChange change
 file_change file is few change among =
     let size = ap length is.whole in
     let sum = length-append (flat_map (λ unit. unit) is.units) (is.last ∷ []) in
@@ -72,7 +72,7 @@ file_change file is few change among =
         (acts_by_kind k is.first rest) ++ changes_from 2 rest) change) is.header_kind inside
 
 -- what a change puts agrees with its key
-pub body_of_file : (file : List (List ℕ)) → IsFile file → length file ≤ 4_294_967_294 → (change : Change) → Contains (changes file) change → (body : Body)
+pub body_of_file : (file : List (List ℕ)) → IsFile file → length file ≤ most_records → (change : Change) → Contains (changes file) change → (body : Body)
     → change.act ≡ put body → IsBodyOf change.key body
 body_of_file file is few change among body puts = subst (λ act. IsOpOf change.key (op_of act)) puts (file_change file is few change among).good.1
 
@@ -100,7 +100,7 @@ item_good file is =
 
 -- the summary of files within the limit is valid
 pub summary_is_valid : (files : List (List (List ℕ))) (horizon : ℕ) (state : State) → IsDay horizon → All IsFile files
-    → All (λ file. length file ≤ 4_294_967_294) files
+    → All (λ file. length file ≤ most_records) files
     → IsSummary files horizon state → IsValid state
 summary_is_valid files horizon state day each few summary = record {
   horizon = subst IsDay (sym summary.horizon_is) day;
@@ -144,7 +144,7 @@ summary_is_valid files horizon state day each few summary = record {
     entry_good : (key : Key) (entry : Entry) → IsEntryOf files summary.floor key entry → IsGoodEntry state.ledger (key, entry)
     entry_good key entry made =
         let told = file_change made.file (All-contains IsFile files made.file each made.kept.among)
-        (All-contains (λ file. length file ≤ 4_294_967_294) files made.file few made.kept.among) made.change made.among in
+        (All-contains (λ file. length file ≤ most_records) files made.file few made.kept.among) made.change made.among in
         let there = (summary.ledger (ledger_item_of made.file)).1 (made.file, made.kept, refl) in
         subst (λ k. IsGoodEntry state.ledger (k, entry)) made.key_is
         (subst (λ e. IsGoodEntry state.ledger (made.change.key, e)) made.entry_is (record {

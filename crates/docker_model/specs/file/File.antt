@@ -84,6 +84,10 @@ pub record IsFile (records : List (List ℕ)) : Type 0 where
   pub trailer_record : IsRecord last
   pub trailer_kind : HasKind trailer last
 
+-- the most records that a limit lets a file have
+abbrev pub most_records : ℕ
+most_records = 4_294_967_294
+
 -- some file, of any length, begins with these records
 abbrev pub BeginsFile : List (List ℕ) → Type 0
 BeginsFile records = (rest : List (List ℕ)) × IsFile (records ++ rest)

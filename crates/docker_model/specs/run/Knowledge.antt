@@ -1,7 +1,7 @@
 -- What an exchange holds in the middle of a run: each office's state and each message's text, beside what it knows.
 use Rattle.std.specs.Prelude.{◌≡◌, ℕ, ◌≤◌, ◌↔◌, List, All, Contains, slice_index_or, [], length, filter, Bool, true, false, ⊤}
 use Rattle.std.specs.List.{AllZip, zip}
-use Rattle.docker_model.specs.file.File.{IsFile}
+use Rattle.docker_model.specs.file.File.{IsFile, most_records}
 use Rattle.docker_model.specs.state.State.{State}
 use Rattle.docker_model.specs.state.StateText.{Format, IsHorizonOf}
 use Rattle.docker_model.specs.run.Run.{Files, Known, KnownSets, Exchange, IsStateOf, IsMessageOf, known_sets, RunEvent, take_file, send_state, deliver, reload, horizon_event, Reply, done, refused}
@@ -16,7 +16,7 @@ AreOneKnowledge first second = HaveSameFiles first.files second.files × (first.
 
 -- each of the set is a file of at most 4,294,967,294 records
 abbrev pub AreFiles : Files → Type 0
-AreFiles files = All IsFile files × All (λ file. length file ≤ 4_294_967_294) files
+AreFiles files = All IsFile files × All (λ file. length file ≤ most_records) files
 
 -- files, and a horizon that a state of the format may have
 abbrev pub IsGoodKnown : Format → Known → Type 0
@@ -24,7 +24,7 @@ IsGoodKnown format known = AreFiles known.files × IsHorizonOf format known.hori
 
 -- an event that a run of the format is given: a limit of at most 4,294,967,294 records, and a horizon that a state of the format may have
 abbrev pub IsGoodEvent : Format → RunEvent → Type 0
-IsGoodEvent format (take_file office text limit) = limit ≤ 4_294_967_294
+IsGoodEvent format (take_file office text limit) = limit ≤ most_records
 IsGoodEvent format (horizon_event office day) = IsHorizonOf format day
 IsGoodEvent format _ = ⊤
 

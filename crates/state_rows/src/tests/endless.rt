@@ -1,11 +1,12 @@
 //! Texts cut short, texts without end and texts whose counts are huge, as each way of reading answers them.
 ghost use Rattle.std.specs.Prelude.{◌<◌, length};
 
+use super::migrated::refused_old;
 use super::records::{
     AA, BS, HD, HEAD, HEAD_LAPSED, HEAD_OF_NO_OP, ITEM, LO, LT, MARK, MOST, NOTHING, OLD_MARK, ONE,
     ZZ,
 };
-use super::{joined_text, known_text, refused, state, written};
+use super::{BEGINNINGS, joined_text, known_text, last_place, refused, state, written};
 use cif_line::{Bytes, Endless};
 use docker_bytes::{ReadFault, StateCause, StateFault, join_state, migrate, read_state};
 use std::alloc::{AllocError, Global};
@@ -33,7 +34,7 @@ const UNDER_AFTER: &[u8] = b"DKS2\x5b\xf6";
 const UNDER_TOO_LATE: &[u8] = b"DKS2\x8e\xad";
 
 /// That a text is refused, and received by no state: one that tries is left as it was.
-fn refused_each_way(
+pub(super) fn refused_each_way(
     rt: &impl Abort,
     alloc: Global,
     text: &[u8],
@@ -96,14 +97,7 @@ fn texts_cut_short(rt: HostRuntime) -> Result<(), Fail> {
     let known = known_text(alloc)?;
     assert_eq!(rt; known.len(), 311);
     for (n, _) in known.as_slice().iter().enumerate() {
-        let at = match n {
-            0..4 => 0,
-            4..6 => 4,
-            6..14 => 6,
-            14..33 => 14,
-            33..41 => 33,
-            _ => 41,
-        };
+        let at = last_place(&BEGINNINGS, n);
         let front = &known.as_slice()[..n];
         refused_each_way(&rt, alloc, front, 1000, (at, StateCause::Short))?;
     }
@@ -230,11 +224,7 @@ fn old_texts_with_huge_counts(rt: HostRuntime) -> Result<(), Fail> {
         (&[OLD_MARK, NOTHING, NOTHING], 20, StateCause::Tail),
     ];
     for (pieces, at, cause) in rows {
-        let text = joined_text(alloc, pieces)?;
-        for step in [1, 7, 4096] {
-            let fault = migrate(alloc, &mut Bytes::new(text.as_slice(), step), 1_000).err();
-            assert_eq!(rt; fault, Some(ReadFault::State(StateFault { at, cause })));
-        }
+        refused_old(&rt, alloc, pieces, 1_000, (at, cause))?;
     }
     Ok(())
 }

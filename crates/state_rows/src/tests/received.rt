@@ -1,12 +1,13 @@
 //! States that receive texts: what is refused leaves them as they were.
 
+use super::endless::refused_each_way;
 use super::records::{
     AA, AFTER, BS, HD, HEAD, HEAD_10B, ITEM, ITEM_10B, LAPSED, LO, LO_0905, LT, LT_0935, MARK, ONE,
     SCHEDULE_HEAD, TWO, ZZ,
 };
 use super::{joined_text, known_text, state, written};
 use cif_line::{Bytes, Day, Failed, Source};
-use docker_bytes::{ReadFault, StateCause, StateFault, join_state};
+use docker_bytes::{ReadFault, StateCause, join_state};
 use docker_state::State;
 use std::alloc::Global;
 use std::process::Abort;
@@ -33,7 +34,7 @@ fn a_horizon_received(rt: HostRuntime) -> Result<(), Fail> {
     Ok(())
 }
 
-/// That a text of these pieces is refused there, read whole and by single bytes, and that the state stays as it was.
+/// That a text of these pieces is refused, and received by no state.
 fn refused(
     rt: &impl Abort,
     alloc: Global,
@@ -42,20 +43,7 @@ fn refused(
     wanted: (u64, StateCause),
 ) -> Result<(), Fail> {
     let text = joined_text(alloc, pieces)?;
-    let mut own = state(alloc, &[HD, AA, ZZ])?;
-    let before = written(alloc, &own)?;
-    for step in [1, 4096] {
-        let fault = join_state(
-            alloc,
-            &mut own,
-            &mut Bytes::new(text.as_slice(), step),
-            limit,
-        );
-        let (at, cause) = wanted;
-        assert_eq!(rt; fault, Err(ReadFault::State(StateFault { at, cause })));
-        assert_eq!(rt; written(alloc, &own)?.as_slice(), before.as_slice());
-    }
-    Ok(())
+    refused_each_way(rt, alloc, text.as_slice(), limit, wanted)
 }
 
 #[test]

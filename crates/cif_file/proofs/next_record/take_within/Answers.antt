@@ -2,7 +2,7 @@
 use Rattle.std.proofs.lemmas.Result.{err_from_is_err_and}
 use Rattle.std.proofs.Common.{◌∙◌, sym, subst, refl}
 use Rattle.std.proofs.lemmas.Bool.{false≢true}
-use Rattle.cif_file.specs.Meaning.{cause_meant}
+use Rattle.cif_journey.specs.Cause.{cause_meant}
 use Rattle.cif_file.specs.RecordsRead.{IsNoNextCause}
 use Rattle.cif_file.proofs.AnswerLemmas.{if_err_by}
 use Rattle.cif_file.proofs.ParserLemmas.{after_cause, line_cause, front_cause}

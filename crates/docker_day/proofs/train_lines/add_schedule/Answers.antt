@@ -5,14 +5,14 @@ use Rattle.docker_day.proofs.Adding.{added_if, not_added}
 use Rattle.docker_day.proofs.PassedOver.{runs_not}
 use Rattle.docker_day.proofs.train_lines.add_schedule.Goals as goal
 
-pub returns-then-runs_by : goal.returns-then-runs_by
-returns-then-runs_by c =
+pub returns-then-is_train_on : goal.returns-then-is_train_on
+returns-then-is_train_on c =
     on_ok_weaker c.add_events.result
-    (λ same. λ rows are. added_if _ _ _ _ (sym (c.runs_by.ensures rows are) ∙ c.if-runs_by.true) same)
+    (λ same. λ rows are. added_if _ _ _ _ (sym (c.is_train_on.ensures rows are) ∙ c.if-is_train_on.true) same)
     c.add_events.ensures
 
-pub returns-else-runs_by : goal.returns-else-runs_by
-returns-else-runs_by c = λ rows are. not_added _ _ _ (sym (c.runs_by.ensures rows are) ∙ c.if-runs_by.false)
+pub returns-else-is_train_on : goal.returns-else-is_train_on
+returns-else-is_train_on c = λ rows are. not_added _ _ _ (sym (c.is_train_on.ensures rows are) ∙ c.if-is_train_on.false)
 
 pub returns-then-not-runs_on : goal.returns-then-not-runs_on
 returns-then-not-runs_on c = λ rows are.

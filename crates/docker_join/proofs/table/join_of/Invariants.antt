@@ -2,7 +2,7 @@ use Rattle.std.proofs.Common.{◌≡◌, ◌+◌, ◌≤◌, ◌++◌, length, v
 use Rattle.std.specs.Prelude.{⊤}
 use Rattle.std.specs.Option.{option_to_list}
 use Rattle.std.specs.Vec.Iter.{into_iter_items, into_iter_len}
-use Rattle.docker_join.proofs.Merged.{walk}
+use Rattle.docker_join.proofs.MergedRows.{walk}
 use Rattle.docker_join.proofs.table.join_of.Given as goal
 
 abbrev pub invariant-loop-left : goal.invariant-loop-left

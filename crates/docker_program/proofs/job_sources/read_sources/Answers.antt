@@ -29,9 +29,9 @@ returns-in-FileAndStdin-clause-reads g c = λ input.
     subst (λ names. AreOpened (names_meant names) rest (given input rest first second)) c.in-FileAndStdin.is
     (c.in_ok-open_files.ensures.opened input rest) in
     reads_named c.args.job.now (file_and_input name) (ap names_meant (sym c.in-FileAndStdin.is) ∙ c.names-names.ensures) rest input rest
-    (g.S.Source.left c.read_file_and_input.new.stdin) first second (g.F.Source.left c.read_file_and_input.new.file)
-    (g.F.Source.left c.open_files.new.second) c.read_file_and_input.result opened opened.others
-    c.read_file_and_input.ensures.reads
+    (g.S.Source.left c.read_in_order-in-FileAndStdin.new.second) first second (g.F.Source.left c.read_in_order-in-FileAndStdin.new.first)
+    (g.F.Source.left c.open_files.new.second) c.read_in_order-in-FileAndStdin.result opened opened.others
+    c.read_in_order-in-FileAndStdin.ensures.reads
 
 pub returns-in-None : goal.returns-in-None
 returns-in-None g c =
@@ -42,8 +42,8 @@ returns-in-None g c =
     let rest = g.S.Source.left c.args.stdin.now in
     record {
       reads = λ input. reads_files c.args.job.now (names_meant c.names-names.result) c.names-names.ensures
-          (are_files c.names-names.result c.in-None.is) rest input first second (g.F.Source.left c.read_files.new.file)
-          (g.F.Source.left c.read_files.new.other) c.read_files.result
-          (c.in_ok-open_files.ensures.opened input rest) c.read_files.ensures.reads;
+          (are_files c.names-names.result c.in-None.is) rest input first second (g.F.Source.left c.read_in_order-in-None.new.first)
+          (g.F.Source.left c.read_in_order-in-None.new.second) c.read_in_order-in-None.result
+          (c.in_ok-open_files.ensures.opened input rest) c.read_in_order-in-None.ensures.reads;
       counted = search rules;
     }

@@ -1,6 +1,6 @@
 use Rattle.std.proofs.Common.{rules, List, sym, subst}
 use Rattle.std.proofs.lemmas.List.Sorted.{IsPartitionPoint-from_clause}
-use Rattle.cif_file.specs.declared.key.Key.{Key}
+use Rattle.cif_change.specs.declared.key.Key.{Key}
 use Rattle.docker_join.specs.declared.entry.Entry.{Entry}
 use Rattle.docker_join.specs.Rows.{AreAscending}
 use Rattle.docker_state.proofs.UidRows.{is_before, parted_before, walk_parts, walk_within, behind_ascends, piece_is}

@@ -1,8 +1,8 @@
 use Rattle.std.proofs.Common.{◌≡◌, sym, ap, subst, arith}
 use Rattle.std.specs.Prelude.{is_ok}
 use Rattle.docker_model.specs.state.StatePart.{width}
-use Rattle.docker_bytes.specs.declared.fault.StateCause.{StateCause}
-use Rattle.docker_bytes.specs.FaultMeaning.{cause_meant}
+use Rattle.docker_parts.specs.declared.cause.StateCause.{StateCause}
+use Rattle.docker_parts.specs.FaultMeaning.{cause_meant}
 use Rattle.docker_bytes.specs.Reading.{format_of, before_of, text_of, IsToldAtEnd}
 use Rattle.docker_bytes.proofs.TextEnd.{whole_text, wanting_at_end, short_at_end}
 use Rattle.docker_bytes.proofs.reading.Reading.join.Goals as goal

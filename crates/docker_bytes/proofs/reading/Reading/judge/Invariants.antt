@@ -1,4 +1,4 @@
-use Rattle.docker_bytes.specs.FormatMeaning.{format_meant}
+use Rattle.docker_parts.specs.FormatMeaning.{format_meant}
 use Rattle.docker_bytes.proofs.reading.Reading.judge.Given as goal
 
 -- the part is one of the format of the text

@@ -1,9 +1,9 @@
 use Rattle.std.proofs.Common.{◌≡◌, ◌<◌, refl, sym, subst, ◌∙◌, inr, length, arith}
 use Rattle.docker_model.specs.state.StatePart.{width}
 use Rattle.docker_bytes.specs.Reading.{format_of, before_of, IsPartRefused}
-use Rattle.docker_bytes.specs.FaultMeaning.{cause_meant}
+use Rattle.docker_parts.specs.FaultMeaning.{cause_meant}
 use Rattle.docker_bytes.proofs.ReadingLemmas.{part_read}
-use Rattle.docker_bytes.proofs.StepLemmas.{line_leads, line_bad, line_width}
+use Rattle.docker_bytes.proofs.LineLemmas.{line_leads, line_bad, line_width}
 use Rattle.docker_bytes.proofs.reading.Reading.take_line.Goals as goal
 
 pub returns-in-Ok-clause-ok : goal.returns-in-Ok-clause-ok

@@ -2,9 +2,9 @@ use Rattle.std.proofs.Common.{rules, ◌≡◌, ◌+◌, ◌<◌, ◌≤◌, ◌
 use Rattle.std.proofs.lemmas.List.{nil_from_length}
 use Rattle.std.proofs.lemmas.Result.{err_from_is_err_and}
 use Rattle.docker_model.specs.state.StatePart.{width}
-use Rattle.docker_bytes.specs.FaultMeaning.{cause_meant}
+use Rattle.docker_parts.specs.FaultMeaning.{cause_meant}
 use Rattle.docker_bytes.specs.Reading.{before_of, IsLineOf}
-use Rattle.docker_bytes.proofs.StepLemmas.{line_width}
+use Rattle.docker_bytes.proofs.LineLemmas.{line_width}
 use Rattle.docker_bytes.proofs.ReadingLemmas.{part_refused, told_of_piece, rest_first, rest_more, reads_none, reads_further}
 use Rattle.docker_bytes.proofs.reading.Reading.take_lines.Goals as goal
 

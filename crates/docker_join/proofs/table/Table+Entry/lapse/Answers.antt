@@ -1,6 +1,6 @@
 use Rattle.std.proofs.Common.{List, map, length, ap, sym, ◌∙◌, subst, arith}
 use Rattle.docker_model.specs.state.Lapse.{lapse_entries}
-use Rattle.cif_file.specs.declared.key.Key.{Key}
+use Rattle.cif_change.specs.declared.key.Key.{Key}
 use Rattle.docker_join.specs.declared.entry.Entry.{Entry}
 use Rattle.docker_join.specs.Rows.{AreAscending}
 use Rattle.docker_join.specs.Meaning.{row_meant}

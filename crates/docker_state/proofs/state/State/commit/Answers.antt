@@ -1,8 +1,11 @@
-use Rattle.std.proofs.Common.{◌≡◌, map, ap, sym, ◌∙◌, subst}
+use Rattle.std.proofs.Common.{◌≡◌, List, map, ap, sym, ◌∙◌, subst}
 use Rattle.docker_model.specs.state.State.{State, IsJoin}
 use Rattle.docker_model.specs.state.Staging.{staged_state}
 use Rattle.docker_laws.proofs.joins.StagedState.{join_with_staged}
-use Rattle.docker_state.specs.Meaning.{item_meant}
+use Rattle.cif_change.specs.declared.key.Key.{Key}
+use Rattle.docker_join.specs.declared.entry.Entry.{Entry}
+use Rattle.docker_index.specs.Noted.{HasNoted, items_of}
+use Rattle.docker_state.specs.Meaning.{item_meant, row_meant}
 use Rattle.docker_state.specs.Staging.{Staging}
 use Rattle.docker_state.proofs.StagingLemmas.{nothing_new_is_join, something_new}
 use Rattle.docker_state.proofs.state.State.commit.Goals as goal
@@ -34,3 +37,12 @@ pub returns-clause-nothing_new : goal.returns-clause-nothing_new
 returns-clause-nothing_new c = λ none.
     absurd (something_new c.has_nothing_new.result (map item_meant c.ledger.result.now) c.args.self.now.ledger c.ledger.ensures.items c.args.staging
     c.has_nothing_new.ensures c.if-has_nothing_new.false none)
+
+pub of_rows-received-requires-clause-room : goal.of_rows-received-requires-clause-room
+of_rows-received-requires-clause-room c =
+    c.in_ok-room.ensures.rows (map row_meant c.staging.inside.staged.items)
+    (subst (λ (rows : List (Key × Entry)). HasNoted (items_of (map row_meant rows)) c.in_ok-notes.notes) c.as_slice.ensures.value c.in_ok-notes.ensures)
+
+pub of_rows-received-requires-clause-noted : goal.of_rows-received-requires-clause-noted
+of_rows-received-requires-clause-noted c =
+    (subst (λ (rows : List (Key × Entry)). HasNoted (items_of (map row_meant rows)) c.in_ok-notes.notes) c.as_slice.ensures.value c.in_ok-notes.ensures).are

@@ -1,70 +1,28 @@
-use Rattle.std.proofs.Common.{List, ◌++◌, map, subst, sym, Contains}
-use Rattle.docker_model.specs.state.Stamp.{IsFloor}
+use Rattle.std.proofs.Common.{subst, sym}
+use Rattle.std.proofs.lemmas.Result.{IfOk-weaker}
 use Rattle.docker_model.specs.state.State.{State, IsJoin}
-use Rattle.docker_laws.proofs.joins.JoinValid.{join_is_valid}
 use Rattle.docker_laws.proofs.states.SummaryLaws.{join_is_summary}
-use Rattle.cif_file.specs.declared.key.Key.{Key}
-use Rattle.docker_join.specs.declared.entry.Entry.{Entry}
-use Rattle.docker_join.specs.Rows.{AreAscending}
-use Rattle.docker_state.specs.declared.item.LedgerItem.{LedgerItem}
-use Rattle.docker_state.specs.Meaning.{floor_meant, item_meant, row_meant, state_meant}
-use Rattle.docker_state.proofs.StateJoin.{HasUnion, HasLapsedRows, states_joined}
+use Rattle.docker_state.proofs.NoFile.{join_of_none, join_with_none}
 use Rattle.docker_state.proofs.state.StateMerge.join.Goals as goal
 
-pub returns-clause-ok : goal.returns-clause-ok
-returns-clause-ok c =
-    subst (λ (s : State). IsJoin s c.args.other (state_meant c.max.result c.kept_items-ledger.result.items c.from_rows-entries.result)) c.self.view_is
-    (subst (λ (s : State). IsJoin (state_meant c.self.inside.horizon c.self.inside.ledger.items c.self.inside.entries) s
-    (state_meant c.max.result c.kept_items-ledger.result.items c.from_rows-entries.result)) c.other.view_is
-    (states_joined c.self.inside.horizon c.other.inside.horizon c.self.inside.ledger.items c.other.inside.ledger.items c.self.inside.entries
-    c.other.inside.entries
-    c.self.invariant.valid c.other.invariant.valid (floor_meant c.floor_with-floor.result)
-    (subst (λ (s : State). IsFloor (s.ledger ++ map item_meant c.other.inside.ledger.items) (floor_meant c.floor_with-floor.result)) (sym c.self.view_is)
-    (subst (λ (s : State). IsFloor (c.args.self.ledger ++ s.ledger) (floor_meant c.floor_with-floor.result)) (sym c.other.view_is) c.floor_with-floor.ensures))
-    c.union_of-items.result.items c.kept_items-ledger.result.items
-    (subst (λ (xs : List LedgerItem). HasUnion c.union_of-items.result.items c.self.inside.ledger.items xs) c.as_slice-2.ensures.value
-    (subst (λ (xs : List LedgerItem). HasUnion c.union_of-items.result.items xs c.as_slice-2.result.now) c.as_slice.ensures.value
-    c.union_of-items.ensures.members))
-    c.kept_items-ledger.ensures.ascending c.kept_items-ledger.ensures.members
-    c.max.result c.yet_to_lapse.result c.max.ensures c.yet_to_lapse.ensures
-    c.join_in-joined.result c.from_rows-entries.result c.join_in-joined.ensures
-    (subst (λ (xs : List (Key × Entry)). AreAscending xs) (sym c.from_rows-entries.ensures) c.kept_rows-rows.ensures.ascending)
-    (subst (λ (xs : List (Key × Entry)). HasLapsedRows xs c.join_in-joined.result (floor_meant c.floor_with-floor.result) c.yet_to_lapse.result)
-    (sym c.from_rows-entries.ensures)
-    (subst (λ (xs : List (Key × Entry)). HasLapsedRows c.kept_rows-rows.result.items xs (floor_meant c.floor_with-floor.result) c.yet_to_lapse.result)
-    c.into_rows.ensures.rows c.kept_rows-rows.ensures.members))))
+pub returns-then-is_of_no_file-clause-ok : goal.returns-then-is_of_no_file-clause-ok
+returns-then-is_of_no_file-clause-ok c =
+    subst (λ (none : State). IsJoin c.args.self none c.args.self) (sym (c.is_of_no_file.ensures.none c.if-is_of_no_file.true))
+    (join_with_none c.args.self c.is_of_no_file-is_of_none.ensures.valid)
+
+pub returns-then-is_of_no_file-clause-summary : goal.returns-then-is_of_no_file-clause-summary
+returns-then-is_of_no_file-clause-summary c = λ files others g h one two.
+    join_is_summary files others g h c.args.self c.args.other c.args.self one two (returns-then-is_of_no_file-clause-ok c)
+
+pub returns-then-is_of_none-clause-ok : goal.returns-then-is_of_none-clause-ok
+returns-then-is_of_none-clause-ok c =
+    subst (λ (none : State). IsJoin none c.args.other c.args.other) (sym (c.is_of_no_file-is_of_none.ensures.none c.if-is_of_none.true))
+    (join_of_none c.args.other c.is_of_no_file.ensures.valid)
+
+pub returns-then-is_of_none-clause-summary : goal.returns-then-is_of_none-clause-summary
+returns-then-is_of_none-clause-summary c = λ files others g h one two.
+    join_is_summary files others g h c.args.self c.args.other c.args.other one two (returns-then-is_of_none-clause-ok c)
 
 pub returns-clause-summary : goal.returns-clause-summary
 returns-clause-summary c = λ files others g h one two.
-    join_is_summary files others g h c.args.self c.args.other (state_meant c.max.result c.kept_items-ledger.result.items c.from_rows-entries.result)
-    one two (returns-clause-ok c)
-
-pub invariant_of-result : goal.invariant_of-result
-invariant_of-result c =
-    let join =
-    (states_joined c.self.inside.horizon c.other.inside.horizon c.self.inside.ledger.items c.other.inside.ledger.items c.self.inside.entries
-    c.other.inside.entries
-    c.self.invariant.valid c.other.invariant.valid (floor_meant c.floor_with-floor.result)
-    (subst (λ (s : State). IsFloor (s.ledger ++ map item_meant c.other.inside.ledger.items) (floor_meant c.floor_with-floor.result)) (sym c.self.view_is)
-    (subst (λ (s : State). IsFloor (c.args.self.ledger ++ s.ledger) (floor_meant c.floor_with-floor.result)) (sym c.other.view_is) c.floor_with-floor.ensures))
-    c.union_of-items.result.items c.kept_items-ledger.result.items
-    (subst (λ (xs : List LedgerItem). HasUnion c.union_of-items.result.items c.self.inside.ledger.items xs) c.as_slice-2.ensures.value
-    (subst (λ (xs : List LedgerItem). HasUnion c.union_of-items.result.items xs c.as_slice-2.result.now) c.as_slice.ensures.value
-    c.union_of-items.ensures.members))
-    c.kept_items-ledger.ensures.ascending c.kept_items-ledger.ensures.members
-    c.max.result c.yet_to_lapse.result c.max.ensures c.yet_to_lapse.ensures
-    c.join_in-joined.result c.from_rows-entries.result c.join_in-joined.ensures
-    (subst (λ (xs : List (Key × Entry)). AreAscending xs) (sym c.from_rows-entries.ensures) c.kept_rows-rows.ensures.ascending)
-    (subst (λ (xs : List (Key × Entry)). HasLapsedRows xs c.join_in-joined.result (floor_meant c.floor_with-floor.result) c.yet_to_lapse.result)
-    (sym c.from_rows-entries.ensures)
-    (subst (λ (xs : List (Key × Entry)). HasLapsedRows c.kept_rows-rows.result.items xs (floor_meant c.floor_with-floor.result) c.yet_to_lapse.result)
-    c.into_rows.ensures.rows c.kept_rows-rows.ensures.members))) in
-    record {
-      valid = join_is_valid (state_meant c.self.inside.horizon c.self.inside.ledger.items c.self.inside.entries)
-          (state_meant c.other.inside.horizon c.other.inside.ledger.items c.other.inside.entries)
-          (state_meant c.max.result c.kept_items-ledger.result.items c.from_rows-entries.result) c.self.invariant.valid c.other.invariant.valid join;
-      indexed = c.in-Some.ensures (state_meant c.max.result c.kept_items-ledger.result.items c.from_rows-entries.result)
-          (subst (λ (s : State). IsJoin s c.args.other (state_meant c.max.result c.kept_items-ledger.result.items c.from_rows-entries.result)) c.self.view_is
-          (subst (λ (s : State). IsJoin (state_meant c.self.inside.horizon c.self.inside.ledger.items c.self.inside.entries) s
-          (state_meant c.max.result c.kept_items-ledger.result.items c.from_rows-entries.result)) c.other.view_is join));
-    }
+    IfOk-weaker c.join_rows.result _ _ (λ joined is. join_is_summary files others g h c.args.self c.args.other joined one two is) c.join_rows.ensures.ok

@@ -1,0 +1,200 @@
+//! Changes of keys, and the order of bodies and acts.
+ghost use Rattle.std.specs.Prelude.{◌≡◌, ◌+◌, ◌-◌, ◌<◌, ◌≤◌};
+ghost use Rattle.std.specs.Ordering.{on, as_partial_cmp, eq_by_cmp};
+ghost use Rattle.std.specs.Cmp.{partial_equiv_from_equiv, on_equiv, on_total, eq_by_cmp_equiv, partial_order_from_total};
+ghost use Rattle.std.proofs.Common.{refl};
+ghost use Rattle.docker_model.specs.records.Record.{columns};
+ghost use Rattle.docker_model.specs.state.Op.{body_tag, body_bytes, body_end, readable_end, body_cmp, op_cmp};
+ghost use Rattle.docker_model.specs.state.Order.{bytes_cmp};
+ghost use Rattle.docker_laws.proofs.orders.Orders.{body_total, op_total};
+ghost use Rattle.cif_change.specs.Joined.{joined_bytes};
+ghost use Rattle.cif_change.specs.Meaning.{body_meant};
+ghost use Rattle.cif_change.specs.Acts.{act_op};
+
+use crate::key::Key;
+use crate::lines::{Joined, Lines};
+use cif_line::{Line, NO_END, Until};
+use std::cmp::Ordering;
+
+/// What a key is put with. Of two bodies that which ends earlier is the lesser; then the bytes decide, the lines joined, and then the tag of the key.
+#[derive(Debug, Drop)]
+pub enum Body {
+    /// Columns 10 to 72 of the record of a TIPLOC.
+    Tiploc([u8; 63]),
+    /// The record of an association, its transaction `N`.
+    Assoc(Line),
+    /// The records of a schedule, the transaction of the first `N`.
+    Schedule(Lines),
+}
+
+impl Body {
+    /// The number of the last day of the body, from 0 for 1960-01-01. 65535 where its end date means no end or cannot be read, and for a TIPLOC.
+    pub fn end_number(&self) -> u16
+        ensures { result ≡ body_end (body_meant self.now) }
+    {
+        match self {
+            Body::Tiploc(_) => NO_END,
+            Body::Assoc(line) => end_in(six_from(line, 22)),
+            Body::Schedule(lines) => match lines.as_slice().first() {
+                Some(line) => end_in(six_from(line, 16)),
+                None => NO_END,
+            },
+        }
+    }
+
+    /// The tag of the keys that have such a body: 1 of a TIPLOC, 2 of an association, 3 of a schedule.
+    fn tag(&self) -> u8
+        ensures { result ≡ body_tag (body_meant self.now) }
+    {
+        match self {
+            Body::Tiploc(_) => 1,
+            Body::Assoc(_) => 2,
+            Body::Schedule(_) => 3,
+        }
+    }
+
+    /// Its bytes, the lines joined.
+    fn bytes(&self) -> Joined<'_>
+        ensures { joined_bytes result ≡ body_bytes (body_meant self.now) }
+    {
+        match self {
+            Body::Tiploc(bytes) => Joined::new(bytes, &[]),
+            Body::Assoc(line) => Joined::new(line.bytes(), &[]),
+            Body::Schedule(lines) => Joined::new(&[], lines.as_slice()),
+        }
+    }
+
+    /// How its bytes and those of another body compare.
+    fn cmp_bytes(&self, other: &Body) -> Ordering
+        ensures { result ≡
+            bytes_cmp (body_bytes (body_meant self.now)) (body_bytes (body_meant other.now)) }
+    {
+        self.bytes().compare(other.bytes())
+    }
+}
+
+/// The six columns of a line from one on.
+fn six_from(line: &Line, first: usize) -> &[u8; 6]
+    requires from { 0 < first }
+    requires within { first + 5 ≤ 80 }
+    ensures { result.now ≡ columns first (first - 1 + 6) line.now }
+{
+    match line.bytes()[first - 1..first - 1 + 6].first_chunk() {
+        Some(field) => field,
+        None => unreachable!(),
+    }
+}
+
+/// The end number of an end date.
+fn end_in(field: &[u8; 6]) -> u16
+    ensures { result ≡ readable_end field.now }
+{
+    match Until::from_field(field) {
+        Some(end) => end.number(),
+        None => NO_END,
+    }
+}
+
+impl PartialEq for Body {
+    ghost eq = { on body_meant (eq_by_cmp body_cmp) };
+
+    ghost laws = { partial_equiv_from_equiv (on_equiv body_meant (eq_by_cmp_equiv body_total)) };
+
+    fn eq(&self, other: &Body) -> bool {
+        self.cmp(other).is_eq()
+    }
+}
+
+impl Eq for Body {
+    ghost laws = { on_equiv body_meant (eq_by_cmp_equiv body_total) };
+}
+
+impl PartialOrd for Body {
+    ghost partial_cmp = { as_partial_cmp (on body_meant body_cmp) };
+
+    ghost laws = { partial_order_from_total (on_total body_meant body_total) };
+
+    fn partial_cmp(&self, other: &Body) -> Option<Ordering> {
+        Some(self.cmp(other))
+    }
+}
+
+impl Ord for Body {
+    ghost cmp = { on body_meant body_cmp };
+
+    ghost total = { on_total body_meant body_total };
+
+    ghost matches_partial_cmp = { λ a b. refl };
+
+    ghost matches_eq = { λ a b. refl };
+
+    fn cmp(&self, other: &Body) -> Ordering {
+        self.end_number()
+            .cmp(&other.end_number())
+            .then_with(|| self.cmp_bytes(other))
+            .then_with(|| self.tag().cmp(&other.tag()))
+    }
+}
+
+/// What a change does to its key. A deletion is below each put.
+#[derive(Debug, Drop)]
+pub enum Act {
+    /// The key goes.
+    Delete,
+    /// The key comes, or has this body from now on.
+    Put(Body),
+}
+
+impl PartialEq for Act {
+    ghost eq = { on act_op (eq_by_cmp op_cmp) };
+
+    ghost laws = { partial_equiv_from_equiv (on_equiv act_op (eq_by_cmp_equiv op_total)) };
+
+    fn eq(&self, other: &Act) -> bool {
+        self.cmp(other).is_eq()
+    }
+}
+
+impl Eq for Act {
+    ghost laws = { on_equiv act_op (eq_by_cmp_equiv op_total) };
+}
+
+impl PartialOrd for Act {
+    ghost partial_cmp = { as_partial_cmp (on act_op op_cmp) };
+
+    ghost laws = { partial_order_from_total (on_total act_op op_total) };
+
+    fn partial_cmp(&self, other: &Act) -> Option<Ordering> {
+        Some(self.cmp(other))
+    }
+}
+
+impl Ord for Act {
+    ghost cmp = { on act_op op_cmp };
+
+    ghost total = { on_total act_op op_total };
+
+    ghost matches_partial_cmp = { λ a b. refl };
+
+    ghost matches_eq = { λ a b. refl };
+
+    fn cmp(&self, other: &Act) -> Ordering {
+        match (self, other) {
+            (Act::Delete, Act::Delete) => Ordering::Equal,
+            (Act::Delete, Act::Put(_)) => Ordering::Less,
+            (Act::Put(_), Act::Delete) => Ordering::Greater,
+            (Act::Put(a), Act::Put(b)) => a.cmp(b),
+        }
+    }
+}
+
+/// A change that a record makes.
+#[derive(PartialEq, Eq, Debug, Drop)]
+pub struct Change {
+    /// The number of the record in its file, from 1.
+    pub number: u32,
+    /// The key that it changes.
+    pub key: Key,
+    /// What it does to the key.
+    pub act: Act,
+}

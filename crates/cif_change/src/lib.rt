@@ -1,0 +1,10 @@
+//! What a file changes: keys, what they are put with, and the orders of both.
+#![tactic(auto)]
+
+mod change;
+mod key;
+mod lines;
+
+pub use change::{Act, Body, Change};
+pub use key::{AssocKey, Key, ScheduleKey};
+pub use lines::Lines;

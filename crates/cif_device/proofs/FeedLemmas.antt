@@ -1,0 +1,115 @@
+-- Feeding a taker from a source: what was taken is what the source lost.
+use Rattle.std.proofs.Common.{◌≡◌, ℕ, ◌+◌, ◌<◌, ◌≤◌, List, [], ◌∷◌, ◌++◌, length, take, drop, Some, None, refl, sym, ◌∙◌, ap, subst, arith, append_assoc, append-nil, length-append, ◌^◌, Err, Result, Fits, w64}
+use Rattle.std.specs.Prelude.{Option, option_map}
+use Rattle.std.proofs.lemmas.List.{length-take-le, take-append-le, take-take}
+use Rattle.cif_device.specs.Device.{Reads, IsEnd}
+use Rattle.cif_device.specs.declared.feed.FeedFault.{FeedFault}
+use Rattle.cif_device.specs.declared.feed.FeedFault.TheVariants as feed
+use Rattle.cif_device.specs.Taken.{Taking, Refusing, HasFed, HasRefused, LosesOnePieceMore}
+
+-- nothing is lost before the first read
+pub lost_nothing : (left : Option (List ℕ)) → Reads left [] left
+lost_nothing None = refl
+lost_nothing (Some bytes) = refl
+
+-- what is read behind what was read
+pub lost_more : (initial now next : Option (List ℕ)) (text piece : List ℕ) → Reads initial text now → Reads now piece next → Reads initial (text ++ piece) next
+lost_more initial now None text piece first more = first ∙ ap (option_map (λ rest. text ++ rest)) more
+lost_more initial now (Some rest) text piece first more =
+    first ∙ ap (option_map (λ r. text ++ r)) more ∙ ap (λ t. Some t) (sym (append_assoc text piece rest))
+
+-- before the first read nothing was fed
+pub at_start : {T Terms : Type 0} (takes : Taking T Terms) (terms : Terms) (text : List ℕ) (left : Option (List ℕ)) (taker : T) → takes taker terms text
+    → HasFed takes 0 terms text left left taker
+at_start takes terms text left taker taken =
+    record { bytes = []; size = refl; lost = lost_nothing left; taken = subst (takes taker terms) (sym (append-nil text)) taken }
+
+-- a piece more was fed
+pub next_turn : {T Terms : Type 0} (takes : Taking T Terms) (fed n : ℕ) (terms : Terms) (text : List ℕ) (initial now next : Option (List ℕ)) (before after : T)
+    (piece : List ℕ) → (at : HasFed takes fed terms text initial now before) → length piece ≡ n → Reads now piece next
+    → takes after terms ((text ++ at.bytes) ++ piece) → HasFed takes (fed + n) terms text initial next after
+next_turn takes fed n terms text initial now next before after piece at long more taken = record {
+  bytes = at.bytes ++ piece;
+  size = (let size = at.size in let sum = length-append at.bytes piece in omega (arith, size, sum, long));
+  lost = lost_more initial now next at.bytes piece at.lost more;
+  taken = subst (takes after terms) (append_assoc text at.bytes piece) taken;
+}
+
+-- a read of no byte changes nothing
+pub nothing_more : {T Terms : Type 0} (takes : Taking T Terms) (fed n : ℕ) (terms : Terms) (text : List ℕ) (initial now next : Option (List ℕ)) (taker : T)
+    (into : List ℕ) → HasFed takes fed terms text initial now taker → n ≡ 0 → Reads now (take n into) next → HasFed takes fed terms text initial next taker
+nothing_more takes fed n terms text initial now next taker into at none more = record {
+  bytes = at.bytes;
+  size = at.size;
+  lost = subst (λ bytes. Reads initial bytes next) (append-nil at.bytes) (lost_more initial now next at.bytes [] at.lost last);
+  taken = at.taken;
+}
+  where
+    last : Reads now [] next
+    last = subst (λ m. Reads now (take m into) next) none more
+
+-- a source that failed lost no more
+pub fed_where_failed : {T Terms : Type 0} (takes : Taking T Terms) (fed : ℕ) (terms : Terms) (text : List ℕ) (initial now next : Option (List ℕ)) (taker : T)
+    → HasFed takes fed terms text initial now taker → next ≡ now → (count : ℕ) × HasFed takes count terms text initial next taker
+fed_where_failed takes fed terms text initial now next taker at same =
+    (fed, subst (λ left. HasFed takes fed terms text initial left taker) (sym same) at)
+
+-- a source lost one piece more
+pub one_more : {T Terms : Type 0} (takes : Taking T Terms) (fed : ℕ) (terms : Terms) (text : List ℕ) (initial now next : Option (List ℕ)) (taker : T)
+    (piece : List ℕ) → HasFed takes fed terms text initial now taker → Reads now piece next → length piece ≤ 65536
+    → LosesOnePieceMore takes 65536 terms text initial next
+one_more takes fed terms text initial now next taker piece at more few =
+    record { bytes = at.bytes; piece = piece; lost = lost_more initial now next at.bytes piece at.lost more; few = few; taker = taker; taken = at.taken }
+
+-- or none
+pub no_more : {T Terms : Type 0} (takes : Taking T Terms) (fed : ℕ) (terms : Terms) (text : List ℕ) (initial now next : Option (List ℕ)) (taker : T)
+    → HasFed takes fed terms text initial now taker → next ≡ now → LosesOnePieceMore takes 65536 terms text initial next
+no_more takes fed terms text initial now next taker at same =
+    one_more takes fed terms text initial now next taker [] at (subst (Reads now []) (sym same) (lost_nothing now)) (omega arith)
+
+-- where nothing was read
+pub nothing_read : {T Terms : Type 0} (takes : Taking T Terms) (terms : Terms) (text : List ℕ) (left : Option (List ℕ)) (taker : T) → takes taker terms text
+    → LosesOnePieceMore takes 65536 terms text left left
+nothing_read takes terms text left taker taken = no_more takes 0 terms text left left left taker (at_start takes terms text left taker taken) refl
+
+-- a piece was refused
+pub refused_behind : {T Terms Fault : Type 0} (takes : Taking T Terms) (refuses : Refusing T Terms Fault) (fed : ℕ) (terms : Terms) (text : List ℕ)
+    (initial now next : Option (List ℕ)) (before after : T) (piece : List ℕ) (fault : Fault) → (at : HasFed takes fed terms text initial now before)
+    → Reads now piece next → length piece ≤ 65536 → refuses after terms (text ++ at.bytes) piece fault
+    → HasRefused takes refuses 65536 terms text initial next after fault
+unfolding one_more
+refused_behind takes refuses fed terms text initial now next before after piece fault at more few refused =
+    record { more = one_more takes fed terms text initial now next before piece at more few; refused = refused }
+
+-- a fault is told as itself
+pub refused_as : {T Terms Fault : Type 0} (takes : Taking T Terms) (refuses : Refusing T Terms Fault) (terms : Terms) (text : List ℕ)
+    (initial next : Option (List ℕ)) (taker : T) (fault told : Fault)
+    → ◌≡◌ {A = Result ℕ (FeedFault Fault)} (Err (feed.Refused fault)) (Err (feed.Refused told))
+    → HasRefused takes refuses 65536 terms text initial next taker fault → HasRefused takes refuses 65536 terms text initial next taker told
+refused_as takes refuses terms text initial next taker fault told is has =
+    let same : fault ≡ told = cc in subst (HasRefused takes refuses 65536 terms text initial next taker) same has
+
+-- how many bytes were fed is told in 64 bits
+pub fits_still : (fed n : ℕ) (text bytes piece : List ℕ) → length bytes ≡ fed → length piece ≡ n → length ((text ++ bytes) ++ piece) < 2 ^ 64
+    → Fits w64 (fed + n)
+fits_still fed n text bytes piece size long below =
+    let front = length-append text bytes in
+    let whole = length-append (text ++ bytes) piece in
+    omega (arith, front, whole, size, long, below)
+
+-- what one read gives is no longer than what it was read into
+pub at_once : (n len : ℕ) (into : List ℕ) → length into ≡ len → len ≡ 65536 → n ≤ length into → length (take n into) ≤ 65536
+at_once n len into long room within = let size = length-take-le n into within in omega arith
+
+-- behind the end nothing is left
+pub end_stays : (now next : Option (List ℕ)) (piece : List ℕ) → Reads now piece next → IsEnd now → IsEnd next
+end_stays now None piece more end = tt
+end_stays None (Some rest) piece more end = cc
+end_stays (Some left) (Some rest) [] more end = cc
+end_stays (Some left) (Some rest) (byte ∷ piece) more end = let none : ⊥ = cc in absurd none
+
+-- the bytes of a buffer that were read
+pub same_front : (n len : ℕ) (piece into items : List ℕ) → piece ≡ take len (into ++ drop (length into) items) → length into ≡ len → n ≤ length into
+    → take n piece ≡ take n into
+same_front n len piece into items is whole within =
+    ap (take n) (is ∙ take-append-le len into (drop (length into) items) (omega arith)) ∙ take-take n len into (omega arith)

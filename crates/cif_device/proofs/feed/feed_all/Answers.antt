@@ -1,0 +1,98 @@
+-- Each piece is taken behind those before it.
+use Rattle.std.proofs.Common.{◌≡◌, ◌+◌, ◌<◌, ◌++◌, length, take, refl, ap, arith, ◌∙◌, subst}
+use Rattle.std.proofs.lemmas.List.{length-take-le}
+use Rattle.cif_device.specs.Device.{IsEnd}
+use Rattle.cif_device.proofs.FeedLemmas.{at_once, at_start, end_stays, fed_where_failed, fits_still, next_turn, no_more, nothing_more, nothing_read, one_more, refused_as, refused_behind, same_front}
+use Rattle.cif_device.proofs.feed.feed_all.Goals as goal
+
+pub returns-in_default-clause-no_further : goal.returns-in_default-clause-no_further
+returns-in_default-clause-no_further g c = λ terms text taken.
+    nothing_read g.T.Taker.takes terms text (g.S.Source.left c.args.source.now) c.args.taker.now taken
+
+pub pieces-init : goal.pieces-init
+pieces-init g c = record {
+  turn = λ terms text taken. at_start g.T.Taker.takes terms text (g.S.Source.left c.args.source.now) c.args.taker.now taken;
+  no_failure = refl;
+  room = c.in-Ok.ensures.len;
+}
+
+pub returns-in_default-read-clause-failed : goal.returns-in_default-read-clause-failed
+returns-in_default-read-clause-failed g c = λ is terms text taken.
+    fed_where_failed g.T.Taker.takes c.pieces.fed terms text (g.S.Source.left c.args.source.now) (g.S.Source.left c.pieces.source)
+    (g.S.Source.left c.read.new.self) c.pieces.taker (c.pieces.invariant.turn terms text taken) c.in_default-read.ensures.unmoved
+
+pub returns-in_default-read-clause-no_further : goal.returns-in_default-read-clause-no_further
+returns-in_default-read-clause-no_further g c = λ terms text taken.
+    no_more g.T.Taker.takes c.pieces.fed terms text (g.S.Source.left c.args.source.now) (g.S.Source.left c.pieces.source)
+    (g.S.Source.left c.read.new.self) c.pieces.taker (c.pieces.invariant.turn terms text taken) c.in_default-read.ensures.unmoved
+
+pub returns-in_default-read-clause-source : goal.returns-in_default-read-clause-source
+returns-in_default-read-clause-source g c =
+    (λ is. c.in_default-read.ensures.counted ∙ ap (λ n. n + 1) c.pieces.invariant.no_failure, λ more. refl)
+
+pub returns-then-n-eq0-clause-fed : goal.returns-then-n-eq0-clause-fed
+returns-then-n-eq0-clause-fed g c = λ terms text taken.
+    nothing_more g.T.Taker.takes c.pieces.fed c.in-Ok-read.n terms text (g.S.Source.left c.args.source.now) (g.S.Source.left c.pieces.source)
+    (g.S.Source.left c.read.new.self) c.pieces.taker c.read.new.into (c.pieces.invariant.turn terms text taken) c.if-n-eq0.true c.in-Ok-read.ensures.moved
+
+pub returns-then-n-eq0-clause-end : goal.returns-then-n-eq0-clause-end
+returns-then-n-eq0-clause-end g c = λ ok.
+    let room : 0 < length c.read.new.into = omega (arith, c.pieces.invariant.room, c.as_mut_slice.ensures.len, c.read.auto.into) in
+    let end : IsEnd (g.S.Source.left c.pieces.source) = c.in-Ok-read.ensures.end c.if-n-eq0.true room in
+    end_stays (g.S.Source.left c.pieces.source) (g.S.Source.left c.read.new.self) (take c.in-Ok-read.n c.read.new.into) c.in-Ok-read.ensures.moved end
+
+pub returns-then-n-eq0-clause-no_further : goal.returns-then-n-eq0-clause-no_further
+returns-then-n-eq0-clause-no_further g c = λ terms text taken.
+    one_more g.T.Taker.takes c.pieces.fed terms text (g.S.Source.left c.args.source.now) (g.S.Source.left c.pieces.source)
+    (g.S.Source.left c.read.new.self) c.pieces.taker (take c.in-Ok-read.n c.read.new.into) (c.pieces.invariant.turn terms text taken) c.in-Ok-read.ensures.moved
+    (at_once c.in-Ok-read.n c.pieces.piece.len c.read.new.into (c.read.auto.into ∙ c.as_mut_slice.ensures.len) c.pieces.invariant.room c.in-Ok-read.ensures.within)
+
+pub returns-in-Err-clause-refused : goal.returns-in-Err-clause-refused
+returns-in-Err-clause-refused g c = λ fault is terms text taken.
+    let at = c.pieces.invariant.turn terms text taken in
+    let long : length c.read.new.into ≡ c.pieces.piece.len = c.read.auto.into ∙ c.as_mut_slice.ensures.len in
+    let same : take c.in-Ok-read.n c.deref.result.now ≡ take c.in-Ok-read.n c.read.new.into =
+    same_front c.in-Ok-read.n c.pieces.piece.len c.deref.result.now c.read.new.into c.pieces.piece.items c.deref.ensures.value long c.in-Ok-read.ensures.within in
+    refused_as g.T.Taker.takes g.T.Taker.refuses terms text (g.S.Source.left c.args.source.now) (g.S.Source.left c.read.new.self) c.take.new.self
+    c.in-Err.fault fault is
+    (refused_behind g.T.Taker.takes g.T.Taker.refuses c.pieces.fed terms text (g.S.Source.left c.args.source.now) (g.S.Source.left c.pieces.source)
+    (g.S.Source.left c.read.new.self) c.pieces.taker c.take.new.self (take c.in-Ok-read.n c.read.new.into) c.in-Err.fault at c.in-Ok-read.ensures.moved
+    (at_once c.in-Ok-read.n c.pieces.piece.len c.read.new.into long c.pieces.invariant.room c.in-Ok-read.ensures.within)
+    (subst (λ piece. g.T.Taker.refuses c.take.new.self terms (text ++ at.bytes) piece c.in-Err.fault) same
+    (c.in-Err.ensures.refused terms (text ++ at.bytes) at.taken)))
+
+pub returns-in-Err-clause-no_further : goal.returns-in-Err-clause-no_further
+returns-in-Err-clause-no_further g c = λ terms text taken.
+    one_more g.T.Taker.takes c.pieces.fed terms text (g.S.Source.left c.args.source.now) (g.S.Source.left c.pieces.source)
+    (g.S.Source.left c.read.new.self) c.pieces.taker (take c.in-Ok-read.n c.read.new.into) (c.pieces.invariant.turn terms text taken) c.in-Ok-read.ensures.moved
+    (at_once c.in-Ok-read.n c.pieces.piece.len c.read.new.into (c.read.auto.into ∙ c.as_mut_slice.ensures.len) c.pieces.invariant.room c.in-Ok-read.ensures.within)
+
+pub overflow_add-fed : goal.overflow_add-fed
+overflow_add-fed g c =
+    let asked = c.requires.taking in
+    let at = c.pieces.invariant.turn asked.terms asked.text asked.taken in
+    let long : length c.read.new.into ≡ c.pieces.piece.len = c.read.auto.into ∙ c.as_mut_slice.ensures.len in
+    let same : take c.in-Ok-read.n c.deref.result.now ≡ take c.in-Ok-read.n c.read.new.into =
+    same_front c.in-Ok-read.n c.pieces.piece.len c.deref.result.now c.read.new.into c.pieces.piece.items c.deref.ensures.value long c.in-Ok-read.ensures.within in
+    let taken = subst (λ piece. g.T.Taker.takes c.take.new.self asked.terms ((asked.text ++ at.bytes) ++ piece)) same
+    (c.in_default-take.ensures.taken asked.terms (asked.text ++ at.bytes) at.taken) in
+    fits_still c.pieces.fed c.in-Ok-read.n asked.text at.bytes (take c.in-Ok-read.n c.read.new.into) at.size
+    (length-take-le c.in-Ok-read.n c.read.new.into c.in-Ok-read.ensures.within)
+    (g.met.T.Taker.bounded c.take.new.self asked.terms ((asked.text ++ at.bytes) ++ take c.in-Ok-read.n c.read.new.into) taken)
+
+pub pieces-preserved : goal.pieces-preserved
+pieces-preserved g c =
+    let long : length c.read.new.into ≡ c.pieces.piece.len = c.read.auto.into ∙ c.as_mut_slice.ensures.len in
+    let same : take c.in-Ok-read.n c.deref.result.now ≡ take c.in-Ok-read.n c.read.new.into =
+    same_front c.in-Ok-read.n c.pieces.piece.len c.deref.result.now c.read.new.into c.pieces.piece.items c.deref.ensures.value long c.in-Ok-read.ensures.within in
+    record {
+      turn = λ terms text taken.
+          let at = c.pieces.invariant.turn terms text taken in
+          next_turn g.T.Taker.takes c.pieces.fed c.in-Ok-read.n terms text (g.S.Source.left c.args.source.now) (g.S.Source.left c.pieces.source)
+          (g.S.Source.left c.read.new.self) c.pieces.taker c.take.new.self (take c.in-Ok-read.n c.read.new.into) at
+          (length-take-le c.in-Ok-read.n c.read.new.into c.in-Ok-read.ensures.within) c.in-Ok-read.ensures.moved
+          (subst (λ piece. g.T.Taker.takes c.take.new.self terms ((text ++ at.bytes) ++ piece)) same
+          (c.in_default-take.ensures.taken terms (text ++ at.bytes) at.taken));
+      no_failure = c.in-Ok-read.ensures.no_failure ∙ c.pieces.invariant.no_failure;
+      room = c.pieces.invariant.room;
+    }

@@ -1,0 +1,92 @@
+//! What takes a text in pieces, and the feeding of it from a source.
+ghost use Rattle.std.specs.Prelude.{◌≡◌, ◌≢◌, ℕ, ◌+◌, ◌-◌, ◌^◌, ◌<◌, ◌↔◌, ◌++◌, List, length, IsOk, IfOk, IfErr, OnOk, Err};
+ghost use Rattle.cif_device.specs.Device.{IsEnd};
+ghost use Rattle.cif_device.specs.Taken.{BehindEach, HasFed, HasRefused, IsTaking, LosesOnePieceMore};
+
+use crate::device::Source;
+use std::alloc::Global;
+
+/// How many bytes are read at once.
+const PIECE: usize = 65_536;
+
+/// Why a source was not fed to its end.
+#[derive(Clone, Copy, Debug, PartialEq, Eq)]
+pub enum FeedFault<F> {
+    /// The source failed.
+    Source,
+    /// A growth was refused, before a byte was read.
+    Memory,
+    /// The taker refused a piece, for this fault.
+    Refused(F),
+}
+
+/// What takes a text piece by piece, up to the first piece that it refuses.
+pub trait Taker {
+    /// Why a piece is refused.
+    type Fault: Drop;
+
+    // What stays as it is while it takes, as a limit on the text.
+    ghost Terms: { Type 0 };
+
+    // It has taken this text, under these terms, and refused nothing.
+    ghost takes: { Self → Terms → List ℕ → Type 0 };
+
+    // What it is once it has refused a piece behind a text, and what the fault says of both.
+    ghost refuses: { Self → Terms → List ℕ → List ℕ → Self.Fault → Type 0 };
+
+    /// Takes the next bytes of the text.
+    fn take(&mut self, piece: &[u8]) -> Result<(), Self::Fault>
+        ensures taken { OnOk result (BehindEach takes self.old (λ terms text.
+            takes self.new terms (text ++ piece.now))) }
+        ensures refused { IfErr result (λ fault. BehindEach takes self.old (λ terms text.
+            refuses self.new terms text piece.now fault)) };
+
+    // Each text that it may have taken is shorter than this, so that a source without end is refused.
+    ghost bounded: { (taker : Self) (terms : Terms) (text : List ℕ) → takes taker terms text
+        → length text < 2 ^ 64 };
+}
+
+/// Feeds a taker all that a source has left, in pieces of at most 65,536 bytes, and answers how many bytes they were. Nothing is read behind the piece that the
+/// taker refuses, and it ends over each source: of one that never ends some piece is refused, for what is taken has a bound.
+pub fn feed_all<S: Source, T: Taker>(
+    alloc: Global,
+    source: &mut S,
+    taker: &mut T,
+) -> Result<u64, FeedFault<T::Fault>>
+    requires failures { S.failures source.old < 2 ^ 64 - 1 }
+    requires taking { IsTaking T.takes taker.old }
+    ensures fed { IfOk result (λ count. BehindEach T.takes taker.old (λ terms text.
+        HasFed T.takes count terms text (S.left source.old) (S.left source.new) taker.new)) }
+    ensures end { IsOk result → IsEnd (S.left source.new) }
+    ensures refused { (fault : T.Fault) → result ≡ Err (FeedFault.Refused fault) →
+        BehindEach T.takes taker.old (λ terms text. HasRefused T.takes T.refuses 65536 terms text
+        (S.left source.old) (S.left source.new) taker.new fault) }
+    ensures memory { result ≡ Err FeedFault.Memory →
+        (S.left source.new ≡ S.left source.old) × (taker.new ≡ taker.old) }
+    ensures failed { result ≡ Err FeedFault.Source → BehindEach T.takes taker.old (λ terms text.
+        (count : ℕ) ×
+        HasFed T.takes count terms text (S.left source.old) (S.left source.new) taker.new) }
+    ensures no_further { BehindEach T.takes taker.old (λ terms text.
+        LosesOnePieceMore T.takes 65536 terms text (S.left source.old) (S.left source.new)) }
+    ensures source { (result ≡ Err FeedFault.Source) ↔
+        (S.failures source.new ≡ S.failures source.old + 1) }
+    ensures no_failure { result ≢ Err FeedFault.Source →
+        S.failures source.new ≡ S.failures source.old }
+{
+    let Ok(mut piece) = vec![in alloc; 0u8; PIECE] else {
+        return Err(FeedFault::Memory);
+    };
+    let mut fed: u64 = 0;
+    'pieces: loop {
+        let Ok(n) = source.read(piece.as_mut_slice()) else {
+            return Err(FeedFault::Source);
+        };
+        if n == 0 {
+            return Ok(fed);
+        }
+        if let Err(fault) = taker.take(&piece[..n]) {
+            return Err(FeedFault::Refused(fault));
+        }
+        fed += n as u64;
+    }
+}

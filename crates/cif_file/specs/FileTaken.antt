@@ -1,0 +1,32 @@
+-- What a reading of a file has taken of it, and what its fault says of a piece.
+use Rattle.std.specs.Prelude.{◌≡◌, ℕ, ◌+◌, ◌^◌, ◌<◌, ◌≤◌, List, ◌++◌, length}
+use Rattle.std.proofs.Common.{arith}
+use Rattle.docker_model.specs.file.File.{most_records}
+use Rattle.docker_model.specs.file.FaultSoFar.{IsFaultSoFar, lines_told}
+use Rattle.docker_model.specs.file.FileFault as model
+use Rattle.docker_laws.proofs.files.ToldBound.{text_without_fault_is_bounded}
+use Rattle.cif_journey.specs.declared.cause.FileCause.TheVariants.{Memory}
+use Rattle.cif_file.specs.declared.fault.FileFault.{FileFault}
+use Rattle.cif_file.specs.declared.parser.Reading.{Reading}
+use Rattle.cif_file.specs.KeeperRead.{Keeps}
+use Rattle.cif_file.specs.ParserRead.{IsReading, IsFaultTold}
+
+-- a text was read that has no fault so far, under a limit on the number of its records
+pub record TakesFile {K : Type 0} (keeps : Keeps K) (reading : Reading K) (limit : ℕ) (text : List ℕ) : Type 0 where
+  pub read : IsReading keeps reading limit text
+  pub few : limit ≤ most_records
+  pub sound : (fault : model.FileFault) → ¬ IsFaultSoFar limit text fault
+
+-- a text that a reading has taken is bounded: it has at most 82 bytes for each record of the limit, and 81 behind them
+pub taken_is_bounded : {K : Type 0} (keeps : Keeps K) (reading : Reading K) (limit : ℕ) (text : List ℕ) → TakesFile keeps reading limit text
+    → length text < 2 ^ 64
+taken_is_bounded keeps reading limit text has =
+    let most = text_without_fault_is_bounded limit text has.sound in
+    let few = has.few in
+    omega (arith, most, few)
+
+-- the fault is told of a text and a piece behind it, at a record that the text doesn't tell; memory was wanting only where it may be
+pub record RefusesPiece (wants : Type 0) (limit : ℕ) (text piece : List ℕ) (fault : FileFault) : Type 0 where
+  pub told : IsFaultTold limit (text ++ piece) fault
+  pub later : lines_told text < fault.number
+  pub wanted : fault.cause ≡ Memory → wants

@@ -1,0 +1,170 @@
+//! Records that are units by themselves, and the changes that they make.
+ghost use Rattle.std.specs.Prelude.{◌≡◌, ℕ, length, ◌++◌, [], ◌∷◌, map, true, false, OnOk, MatchOption, if◌then◌else◌};
+ghost use Rattle.docker_model.specs.records.Record.{HasKind, columns, tiploc_amend};
+ghost use Rattle.docker_model.specs.records.Field.{is_deletion, as_new};
+ghost use Rattle.docker_model.specs.file.Change.{changes_of_record, keeps_code, tiploc_key, association_named, tiploc_named, tiploc_details, association_body, delete, put};
+ghost use Rattle.cif_change.specs.Meaning.{change_meant, key_meant};
+ghost use Rattle.cif_file.specs.UnitRead.{AppendsChanges, kind_of_single, line_of_single};
+
+use cif_change::{Act, AssocKey, Body, Change, Key};
+use cif_line::{Assoc, Tiploc, TiplocRecord, Transaction};
+use std::alloc::AllocError;
+
+/// A record that is a unit by itself, whose checked fields are good.
+#[derive(Debug, Drop)]
+pub(crate) enum Single<'a> {
+    /// A TIPLOC insert (TI).
+    TiplocInsert(TiplocRecord<'a>),
+    /// A TIPLOC amendment (TA).
+    TiplocAmend(TiplocRecord<'a>),
+    /// A TIPLOC deletion (TD).
+    TiplocDelete(TiplocRecord<'a>),
+    /// An association (AA).
+    Association(Assoc<'a>),
+}
+
+/// Appends the changes that the record makes.
+pub(crate) fn push_changes(
+    changes: &mut Vec<Change>,
+    number: u32,
+    single: &Single<'_>,
+) -> Result<(), AllocError>
+    requires { HasKind (kind_of_single single.now) (line_of_single single.now) }
+    ensures { OnOk result (AppendsChanges changes.old.items
+        (changes_of_record number (line_of_single single.now) []) changes.new.items) }
+{
+    match single {
+        Single::TiplocInsert(view) => push(changes, tiploc_put(number, view.code(), view)),
+        Single::TiplocAmend(view) => push_amended(changes, number, view),
+        Single::TiplocDelete(view) => push(changes, tiploc_deleted(number, view)),
+        Single::Association(view) => push(changes, association_change(number, view)),
+    }
+}
+
+/// Appends the changes that a TIPLOC amendment makes: where it changes the code, the old one is deleted.
+fn push_amended(
+    changes: &mut Vec<Change>,
+    number: u32,
+    view: &TiplocRecord<'_>,
+) -> Result<(), AllocError>
+    requires { HasKind tiploc_amend view.now }
+    ensures { OnOk result (AppendsChanges changes.old.items
+        (changes_of_record number view.now []) changes.new.items) }
+{
+    match other_code(view) {
+        None => push(changes, tiploc_put(number, view.code(), view)),
+        Some(code) => {
+            push(changes, tiploc_deleted(number, view))?;
+            push(changes, tiploc_put(number, code, view))
+        }
+    }
+}
+
+/// How many changes the record makes.
+pub(crate) fn count_changes(single: &Single<'_>) -> u64
+    requires { HasKind (kind_of_single single.now) (line_of_single single.now) }
+    ensures { (number : ℕ) →
+        result ≡ length (changes_of_record number (line_of_single single.now) []) }
+{
+    match single {
+        Single::TiplocInsert(_) => 1,
+        Single::TiplocAmend(view) => count_amended(view),
+        Single::TiplocDelete(_) => 1,
+        Single::Association(_) => 1,
+    }
+}
+
+/// How many changes a TIPLOC amendment makes.
+fn count_amended(view: &TiplocRecord<'_>) -> u64
+    requires { HasKind tiploc_amend view.now }
+    ensures { (number : ℕ) → result ≡ length (changes_of_record number view.now []) }
+{
+    match other_code(view) {
+        None => 1,
+        Some(_) => 2,
+    }
+}
+
+/// Appends a change.
+pub(crate) fn push(changes: &mut Vec<Change>, change: Change) -> Result<(), AllocError>
+    ensures { OnOk result (AppendsChanges changes.old.items (change_meant change ∷ [])
+        changes.new.items) }
+{
+    changes.push(change)?;
+    Ok(())
+}
+
+/// The code that a TIPLOC amendment changes to, if it is another one.
+fn other_code(view: &TiplocRecord<'_>) -> Option<Tiploc>
+    requires { HasKind tiploc_amend view.now }
+    ensures { MatchOption result (keeps_code view.now ≡ true)
+        (λ code. (keeps_code view.now ≡ false) × (code ≡ columns 73 79 view.now)) }
+{
+    let code = view.new_code()?;
+    if code == view.code() {
+        None
+    } else {
+        Some(code)
+    }
+}
+
+/// The change that deletes the TIPLOC of a record.
+fn tiploc_deleted(number: u32, view: &TiplocRecord<'_>) -> Change
+    ensures { change_meant result ≡
+        record { number = number; key = tiploc_named view.now; act = delete } }
+{
+    Change {
+        number,
+        key: Key::Tiploc(view.code()),
+        act: Act::Delete,
+    }
+}
+
+/// The change that puts the TIPLOC of a record at this code.
+fn tiploc_put(number: u32, code: Tiploc, view: &TiplocRecord<'_>) -> Change
+    ensures { change_meant result ≡ record {
+      number = number;
+      key = tiploc_key code;
+      act = put (tiploc_details view.now);
+    } }
+{
+    Change {
+        number,
+        key: Key::Tiploc(code),
+        act: Act::Put(Body::Tiploc(*view.details())),
+    }
+}
+
+/// The change of an association.
+fn association_change(number: u32, view: &Assoc<'_>) -> Change
+    ensures { change_meant result ≡ record {
+      number = number;
+      key = association_named view.now;
+      act = if is_deletion view.now then delete else put (association_body (as_new view.now));
+    } }
+{
+    let act = match view.transaction() {
+        Transaction::Delete => Act::Delete,
+        Transaction::New => Act::Put(Body::Assoc(view.line().as_new())),
+        Transaction::Revise => Act::Put(Body::Assoc(view.line().as_new())),
+    };
+    Change {
+        number,
+        key: Key::Assoc(association_key(view)),
+        act,
+    }
+}
+
+/// What an association is known by.
+fn association_key(view: &Assoc<'_>) -> AssocKey
+    ensures { key_meant (Key.Assoc result) ≡ association_named view.now }
+{
+    AssocKey {
+        base: view.base(),
+        associated: view.associated(),
+        start: view.start(),
+        location: view.location(),
+        suffix: view.base_suffix(),
+        stp: view.stp(),
+    }
+}

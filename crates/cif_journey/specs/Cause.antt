@@ -1,0 +1,32 @@
+-- What the causes of faults mean, as the definitions name them, and their texts.
+use Rattle.std.specs.Prelude.{ℕ, List, ◌++◌, codes, decimal, Option, Some, None}
+use Rattle.docker_model.specs.file.FileFault.{too_many, after_trailer, bad_length, bad_byte, bad_kind, bad_place, bad_field, third_midnight, no_end}
+use Rattle.docker_model.specs.file.FileFault as fault
+use Rattle.cif_journey.specs.declared.cause.FileCause.{FileCause}
+use Rattle.cif_journey.specs.declared.cause.FileCause.TheVariants as cause
+
+-- a cause. Want of memory is none of a text's
+abbrev pub cause_meant : FileCause → Option fault.FileCause
+cause_meant cause.Length = Some bad_length
+cause_meant (cause.Byte at) = Some (bad_byte at)
+cause_meant cause.Kind = Some bad_kind
+cause_meant cause.Place = Some bad_place
+cause_meant (cause.Field at) = Some (bad_field at)
+cause_meant cause.Midnights = Some third_midnight
+cause_meant cause.NoEnd = Some no_end
+cause_meant cause.After = Some after_trailer
+cause_meant cause.TooMany = Some too_many
+cause_meant cause.Memory = None
+
+-- a cause by its name, and the column
+abbrev pub cause_text : FileCause → List ℕ
+cause_text cause.Length = codes "Length"
+cause_text (cause.Byte column) = codes "Byte " ++ decimal column
+cause_text cause.Kind = codes "Kind"
+cause_text cause.Place = codes "Place"
+cause_text (cause.Field column) = codes "Field " ++ decimal column
+cause_text cause.Midnights = codes "Midnights"
+cause_text cause.NoEnd = codes "NoEnd"
+cause_text cause.After = codes "After"
+cause_text cause.TooMany = codes "TooMany"
+cause_text cause.Memory = codes "Memory"

@@ -1,0 +1,14 @@
+//! The reader of a schedule's lines, and the causes for which records are refused.
+#![tactic(auto)]
+
+mod cause;
+mod journey;
+mod journey_times;
+mod progress;
+mod stage;
+mod steps;
+
+pub use cause::FileCause;
+pub use journey::Journey;
+pub use progress::Progress;
+pub use steps::behind_basic;

@@ -1,0 +1,16 @@
+//! How far a reader of a schedule's lines has come.
+ghost use Rattle.std.specs.Prelude.{◌≤◌};
+
+use crate::journey_times::Clock;
+use crate::stage::ScheduleStage;
+
+/// What a reader keeps of a schedule's lines so far: its stage, none before the first line; whether it is a deletion; whether it may lack its journey; and the
+/// times so far, which pass midnight at most twice.
+#[derive(Clone, Copy, PartialEq, Eq, Debug)]
+pub struct Progress {
+    pub(crate) stage: Option<ScheduleStage>,
+    pub(crate) deletion: bool,
+    pub(crate) lacking: bool,
+    pub(crate) clock: Clock,
+    ghost few: { clock.falls ≤ 2 },
+}

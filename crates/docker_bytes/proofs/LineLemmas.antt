@@ -1,0 +1,76 @@
+-- A line with more lines to come: the stage stays as it is.
+use Rattle.std.proofs.Common.{◌≡◌, ℕ, ◌+◌, ◌<◌, List, [], ◌∷◌, ◌++◌, length, ap, sym, ◌∙◌, subst, arith, length-append, refl, false, Some, None}
+use Rattle.std.specs.Prelude.{Option}
+use Rattle.docker_model.specs.file.Change.{ScheduleKey}
+use Rattle.docker_model.specs.state.Stamp.{Stamp}
+use Rattle.docker_model.specs.state.State.{State}
+use Rattle.docker_model.specs.state.StateText.{Format}
+use Rattle.docker_model.specs.state.StatePart.{in_entry, before_line, width, AreGood}
+use Rattle.docker_model.specs.state.StateFault.{bad_mark, bad_item, bad_order, bad_floor, bad_tag, bad_stamp, bad_body, too_short, has_tail, too_long, bad_horizon}
+use Rattle.docker_model.specs.state.StateFault as model
+use Rattle.docker_laws.specs.TextStage.{advance}
+use Rattle.docker_laws.proofs.texts.TextsBefore.{more_lines}
+use Rattle.docker_parts.specs.ScheduleKey as code
+use Rattle.docker_parts.specs.Meaning.{stamp_meant}
+use Rattle.docker_parts.specs.Stamp as stamps
+use Rattle.docker_parts.specs.declared.stage.Stage.{Stage}
+use Rattle.docker_parts.specs.declared.stage.Stage.TheVariants as stage
+use Rattle.docker_parts.specs.FaultMeaning.{IsBadHere}
+use Rattle.docker_parts.specs.Lines.{AreLinesUpToIn, IsUpToRefusal}
+use Rattle.docker_parts.specs.Stage.{schedule_meant, stage_meant, begins_item, LeadsTo}
+use Rattle.docker_bytes.specs.Reading.{IsLineOf}
+
+-- a line, and more are to come: the next part is a line again
+more_to_come : (format : Format) (count : ℕ) (state : State) (key : ScheduleKey) (stamp : Stamp) (n : ℕ) (lines : List (List ℕ)) (line : List ℕ)
+    (taken : List (List ℕ)) → taken ≡ lines ++ line ∷ [] → length taken < n
+    → in_entry count state (before_line key stamp n taken) ≡ advance format (in_entry count state (before_line key stamp n lines)) line
+more_to_come format count state key stamp n lines line taken is below =
+    ap (λ ls. in_entry count state (before_line key stamp n ls)) is
+    ∙ sym (more_lines count state key stamp n (lines ++ line ∷ []) (subst (λ (ls : List (List ℕ)). length ls < n) is below))
+
+-- how wide it is
+pub line_width : (key : code.ScheduleKey) (n : ℕ) (at : Stage) → IsLineOf key n at → (state : State) (lines : List (List ℕ))
+    → width (stage_meant at state lines) ≡ 80
+line_width key n at of state lines = subst (λ (p : Stage). width (stage_meant p state lines) ≡ 80) (sym of.is) refl
+
+-- the stage behind the line is the same, and within the item
+pub line_leads : (format : Format) (at : Stage) (entries : ℕ) (key : code.ScheduleKey) (stamp : stamps.Stamp) (n : ℕ) → at ≡ stage.Line entries key stamp n
+    → (state : State) (lines taken : List (List ℕ)) (line : List ℕ) → AreGood format (stage_meant at state lines) → taken ≡ lines ++ line ∷ []
+    → length lines + 1 < n
+    → AreLinesUpToIn state (schedule_meant key) n (lines ++ line ∷ [])
+    → LeadsTo format (stage_meant at state lines) line at state taken × (begins_item (stage_meant at state taken) ≡ false)
+line_leads format at entries key stamp n is state lines taken line good taken_is below up_to =
+    let here : AreGood format (in_entry entries state (before_line (schedule_meant key) (stamp_meant stamp) n lines)) = subst
+    (λ (p : Stage). AreGood format (stage_meant p state lines)) is good in
+    let size = length-append lines (line ∷ []) in
+    let same : length taken ≡ length (lines ++ line ∷ []) = ap (λ (ls : List (List ℕ)). length ls) taken_is in
+    subst (λ (p : Stage). LeadsTo format (stage_meant p state lines) line p state taken × (begins_item (stage_meant p state taken) ≡ false)) (sym is) (
+      record {
+        is = more_to_come format entries state (schedule_meant key) (stamp_meant stamp) n lines line taken taken_is (omega arith);
+        not_bad = λ cause bad. bad.1 up_to;
+        fresh = tt;
+      },
+      refl,
+    )
+
+-- a line that does not go on is a bad part, and one that does is none for which memory was wanting
+pub line_bad : (format : Format) (at : Stage) (entries : ℕ) (key : code.ScheduleKey) (stamp : stamps.Stamp) (n : ℕ) → at ≡ stage.Line entries key stamp n
+    → (state : State) (lines : List (List ℕ)) (line : List ℕ) (cause : Option model.StateCause) → IsUpToRefusal state (schedule_meant key) n lines line cause
+    → AreGood format (stage_meant at state lines) → IsBadHere format (stage_meant at state lines) line cause
+line_bad format at entries key stamp n is state lines line cause refused good =
+    subst (λ (p : Stage). IsBadHere format (stage_meant p state lines) line cause) (sym is) (by cause refused)
+  where
+    by : (cause : Option model.StateCause) → IsUpToRefusal state (schedule_meant key) n lines line cause
+        → IsBadHere format (in_entry entries state (before_line (schedule_meant key) (stamp_meant stamp) n lines)) line cause
+    by None r = record { takes = tt; not_bad = λ cause bad. bad.1 r }
+    by (Some bad_body) r = (refl, r)
+    by (Some bad_mark) r = absurd r
+    by (Some bad_item) r = absurd r
+    by (Some bad_order) r = absurd r
+    by (Some bad_floor) r = absurd r
+    by (Some bad_tag) r = absurd r
+    by (Some bad_stamp) r = absurd r
+    by (Some too_short) r = absurd r
+    by (Some has_tail) r = absurd r
+    by (Some too_long) r = absurd r
+    by (Some bad_horizon) r = absurd r

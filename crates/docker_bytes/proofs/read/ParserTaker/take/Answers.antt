@@ -1,0 +1,11 @@
+-- What the parser reads it takes.
+use Rattle.docker_bytes.proofs.ReadLemmas.{takes_more, refuses_more}
+use Rattle.docker_bytes.proofs.read.ParserTaker.take.Goals as goal
+
+pub returns-clause-taken : goal.returns-clause-taken
+returns-clause-taken c = takes_more c.args.self.now c.feed.new.parser c.args.piece.now c.feed.result c.feed.ensures.read c.feed.ensures.own
+
+pub returns-clause-refused : goal.returns-clause-refused
+returns-clause-refused c =
+    refuses_more c.args.self.now c.feed.new.parser c.args.piece.now c.feed.result c.feed.ensures.state c.feed.ensures.memory c.feed.ensures.source
+    c.feed.ensures.own

@@ -1,0 +1,19 @@
+use Rattle.docker_model.specs.state.StateText.{dks_2, state_text}
+use Rattle.docker_encode.proofs.BufferLemmas.{flushed}
+use Rattle.docker_encode.proofs.write.write_state.Goals as goal
+
+pub returns-clause-whole : goal.returns-clause-whole
+returns-clause-whole g c =
+    (flushed g.K.Sink.taken g.K.Sink.failures c.args.sink.now c.put_text.new.sink (state_text dks_2 c.args.state.now) c.put_text.result c.put_text.ensures).0
+
+pub returns-clause-part : goal.returns-clause-part
+returns-clause-part g c =
+    (flushed g.K.Sink.taken g.K.Sink.failures c.args.sink.now c.put_text.new.sink (state_text dks_2 c.args.state.now) c.put_text.result c.put_text.ensures).1
+
+pub returns-clause-no_failure : goal.returns-clause-no_failure
+returns-clause-no_failure g c =
+    (flushed g.K.Sink.taken g.K.Sink.failures c.args.sink.now c.put_text.new.sink (state_text dks_2 c.args.state.now) c.put_text.result c.put_text.ensures).2
+
+pub returns-clause-counted : goal.returns-clause-counted
+returns-clause-counted g c =
+    (flushed g.K.Sink.taken g.K.Sink.failures c.args.sink.now c.put_text.new.sink (state_text dks_2 c.args.state.now) c.put_text.result c.put_text.ensures).3

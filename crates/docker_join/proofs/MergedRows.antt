@@ -1,0 +1,175 @@
+-- The walk over the rows of two tables, and that it gives their join.
+use Rattle.std.proofs.Common.{◌≡◌, ℕ, List, [], ◌∷◌, ◌++◌, length, refl, ap, sym, ◌∙◌, subst, Some, None, MatchOption, arith}
+use Rattle.std.specs.Prelude.{Option, ⊤}
+use Rattle.std.specs.Option.{option_to_list}
+use Rattle.std.proofs.lemmas.List.{append-nil}
+use Rattle.std.specs.List.{AllByRecursion}
+use Rattle.std.specs.declared.cmp.Ordering.{Ordering}
+use Rattle.std.specs.declared.cmp.Ordering.TheVariants.{Less, Equal, Greater}
+use Rattle.std.specs.Ordering.{ordering_reverse}
+use Rattle.docker_model.specs.file.Change as model
+use Rattle.docker_model.specs.state.Op.{key_cmp}
+use Rattle.docker_model.specs.state.Order.{IsBelow}
+use Rattle.docker_laws.proofs.orders.Orders.{key_total, exact_key}
+use Rattle.cif_change.specs.declared.key.Key.{Key}
+use Rattle.cif_file.specs.Meaning.{key_meant}
+use Rattle.docker_join.specs.Rows.{row_cmp, AreAscending, value_at, picked_value, IsJoinOfRows}
+use Rattle.docker_join.specs.RowLaws.{value_here, value_behind, value_above}
+
+-- the row that goes out, by how the keys of the first rows compare, before the rest of the walk
+abbrev pub row_out : {E : Type 0} → (E → E → E) → Ordering → Key × E → Key × E → List (Key × E) → List (Key × E) → List (Key × E) → List (Key × E)
+row_out picked Less x y less equal greater = x ∷ less
+row_out picked Equal x y less equal greater = (x.0, picked x.1 y.1) ∷ equal
+row_out picked Greater x y less equal greater = y ∷ greater
+
+-- the walk from a row of the first table on, whose rest is walked so
+abbrev pub walk_from : {E : Type 0} → (E → E → E) → Key × E → (List (Key × E) → List (Key × E)) → List (Key × E) → List (Key × E)
+walk_from picked x rest [] = x ∷ rest []
+walk_from picked x rest (y ∷ ys) = row_out picked (row_cmp x y) x y (rest (y ∷ ys)) (rest ys) (walk_from picked x rest ys)
+
+-- the walk over both
+abbrev pub walk : {E : Type 0} → (E → E → E) → List (Key × E) → List (Key × E) → List (Key × E)
+walk picked [] ys = ys
+walk picked (x ∷ xs) ys = walk_from picked x (walk picked xs) ys
+
+module _ {E : Type 0} where
+  abbrev Above : Key × E → List (Key × E) → Type 0
+  Above low rows = AllByRecursion (IsBelow row_cmp low) rows
+
+  -- what is above a row is above each row below it
+  above_lower : (low high : Key × E) (rows : List (Key × E)) → row_cmp low high ≡ Less → Above high rows → Above low rows
+  above_lower low high [] below above = tt
+  above_lower low high (row ∷ rows) below above =
+      (key_total.trans (key_meant low.0) (key_meant high.0) (key_meant row.0) below above.0, above_lower low high rows below above.1)
+
+  -- and above each row of its key
+  above_level : (low high : Key × E) (rows : List (Key × E)) → row_cmp low high ≡ Equal → Above high rows → Above low rows
+  above_level low high [] tied above = tt
+  above_level low high (row ∷ rows) tied above =
+      (key_total.congr (key_meant low.0) (key_meant high.0) (key_meant row.0) tied ∙ above.0, above_level low high rows tied above.1)
+
+  row_cmp_turned : (x y : Key × E) → row_cmp x y ≡ Greater → row_cmp y x ≡ Less
+  row_cmp_turned x y greater = key_total.antisymm (key_meant y.0) (key_meant x.0) ∙ ap ordering_reverse greater
+
+module _ {E : Type 0} (picked : E → E → E) where
+  -- the walk is above what both tables are above
+  from_above : (low x : Key × E) (rest : List (Key × E) → List (Key × E)) → row_cmp low x ≡ Less → ((ys : List (Key × E)) → Above low ys → Above low (rest ys))
+      → (ys : List (Key × E)) → Above low ys → Above low (walk_from picked x rest ys)
+  from_above low x rest below behind [] above = (below, behind [] tt)
+  from_above low x rest below behind (y ∷ ys) above = by (row_cmp x y) (from_above low x rest below behind ys above.1)
+    where
+      by : (o : Ordering) → Above low (walk_from picked x rest ys) → Above low (row_out picked o x y (rest (y ∷ ys)) (rest ys) (walk_from picked x rest ys))
+      by Less later = (below, behind (y ∷ ys) above)
+      by Equal later = (below, behind ys above.1)
+      by Greater later = (above.0, later)
+
+  walk_above : (low : Key × E) (xs ys : List (Key × E)) → Above low xs → Above low ys → Above low (walk picked xs ys)
+  walk_above low [] ys above_x above_y = above_y
+  walk_above low (x ∷ xs) ys above_x above_y = from_above low x (walk picked xs) above_x.0 (λ zs. walk_above low xs zs above_x.1) ys above_y
+
+  -- the walk ascends
+  from_ascends : (x : Key × E) (xs : List (Key × E)) → AreAscending (x ∷ xs) → ((ys : List (Key × E)) → AreAscending ys → AreAscending (walk picked xs ys))
+      → (ys : List (Key × E)) → AreAscending ys → AreAscending (walk_from picked x (walk picked xs) ys)
+  from_ascends x xs up_x behind [] up_y = (walk_above x xs [] up_x.0 tt, behind [] tt)
+  from_ascends x xs up_x behind (y ∷ ys) up_y = by (row_cmp x y) refl (from_ascends x xs up_x behind ys up_y.1)
+    where
+      by : (o : Ordering) → row_cmp x y ≡ o → AreAscending (walk_from picked x (walk picked xs) ys)
+          → AreAscending (row_out picked o x y (walk picked xs (y ∷ ys)) (walk picked xs ys) (walk_from picked x (walk picked xs) ys))
+      by Less is later = (walk_above x xs (y ∷ ys) up_x.0 (is, above_lower x y ys is up_y.0), behind (y ∷ ys) up_y)
+      by Equal is later = (walk_above x xs ys up_x.0 (above_level x y ys is up_y.0), behind ys up_y.1)
+      by Greater is later = (walk_above y (x ∷ xs) ys (row_cmp_turned x y is, above_lower y x xs (row_cmp_turned x y is) up_x.0) up_y.0, later)
+
+  walk_ascends : (xs ys : List (Key × E)) → AreAscending xs → AreAscending ys → AreAscending (walk picked xs ys)
+  walk_ascends [] ys up_x up_y = up_y
+  walk_ascends (x ∷ xs) ys up_x up_y = from_ascends x xs up_x (λ zs up. walk_ascends xs zs up_x.1 up) ys up_y
+
+  -- what both tables have at a key, joined
+  abbrev Both : List (Key × E) → List (Key × E) → model.Key → Option E
+  Both xs ys key = picked_value picked (value_at xs key) (value_at ys key)
+
+  -- a row of the first table alone goes out
+  first_out : (x : Key × E) (xs ys tail : List (Key × E)) (key : model.Key) → Above x ys → value_at tail key ≡ Both xs ys key
+      → value_at (x ∷ tail) key ≡ Both (x ∷ xs) ys key
+  first_out x xs ys tail key above later = by (key_cmp (key_meant x.0) key) refl
+    where
+      behind : ¬ (key_cmp (key_meant x.0) key ≡ Equal) → value_at (x ∷ tail) key ≡ Both (x ∷ xs) ys key
+      behind other = value_behind x tail key other ∙ later ∙ sym (ap (λ value. picked_value picked value (value_at ys key)) (value_behind x xs key other))
+
+      by : (o : Ordering) → key_cmp (key_meant x.0) key ≡ o → value_at (x ∷ tail) key ≡ Both (x ∷ xs) ys key
+      by Less is = behind (λ tied. cc)
+      by Greater is = behind (λ tied. cc)
+      by Equal is =
+          let none : value_at ys key ≡ None = subst (λ k. value_at ys k ≡ None) (exact_key (key_meant x.0) key is) (value_above (key_meant x.0) ys above) in
+          value_here x tail key is ∙ sym (λ i. picked_value picked (value_here x xs key is i) (none i))
+
+  -- a row of the second table alone goes out
+  second_out : (y : Key × E) (xs ys tail : List (Key × E)) (key : model.Key) → Above y xs → value_at tail key ≡ Both xs ys key
+      → value_at (y ∷ tail) key ≡ Both xs (y ∷ ys) key
+  second_out y xs ys tail key above later = by (key_cmp (key_meant y.0) key) refl
+    where
+      behind : ¬ (key_cmp (key_meant y.0) key ≡ Equal) → value_at (y ∷ tail) key ≡ Both xs (y ∷ ys) key
+      behind other = value_behind y tail key other ∙ later ∙ sym (ap (λ value. picked_value picked (value_at xs key) value) (value_behind y ys key other))
+
+      by : (o : Ordering) → key_cmp (key_meant y.0) key ≡ o → value_at (y ∷ tail) key ≡ Both xs (y ∷ ys) key
+      by Less is = behind (λ tied. cc)
+      by Greater is = behind (λ tied. cc)
+      by Equal is =
+          let none : value_at xs key ≡ None = subst (λ k. value_at xs k ≡ None) (exact_key (key_meant y.0) key is) (value_above (key_meant y.0) xs above) in
+          value_here y tail key is ∙ sym (λ i. picked_value picked (none i) (value_here y ys key is i))
+
+  -- the pick of two rows of one key goes out
+  both_out : (x y : Key × E) (xs ys tail : List (Key × E)) (key : model.Key) → row_cmp x y ≡ Equal → value_at tail key ≡ Both xs ys key
+      → value_at ((x.0, picked x.1 y.1) ∷ tail) key ≡ Both (x ∷ xs) (y ∷ ys) key
+  both_out x y xs ys tail key level later = by (key_cmp (key_meant x.0) key) refl
+    where
+      there : key_cmp (key_meant x.0) key ≡ key_cmp (key_meant y.0) key
+      there = key_total.congr (key_meant x.0) (key_meant y.0) key level
+
+      behind : ¬ (key_cmp (key_meant x.0) key ≡ Equal) → value_at ((x.0, picked x.1 y.1) ∷ tail) key ≡ Both (x ∷ xs) (y ∷ ys) key
+      behind other =
+          value_behind (x.0, picked x.1 y.1) tail key other ∙ later
+          ∙ sym (λ i. picked_value picked (value_behind x xs key other i) (value_behind y ys key (λ tied. other (there ∙ tied)) i))
+
+      by : (o : Ordering) → key_cmp (key_meant x.0) key ≡ o → value_at ((x.0, picked x.1 y.1) ∷ tail) key ≡ Both (x ∷ xs) (y ∷ ys) key
+      by Less is = behind (λ tied. cc)
+      by Greater is = behind (λ tied. cc)
+      by Equal is =
+          value_here (x.0, picked x.1 y.1) tail key is
+          ∙ sym (λ i. picked_value picked (value_here x xs key is i) (value_here y ys key (sym there ∙ is) i))
+
+  -- the walk has at each key what both tables have there, joined
+  from_values : (x : Key × E) (xs : List (Key × E)) → AreAscending (x ∷ xs)
+      → ((ys : List (Key × E)) → AreAscending ys → (key : model.Key) → value_at (walk picked xs ys) key ≡ Both xs ys key)
+      → (ys : List (Key × E)) → AreAscending ys → (key : model.Key) → value_at (walk_from picked x (walk picked xs) ys) key ≡ Both (x ∷ xs) ys key
+  from_values x xs up_x behind [] up_y key = first_out x xs [] (walk picked xs []) key tt (behind [] tt key)
+  from_values x xs up_x behind (y ∷ ys) up_y key = by (row_cmp x y) refl (from_values x xs up_x behind ys up_y.1 key)
+    where
+      by : (o : Ordering) → row_cmp x y ≡ o → value_at (walk_from picked x (walk picked xs) ys) key ≡ Both (x ∷ xs) ys key
+          → value_at (row_out picked o x y (walk picked xs (y ∷ ys)) (walk picked xs ys) (walk_from picked x (walk picked xs) ys)) key ≡ Both (x ∷ xs)
+          (y ∷ ys) key
+      by Less is later = first_out x xs (y ∷ ys) (walk picked xs (y ∷ ys)) key (is, above_lower x y ys is up_y.0) (behind (y ∷ ys) up_y key)
+      by Equal is later = both_out x y xs ys (walk picked xs ys) key is (behind ys up_y.1 key)
+      by Greater is later =
+          second_out y (x ∷ xs) ys (walk_from picked x (walk picked xs) ys) key (row_cmp_turned x y is, above_lower y x xs (row_cmp_turned x y is) up_x.0) later
+
+  walk_values : (xs ys : List (Key × E)) → AreAscending xs → AreAscending ys → (key : model.Key) → value_at (walk picked xs ys) key ≡ Both xs ys key
+  walk_values [] ys up_x up_y key = refl
+  walk_values (x ∷ xs) ys up_x up_y key = from_values x xs up_x (λ zs up. walk_values xs zs up_x.1 up) ys up_y key
+
+  -- the walk gives the join
+  pub walk_joins : (xs ys : List (Key × E)) → AreAscending xs → AreAscending ys → IsJoinOfRows picked xs ys (walk picked xs ys)
+  walk_joins xs ys up_x up_y = record { ascends = walk_ascends xs ys up_x up_y; values = walk_values xs ys up_x up_y }
+
+-- where nothing is in hand and none is left behind it, there are no rows
+pub none_left : {A : Type 0} (hand : Option A) (rest : List A) (n : ℕ) → hand ≡ None → n ≡ length rest → MatchOption hand (n ≡ 0) (λ _. ⊤)
+    → option_to_list hand ++ rest ≡ []
+none_left None [] n is size done = refl
+none_left None (x ∷ xs) n is size done = absurd (omega arith)
+none_left (Some x) rest n is size done = cc
+
+-- what went out is the join, once no rows are left
+pub walk_is_join : {E : Type 0} (picked : E → E → E) (first second out left right : List (Key × E)) → AreAscending first → AreAscending second
+    → left ≡ [] → right ≡ [] → out ++ walk picked left right ≡ walk picked first second → IsJoinOfRows picked first second out
+walk_is_join picked first second out left right up_first up_second no_left no_right same =
+    let all : out ≡ walk picked first second = sym (append-nil out) ∙ sym (λ i. out ++ walk picked (no_left i) (no_right i)) ∙ same in
+    subst (IsJoinOfRows picked first second) (sym all) (walk_joins picked first second up_first up_second)

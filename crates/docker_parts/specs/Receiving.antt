@@ -1,0 +1,42 @@
+-- What a state has received of a text.
+use Rattle.std.specs.Prelude.{◌≡◌, ℕ, List, ◌++◌, [], length, map, Option, Some, None}
+use Rattle.std.specs.Option.{option_map}
+use Rattle.docker_model.specs.file.Change as model
+use Rattle.docker_model.specs.state.Op as ops
+use Rattle.docker_model.specs.state.Stamp as stamps
+use Rattle.docker_model.specs.state.Stamp.{IsFloor}
+use Rattle.docker_model.specs.state.State.{State, IsLedger, IsValid}
+use Rattle.docker_model.specs.state.Staging.{IsStaged}
+use Rattle.cif_file.specs.Meaning.{key_meant}
+use Rattle.docker_state.specs.declared.item.LedgerItem.{LedgerItem}
+use Rattle.docker_state.specs.Meaning.{item_meant}
+use Rattle.docker_state.specs.Parts.{last_key}
+use Rattle.docker_state.specs.Staging.{Staging}
+use Rattle.docker_parts.specs.declared.receiving.Receiving.{Receiving}
+
+-- ledger items and entries, without a horizon
+abbrev pub told_state : List stamps.LedgerItem → List (model.Key × ops.Entry) → State
+told_state items entries = record { horizon = 0; ledger = items; entries = entries }
+
+-- the ledger items received: from the first entry on they stand with what is staged
+abbrev pub items_of : List LedgerItem → Option Staging → List stamps.LedgerItem
+items_of items None = map item_meant items
+items_of items (Some staging) = staging.items
+
+-- what was given
+abbrev pub told_of : Receiving → State
+told_of it = told_state (items_of it.items.items it.staging) it.given.entries
+
+-- of the entries given those are staged that are to be, under the floor of both ledgers
+pub record IsStagedOf (own : State) (staging : Staging) (entries : List (model.Key × ops.Entry)) : Type 0 where
+  pub floor : IsFloor (own.ledger ++ staging.items) staging.floor
+  pub staged : IsStaged own staging.floor entries staging.staged
+
+-- a valid state and what it has received agree with what was given
+pub record IsReceiving (it : Receiving) : Type 0 where
+  pub own : IsValid it.own
+  pub ledger : IsLedger (told_of it).ledger
+  pub last : option_map key_meant it.last ≡ last_key it.given.entries
+  pub count : it.count ≡ length it.given.entries
+  pub none : it.staging ≡ None → it.given.entries ≡ []
+  pub some : (staging : Staging) → it.staging ≡ Some staging → IsStagedOf it.own staging it.given.entries

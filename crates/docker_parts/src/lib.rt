@@ -1,0 +1,26 @@
+//! The parts of a state's text, as they are read: each is judged behind those before it, and what they tell is kept.
+//! States, and the text that is written of them, are handed on from the crates below.
+#![tactic(auto)]
+
+mod body;
+mod cause;
+mod fields;
+mod given;
+mod item;
+mod key;
+mod receiving;
+mod schedule;
+mod stage;
+mod stamp;
+mod steps;
+mod store;
+mod told;
+
+pub use cause::StateCause;
+pub use cif_file::ScheduleKey;
+pub use docker_encode::{encoded_len, format, write_state};
+pub use docker_state::State;
+pub use schedule::{Gathered, judged_line};
+pub use stage::{Stage, Tag};
+pub use steps::step;
+pub use told::Told;

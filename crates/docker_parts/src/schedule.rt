@@ -1,0 +1,156 @@
+//! The lines of a schedule, as they are read.
+ghost use Rattle.std.specs.Prelude.{◌≡◌, ◌+◌, ◌<◌, ◌↔◌, ◌⊎◌, [], ◌∷◌, ◌++◌, length, false, IsTrue, IsOk, IfOk, IfErr};
+ghost use Rattle.cif_file.specs.JourneyRead.{HasLines};
+ghost use Rattle.docker_parts.specs.Stage.{schedule_meant};
+ghost use Rattle.docker_parts.specs.Judged.{IsOfKey, IsFirstOf};
+ghost use Rattle.docker_parts.specs.FaultMeaning.{cause_meant};
+ghost use Rattle.docker_parts.specs.Lines.{BeginUpTo, AreLinesIn, AreLinesUpToIn, IsLineRefusal, IsUpToRefusal};
+
+use crate::body::is_first_of;
+use crate::cause::StateCause;
+use crate::told::Told;
+use cif_file::{Journey, Lines, ScheduleKey};
+use cif_line::Line;
+use std::alloc::{AllocError, Global};
+use std::marker::Model;
+use std::slice;
+
+/// The lines of a schedule so far, in one buffer, and their reader.
+#[derive(Debug, Drop)]
+pub struct Gathered {
+    journey: Journey,
+    lines: Vec<Line>,
+}
+
+impl Model for Gathered {
+    ghost use Rattle.std.specs.Prelude.{List, ℕ};
+    ghost use Rattle.cif_file.specs.JourneyRead.{HasLines};
+
+    ghost Value = { List (List ℕ) };
+
+    ghost view = { λ gathered. gathered.lines.items };
+
+    ghost invariant = { λ gathered. HasLines gathered.journey gathered.lines.items };
+}
+
+/// Lets go of lines, and keeps their buffer.
+fn let_go(journey: &mut Journey, lines: &mut Vec<Line>)
+    ensures none { lines.new.items ≡ [] }
+    ensures reader { HasLines journey.new lines.new.items }
+{
+    *journey = Journey::new();
+    lines.clear();
+}
+
+impl Gathered {
+    /// No line yet.
+    pub fn new(alloc: Global) -> Gathered
+        ensures { result ≡ [] }
+    {
+        Gathered {
+            journey: Journey::new(),
+            lines: Vec::new(alloc),
+        }
+    }
+
+    /// Lets go of the lines.
+    pub(crate) fn clear(&mut self)
+        ensures { self.new ≡ [] }
+    {
+        let_go(&mut self.journey, &mut self.lines);
+    }
+
+    /// How many lines there are.
+    pub(crate) fn len(&self) -> usize
+        ensures { result ≡ length self.now }
+    {
+        self.lines.len()
+    }
+
+    /// Whether there is none.
+    fn is_empty(&self) -> bool
+        ensures { IsTrue result ↔ (self.now ≡ []) }
+    {
+        self.lines.is_empty()
+    }
+
+    /// Whether of so many lines more are to come behind the next one.
+    pub fn has_more(&self, count: u32) -> bool
+        ensures { IsTrue result ↔ (length self.now + 1 < count) }
+    {
+        if count == 0 {
+            return false;
+        }
+        self.lines.len() < (count - 1) as usize
+    }
+
+    /// The lines, in memory of just their size.
+    pub(crate) fn body(&self, alloc: Global) -> Result<Lines, AllocError>
+        ensures { IfOk result (λ lines. lines ≡ self.now) }
+    {
+        let mut body = Vec::with_capacity(alloc, self.lines.len())?;
+        body.extend_from_slice(self.lines.as_slice())?;
+        Ok(Lines::of(body))
+    }
+
+    /// Takes the next of so many lines, which is judged before memory grows. `Body` where they are none of a schedule with this one. It lets go of all lines where
+    /// the last one doesn't complete them, or memory is wanting.
+    fn take(&mut self, line: &Line, count: u32) -> Result<(), StateCause>
+        requires { length self.old < count }
+        ensures taken { IsOk result → self.new ≡ self.old ++ line.now ∷ [] }
+        ensures goes_on { IsOk result → BeginUpTo count (self.old ++ line.now ∷ []) }
+        ensures err { IfErr result (λ cause. IsLineRefusal count self.old line.now
+            (cause_meant cause)) }
+    {
+        let is_last = !self.has_more(count);
+        if self.journey.line(line).is_err() {
+            return Err(StateCause::Body);
+        }
+        if is_last && !self.journey.complete() {
+            let_go(&mut self.journey, &mut self.lines);
+            return Err(StateCause::Body);
+        }
+        if self.lines.extend_from_slice(slice::from_ref(line)).is_err() {
+            let_go(&mut self.journey, &mut self.lines);
+            return Err(StateCause::Memory);
+        }
+        Ok(())
+    }
+}
+
+/// Whether a line may come next as far as the key and the horizon go: behind other lines, or as the first line of a new schedule of this key that has not to lapse. Its fields are judged by the reader of lines.
+fn may_follow(key: &ScheduleKey, told: &Told, lines: &Gathered, line: &Line) -> bool
+    ensures first { IsTrue result → lines.now ≡ [] →
+        IsOfKey told.now.told.horizon (schedule_meant key.now) line.now }
+    ensures refused { result ≡ false → (lines.now ≡ []) ×
+        (¬ IsFirstOf told.now.told.horizon (schedule_meant key.now) line.now) }
+{
+    !lines.is_empty() || is_first_of(key, told.horizon(), line)
+}
+
+/// Takes the next of so many lines of this key. `Body` where it does not go on with a schedule of this key that has as many lines, or where the schedule has to lapse under the horizon that was read.
+#[inline(always)]
+pub fn judged_line(
+    key: &ScheduleKey,
+    told: &Told,
+    count: u32,
+    lines: &mut Gathered,
+    bytes: &[u8],
+) -> Result<(), StateCause>
+    requires lines_of { (lines.old ≡ [])
+        ⊎ AreLinesIn told.now.told (schedule_meant key.now) lines.old }
+    requires more { length lines.old < count }
+    ensures taken { IsOk result → lines.new ≡ lines.old ++ bytes.now ∷ [] }
+    ensures up_to { IsOk result → AreLinesUpToIn told.now.told (schedule_meant key.now) count
+        (lines.old ++ bytes.now ∷ []) }
+    ensures err { IfErr result (λ cause. IsUpToRefusal told.now.told
+        (schedule_meant key.now) count lines.old bytes.now (cause_meant cause)) }
+{
+    let Ok(line) = Line::new(bytes) else {
+        return Err(StateCause::Body);
+    };
+    if !may_follow(key, told, lines, &line) {
+        return Err(StateCause::Body);
+    }
+    lines.take(&line, count)
+}

@@ -1,0 +1,29 @@
+-- Whether a schedule runs on a day, or on one of the two before it.
+use Rattle.std.specs.Prelude.{◌≡◌, ℕ, Bool, ◌&&◌, ◌-◌, List, nat_le}
+use Rattle.docker_model.specs.records.Record.{columns}
+use Rattle.docker_model.specs.records.Date.{end_number, runs_on_weekday, weekday_of}
+use Rattle.docker_model.specs.file.File.{first_record}
+use Rattle.docker_model.specs.docker.Choice.{schedule_runs}
+use Rattle.docker_train.specs.declared.lately.Lately.{Lately}
+
+-- a test holds of the day, of the day before it and of that two before it, by how many days back each is
+pub record AreLately (test : ℕ → Bool) (lately : Lately) : Type 0 where
+  pub today_is : lately.today ≡ test 0
+  pub day_before_is : lately.day_before ≡ test 1
+  pub two_before_is : lately.two_before ≡ test 2
+
+-- the schedule of these lines runs on the day so many days before
+abbrev pub runs_back : List (List ℕ) → ℕ → ℕ → Bool
+runs_back lines day back = nat_le back day && schedule_runs (first_record lines) (day - back)
+
+-- what begins on a first day has begun by the day so many days before, whose weekday is marked
+abbrev pub begun_back : List ℕ → ℕ → ℕ → ℕ → Bool
+begun_back days first day back = nat_le back day && (nat_le first (day - back) && runs_on_weekday days (weekday_of (day - back)))
+
+-- that day is not after the last one
+abbrev pub lasts_back : ℕ → ℕ → ℕ → Bool
+lasts_back last day back = nat_le (day - back) last
+
+-- both, by the fields of a basic schedule
+abbrev pub lately_back : List ℕ → ℕ → ℕ → ℕ → Bool
+lately_back line first day back = begun_back (columns 22 28 line) first day back && lasts_back (end_number (columns 16 21 line)) day back

@@ -1,0 +1,94 @@
+//! On which of a day and the two days before it a schedule runs: its train can be somewhere on the day that starts on one of them.
+ghost use Rattle.std.specs.Prelude.{◌≡◌, ◌≤◌, ◌||◌, ◌-◌, false};
+ghost use Rattle.std.specs.Option.{SomeIff};
+ghost use Rattle.docker_model.specs.records.Record.{HasKind, basic_schedule};
+ghost use Rattle.docker_model.specs.records.Field.{HasGoodFields, is_deletion};
+ghost use Rattle.docker_train.specs.Lately.{AreLately, begun_back, lasts_back, lately_back};
+
+use cif_line::{Day, Days, Line};
+
+/// On which of a day and the two days before it a schedule runs.
+#[derive(Clone, Copy, Debug)]
+pub struct Lately {
+    /// It runs on the day.
+    pub today: bool,
+    /// It runs on the day before it.
+    pub day_before: bool,
+    /// It runs two days before it.
+    pub two_before: bool,
+}
+
+impl Lately {
+    /// On none of them.
+    pub(crate) fn never() -> Lately
+        ensures { AreLately (λ back. false) result }
+    {
+        Lately {
+            today: false,
+            day_before: false,
+            two_before: false,
+        }
+    }
+
+    /// Whether it runs on some of them.
+    pub fn is_some(&self) -> bool
+        ensures { result ≡ (self.now.today || self.now.day_before || self.now.two_before) }
+    {
+        self.today | self.day_before | self.two_before
+    }
+}
+
+/// The day so many days before. None where there is no such day.
+pub fn day_before(day: Day, back: u16) -> Option<Day>
+    ensures { SomeIff result (back ≤ day) (day - back) }
+{
+    let number = day.number().checked_sub(back)?;
+    Day::from_number(number)
+}
+
+/// On which of a day and the two days before it what begins on a first day runs, by the fields of a basic schedule. The end date is read only where it may count.
+#[tactic(auto, using(crate::proofs::RunFields::schedule_fields))]
+pub(crate) fn days_lately(line: &Line, first: Day, day: Day) -> Lately
+    requires kind { HasKind basic_schedule line.now }
+    requires good { HasGoodFields line.now }
+    requires no_deletion { is_deletion line.now ≡ false }
+    ensures { AreLately (lately_back line.now first day) result }
+{
+    let days = match line.days_unless_deleted(22) {
+        Some(days) => days,
+        None => unreachable!(),
+    };
+    let begun = Lately {
+        today: begun_back(&days, first, day, 0),
+        day_before: begun_back(&days, first, day, 1),
+        two_before: begun_back(&days, first, day, 2),
+    };
+    if !begun.is_some() {
+        return begun;
+    }
+    match line.end_unless_deleted(16) {
+        Some(last) => Lately {
+            today: begun.today & lasts_back(last.number(), day, 0),
+            day_before: begun.day_before & lasts_back(last.number(), day, 1),
+            two_before: begun.two_before & lasts_back(last.number(), day, 2),
+        },
+        None => unreachable!(),
+    }
+}
+
+/// Whether what begins on a first day has begun by the day so many days before, and its weekday is marked.
+fn begun_back(days: &Days, first: Day, day: Day, back: u16) -> bool
+    ensures { result ≡ begun_back days.now first day back }
+{
+    match day_before(day, back) {
+        Some(start) => (first.number() <= start.number()) & days.on(start.weekday()),
+        None => false,
+    }
+}
+
+/// Whether the day so many days before is not after the last one.
+fn lasts_back(last: u16, day: Day, back: u16) -> bool
+    ensures { result ≡ lasts_back last day back }
+{
+    day.number().saturating_sub(back) <= last
+}
