@@ -13,7 +13,7 @@ use crate::train_lines::{add_schedule, is_lately, is_under_way};
 use cif_file::{Body, Key};
 use cif_line::{Day, Memory, Tiploc};
 use docker_state::{Standing, State};
-use docker_train::{LinkView, association_of, day_before, schedule_of};
+use docker_train::{LinkView, Near, association_of, day_back, schedule_of};
 
 /// Adds the lines of rows at a place on a day. `Memory` where the growth is refused.
 pub(crate) fn add_rows<'a>(
@@ -30,8 +30,8 @@ pub(crate) fn add_rows<'a>(
         (λ trains links. gathered trains links place.now day rows.entry)
         lines.old.items lines.new.items) }
 {
-    for (key, body) in rows {
-        add_row(lines, state, key, body, place, day)?;
+    for (row, key, body) in rows.numbered() {
+        add_row(lines, &Near::row(state, row), key, body, place, day)?;
     }
     Ok(())
 }
@@ -39,15 +39,15 @@ pub(crate) fn add_rows<'a>(
 /// Adds the lines of a row: those on each start day whose trains can be there on the day.
 fn add_row<'a>(
     lines: &mut Vec<DockerLine<'a>>,
-    state: &'a State,
+    near: &Near<'a>,
     key: &'a Key,
     body: &'a Body,
     place: &Tiploc,
     day: Day,
 ) -> Result<(), Memory>
     requires good { IsBodyOf (key_meant key.now) (body_meant body.now) }
-    requires live { live_table state.now (key_meant key.now) ≡ Some (body_meant body.now) }
-    ensures { OnOk result (Adds (live_table state.now)
+    requires live { live_table near.now (key_meant key.now) ≡ Some (body_meant body.now) }
+    ensures { OnOk result (Adds (live_table near.now)
         (λ trains links. row_lines trains links place.now day (key_meant key.entry.now)
         (body_meant body.entry.now))
         lines.old.items lines.new.items) }
@@ -55,12 +55,12 @@ fn add_row<'a>(
     if !is_row_lately(key, body, day) {
         return Ok(());
     }
-    add_back(lines, state, key, body, place, day, 0)?;
+    add_back(lines, near, key, body, place, day, 0)?;
     if !is_row_under_way(key, body, day) {
         return Ok(());
     }
-    add_back(lines, state, key, body, place, day, 1)?;
-    add_back(lines, state, key, body, place, day, 2)
+    add_back(lines, near, key, body, place, day, 1)?;
+    add_back(lines, near, key, body, place, day, 2)
 }
 
 /// Whether a row may have lines on a day: of a schedule only where it runs on that day or on one of the two before it, which is asked by one look at its fields.
@@ -88,7 +88,7 @@ fn is_row_under_way(key: &Key, body: &Body, day: Day) -> bool
 /// Adds the lines of a row on the start day so many days back, if there is such a day.
 fn add_back<'a>(
     lines: &mut Vec<DockerLine<'a>>,
-    state: &'a State,
+    near: &Near<'a>,
     key: &'a Key,
     body: &'a Body,
     place: &Tiploc,
@@ -96,14 +96,14 @@ fn add_back<'a>(
     back: u16,
 ) -> Result<(), Memory>
     requires good { IsBodyOf (key_meant key.now) (body_meant body.now) }
-    requires live { live_table state.now (key_meant key.now) ≡ Some (body_meant body.now) }
-    ensures { OnOk result (Adds (live_table state.now)
+    requires live { live_table near.now (key_meant key.now) ≡ Some (body_meant body.now) }
+    ensures { OnOk result (Adds (live_table near.now)
         (λ trains links. row_back trains links place.now day (key_meant key.entry.now)
         (body_meant body.entry.now) back)
         lines.old.items lines.new.items) }
 {
-    match day_before(day, back) {
-        Some(start) => add_piece(lines, state, key, body, place, day, start),
+    match day_back(day, back) {
+        Some(start) => add_piece(lines, near, key, body, place, day, start),
         None => Ok(()),
     }
 }
@@ -111,7 +111,7 @@ fn add_back<'a>(
 /// Adds the lines of a row on a start day.
 fn add_piece<'a>(
     lines: &mut Vec<DockerLine<'a>>,
-    state: &'a State,
+    near: &Near<'a>,
     key: &'a Key,
     body: &'a Body,
     place: &Tiploc,
@@ -119,23 +119,23 @@ fn add_piece<'a>(
     start: Day,
 ) -> Result<(), Memory>
     requires good { IsBodyOf (key_meant key.now) (body_meant body.now) }
-    requires live { live_table state.now (key_meant key.now) ≡ Some (body_meant body.now) }
+    requires live { live_table near.now (key_meant key.now) ≡ Some (body_meant body.now) }
     requires past { start ≤ day }
-    ensures { OnOk result (Adds (live_table state.now)
+    ensures { OnOk result (Adds (live_table near.now)
         (λ trains links. row_piece trains links place.now day (key_meant key.entry.now)
         (body_meant body.entry.now) start)
         lines.old.items lines.new.items) }
 {
     match schedule_of(key, body) {
-        Some(train) => add_schedule(lines, state, &train, place, day, start),
-        None => add_other(lines, state, key, body, place, day, start),
+        Some(train) => add_schedule(lines, near, &train, place, day, start),
+        None => add_other(lines, near, key, body, place, day, start),
     }
 }
 
 /// The same of a row that is not of a schedule.
 fn add_other<'a>(
     lines: &mut Vec<DockerLine<'a>>,
-    state: &'a State,
+    near: &Near<'a>,
     key: &'a Key,
     body: &'a Body,
     place: &Tiploc,
@@ -143,16 +143,16 @@ fn add_other<'a>(
     start: Day,
 ) -> Result<(), Memory>
     requires good { IsBodyOf (key_meant key.now) (body_meant body.now) }
-    requires live { live_table state.now (key_meant key.now) ≡ Some (body_meant body.now) }
+    requires live { live_table near.now (key_meant key.now) ≡ Some (body_meant body.now) }
     requires past { start ≤ day }
     requires other { schedule_of (key_meant key.now) (body_meant body.now) ≡ None }
-    ensures { OnOk result (Adds (live_table state.now)
+    ensures { OnOk result (Adds (live_table near.now)
         (λ trains links. row_piece trains links place.now day (key_meant key.entry.now)
         (body_meant body.entry.now) start)
         lines.old.items lines.new.items) }
 {
     match association_of(key, body) {
-        Some(link) => add_link(lines, state, &link, place, day, start),
+        Some(link) => add_link(lines, near, &link, place, day, start),
         None => Ok(()),
     }
 }
@@ -160,22 +160,22 @@ fn add_other<'a>(
 /// Adds the line of an association on a start day of its base train, if it is at the place.
 fn add_link<'a>(
     lines: &mut Vec<DockerLine<'a>>,
-    state: &'a State,
+    near: &Near<'a>,
     link: &LinkView<'a>,
     place: &Tiploc,
     day: Day,
     start: Day,
 ) -> Result<(), Memory>
     requires past { start ≤ day }
-    requires live { IsLiveLink (live_table state.now) link.now }
-    ensures { OnOk result (Adds (live_table state.now)
+    requires live { IsLiveLink (live_table near.now) link.now }
+    ensures { OnOk result (Adds (live_table near.now)
         (λ trains links. link_here trains links place.now day link.now start)
         lines.old.items lines.new.items) }
 {
     if link.key().location != *place {
         return Ok(());
     }
-    if let Some(line) = link_line(state, link, day, start) {
+    if let Some(line) = link_line(near.state(), link, day, start) {
         lines.push(line)?;
     }
     Ok(())

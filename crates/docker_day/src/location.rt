@@ -26,7 +26,7 @@ pub(crate) struct Location<'a> {
 }
 
 impl<'a> Location<'a> {
-    /// That of a line.
+    /// What is shown of a location record: of a line of another kind, which has no event, the platform's columns and else spaces.
     pub(crate) fn of(line: &'a Line) -> Location<'a>
         ensures { location_meant result ≡ location_by_kind (kind_of line.entry.now) line.entry.now }
     {

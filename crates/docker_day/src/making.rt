@@ -37,6 +37,7 @@ pub fn docker<'a>(
         return Err(DockerFault::Lapsed);
     }
     let mut lines = Vec::new(alloc);
+    // That there are rows of the live table is a clause of theirs.
     let _rows = rows_of(state);
     match add_all(&mut lines, state, tiploc, day) {
         Ok(()) => {

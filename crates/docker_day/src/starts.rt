@@ -7,7 +7,7 @@ ghost use Rattle.docker_day.specs.Lines.{is_here, is_today};
 
 use crate::location::tiploc_in;
 use cif_line::{Day, Tiploc};
-use docker_train::{Occurrence, day_before};
+use docker_train::{Occurrence, day_back};
 
 /// The start day of the associated train, where the base train starts on a day: the next day for the date indicator `N`, the one before for `P`, and else
 /// the same. None where there is no such day.
@@ -16,7 +16,7 @@ pub(crate) fn partner_start(indicator: u8, start: Day) -> Option<Day>
 {
     match indicator {
         b'N' => Day::from_number(start.number() + 1),
-        b'P' => day_before(start, 1),
+        b'P' => day_back(start, 1),
         _ => Some(start),
     }
 }

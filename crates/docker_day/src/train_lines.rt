@@ -15,21 +15,22 @@ use crate::docker_line::DockerLine;
 use crate::location::tiploc_in;
 use crate::starts::{is_here, is_today};
 use cif_line::{Day, Memory, Tiploc};
-use docker_state::State;
-use docker_train::{Occurrence, ScheduleView, day_before, ends_of, is_train_on, passes_midnight};
+use docker_train::{
+    Near, Occurrence, ScheduleView, day_back, ends_of, is_train_on, passes_midnight,
+};
 
 /// Adds the lines of a schedule at a place on a day, where its train runs by it from a start day on. `Memory` where the growth is refused.
 pub(crate) fn add_schedule<'a>(
     lines: &mut Vec<DockerLine<'a>>,
-    state: &'a State,
+    near: &Near<'a>,
     train: &ScheduleView<'a>,
     place: &Tiploc,
     day: Day,
     start: Day,
 ) -> Result<(), Memory>
     requires past { start ≤ day }
-    requires live { IsLiveTrain (live_table state.now) train.now }
-    ensures { OnOk result (Adds (live_table state.now)
+    requires live { IsLiveTrain (live_table near.now) train.now }
+    ensures { OnOk result (Adds (live_table near.now)
         (λ trains links. schedule_piece trains place.now day train.now.key train.now.lines start)
         lines.old.items lines.new.items) }
 {
@@ -37,7 +38,7 @@ pub(crate) fn add_schedule<'a>(
     if !train.runs_on(start) {
         return Ok(());
     }
-    if is_train_on(state, train, start) {
+    if is_train_on(near, train, start) {
         add_events(lines, train, place, day, start)
     } else {
         Ok(())
@@ -65,7 +66,7 @@ pub(crate) fn is_under_way(train: &ScheduleView<'_>, day: Day) -> bool
 fn runs_back(train: &ScheduleView<'_>, day: Day, back: u16) -> bool
     ensures { result ≡ runs_back train.now.lines day back }
 {
-    match day_before(day, back) {
+    match day_back(day, back) {
         Some(start) => train.runs_on(start),
         None => false,
     }

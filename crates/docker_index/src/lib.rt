@@ -28,7 +28,7 @@ pub use notes::Notes;
 pub use piece::Piece;
 pub use room::Room;
 pub use slots::Slots;
-pub use standing::Standing;
+pub use standing::{Numbered, Standing};
 
 #[cfg(test)]
 mod tests;

@@ -18,14 +18,14 @@ use cif_file::{Body, Key};
 use docker_join::{Entry, Op};
 use std::marker::Model;
 
-/// Walks the live rows at a place, each key with its body, in the order of the keys.
+/// Walks the live rows at a place, each with the index among the rows where it stands and its key with its body, in the order of the keys.
 #[derive(Clone, Debug, Drop)]
-pub struct Standing<'a> {
+pub struct Numbered<'a> {
     rows: &'a [(Key, Entry)],
     marks: &'a [Mark],
 }
 
-impl<'a> Model for Standing<'a> {
+impl<'a> Model for Numbered<'a> {
     ghost use Rattle.std.specs.Prelude.{List, map};
     ghost use Rattle.docker_model.specs.state.Row.{Row};
     ghost use Rattle.docker_join.specs.Meaning.{row_meant};
@@ -33,8 +33,42 @@ impl<'a> Model for Standing<'a> {
 
     ghost Value = { List Row };
 
-    ghost view = { λ standing.
-        standing_marks (map row_meant standing.rows.now) standing.marks.now };
+    ghost view = { λ numbered.
+        standing_marks (map row_meant numbered.rows.now) numbered.marks.now };
+}
+
+impl<'a> Iterator for Numbered<'a> {
+    type Item = (usize, &'a Key, &'a Body);
+
+    ghost next_gives = { YieldsFirstBy
+        (λ row. (key_meant row.1.now, body_meant row.2.now)) (λ numbered. numbered) };
+
+    ghost remaining = { item_count (λ numbered. numbered) };
+
+    fn next(&mut self) -> Option<(usize, &'a Key, &'a Body)> {
+        while let Some((mark, behind)) = self.marks.split_first() {
+            self.marks = behind;
+            if let Some((key, body)) = live_at(self.rows, mark) {
+                return Some((mark.at as usize, key, body));
+            }
+        }
+        None
+    }
+}
+
+/// Walks the live rows at a place, each key with its body, in the order of the keys.
+#[derive(Clone, Debug, Drop)]
+pub struct Standing<'a> {
+    numbered: Numbered<'a>,
+}
+
+impl<'a> Model for Standing<'a> {
+    ghost use Rattle.std.specs.Prelude.{List};
+    ghost use Rattle.docker_model.specs.state.Row.{Row};
+
+    ghost Value = { List Row };
+
+    ghost view = { λ standing. standing.numbered };
 }
 
 impl<'a> Standing<'a> {
@@ -42,7 +76,16 @@ impl<'a> Standing<'a> {
     pub(crate) fn of(rows: &'a [(Key, Entry)], marks: &'a [Mark]) -> Standing<'a>
         ensures { result ≡ standing_marks (map row_meant rows.entry.now) marks.entry.now }
     {
-        Standing { rows, marks }
+        Standing {
+            numbered: Numbered { rows, marks },
+        }
+    }
+
+    /// The same walk, each row with the index among the rows where it stands, from 0.
+    pub fn numbered(self) -> Numbered<'a>
+        ensures { result ≡ self.entry }
+    {
+        self.numbered
     }
 }
 
@@ -55,13 +98,10 @@ impl<'a> Iterator for Standing<'a> {
     ghost remaining = { item_count (λ standing. standing) };
 
     fn next(&mut self) -> Option<(&'a Key, &'a Body)> {
-        while let Some((mark, behind)) = self.marks.split_first() {
-            self.marks = behind;
-            if let Some(row) = live_at(self.rows, mark) {
-                return Some(row);
-            }
+        match self.numbered.next() {
+            Some((_, key, body)) => Some((key, body)),
+            None => None,
         }
-        None
     }
 }
 

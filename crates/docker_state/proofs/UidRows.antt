@@ -1,5 +1,5 @@
 -- The rows of a UID's schedules are one piece of the rows, and what is live of it are the live schedules of the UID.
-use Rattle.std.proofs.Common.{◌≡◌, ℕ, zero, suc, ◌<◌, ◌≤◌, List, [], ◌∷◌, ◌++◌, map, take, drop, length, get_or, refl, ap, sym, ◌∙◌, subst, inl, inr, ◌⊎◌, Bool, true, false, not, cond, nat_lt, Contains, Some, None, arith}
+use Rattle.std.proofs.Common.{◌≡◌, ℕ, zero, suc, ◌-◌, ◌<◌, ◌≤◌, List, [], ◌∷◌, ◌++◌, map, take, drop, length, get_or, refl, ap, sym, ◌∙◌, subst, inl, inr, ◌⊎◌, Bool, true, false, not, cond, nat_lt, Contains, Some, None, arith}
 use Rattle.std.specs.Prelude.{◌↔◌}
 use Rattle.std.specs.List.{AllByRecursion, AllPairs, position, position_or_len}
 use Rattle.std.specs.List.Sorted.{IsPartitionedBy, IsPartitionPoint}
@@ -29,7 +29,7 @@ use Rattle.docker_join.specs.declared.entry.Entry.{Entry}
 use Rattle.docker_join.specs.Rows.{row_cmp, AreAscending}
 use Rattle.docker_state.specs.Live.{live_rows}
 use Rattle.docker_state.specs.Meaning.{row_meant}
-use Rattle.docker_state.specs.UidPiece.{to_uid, AreTo, IsPieceOfUid}
+use Rattle.docker_state.specs.UidPiece.{to_uid, is_before, AreTo, IsBeginning, IsPieceOfUid}
 use Rattle.docker_state.proofs.LiveTable.{PutThere, from_live, to_live, live_has, live_put, ascends}
 
 -- ---- a test that holds of keys up to some
@@ -77,10 +77,7 @@ module _ (test : Ordering → Bool) (down : GoesDown test) (least : test Less �
           let same : j ≡ i = omega arith in
           subst (λ k. test (to_uid (key_meant (get_or rows k d).0) uid) ≡ true) same passes
 
--- the key is below those of the UID's schedules, or one of theirs
-abbrev pub is_before : List ℕ → Key × Entry → Bool
-is_before uid row = is_lt (to_uid (key_meant row.0) uid)
-
+-- the key of a row is not above those of the UID's schedules
 abbrev pub is_up_to : List ℕ → Key × Entry → Bool
 is_up_to uid row = is_le (to_uid (key_meant row.0) uid)
 
@@ -91,6 +88,26 @@ parted_before uid rows up = parted is_lt (refl, λ same. refl) refl uid rows up
 -- and by the second
 pub parted_up_to : (uid : List ℕ) (rows : List (Key × Entry)) → AreAscending rows → IsPartitionedBy (is_up_to uid) rows
 parted_up_to uid rows up = parted is_le (refl, λ same. refl) refl uid rows up
+
+-- ---- the beginning, by a walk back
+
+-- what is behind a row that is not before the UID's schedules isn't either
+module _ (uid : List ℕ) (rows : List (Key × Entry)) (up : AreAscending rows) (first : ℕ) (within : first < length rows)
+    (here : (d : Key × Entry) → is_before uid (get_or rows first d) ≡ false) where
+  rest_behind : (k : ℕ) (d : Key × Entry) → first ≤ k → k < length rows → is_before uid (get_or rows k d) ≡ false
+  rest_behind k d low high = by (is_before uid (get_or rows k d)) refl
+    where
+      by : (b : Bool) → is_before uid (get_or rows k d) ≡ b → is_before uid (get_or rows k d) ≡ false
+      by false is = is
+      by true is = absurd (let bad : true ≡ false = sym (parted_before uid rows up first k d low high is) ∙ here d in cc)
+
+  -- the walk back ends at the first row
+  pub begins_at_front : first ≡ 0 → IsBeginning uid rows first
+  begins_at_front zero_is = (λ k d low high. absurd (let none : k < 0 = subst (λ n. k < n) zero_is high in omega arith), rest_behind)
+
+  -- or behind one that is before them
+  pub begins_behind : (0 < first) → ((d : Key × Entry) → is_before uid (get_or rows (first - 1) d) ≡ true) → IsBeginning uid rows first
+  begins_behind above before = (λ k d low high. parted_before uid rows up k (first - 1) d (omega arith) (omega arith) (before d), rest_behind)
 
 -- where the second test fails of no row, the walk goes over all
 pub walk_of_all : (uid : List ℕ) (rows : List (Key × Entry)) → position (λ row. not (is_up_to uid row)) rows ≡ None

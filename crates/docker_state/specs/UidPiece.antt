@@ -1,5 +1,9 @@
 -- The rows of the schedules of a UID, which are one piece of rows in key order.
-use Rattle.std.specs.Prelude.{◌≡◌, ℕ, List, ◌++◌, Contains}
+use Rattle.std.specs.Prelude.{◌≡◌, ℕ, List, ◌++◌, Bool, true, false, Contains}
+use Rattle.std.specs.List.{slice_get}
+use Rattle.std.specs.List.Sorted.{IsPartitionPoint}
+use Rattle.std.specs.Option.{option_map_or}
+use Rattle.std.specs.Ordering.{is_eq, is_lt}
 use Rattle.std.specs.declared.cmp.Ordering.{Ordering}
 use Rattle.std.specs.declared.cmp.Ordering.TheVariants.{Less, Equal, Greater}
 use Rattle.docker_model.specs.file.Change as model
@@ -14,6 +18,20 @@ abbrev pub to_uid : model.Key → List ℕ → Ordering
 to_uid (tiploc_key code) uid = Less
 to_uid (association_key key) uid = Less
 to_uid (schedule_key key) uid = bytes_cmp key.uid uid
+
+-- the key of a row is below the schedules of a UID
+abbrev pub is_before : List ℕ → Key × Entry → Bool
+is_before uid row = is_lt (to_uid (key_meant row.0) uid)
+
+-- the row with an index is of a schedule of a UID
+abbrev pub is_of_uid_at : List ℕ → List (Key × Entry) → ℕ → Bool
+is_of_uid_at uid rows at =
+    option_map_or (λ row. is_eq (to_uid (key_meant row.0) uid)) (slice_get rows at) false
+
+-- so many rows are before the schedules of a UID
+abbrev pub IsBeginning : List ℕ → List (Key × Entry) → ℕ → Type 0
+IsBeginning uid rows count =
+    IsPartitionPoint (λ row. is_before uid row ≡ true) (λ row. is_before uid row ≡ false) rows count
 
 -- the rows stand so to the schedules of a UID
 abbrev pub AreTo : Ordering → List ℕ → List (Key × Entry) → Type 0

@@ -210,7 +210,14 @@ impl State {
     pub fn of_uid(&self, uid: &Uid) -> Live<'_>
         ensures { AreOfUid (live_table self.now) uid.now result }
     {
-        Live::of(rows_of_uid(self.entries.as_slice(), uid))
+        self.of_uid_near(uid, 0)
+    }
+
+    /// The same. Where the row with this index, as `Standing::numbered` tells it, is of the UID, a few rows beside it are looked at, and nothing is searched.
+    pub fn of_uid_near(&self, uid: &Uid, near: usize) -> Live<'_>
+        ensures { AreOfUid (live_table self.now) uid.now result }
+    {
+        Live::of(rows_of_uid(self.entries.as_slice(), uid, near))
     }
 
     /// The index of the rows of the join with another state, made before a row is moved. None where memory is wanting.

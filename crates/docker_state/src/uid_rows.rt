@@ -1,25 +1,66 @@
 //! The rows of the schedules of a UID.
-ghost use Rattle.std.specs.Prelude.{◌≡◌, not, position};
+ghost use Rattle.std.specs.Prelude.{◌≡◌, ◌≤◌, true, not, length, position};
 ghost use Rattle.std.specs.List.{position_or_len};
 ghost use Rattle.std.specs.Ordering.{is_le};
 ghost use Rattle.cif_file.specs.Meaning.{key_meant};
 ghost use Rattle.docker_join.specs.Rows.{AreAscending};
-ghost use Rattle.docker_state.specs.UidPiece.{to_uid, IsPieceOfUid};
+ghost use Rattle.docker_state.specs.UidPiece.{to_uid, is_of_uid_at, IsBeginning, IsPieceOfUid};
 
 use cif_file::Key;
 use cif_line::Uid;
 use docker_join::Entry;
 use std::cmp::Ordering;
 
-/// The rows of the schedules of a UID, one piece of rows in the order of their keys. Its beginning by a binary search, and its end by a walk: a UID has few
-/// schedules, which stand together, and a second search would look at rows far behind them.
-pub(crate) fn rows_of_uid<'a>(rows: &'a [(Key, Entry)], uid: &Uid) -> &'a [(Key, Entry)]
+/// The rows of the schedules of a UID, one piece of rows in the order of their keys. Its end by a walk: a UID has few schedules, which stand together, and a
+/// search would look at rows far behind them.
+pub(crate) fn rows_of_uid<'a>(
+    rows: &'a [(Key, Entry)],
+    uid: &Uid,
+    near: usize,
+) -> &'a [(Key, Entry)]
     requires { AreAscending rows.now }
     ensures { IsPieceOfUid uid.now rows.entry.now result.now }
 {
-    let (_, rest) = rows.split_at(rows.partition_point(|row| to_uid(&row.0, uid).is_lt()));
+    let (_, rest) = rows.split_at(rows_before(rows, uid, near));
     let (here, _) = rest.split_at(rows_up_to(rest, uid));
     here
+}
+
+/// How many rows are before the schedules of a UID: by a walk where the row with an index is of one of them, and else by a binary search.
+fn rows_before(rows: &[(Key, Entry)], uid: &Uid, near: usize) -> usize
+    requires { AreAscending rows.now }
+    ensures within { result ≤ length rows.now }
+    ensures parts { IsBeginning uid.now rows.now result }
+{
+    if is_of_uid_at(rows, uid, near) {
+        first_back(rows, uid, near)
+    } else {
+        rows.partition_point(|row| to_uid(&row.0, uid).is_lt())
+    }
+}
+
+/// Whether the row with an index is of a schedule of a UID.
+fn is_of_uid_at(rows: &[(Key, Entry)], uid: &Uid, at: usize) -> bool
+    ensures { result ≡ is_of_uid_at uid.now rows.now at }
+{
+    match rows.get(at) {
+        Some(row) => to_uid(&row.0, uid).is_eq(),
+        None => false,
+    }
+}
+
+/// The first row of the schedules of a UID, by a walk back from one of them.
+fn first_back(rows: &[(Key, Entry)], uid: &Uid, from: usize) -> usize
+    requires up { AreAscending rows.now }
+    requires here { is_of_uid_at uid.now rows.now from ≡ true }
+    ensures within { result ≤ length rows.now }
+    ensures parts { IsBeginning uid.now rows.now result }
+{
+    let mut first = from;
+    while first > 0 && !to_uid(&rows[first - 1].0, uid).is_lt() {
+        first -= 1;
+    }
+    first
 }
 
 /// How many rows from the front on aren't behind the schedules of a UID.

@@ -14,6 +14,7 @@ ghost use Rattle.docker_model.specs.docker.LiveRows.{Train, IsChosenOn, is_runni
 ghost use Rattle.docker_train.specs.Keys.{schedule_key_meant};
 ghost use Rattle.docker_train.specs.Along.{chosen_along, AreGoodRows, IsLiveTrain};
 
+use crate::near::Near;
 use crate::schedule_view::ScheduleView;
 use crate::walks::schedules_of;
 use cif_file::{Body, Key, ScheduleKey};
@@ -25,7 +26,7 @@ use docker_state::{Live, State};
 pub fn chosen<'a>(state: &'a State, uid: &Uid, day: Day) -> Option<ScheduleView<'a>>
     ensures { IsChosenOn (live_table state.now) uid.now day result }
 {
-    best_of(None, schedules_of(state, uid), uid, day)
+    best_of(None, schedules_of(&Near::none(state), uid), uid, day)
 }
 
 /// The train of a UID that starts on a day, if it runs: the chosen schedule, unless that is a cancellation.
@@ -50,14 +51,14 @@ fn unless_cancelled(found: Option<ScheduleView<'_>>) -> Option<ScheduleView<'_>>
 
 /// Whether the train of a schedule's UID that starts on a day, on which the schedule runs, runs by it: it is no cancellation, and none of the UID that runs then
 /// comes before it.
-pub fn is_train_on(state: &State, train: &ScheduleView<'_>, day: Day) -> bool
-    requires live { IsLiveTrain (live_table state.now) train.now }
+pub fn is_train_on(near: &Near<'_>, train: &ScheduleView<'_>, day: Day) -> bool
+    requires live { IsLiveTrain (live_table near.now) train.now }
     requires runs { schedule_runs (first_record train.now.lines) day ≡ true }
-    ensures { (rows : List Row) → AreRowsOf (live_table state.now) rows
+    ensures { (rows : List Row) → AreRowsOf (live_table near.now) rows
         → result ≡ runs_by (train_in rows train.now.key.uid day) train.now.key }
 {
     let key = train.key();
-    let rows = schedules_of(state, &key.uid);
+    let rows = schedules_of(near, &key.uid);
     let best = best_of(Some(train.again()), rows, &key.uid, day);
     has_key(unless_cancelled(best), key)
 }

@@ -39,7 +39,7 @@ impl Lately {
 }
 
 /// The day so many days before. None where there is no such day.
-pub fn day_before(day: Day, back: u16) -> Option<Day>
+pub fn day_back(day: Day, back: u16) -> Option<Day>
     ensures { SomeIff result (back ≤ day) (day - back) }
 {
     let number = day.number().checked_sub(back)?;
@@ -80,7 +80,7 @@ pub(crate) fn days_lately(line: &Line, first: Day, day: Day) -> Lately
 fn begun_back(days: &Days, first: Day, day: Day, back: u16) -> bool
     ensures { result ≡ begun_back days.now first day back }
 {
-    match day_before(day, back) {
+    match day_back(day, back) {
         Some(start) => (first.number() <= start.number()) & days.on(start.weekday()),
         None => false,
     }

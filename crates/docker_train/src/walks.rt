@@ -7,6 +7,7 @@ ghost use Rattle.docker_model.specs.docker.LiveRows.{HasSchedulesOf, HasAssociat
 ghost use Rattle.docker_model.specs.state.Row.{AreRowsOf};
 ghost use Rattle.docker_train.specs.Along.{AreGoodRows, AreLive};
 
+use crate::near::Near;
 use cif_line::{Tiploc, Uid};
 use docker_state::{Live, Standing, State};
 
@@ -21,12 +22,13 @@ pub fn rows_of(state: &State) -> Live<'_>
 }
 
 /// The rows of the schedules of a UID.
-pub(crate) fn schedules_of<'a>(state: &'a State, uid: &Uid) -> Live<'a>
-    ensures has { HasSchedulesOf (live_table state.now) uid.now result }
+pub(crate) fn schedules_of<'a>(near: &Near<'a>, uid: &Uid) -> Live<'a>
+    ensures has { HasSchedulesOf (live_table near.now) uid.now result }
     ensures good { AreGoodRows result }
 {
-    let _rows = rows_of(state);
-    state.of_uid(uid)
+    // That the bodies are those of their keys is a clause of the rows.
+    let _rows = rows_of(near.state());
+    near.of_uid(uid)
 }
 
 /// The rows of the associations at a place.
@@ -37,6 +39,7 @@ pub fn associations_at<'a>(state: &'a State, place: &Tiploc) -> Standing<'a>
     ensures good { AreGoodRows result }
     ensures live { AreLive (live_table state.now) result }
 {
+    // That the bodies are those of their keys is a clause of the rows.
     let _rows = rows_of(state);
     state.linked(place)
 }
@@ -47,6 +50,7 @@ pub fn schedules_at<'a>(state: &'a State, place: &Tiploc) -> Standing<'a>
     ensures good { AreGoodRows result }
     ensures live { AreLive (live_table state.now) result }
 {
+    // That the bodies are those of their keys is a clause of the rows.
     let _rows = rows_of(state);
     state.calling(place)
 }

@@ -7,11 +7,11 @@ use Rattle.docker_train.specs.Along.{AreGoodRows, AreLive}
 use Rattle.docker_day.proofs.gathering.add_rows.Given as goal
 
 -- what is out and the lines of the rows to come are all
-abbrev pub invariant-loop-key : goal.invariant-loop-key
-invariant-loop-key l = record {
+abbrev pub invariant-loop-row : goal.invariant-loop-row
+invariant-loop-row l = record {
   all : (rows : List Row) → AreRowsOf (live_table l.state) rows
-      → l.lines.items ++ gathered (train_in rows) (link_in rows) l.place l.day l.key-iterator
+      → l.lines.items ++ gathered (train_in rows) (link_in rows) l.place l.day l.row-iterator
       ≡ l.initial.lines.items ++ gathered (train_in rows) (link_in rows) l.place l.day l.fn.rows;
-  good : AreGoodRows l.key-iterator;
-  live : AreLive (live_table l.state) l.key-iterator;
+  good : AreGoodRows l.row-iterator;
+  live : AreLive (live_table l.state) l.row-iterator;
 }

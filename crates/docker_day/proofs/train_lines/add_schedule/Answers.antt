@@ -16,5 +16,5 @@ returns-else-is_train_on c = λ rows are. not_added _ _ _ (sym (c.is_train_on.en
 
 pub returns-then-not-runs_on : goal.returns-then-not-runs_on
 returns-then-not-runs_on c = λ rows are.
-    not_added _ _ _ (runs_not (live_table c.args.state.now) rows c.args.train.now c.args.start are c.requires.live
+    not_added _ _ _ (runs_not (live_table c.args.near.now) rows c.args.train.now c.args.start are c.requires.live
     (sym c.runs_on.ensures ∙ c.if-not-runs_on.true))

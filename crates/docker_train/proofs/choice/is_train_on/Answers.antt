@@ -8,7 +8,7 @@ use Rattle.docker_train.proofs.choice.is_train_on.Goals as goal
 
 pub returns : goal.returns
 returns c = λ rows are.
-    runs_by_told (live_table c.args.state.now) rows c.args.train.now (schedule_key_meant c.key-key.result.now) c.args.day c.schedules_of-rows.result
+    runs_by_told (live_table c.args.near.now) rows c.args.train.now (schedule_key_meant c.key-key.result.now) c.args.day c.schedules_of-rows.result
     c.best_of-best.result c.unless_cancelled.result c.has_key.result c.key-key.ensures are c.requires.live c.requires.runs c.schedules_of-rows.ensures.has
     (c.best_of-best.ensures
     ∙ ap (λ (t : Train). chosen_along (schedule_key_meant c.key-key.result.now).uid c.args.day (Some t) c.schedules_of-rows.result) c.again.ensures)

@@ -1,7 +1,7 @@
 use Rattle.std.proofs.Common.{◌≡◌, length, map}
 use Rattle.docker_join.specs.Meaning.{row_meant}
 use Rattle.docker_index.specs.StandingRows.{standing_marks}
-use Rattle.docker_index.proofs.standing.StandingIterator.next.Given as goal
+use Rattle.docker_index.proofs.standing.NumberedIterator.next.Given as goal
 
 abbrev pub invariant-loop-mark : goal.invariant-loop-mark
 invariant-loop-mark l = record {

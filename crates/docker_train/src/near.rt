@@ -1,0 +1,54 @@
+//! A state, and one of its rows.
+ghost use Rattle.std.specs.Prelude.{◌≡◌};
+ghost use Rattle.docker_model.specs.state.Index.{AreOfUid};
+ghost use Rattle.docker_model.specs.state.State.{live_table};
+
+use cif_line::Uid;
+use docker_state::{Live, State};
+use std::marker::Model;
+
+/// A state, and the index of a row of it, beside which the schedules of a UID are looked for first. Of an index nothing is promised: that of another row costs a
+/// search, and changes no answer.
+#[derive(Debug, Drop)]
+pub struct Near<'a> {
+    state: &'a State,
+    row: usize,
+}
+
+impl<'a> Model for Near<'a> {
+    ghost use Rattle.docker_model.specs.state.State as states;
+
+    ghost Value = { states.State };
+
+    ghost view = { λ near. near.state.now };
+}
+
+impl<'a> Near<'a> {
+    /// A state, and the index of a row, as a walk over the rows at a place tells it.
+    pub fn row(state: &'a State, row: usize) -> Near<'a>
+        ensures { result ≡ state.entry.now }
+    {
+        Near { state, row }
+    }
+
+    /// A state, and no row that is nearer than others.
+    pub fn none(state: &'a State) -> Near<'a>
+        ensures { result ≡ state.entry.now }
+    {
+        Near::row(state, 0)
+    }
+
+    /// The state.
+    pub fn state(&self) -> &'a State
+        ensures { result.now ≡ self.now }
+    {
+        self.state
+    }
+
+    /// The live schedules of a UID, each with its lines, in the order of the keys.
+    pub(crate) fn of_uid(&self, uid: &Uid) -> Live<'a>
+        ensures { AreOfUid (live_table self.now) uid.now result }
+    {
+        self.state.of_uid_near(uid, self.row)
+    }
+}
