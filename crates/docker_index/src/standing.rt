@@ -18,7 +18,8 @@ use cif_file::{Body, Key};
 use docker_join::{Entry, Op};
 use std::marker::Model;
 
-/// Walks the live rows at a place, each with the index among the rows where it stands and its key with its body, in the order of the keys.
+/// Walks the live rows at a place, each with an index and its key with its body, in the order of the keys. The index is that among the rows where it stands, but
+/// no clause says so: it tells where to look first, and no answer rests on it.
 #[derive(Clone, Debug, Drop)]
 pub struct Numbered<'a> {
     rows: &'a [(Key, Entry)],
@@ -81,7 +82,7 @@ impl<'a> Standing<'a> {
         }
     }
 
-    /// The same walk, each row with the index among the rows where it stands, from 0.
+    /// The same walk, each row with its index, from 0.
     pub fn numbered(self) -> Numbered<'a>
         ensures { result ≡ self.entry }
     {
