@@ -1,17 +1,6 @@
 -- Lines that are added to those that are out.
-use Rattle.std.proofs.Common.{◌≡◌, ℕ, Bool, true, false, cond, List, [], ◌∷◌, ◌++◌, refl, ap, sym, ◌∙◌, append_assoc, append-nil, Some, None}
-use Rattle.std.specs.Prelude.{Option, nat_le}
-use Rattle.std.specs.List.{flat_map}
-use Rattle.std.specs.Str.{bytes_eq}
-use Rattle.docker_model.specs.file.Change.{Key, tiploc_key, association_key, schedule_key, Body, tiploc_body, association_body, schedule_body}
-use Rattle.docker_model.specs.docker.Choice.{Group}
-use Rattle.docker_model.specs.state.Row.{Row}
-use Rattle.docker_model.specs.docker.LiveRows.{Train, Link}
-use Rattle.docker_model.specs.docker.Gathering.{start_days, row_lines, gathered, is_in_force, line_with}
+use Rattle.std.proofs.Common.{◌≡◌, Bool, true, false, cond, List, [], ◌++◌, sym, ◌∙◌, append-nil}
 use Rattle.docker_model.specs.docker.DockerLine.{DockerLine}
-use Rattle.docker_model.specs.state.Table.{Table}
-use Rattle.docker_day.specs.Lines.{Adds, link_piece, row_piece, row_back}
-use Rattle.docker_day.proofs.Days.{starts_split}
 
 -- what a test lets in
 pub added_if : (test : Bool) (more before after : List DockerLine) → test ≡ true → after ≡ before ++ more → after ≡ before ++ cond test more []

@@ -1,12 +1,12 @@
 -- What is gathered from the rows of a state is, sorted, the docker list.
-use Rattle.std.proofs.Common.{◌≡◌, ℕ, List, [], ◌++◌, refl, ap, sym, ◌∙◌, subst, append_assoc}
+use Rattle.std.proofs.Common.{◌≡◌, ℕ, List, [], ◌++◌, ap, sym, ◌∙◌, subst, append_assoc}
 use Rattle.std.specs.Prelude.{Option}
 use Rattle.std.proofs.lemmas.Grind.{flat_map-append}
 use Rattle.docker_model.specs.docker.Choice.{Group}
 use Rattle.docker_model.specs.state.Index.{AreCalling, AreLinked}
 use Rattle.docker_laws.proofs.dockers.IndexedWalk.{indexed_walk}
 use Rattle.std.specs.List.Sorted.{IsSorted, IsPermutation}
-use Rattle.docker_model.specs.state.State.{State, IsValid, live_table, HasGoodBodies}
+use Rattle.docker_model.specs.state.State.{HasGoodBodies}
 use Rattle.docker_model.specs.state.Table.{Table}
 use Rattle.docker_model.specs.state.Row.{Row, AreRowsOf}
 use Rattle.docker_model.specs.docker.LiveRows.{Train, Link, train_in, link_in}

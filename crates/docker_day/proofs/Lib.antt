@@ -1,6 +1,7 @@
 pub mod Shown
 pub mod Days
 pub mod TrainLines
+pub mod UpToLast
 pub mod Adding
 pub mod LinkLines
 pub mod Gathered
@@ -8,3 +9,4 @@ pub mod Written
 pub mod RowPieces
 pub mod Printed
 pub mod PassedOver
+pub mod RowPortions

@@ -4,17 +4,16 @@ use Rattle.std.specs.Prelude.{Option, option_map, find}
 use Rattle.std.specs.List.{flat_map}
 use Rattle.std.specs.Str.{bytes_eq}
 use Rattle.docker_model.specs.records.Record.{columns}
-use Rattle.docker_model.specs.file.Change.{Key, tiploc_key, association_key, schedule_key, AssociationKey, Body, tiploc_body, association_body, schedule_body}
+use Rattle.docker_model.specs.file.Change.{Key, tiploc_key, association_key, schedule_key, Body, tiploc_body, association_body, schedule_body}
 use Rattle.docker_model.specs.file.Journey.{Occasion}
-use Rattle.docker_model.specs.docker.Event.{Event, events_of, event_line, first_event_at, is_at}
+use Rattle.docker_model.specs.docker.Event.{Event, events_of, first_event_at}
 use Rattle.docker_model.specs.docker.Choice.{Group}
 use Rattle.docker_model.specs.docker.Association.{category_occasion}
 use Rattle.docker_model.specs.state.Table.{Table}
-use Rattle.docker_model.specs.state.Row.{Row, AreRowsOf}
 use Rattle.docker_model.specs.docker.LiveRows.{Train, Link, train_in, link_in}
 use Rattle.docker_model.specs.docker.Gathering.{start_days, is_in_force, line_at, line_with, row_lines}
 use Rattle.docker_model.specs.docker.DockerLine.{DockerLine}
-use Rattle.docker_train.specs.Occurrences.{Occurrence, occurrence_of, occurrences}
+use Rattle.docker_train.specs.Occurrences.{occurrence_of, occurrences}
 use Rattle.docker_day.specs.Lines.{Adds, is_call, link_line_by, link_line_with, link_piece, row_piece, row_back}
 use Rattle.docker_day.proofs.Days.{starts_split}
 

@@ -1,13 +1,14 @@
 -- What is passed over without a search gives no line.
-use Rattle.std.proofs.Common.{◌≡◌, ℕ, ◌+◌, ◌-◌, ◌<◌, ◌≤◌, ◌==◌, ◌⊎◌, inl, inr, Bool, true, false, cond, List, [], ◌∷◌, ◌++◌, refl, ap, sym, ◌∙◌, append-nil, Some, None, arith, eqb-true}
+use Rattle.std.proofs.Common.{◌≡◌, ℕ, ◌+◌, ◌-◌, ◌<◌, ◌==◌, ◌⊎◌, inl, inr, Bool, true, false, cond, List, [], ◌∷◌, ◌++◌, refl, ap, sym, ◌∙◌, append-nil, Some, None, arith, eqb-true}
 use Rattle.std.specs.Prelude.{Option, ◌&&◌, ◌||◌, not, nat_le, codes}
 use Rattle.std.specs.Ordering.{is_eq}
 use Rattle.std.proofs.lemmas.Bool.{leb-true}
 use Rattle.docker_model.specs.records.Record.{column}
 use Rattle.docker_model.specs.file.File.{first_record}
-use Rattle.docker_model.specs.file.Change.{Key, tiploc_key, schedule_key, association_key, ScheduleKey, AssociationKey, Body, tiploc_body, schedule_body, association_body}
+use Rattle.docker_model.specs.file.Change.{Key, tiploc_key, schedule_key, association_key, ScheduleKey, Body, tiploc_body, schedule_body, association_body}
 use Rattle.docker_model.specs.state.Op.{schedule_key_cmp, association_key_cmp}
 use Rattle.docker_model.specs.state.Table.{Table}
+use Rattle.docker_model.specs.state.State.{IsBodyOf}
 use Rattle.docker_model.specs.state.Row.{Row, AreRowsOf}
 use Rattle.docker_model.specs.docker.Association.{is_date_indicator}
 use Rattle.docker_model.specs.docker.Choice.{schedule_runs, association_runs, group_of}
@@ -19,12 +20,15 @@ use Rattle.docker_laws.proofs.orders.Orders.{exact_schedule_key, exact_associati
 use Rattle.docker_laws.proofs.dockers.OneChoice.{one_schedule, one_association}
 use Rattle.docker_laws.proofs.dockers.TrainOfRows.{trains_tell}
 use Rattle.docker_laws.proofs.dockers.LinkOfRows.{links_tell}
-use Rattle.docker_train.specs.Occurrences.{Occurrence, occurrences}
+use Rattle.docker_train.specs.Occurrences.{Occurrence}
+use Rattle.docker_train.specs.UpTo.{occurrences_to}
 use Rattle.docker_train.specs.Along.{IsLiveTrain, IsLiveLink}
 use Rattle.docker_train.specs.Midnights.{some_late}
-use Rattle.docker_day.specs.Lines.{line_at_event, is_here, is_today, lines_there, row_lately, row_under_way, row_back, schedule_piece, Adds}
+use Rattle.docker_day.specs.Lines.{line_at_event, is_here, is_today, lines_there, row_lately, row_may_run, row_under_way, row_back, schedule_piece, Adds}
 use Rattle.docker_train.specs.Lately.{runs_back}
+use Rattle.docker_train.proofs.LatelyRuns.{idle_lately}
 use Rattle.docker_day.proofs.TrainLines.{event_lines_are}
+use Rattle.docker_day.proofs.UpToLast.{lines_to_last}
 use Rattle.docker_day.proofs.LinkLines.{three_backs}
 use Rattle.docker_day.proofs.RowPieces.{no_line}
 
@@ -95,11 +99,12 @@ none_late place day start key detail (event ∷ events) before none =
         (λ i. cond (elsewhere h i) (line_at_event key start detail event ∷ []) [] ++ rest none_behind i)
 
 -- so the schedule has no line there
-no_lines_then : (place : List ℕ) (day start : ℕ) (key : ScheduleKey) (lines : List (List ℕ)) → start < day → some_late (occurrences lines) ≡ false
-    → event_lines place day start key lines ≡ []
+no_lines_then : (place : List ℕ) (day start : ℕ) (key : ScheduleKey) (lines : List (List ℕ)) → start < day
+    → some_late (occurrences_to place lines) ≡ false → event_lines place day start key lines ≡ []
 no_lines_then place day start key lines before none =
-    sym (event_lines_are place day start key lines)
-    ∙ none_late place day start key (ends (tiploc_of_first (codes "LO") lines) (tiploc_of_first (codes "LT") lines)) (occurrences lines) before none
+    let detail = ends (tiploc_of_first (codes "LO") lines) (tiploc_of_first (codes "LT") lines) in
+    sym (event_lines_are place day start key lines) ∙ sym (lines_to_last place day start key detail lines)
+    ∙ none_late place day start key detail (occurrences_to place lines) before none
 
 -- none of two tests, or not the third
 none_of_both : (a b c : Bool) → ((a || b) && c) ≡ false → ((a ≡ false) × (b ≡ false)) ⊎ (c ≡ false)
@@ -131,7 +136,7 @@ module _ (live : Table) (rows : List Row) (are : AreRowsOf live rows) (place : L
           (event_lines place day (day - back) train.key train.lines) [])
 
   -- nor has one that passes no midnight on a day behind its start
-  early_back : (train : Train) (back : ℕ) → 0 < back → some_late (occurrences train.lines) ≡ false
+  early_back : (train : Train) (back : ℕ) → 0 < back → some_late (occurrences_to place train.lines) ≡ false
       → lines_back (schedule_key train.key) (schedule_body train.lines) back ≡ []
   early_back train back some early = by (nat_le back day) refl
     where
@@ -149,15 +154,15 @@ module _ (live : Table) (rows : List Row) (are : AreRowsOf live rows) (place : L
           ∙ none_either (runs_by (train_in rows train.key.uid (day - back)) train.key)
 
   -- a row of which no train is under way has no line of a train that started before
-  pub none_back : (key : Key) (body : Body) → live key ≡ Some body → row_under_way key body day ≡ false
+  pub none_back : (key : Key) (body : Body) → live key ≡ Some body → row_under_way place key body day ≡ false
       → (lines_back key body 1 ≡ []) × (lines_back key body 2 ≡ [])
   none_back (schedule_key key) (schedule_body lines) is_live not_so =
-      by (none_of_both (runs_back lines day 1) (runs_back lines day 2) (some_late (occurrences lines)) not_so)
+      by (none_of_both (runs_back lines day 1) (runs_back lines day 2) (some_late (occurrences_to place lines)) not_so)
     where
       train : Train
       train = record { key = key; lines = lines }
 
-      by : ((runs_back lines day 1 ≡ false) × (runs_back lines day 2 ≡ false)) ⊎ (some_late (occurrences lines) ≡ false)
+      by : ((runs_back lines day 1 ≡ false) × (runs_back lines day 2 ≡ false)) ⊎ (some_late (occurrences_to place lines) ≡ false)
           → (lines_back (schedule_key key) (schedule_body lines) 1 ≡ []) × (lines_back (schedule_key key) (schedule_body lines) 2 ≡ [])
       by (inl idle) = (idle_back train 1 is_live idle.0, idle_back train 2 is_live idle.1)
       by (inr early) = (early_back train 1 (omega arith) early, early_back train 2 (omega arith) early)
@@ -186,7 +191,7 @@ nothing before none = sym (append-nil before) ∙ ap (λ out. before ++ out) (sy
 
 -- so its lines are those of the trains that start on the day
 pub first_back_alone : (place : List ℕ) (day : ℕ) (key : Key) (body : Body) (live : Table) (first second : List DockerLine) → live key ≡ Some body
-    → row_under_way key body day ≡ false → Adds live (λ trains links. row_back trains links place day key body 0) first second
+    → row_under_way place key body day ≡ false → Adds live (λ trains links. row_back trains links place day key body 0) first second
     → Adds live (λ trains links. row_lines trains links place day key body) first second
 first_back_alone place day key body live first second is_live not_so one =
     three_backs place day key body live first second second second one
@@ -201,6 +206,14 @@ not_lately place day key body live first is_live not_so =
     (λ rows are. nothing first (none_lately live rows are place day key body is_live not_so).0)
     (λ rows are. nothing first (none_lately live rows are place day key body is_live not_so).1)
     (λ rows are. nothing first (none_lately live rows are place day key body is_live not_so).2)
+
+-- what has not begun, or is marked on none of the three days, runs on none
+pub row_idle : (key : Key) (body : Body) (day : ℕ) → IsBodyOf key body → row_may_run key body day ≡ false → row_lately key body day ≡ false
+row_idle (schedule_key key) (schedule_body lines) day of never = let idle = idle_lately key lines day of never in (λ i. idle.0 i || idle.1 i || idle.2 i)
+row_idle (schedule_key key) (tiploc_body bytes) day of never = absurd (true_false never)
+row_idle (schedule_key key) (association_body line) day of never = absurd (true_false never)
+row_idle (tiploc_key code) body day of never = absurd (true_false never)
+row_idle (association_key key) body day of never = absurd (true_false never)
 
 -- an association that does not run on a start day is not in force then
 pub not_in_force : (live : Table) (rows : List Row) (link : Link) (start : ℕ) → AreRowsOf live rows → IsLiveLink live link

@@ -1,9 +1,8 @@
 -- The text of a docker is that of the definitions.
-use Rattle.std.proofs.Common.{◌≡◌, ℕ, List, ◌++◌, refl, ap, sym, ◌∙◌, subst}
+use Rattle.std.proofs.Common.{◌≡◌, ℕ, List, ◌++◌, refl, ap, ◌∙◌}
 use Rattle.std.specs.List.{flat_map}
 use Rattle.docker_model.specs.file.Change.{tiploc_key}
 use Rattle.docker_model.specs.state.Table.{Table}
-use Rattle.docker_model.specs.docker.DockerLine.{DockerLine}
 use Rattle.docker_model.specs.docker.DockerText.{IsDockerText, heading, description_in, line_text, last_line, ended}
 use Rattle.docker_day.specs.DockerValue.{Docker, head, text_of}
 use Rattle.docker_day.specs.Dockers.{IsDockerOf}

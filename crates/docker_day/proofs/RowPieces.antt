@@ -1,11 +1,12 @@
 -- The lines of a row on a start day, by what the row is of.
-use Rattle.std.proofs.Common.{◌≡◌, ℕ, Bool, List, [], refl, ap, sym, ◌∙◌, Some, None}
+use Rattle.std.proofs.Common.{◌≡◌, ℕ, Bool, List, [], refl, sym, Some, None}
 use Rattle.std.specs.Prelude.{Option}
 use Rattle.docker_model.specs.file.Change.{Key, tiploc_key, association_key, schedule_key, Body, tiploc_body, association_body, schedule_body}
 use Rattle.docker_model.specs.docker.Choice.{Group}
 use Rattle.docker_model.specs.docker.LiveRows.{Train, Link, schedule_of, association_of}
 use Rattle.docker_model.specs.docker.DockerLine.{DockerLine}
-use Rattle.docker_day.specs.Lines.{schedule_piece, link_here, row_piece, row_test}
+use Rattle.docker_train.specs.Lately.{may_run_lately}
+use Rattle.docker_day.specs.Lines.{schedule_piece, link_here, row_piece, row_may_run, row_test}
 
 -- no line
 abbrev pub no_line : List DockerLine
@@ -37,6 +38,17 @@ test_of test (schedule_key key) (tiploc_body bytes) train is = absurd (none_trai
 test_of test (schedule_key key) (association_body line) train is = absurd (none_train train is)
 test_of test (tiploc_key code) body train is = absurd (none_train train is)
 test_of test (association_key key) body train is = absurd (none_train train is)
+
+-- and so is whether it may run lately
+pub may_run_of : (day : ℕ) (key : Key) (body : Body) (train : Train) → schedule_of key body ≡ Some train
+    → may_run_lately train.key train.lines day ≡ row_may_run key body day
+may_run_of day (schedule_key key) (schedule_body lines) train is =
+    (λ i. may_run_lately (sym (same_train (record { key = key; lines = lines }) train is) i).key
+    (sym (same_train (record { key = key; lines = lines }) train is) i).lines day)
+may_run_of day (schedule_key key) (tiploc_body bytes) train is = absurd (none_train train is)
+may_run_of day (schedule_key key) (association_body line) train is = absurd (none_train train is)
+may_run_of day (tiploc_key code) body train is = absurd (none_train train is)
+may_run_of day (association_key key) body train is = absurd (none_train train is)
 
 module _ (trains : List ℕ → ℕ → Option Train) (links : Group → ℕ → Option Link) (place : List ℕ) (day start : ℕ) where
   -- of a schedule

@@ -1,15 +1,14 @@
 -- The lines of a train's events, gathered by a walk.
-use Rattle.std.proofs.Common.{◌≡◌, ℕ, ◌+◌, ◌==◌, Bool, true, false, cond, List, [], ◌∷◌, ◌++◌, map, refl, ap, sym, ◌∙◌, subst, inl, inr, ◌⊎◌, Contains, Some, None, append_assoc, append-nil}
-use Rattle.std.specs.Prelude.{Option, ◌&&◌, filter, find, codes}
+use Rattle.std.proofs.Common.{◌≡◌, ℕ, ◌==◌, Bool, true, false, cond, List, [], ◌∷◌, ◌++◌, map, refl, ap, sym, ◌∙◌, append-nil}
+use Rattle.std.specs.Prelude.{◌&&◌, filter, codes}
 use Rattle.std.specs.Str.{bytes_eq}
-use Rattle.std.proofs.lemmas.Slice.Eq.{bytes_eq-Decides}
-use Rattle.docker_model.specs.records.Record.{Kind, basic_schedule, extra_details, origin_location, terminating_location, HasKind, columns}
-use Rattle.docker_model.specs.docker.Event.{Event, events_of, event_day, event_line, has_identity}
+use Rattle.docker_model.specs.records.Record.{columns}
+use Rattle.docker_model.specs.docker.Event.{Event, events_of, event_day, event_line}
 use Rattle.docker_model.specs.file.Change.{ScheduleKey}
 use Rattle.docker_model.specs.docker.DockerLine.{DockerLine, Detail, ends, tiploc_of_first, line_of_event}
 use Rattle.docker_model.specs.docker.Gathering.{event_lines}
-use Rattle.docker_train.specs.Occurrences.{Occurrence, occurrence_of, occurrences, Progress, before_all, turned, past_times, occurrences_at, occurrences_from}
-use Rattle.docker_day.specs.Lines.{line_at_event, is_here, is_today, lines_there}
+use Rattle.docker_train.specs.Occurrences.{occurrence_of, occurrences}
+use Rattle.docker_day.specs.Lines.{lines_there}
 
 -- ---- the lines along the events
 

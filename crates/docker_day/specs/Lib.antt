@@ -3,3 +3,4 @@ pub mod Details
 pub mod Lines
 pub mod DockerValue
 pub mod Dockers
+pub mod Portions

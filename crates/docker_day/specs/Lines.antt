@@ -1,10 +1,9 @@
 -- The lines of a docker, from the events that a walk meets.
-use Rattle.std.specs.Prelude.{◌≡◌, ℕ, ◌+◌, ◌-◌, Bool, true, false, ◌&&◌, ◌||◌, ◌==◌, nat_le, not, if◌then◌else◌, find, List, [], ◌∷◌, ◌++◌, Option, Some, None}
+use Rattle.std.specs.Prelude.{◌≡◌, ℕ, ◌+◌, ◌-◌, Bool, true, ◌&&◌, ◌||◌, ◌==◌, nat_le, if◌then◌else◌, find, List, [], ◌∷◌, ◌++◌, Option, Some, None}
 use Rattle.std.specs.Str.{bytes_eq}
 use Rattle.docker_model.specs.records.Record.{kind_of, columns, column}
 use Rattle.docker_model.specs.file.Change.{Key, association_key, schedule_key, AssociationKey, ScheduleKey, Body, association_body, schedule_body}
-use Rattle.docker_model.specs.docker.Choice.{Group, schedule_runs}
-use Rattle.docker_model.specs.file.File.{first_record}
+use Rattle.docker_model.specs.docker.Choice.{Group}
 use Rattle.docker_model.specs.file.Journey.{Occasion}
 use Rattle.docker_model.specs.docker.Event.{is_at}
 use Rattle.docker_model.specs.state.Table.{Table}
@@ -19,7 +18,8 @@ use Rattle.docker_model.specs.docker.Association.{category_occasion, partner_sta
 use Rattle.docker_model.specs.docker.Gathering.{event_lines, runs_by, partner_identity, is_in_force}
 use Rattle.docker_train.specs.Occurrences.{Occurrence, occurrences}
 use Rattle.docker_train.specs.Midnights.{some_late}
-use Rattle.docker_train.specs.Lately.{runs_back}
+use Rattle.docker_train.specs.UpTo.{occurrences_to}
+use Rattle.docker_train.specs.Lately.{may_run_lately, runs_back}
 
 -- the line of an event, of a schedule known by the key, on a start day, with these ends
 abbrev pub line_at_event : ScheduleKey → ℕ → Detail → Occurrence → DockerLine
@@ -76,9 +76,9 @@ lines_there place day start key detail (event ∷ events) =
 abbrev pub is_lately : List (List ℕ) → ℕ → Bool
 is_lately lines day = runs_back lines day 0 || runs_back lines day 1 || runs_back lines day 2
 
--- its train may be under way on the day since one of the two days before
-abbrev pub is_under_way : List (List ℕ) → ℕ → Bool
-is_under_way lines day = (runs_back lines day 1 || runs_back lines day 2) && some_late (occurrences lines)
+-- its train may be under way on the day, up to its last event at the place, since one of the two days before
+abbrev pub is_under_way : List ℕ → List (List ℕ) → ℕ → Bool
+is_under_way place lines day = (runs_back lines day 1 || runs_back lines day 2) && some_late (occurrences_to place lines)
 
 -- a test of the lines of a row, if it is of a schedule
 abbrev pub row_test : (List (List ℕ) → Bool) → Key → Body → Bool
@@ -90,8 +90,13 @@ abbrev pub row_lately : Key → Body → ℕ → Bool
 row_lately key body day = row_test (λ lines. is_lately lines day) key body
 
 -- its train may be under way so
-abbrev pub row_under_way : Key → Body → ℕ → Bool
-row_under_way key body day = row_test (λ lines. is_under_way lines day) key body
+abbrev pub row_under_way : List ℕ → Key → Body → ℕ → Bool
+row_under_way place key body day = row_test (λ lines. is_under_way place lines day) key body
+
+-- the schedule of the row has begun by the day and is marked on it or on one of the two days before, if the row is of one
+abbrev pub row_may_run : Key → Body → ℕ → Bool
+row_may_run (schedule_key key) (schedule_body lines) day = may_run_lately key lines day
+row_may_run _ _ day = true
 
 -- the event is of a call at the place and suffix
 abbrev pub is_call : List ℕ → ℕ → Occurrence → Bool

@@ -1,10 +1,10 @@
-//! The lines of a docker, gathered from the rows of a walk.
+//! The lines of a docker that a row has.
 ghost use Rattle.std.specs.Prelude.{◌≡◌, ◌≤◌, OnOk, None, Some};
 ghost use Rattle.cif_file.specs.Meaning.{key_meant, body_meant};
 ghost use Rattle.docker_model.specs.state.State.{IsBodyOf, live_table};
-ghost use Rattle.docker_model.specs.docker.Gathering.{row_lines, gathered};
+ghost use Rattle.docker_model.specs.docker.Gathering.{row_lines};
 ghost use Rattle.docker_model.specs.docker.LiveRows.{schedule_of};
-ghost use Rattle.docker_train.specs.Along.{AreGoodRows, AreLive, IsLiveLink};
+ghost use Rattle.docker_train.specs.Along.{IsLiveLink};
 ghost use Rattle.docker_day.specs.Lines.{Adds, link_here, row_piece, row_back, row_lately, row_under_way};
 
 use crate::docker_line::DockerLine;
@@ -12,32 +12,10 @@ use crate::link_lines::link_line;
 use crate::train_lines::{add_schedule, is_lately, is_under_way};
 use cif_file::{Body, Key};
 use cif_line::{Day, Memory, Tiploc};
-use docker_state::{Standing, State};
 use docker_train::{LinkView, Near, association_of, day_back, schedule_of};
 
-/// Adds the lines of rows at a place on a day. `Memory` where the growth is refused.
-pub(crate) fn add_rows<'a>(
-    lines: &mut Vec<DockerLine<'a>>,
-    state: &'a State,
-    rows: Standing<'a>,
-    place: &Tiploc,
-    day: Day,
-) -> Result<(), Memory>
-    requires good { AreGoodRows rows }
-    requires live { AreLive (live_table state.now) rows }
-    ensures { OnOk result
-        (Adds (live_table state.now)
-        (λ trains links. gathered trains links place.now day rows.entry)
-        lines.old.items lines.new.items) }
-{
-    for (row, key, body) in rows.numbered() {
-        add_row(lines, &Near::row(state, row), key, body, place, day)?;
-    }
-    Ok(())
-}
-
 /// Adds the lines of a row: those on each start day whose trains can be there on the day.
-fn add_row<'a>(
+pub(crate) fn add_row<'a>(
     lines: &mut Vec<DockerLine<'a>>,
     near: &Near<'a>,
     key: &'a Key,
@@ -56,7 +34,7 @@ fn add_row<'a>(
         return Ok(());
     }
     add_back(lines, near, key, body, place, day, 0)?;
-    if !is_row_under_way(key, body, day) {
+    if !is_row_under_way(key, body, place, day) {
         return Ok(());
     }
     add_back(lines, near, key, body, place, day, 1)?;
@@ -74,13 +52,13 @@ fn is_row_lately(key: &Key, body: &Body, day: Day) -> bool
     }
 }
 
-/// Whether a row may have lines on a day of a train that started before it: of a schedule only where its train may be under way.
-fn is_row_under_way(key: &Key, body: &Body, day: Day) -> bool
+/// Whether a row may have lines at a place on a day of a train that started before it: of a schedule only where its train may be under way.
+fn is_row_under_way(key: &Key, body: &Body, place: &Tiploc, day: Day) -> bool
     requires good { IsBodyOf (key_meant key.now) (body_meant body.now) }
-    ensures { result ≡ row_under_way (key_meant key.now) (body_meant body.now) day }
+    ensures { result ≡ row_under_way place.now (key_meant key.now) (body_meant body.now) day }
 {
     match schedule_of(key, body) {
-        Some(train) => is_under_way(&train, day),
+        Some(train) => is_under_way(&train, place, day),
         None => true,
     }
 }

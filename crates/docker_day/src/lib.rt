@@ -9,6 +9,7 @@ mod gathering;
 mod link_lines;
 mod location;
 mod making;
+mod portions;
 mod print;
 mod starts;
 mod train_lines;

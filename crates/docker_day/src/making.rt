@@ -14,7 +14,7 @@ ghost use Rattle.docker_day.specs.Dockers.{HasGathered, IsDockerOf};
 use crate::docker_line::DockerLine;
 use crate::docker_list::Docker;
 use crate::fault::DockerFault;
-use crate::gathering::add_rows;
+use crate::portions::add_rows;
 use cif_file::{Body, Key};
 use cif_line::{Day, Memory, Tiploc};
 use docker_join::Op;

@@ -8,16 +8,14 @@ ghost use Rattle.docker_train.specs.Occurrences.{occurrences};
 ghost use Rattle.docker_train.specs.Walk.{occurrence_meant};
 ghost use Rattle.docker_day.specs.Lines.{Adds, is_here, is_today, lines_there, is_lately, is_under_way, schedule_piece};
 ghost use Rattle.docker_train.specs.Along.{IsLiveTrain};
-ghost use Rattle.docker_train.specs.Lately.{runs_back};
+ghost use Rattle.docker_train.specs.UpTo.{occurrences_to};
 
 use crate::detail::Detail;
 use crate::docker_line::DockerLine;
 use crate::location::tiploc_in;
 use crate::starts::{is_here, is_today};
 use cif_line::{Day, Memory, Tiploc};
-use docker_train::{
-    Near, Occurrence, ScheduleView, day_back, ends_of, is_train_on, passes_midnight,
-};
+use docker_train::{Near, Occurrence, ScheduleView, ends_of, is_train_on, passes_midnight};
 
 /// Adds the lines of a schedule at a place on a day, where its train runs by it from a start day on. `Memory` where the growth is refused.
 pub(crate) fn add_schedule<'a>(
@@ -52,24 +50,16 @@ pub(crate) fn is_lately(train: &ScheduleView<'_>, day: Day) -> bool
     train.runs_lately(day).is_some()
 }
 
-/// Whether the train of a schedule may be under way on a day since one of the two days before: it runs on one of them, and passes midnight.
-pub(crate) fn is_under_way(train: &ScheduleView<'_>, day: Day) -> bool
-    ensures { result ≡ is_under_way train.now.lines day }
+/// Whether the train of a schedule may be under way on a day, up to its last event at a place, since one of the two days before: it runs on one of them, and passes
+/// midnight by then.
+pub(crate) fn is_under_way(train: &ScheduleView<'_>, place: &Tiploc, day: Day) -> bool
+    ensures { result ≡ is_under_way place.now train.now.lines day }
 {
-    if !(runs_back(train, day, 1) || runs_back(train, day, 2)) {
+    let lately = train.runs_lately(day);
+    if !(lately.day_before | lately.two_before) {
         return false;
     }
-    passes_midnight(train)
-}
-
-/// Whether a schedule runs on the day so many days before.
-fn runs_back(train: &ScheduleView<'_>, day: Day, back: u16) -> bool
-    ensures { result ≡ runs_back train.now.lines day back }
-{
-    match day_back(day, back) {
-        Some(start) => train.runs_on(start),
-        None => false,
-    }
+    passes_midnight(train, place)
 }
 
 /// Adds the lines of those events of a train that are at a place on a day.
@@ -102,9 +92,9 @@ fn add_there<'a>(
     requires past { start ≤ day }
     ensures { OnOk result (lines.new.items ≡ lines.old.items
         ++ lines_there place.now day start train.now.key (detail_meant detail.now)
-        (occurrences train.now.lines)) }
+        (occurrences_to place.now train.now.lines)) }
 {
-    for event in train.events() {
+    for event in train.events_to(place) {
         if is_there(&event, place, day, start) {
             lines.push(DockerLine::of_event(train, start, event, *detail))?;
         }

@@ -13,6 +13,7 @@ pub mod SortedSpots
 pub mod MarkPieces
 pub mod MarkSpots
 pub mod MovedMarks
+pub mod PackedPlaces
 pub mod NotedNames
 pub mod CountedSpots
 pub mod Counted

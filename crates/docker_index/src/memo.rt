@@ -1,7 +1,7 @@
 //! Where places were found last.
 ghost use Rattle.std.specs.Prelude.{◌≡◌, IfSome, Some, slice_get};
 
-use crate::names::is_at;
+use crate::names::{is_at, packed};
 use cif_line::Memory;
 use std::alloc::Global;
 
@@ -67,7 +67,5 @@ impl Memo {
 
 /// The first slot of a place: the highest sixteen bits of a product of its bytes, read as a number.
 fn slot_of(place: &[u8; 7]) -> usize {
-    let [a, b, c, d, e, f, g] = *place;
-    let number = u64::from_le_bytes([a, b, c, d, e, f, g, 0]);
-    (number.wrapping_mul(0x9E37_79B9_7F4A_7C15) >> 48) as usize
+    (packed(place).wrapping_mul(0x9E37_79B9_7F4A_7C15) >> 48) as usize
 }

@@ -1,5 +1,6 @@
 //! The places that rows name, by provisional numbers.
-ghost use Rattle.std.specs.Prelude.{◌≡◌, [], Contains, IfOk, IsTrue, IsSome, IfSome, Some, slice_get};
+ghost use Rattle.std.specs.Prelude.{◌≡◌, ◌++◌, [], ◌∷◌, Contains, IfOk, IsTrue, IsSome, IfSome, Some, slice_get};
+ghost use Rattle.std.specs.Int.{from_le_bytes, w64};
 ghost use Rattle.docker_model.specs.state.Order.{bytes_cmp, IsStrictlyAscending};
 ghost use Rattle.docker_index.specs.Rooms.{Includes};
 ghost use Rattle.docker_index.specs.Noted.{Keeps};
@@ -70,7 +71,15 @@ pub(crate) fn is_at(places: &[[u8; 7]], index: u32, place: &[u8; 7]) -> bool
 fn is_same(one: &[u8; 7], other: &[u8; 7]) -> bool
     ensures { IsTrue result → one.now ≡ other.now }
 {
-    *one == *other
+    packed(one) == packed(other)
+}
+
+/// A place as one number, its first byte the lowest: two places are compared at once so, not byte by byte.
+pub(crate) fn packed(place: &[u8; 7]) -> u64
+    ensures { result ≡ from_le_bytes w64 (place.now ++ 0 ∷ []) }
+{
+    let [a, b, c, d, e, f, g] = *place;
+    u64::from_le_bytes([a, b, c, d, e, f, g, 0])
 }
 
 /// The index of a place among places that ascend. None where it isn't there.

@@ -1,15 +1,13 @@
 -- A schedule has an event behind a midnight exactly where one of its times is below the one before.
-use Rattle.std.proofs.Common.{◌≡◌, ℕ, ◌+◌, ◌==◌, ◌<◌, Bool, true, false, cond, List, [], ◌∷◌, ◌++◌, refl, ap, sym, ◌∙◌, subst, Some, None, All, arith}
+use Rattle.std.proofs.Common.{◌≡◌, ℕ, ◌+◌, ◌==◌, ◌<◌, Bool, true, false, cond, List, [], ◌∷◌, ◌++◌, refl, sym, ◌∙◌, subst, Some, None, All, arith}
 use Rattle.std.specs.Prelude.{Option, ◌||◌, not, nat_lt}
 use Rattle.std.proofs.lemmas.Bool.{ltb-true}
 use Rattle.std.proofs.lemmas.List.Elements.{All-from_recursion, recursion_from_All}
 use Rattle.docker_model.specs.records.Field.{HasGoodFields}
 use Rattle.docker_model.specs.file.Journey.{Occasion, times_of}
-use Rattle.docker_model.specs.file.File.{first_record}
 use Rattle.docker_model.specs.docker.EventWalk.{fall_at}
-use Rattle.docker_train.specs.Occurrences.{Occurrence, Progress, before_all, occurrences, occurrences_at, occurrences_from, past_time, past_times, turned}
+use Rattle.docker_train.specs.Occurrences.{Occurrence, Progress, before_all, occurrences_at, occurrences_from, past_time, past_times, turned}
 use Rattle.docker_train.specs.Midnights.{some_late, ascends, falls_after, falls_along}
-use Rattle.docker_train.proofs.Occurrences.{all_met}
 
 abbrev Times : Type 0
 Times = List (Occasion × ℕ)
@@ -77,9 +75,9 @@ along p (line ∷ lines) zero =
     by (Some last) (falls, same, early) rec =
         (λ i. falls_along (sym same i) lines) ∙ rec falls ∙ sym (early (occurrences_from next lines))
 
--- the times of a schedule tell whether some event is behind a midnight
-pub late_by_times : (lines : List (List ℕ)) → falls_along 0 lines ≡ some_late (occurrences lines)
-late_by_times lines = along (before_all (first_record lines)) lines refl ∙ ap some_late (all_met lines)
+-- the times of some lines tell whether some event of a train is behind a midnight up to them
+pub late_by_times : (basic : List ℕ) (lines : List (List ℕ)) → falls_along 0 lines ≡ some_late (occurrences_from (before_all basic) lines)
+late_by_times basic lines = along (before_all basic) lines refl
 
 -- the first of lines with good fields has good fields
 pub first_good : (lines rest : List (List ℕ)) (line : List ℕ) → All HasGoodFields lines → lines ≡ line ∷ rest → HasGoodFields line

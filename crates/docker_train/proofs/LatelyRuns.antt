@@ -1,6 +1,6 @@
 -- On which of a day and the two days before it a schedule runs, by the first day in its key and two fields of its basic schedule.
-use Rattle.std.proofs.Common.{◌≡◌, ℕ, ◌-◌, ◌<◌, ◌≤◌, Bool, true, false, List, refl, ap, sym, ◌∙◌, subst, arith}
-use Rattle.std.specs.Prelude.{◌&&◌, nat_le, nat_lt}
+use Rattle.std.proofs.Common.{◌≡◌, ℕ, ◌-◌, ◌<◌, Bool, true, false, List, refl, ap, sym, ◌∙◌, subst, arith}
+use Rattle.std.specs.Prelude.{◌&&◌, ◌||◌, not, nat_le, nat_lt}
 use Rattle.std.proofs.lemmas.Bool.{leb-true, ltb-true}
 use Rattle.docker_model.specs.records.Record.{columns}
 use Rattle.docker_model.specs.records.Date.{end_number, runs_on_weekday, weekday_of}
@@ -9,7 +9,7 @@ use Rattle.docker_model.specs.file.Change.{ScheduleKey}
 use Rattle.docker_model.specs.docker.Choice.{schedule_runs}
 use Rattle.docker_model.specs.state.State.{IsScheduleOf}
 use Rattle.docker_train.specs.Runs.{runs_until}
-use Rattle.docker_train.specs.Lately.{AreLately, runs_back, lately_back}
+use Rattle.docker_train.specs.Lately.{AreLately, runs_back, lately_back, marked_back, may_run_lately}
 use Rattle.docker_train.specs.declared.lately.Lately.{Lately}
 use Rattle.docker_train.proofs.KeptLines.{runs_by_key}
 
@@ -68,3 +68,40 @@ pub never_told : (key : ScheduleKey) (lines : List (List ℕ)) (first day : ℕ)
 never_told key lines first day lately of first_is late are =
     let behind = ltb-true day first late in
     same_lately (λ back. false) (runs_back lines day) lately (never_yet key lines day of (omega arith)) are
+
+-- the order of two of four tests
+both_of : (a b c e : Bool) → (a && c) ≡ false → ((a && (b && c)) && e) ≡ false
+both_of false b c e none = refl
+both_of true false c e none = refl
+both_of true true false e none = refl
+both_of true true true e none = let bad : true ≡ false = none in cc
+
+none_of_three : (a b c : Bool) → (a || b || c) ≡ false → (a ≡ false) × (b ≡ false) × (c ≡ false)
+none_of_three false false c none = (refl, refl, none)
+none_of_three false true c none = let bad : true ≡ false = none in cc
+none_of_three true b c none = let bad : true ≡ false = none in cc
+
+-- what may not run lately runs on none of the three days
+pub idle_lately : (key : ScheduleKey) (lines : List (List ℕ)) (day : ℕ) → IsScheduleOf key lines → may_run_lately key lines day ≡ false
+    → (runs_back lines day 0 ≡ false) × (runs_back lines day 1 ≡ false) × (runs_back lines day 2 ≡ false)
+idle_lately key lines day of never = by (nat_lt day key.runs_from) refl
+  where
+    days : List ℕ
+    days = columns 22 28 (first_record lines)
+
+    idle : (back : ℕ) → marked_back days day back ≡ false → runs_back lines day back ≡ false
+    idle back none =
+        sym (lately_runs key lines day of back)
+        ∙ both_of (nat_le back day) (nat_le key.runs_from (day - back)) (runs_on_weekday days (weekday_of (day - back)))
+        (nat_le (day - back) (end_number (columns 16 21 (first_record lines)))) none
+
+    by : (b : Bool) → nat_lt day key.runs_from ≡ b
+        → (runs_back lines day 0 ≡ false) × (runs_back lines day 1 ≡ false) × (runs_back lines day 2 ≡ false)
+    by true late =
+        let behind = ltb-true day key.runs_from late in
+        let none = never_yet key lines day of (omega arith) in
+        (sym (none 0), sym (none 1), sym (none 2))
+    by false begun =
+        let unmarked = none_of_three (marked_back days day 0) (marked_back days day 1) (marked_back days day 2)
+        ((λ i. not (sym begun i) && (marked_back days day 0 || marked_back days day 1 || marked_back days day 2)) ∙ never) in
+        (idle 0 unmarked.0, idle 1 unmarked.1, idle 2 unmarked.2)

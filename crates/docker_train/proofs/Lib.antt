@@ -8,3 +8,4 @@ pub mod RunFields
 pub mod NoEvents
 pub mod Late
 pub mod LatelyRuns
+pub mod UpTo

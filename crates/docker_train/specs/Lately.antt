@@ -1,8 +1,9 @@
 -- Whether a schedule runs on a day, or on one of the two before it.
-use Rattle.std.specs.Prelude.{◌≡◌, ℕ, Bool, ◌&&◌, ◌-◌, List, nat_le}
+use Rattle.std.specs.Prelude.{◌≡◌, ℕ, Bool, ◌&&◌, ◌||◌, ◌-◌, not, List, nat_le, nat_lt}
 use Rattle.docker_model.specs.records.Record.{columns}
 use Rattle.docker_model.specs.records.Date.{end_number, runs_on_weekday, weekday_of}
 use Rattle.docker_model.specs.file.File.{first_record}
+use Rattle.docker_model.specs.file.Change.{ScheduleKey}
 use Rattle.docker_model.specs.docker.Choice.{schedule_runs}
 use Rattle.docker_train.specs.declared.lately.Lately.{Lately}
 
@@ -27,3 +28,13 @@ lasts_back last day back = nat_le (day - back) last
 -- both, by the fields of a basic schedule
 abbrev pub lately_back : List ℕ → ℕ → ℕ → ℕ → Bool
 lately_back line first day back = begun_back (columns 22 28 line) first day back && lasts_back (end_number (columns 16 21 line)) day back
+
+-- the weekday of the day so many days before is marked
+abbrev pub marked_back : List ℕ → ℕ → ℕ → Bool
+marked_back days day back = nat_le back day && runs_on_weekday days (weekday_of (day - back))
+
+-- a schedule of this key and these lines has begun by the day, and the weekday of it or of one of the two before it is marked
+abbrev pub may_run_lately : ScheduleKey → List (List ℕ) → ℕ → Bool
+may_run_lately key lines day = not (nat_lt day key.runs_from)
+    && (marked_back (columns 22 28 (first_record lines)) day 0 || marked_back (columns 22 28 (first_record lines)) day 1
+    || marked_back (columns 22 28 (first_record lines)) day 2)

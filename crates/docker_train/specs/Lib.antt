@@ -7,3 +7,4 @@ pub mod Along
 pub mod Runs
 pub mod Midnights
 pub mod Lately
+pub mod UpTo

@@ -1,9 +1,9 @@
 //! On which of a day and the two days before it a schedule runs: its train can be somewhere on the day that starts on one of them.
 ghost use Rattle.std.specs.Prelude.{◌≡◌, ◌≤◌, ◌||◌, ◌-◌, false};
 ghost use Rattle.std.specs.Option.{SomeIff};
-ghost use Rattle.docker_model.specs.records.Record.{HasKind, basic_schedule};
+ghost use Rattle.docker_model.specs.records.Record.{HasKind, basic_schedule, columns};
 ghost use Rattle.docker_model.specs.records.Field.{HasGoodFields, is_deletion};
-ghost use Rattle.docker_train.specs.Lately.{AreLately, begun_back, lasts_back, lately_back};
+ghost use Rattle.docker_train.specs.Lately.{AreLately, begun_back, lasts_back, lately_back, marked_back};
 
 use cif_line::{Day, Days, Line};
 
@@ -91,4 +91,25 @@ fn lasts_back(last: u16, day: Day, back: u16) -> bool
     ensures { result ≡ lasts_back last day back }
 {
     day.number().saturating_sub(back) <= last
+}
+
+/// Whether the weekday of a day, or of one of the two before it, is marked in a basic schedule.
+pub(crate) fn is_marked_lately(line: &Line, day: Day) -> bool
+    ensures { result ≡ (marked_back (columns 22 28 line.now) day 0
+        || marked_back (columns 22 28 line.now) day 1 || marked_back (columns 22 28 line.now) day 2) }
+{
+    is_marked_back(line, day, 0) | is_marked_back(line, day, 1) | is_marked_back(line, day, 2)
+}
+
+/// Whether the weekday of the day so many days before is marked in a basic schedule.
+fn is_marked_back(line: &Line, day: Day, back: u16) -> bool
+    ensures { result ≡ marked_back (columns 22 28 line.now) day back }
+{
+    match day_back(day, back) {
+        Some(start) => {
+            let marks: &[u8; 7] = line.field(22);
+            marks[start.weekday() as usize] == b'1'
+        }
+        None => false,
+    }
 }

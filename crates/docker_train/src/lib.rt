@@ -13,6 +13,7 @@ mod near;
 mod occasion;
 mod schedule_view;
 mod times;
+mod up_to;
 mod walk;
 mod walks;
 

@@ -5,12 +5,12 @@ ghost use Rattle.docker_model.specs.file.Journey.{times_of};
 ghost use Rattle.docker_model.specs.docker.Event.{Event, events_of, falls_to};
 ghost use Rattle.docker_train.specs.Falls.{falls_among};
 ghost use Rattle.docker_train.specs.Midnights.{some_late, ascends, falls_along};
-ghost use Rattle.docker_train.specs.Occurrences.{occurrences};
+ghost use Rattle.docker_train.specs.UpTo.{occurrences_to};
 
 use crate::events::Events;
 use crate::schedule_view::ScheduleView;
 use crate::times::Times;
-use cif_line::{Line, kind};
+use cif_line::{Line, Tiploc, kind};
 
 /// How many midnights lie between the start of a train and an event of its schedule, which is numbered from 1: 0 to 2. None where there is no such event.
 #[tactic(auto, using(crate::proofs::FallsTold::falls_there, crate::proofs::FallsTold::falls_are))]
@@ -36,12 +36,11 @@ fn falls_among(events: Events<'_>, event: u64) -> Option<u64>
     None
 }
 
-/// Whether some event of a train is behind a midnight. By the times of its lines alone, which takes less than a walk over its events.
-#[tactic(auto, using(crate::proofs::Late::late_by_times, crate::proofs::KeptLines::lines_good))]
-pub fn passes_midnight(view: &ScheduleView<'_>) -> bool
-    ensures { result ≡ some_late (occurrences view.now.lines) }
+/// Whether some event of a train, up to its last one at a place, is behind a midnight. By the times of its lines alone, which takes less than a walk over its events.
+pub fn passes_midnight(view: &ScheduleView<'_>, place: &Tiploc) -> bool
+    ensures { result ≡ some_late (occurrences_to place.now view.now.lines) }
 {
-    falls_along(view.lines())
+    falls_along(view.lines_to(place))
 }
 
 /// Whether some time of some lines is below the one before.

@@ -1,5 +1,5 @@
 //! A live schedule.
-ghost use Rattle.std.specs.Prelude.{◌≡◌, ◌≤◌, ℕ, false, nat_lt};
+ghost use Rattle.std.specs.Prelude.{◌≡◌, ◌≤◌, ◌<◌, ◌^◌, ℕ, All, false, length, nat_lt};
 ghost use Rattle.docker_model.specs.records.Record.{basic_schedule, HasKind, columns};
 ghost use Rattle.docker_model.specs.records.Field.{HasGoodFields, is_deletion};
 ghost use Rattle.docker_model.specs.file.File.{first_record};
@@ -7,14 +7,16 @@ ghost use Rattle.docker_model.specs.state.State.{IsScheduleOf};
 ghost use Rattle.docker_model.specs.docker.Choice.{schedule_runs};
 ghost use Rattle.docker_model.specs.docker.Event.{falls_to};
 ghost use Rattle.docker_train.specs.Keys.{schedule_key_meant};
-ghost use Rattle.docker_train.specs.Lately.{AreLately, runs_back};
+ghost use Rattle.docker_train.specs.Lately.{AreLately, may_run_lately, runs_back};
 ghost use Rattle.docker_train.specs.Occurrences.{occurrences};
+ghost use Rattle.docker_train.specs.UpTo.{occurrences_to, up_to_last};
 
 use crate::days_run::schedule_runs_on;
 use crate::events::Events;
-use crate::lately::{Lately, days_lately};
+use crate::lately::{Lately, days_lately, is_marked_lately};
+use crate::up_to::up_to_last;
 use cif_file::{Lines, ScheduleKey};
-use cif_line::{Day, Line};
+use cif_line::{Day, Line, Tiploc};
 use std::marker::Model;
 
 /// A live schedule: its key, and its lines.
@@ -104,6 +106,14 @@ impl<'a> ScheduleView<'a> {
         days_lately(self.first(), self.key.runs_from, day)
     }
 
+    /// Whether it has begun by a day, and the weekday of it or of one of the two before it is marked: else it runs on none of the three. By a look at eight bytes,
+    /// which takes less than to ask on which of them it runs.
+    pub fn may_run_lately(&self, day: Day) -> bool
+        ensures { result ≡ may_run_lately self.now.key self.now.lines day }
+    {
+        !begins_behind(self.key, day) && is_marked_lately(self.first(), day)
+    }
+
     /// The train identity in the basic schedule.
     pub fn identity(&self) -> &'a [u8; 4]
         ensures { result.now ≡ columns 33 36 (first_record self.now.lines) }
@@ -117,6 +127,22 @@ impl<'a> ScheduleView<'a> {
         ensures few { (number : ℕ) → falls_to self.now.lines number ≤ 2 }
     {
         Events::of(self.first(), self.identity(), self.lines.as_slice())
+    }
+
+    /// The events up to the last one at a place, in their order.
+    pub fn events_to(&self, place: &Tiploc) -> Events<'a>
+        ensures { result ≡ occurrences_to place.now self.now.lines }
+    {
+        Events::of(self.first(), self.identity(), self.lines_to(place))
+    }
+
+    /// The lines up to the last one at a place.
+    pub(crate) fn lines_to(&self, place: &Tiploc) -> &'a [Line]
+        ensures lines { result.now ≡ up_to_last place.now self.now.lines }
+        ensures good { All HasGoodFields result.now }
+        ensures few { length result.now < 2 ^ 32 }
+    {
+        up_to_last(self.lines.as_slice(), place)
     }
 }
 

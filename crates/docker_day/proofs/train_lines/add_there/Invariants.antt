@@ -1,5 +1,5 @@
 use Rattle.std.proofs.Common.{◌≡◌, ◌++◌}
-use Rattle.docker_train.specs.Occurrences.{occurrences}
+use Rattle.docker_train.specs.UpTo.{occurrences_to}
 use Rattle.docker_day.specs.Details.{detail_meant}
 use Rattle.docker_day.specs.Lines.{lines_there}
 use Rattle.docker_day.proofs.train_lines.add_there.Given as goal
@@ -8,4 +8,4 @@ use Rattle.docker_day.proofs.train_lines.add_there.Given as goal
 abbrev pub invariant-loop-event : goal.invariant-loop-event
 invariant-loop-event l =
     l.lines.items ++ lines_there l.place l.day l.start l.train.key (detail_meant l.detail) l.event-iterator
-    ≡ l.initial.lines.items ++ lines_there l.place l.day l.start l.train.key (detail_meant l.detail) (occurrences l.train.lines)
+    ≡ l.initial.lines.items ++ lines_there l.place l.day l.start l.train.key (detail_meant l.detail) (occurrences_to l.place l.train.lines)

@@ -1,0 +1,62 @@
+-- Behind the last line at a place no event is there.
+use Rattle.std.proofs.Common.{◌≡◌, ℕ, Bool, true, false, cond, List, [], ◌∷◌, ◌++◌, refl, ap, sym, ◌∙◌, append_assoc}
+use Rattle.std.specs.Prelude.{◌&&◌}
+use Rattle.docker_model.specs.file.Change.{ScheduleKey}
+use Rattle.docker_model.specs.file.File.{first_record}
+use Rattle.docker_model.specs.file.Journey.{Occasion, times_of}
+use Rattle.docker_model.specs.docker.DockerLine.{DockerLine, Detail}
+use Rattle.docker_train.specs.Occurrences.{Occurrence, Progress, before_all, turned, past_time, past_times, occurrence_at, occurrences, occurrences_at, occurrences_from}
+use Rattle.docker_train.specs.UpTo.{names_place, before_named, up_to_last, occurrences_to}
+use Rattle.docker_train.proofs.Occurrences.{all_met}
+use Rattle.docker_day.specs.Lines.{line_at_event, is_here, is_today, lines_there}
+
+module _ (place : List ℕ) (day start : ℕ) (key : ScheduleKey) (detail : Detail) where
+  abbrev there : List Occurrence → List DockerLine
+  there events = lines_there place day start key detail events
+
+  abbrev line_of : Occurrence → List DockerLine
+  line_of event = cond (is_here place event && is_today day start event) (line_at_event key start detail event ∷ []) []
+
+  -- the lines of events, and of those behind them
+  there_parts : (events behind : List Occurrence) → there (events ++ behind) ≡ there events ++ there behind
+  there_parts [] behind = refl
+  there_parts (event ∷ events) behind =
+      ap (λ more. line_of event ++ more) (there_parts events behind) ∙ sym (append_assoc (line_of event) (there events) (there behind))
+
+  -- a line elsewhere has no event there
+  none_elsewhere : (p : Progress) (line : List ℕ) (times : List (Occasion × ℕ)) → names_place place line ≡ false
+      → there (occurrences_at p line times) ≡ []
+  none_elsewhere p line [] elsewhere = refl
+  none_elsewhere p line (time ∷ times) elsewhere =
+      (λ i. cond (elsewhere i && is_today day start (occurrence_at p line time)) (line_at_event key start detail (occurrence_at p line time) ∷ [])
+      [] ++ there (occurrences_at (past_time p time) line times))
+      ∙ none_elsewhere (past_time p time) line times elsewhere
+
+  -- the events up to the last line there have the lines of all
+  lines_up_to : (p : Progress) (lines : List (List ℕ)) → there (occurrences_from p (up_to_last place lines)) ≡ there (occurrences_from p lines)
+  lines_up_to p [] = refl
+  lines_up_to p (line ∷ lines) = by (names_place place line) refl (up_to_last place lines) (lines_up_to next lines)
+    where
+      next : Progress
+      next = past_times (turned p line) (times_of line)
+
+      here : List Occurrence
+      here = occurrences_at (turned p line) line (times_of line)
+
+      with_line : (found : List (List ℕ)) → there (occurrences_from next found) ≡ there (occurrences_from next lines)
+          → there (here ++ occurrences_from next found) ≡ there (here ++ occurrences_from next lines)
+      with_line found same =
+          there_parts here (occurrences_from next found) ∙ ap (λ more. there here ++ more) same ∙ sym (there_parts here (occurrences_from next lines))
+
+      by : (named : Bool) → names_place place line ≡ named → (found : List (List ℕ))
+          → there (occurrences_from next found) ≡ there (occurrences_from next lines)
+          → there (occurrences_from p (before_named named line found)) ≡ there (here ++ occurrences_from next lines)
+      by true h [] same = with_line [] same
+      by false h [] same =
+          same ∙ ap (λ none. none ++ there (occurrences_from next lines)) (sym (none_elsewhere (turned p line) line (times_of line) h))
+          ∙ sym (there_parts here (occurrences_from next lines))
+      by named h (found ∷ rest) same = with_line (found ∷ rest) same
+
+  -- so of a schedule
+  pub lines_to_last : (lines : List (List ℕ)) → there (occurrences_to place lines) ≡ there (occurrences lines)
+  lines_to_last lines = lines_up_to (before_all (first_record lines)) lines ∙ ap there (all_met lines)

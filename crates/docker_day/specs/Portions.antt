@@ -1,0 +1,18 @@
+-- The rows of a walk, taken some at a time.
+use Rattle.std.specs.Prelude.{◌≡◌, ◌≤◌, ◌-◌, ℕ, List, length}
+use Rattle.docker_model.specs.state.Row.{Row, AreRowsOf}
+use Rattle.docker_model.specs.state.Table.{Table}
+use Rattle.docker_model.specs.docker.LiveRows.{train_in, link_in}
+use Rattle.docker_model.specs.docker.Gathering.{gathered}
+use Rattle.docker_train.specs.Along.{AreGoodRows, AreLive}
+
+-- of some rows these are left, fewer where there were any
+pub record AreLeft (before after : List Row) : Type 0 where
+  pub good : AreGoodRows before → AreGoodRows after
+  pub live : (live : Table) → AreLive live before → AreLive live after
+  pub fewer : length after ≤ length before - 1
+
+-- and those that are not have no line at a place on the day
+abbrev pub ArePassedOver : ℕ → List Row → List Row → Type 0
+ArePassedOver day before after = (place : List ℕ) (live : Table) → AreLive live before → (rows : List Row) → AreRowsOf live rows
+    → gathered (train_in rows) (link_in rows) place day before ≡ gathered (train_in rows) (link_in rows) place day after

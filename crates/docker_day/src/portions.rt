@@ -1,0 +1,128 @@
+//! The lines of a docker, gathered from the rows of a walk, some rows at a time.
+ghost use Rattle.std.specs.Prelude.{◌≡◌, ◌↔◌, ◌++◌, List, [], OnOk, IsNone, Some, false};
+ghost use Rattle.cif_file.specs.Meaning.{key_meant, body_meant};
+ghost use Rattle.docker_model.specs.state.State.{IsBodyOf, live_table};
+ghost use Rattle.docker_model.specs.state.Row.{Row, AreRowsOf};
+ghost use Rattle.docker_model.specs.docker.Gathering.{gathered};
+ghost use Rattle.docker_model.specs.docker.LiveRows.{train_in, link_in};
+ghost use Rattle.docker_train.specs.Along.{AreGoodRows, AreLive};
+ghost use Rattle.docker_day.specs.Lines.{Adds, row_may_run};
+ghost use Rattle.docker_day.specs.Portions.{AreLeft, ArePassedOver};
+
+use crate::docker_line::DockerLine;
+use crate::gathering::add_row;
+use cif_file::{Body, Key};
+use cif_line::{Day, Memory, Tiploc};
+use docker_index::Numbered;
+use docker_state::{Standing, State};
+use docker_train::{Near, schedule_of};
+
+/// How many rows are looked at before the lines of one are added: their bytes come from memory all at a time so, and not one after the other.
+const PORTION: usize = 16;
+
+/// Adds the lines of rows at a place on a day. `Memory` where the growth is refused.
+pub(crate) fn add_rows<'a>(
+    lines: &mut Vec<DockerLine<'a>>,
+    state: &'a State,
+    rows: Standing<'a>,
+    place: &Tiploc,
+    day: Day,
+) -> Result<(), Memory>
+    requires good { AreGoodRows rows }
+    requires live { AreLive (live_table state.now) rows }
+    ensures { OnOk result
+        (Adds (live_table state.now)
+        (λ trains links. gathered trains links place.now day rows.entry)
+        lines.old.items lines.new.items) }
+{
+    let mut rest = rows.numbered();
+    loop {
+        let mut ahead = rest.clone()?;
+        match may_some_run(&mut ahead, day) {
+            Some(true) => add_portion(lines, state, &mut rest, place, day)?,
+            Some(false) => rest = ahead,
+            None => return Ok(()),
+        }
+    }
+}
+
+/// Whether some of the first rows of a walk may have lines on a day, which goes on behind them. None where it is at its end. Each of them is looked at, whatever those
+/// before it are.
+fn may_some_run(rows: &mut Numbered<'_>, day: Day) -> Option<bool>
+    requires good { AreGoodRows rows.old }
+    ensures none { IsNone result ↔ (rows.old ≡ []) }
+    ensures left { AreLeft rows.old rows.new }
+    ensures passed { result ≡ Some false → ArePassedOver day rows.old rows.new }
+{
+    let mut some = may_next_run(rows, day)?;
+    for _ in 1..PORTION {
+        some |= may_next_run(rows, day).unwrap_or(false);
+    }
+    Some(some)
+}
+
+/// Whether the next row of a walk may have lines on a day. None where there is none.
+fn may_next_run(rows: &mut Numbered<'_>, day: Day) -> Option<bool>
+    requires good { AreGoodRows rows.old }
+    ensures none { IsNone result ↔ (rows.old ≡ []) }
+    ensures left { AreLeft rows.old rows.new }
+    ensures end { IsNone result → rows.new ≡ rows.old }
+    ensures passed { result ≡ Some false → ArePassedOver day rows.old rows.new }
+{
+    let (_, key, body) = rows.next()?;
+    Some(may_row_run(key, body, day))
+}
+
+/// Whether a row may have lines on a day: of a schedule only where it has begun, and the weekday of the day or of one of the two before it is marked.
+fn may_row_run(key: &Key, body: &Body, day: Day) -> bool
+    requires good { IsBodyOf (key_meant key.now) (body_meant body.now) }
+    ensures { result ≡ row_may_run (key_meant key.now) (body_meant body.now) day }
+{
+    match schedule_of(key, body) {
+        Some(train) => train.may_run_lately(day),
+        None => true,
+    }
+}
+
+/// Adds the lines of the first rows of a walk, which goes on behind them.
+fn add_portion<'a>(
+    lines: &mut Vec<DockerLine<'a>>,
+    state: &'a State,
+    rows: &mut Numbered<'a>,
+    place: &Tiploc,
+    day: Day,
+) -> Result<(), Memory>
+    requires good { AreGoodRows rows.old }
+    requires live { AreLive (live_table state.now) rows.old }
+    ensures left { OnOk result (AreLeft rows.old rows.new) }
+    ensures added { OnOk result ((all : List Row) → AreRowsOf (live_table state.now) all
+        → lines.new.items ++ gathered (train_in all) (link_in all) place.now day rows.new
+        ≡ lines.old.items ++ gathered (train_in all) (link_in all) place.now day rows.old) }
+{
+    add_next(lines, state, rows, place, day)?;
+    for _ in 1..PORTION {
+        add_next(lines, state, rows, place, day)?;
+    }
+    Ok(())
+}
+
+/// Adds the lines of the next row of a walk, if there is one.
+fn add_next<'a>(
+    lines: &mut Vec<DockerLine<'a>>,
+    state: &'a State,
+    rows: &mut Numbered<'a>,
+    place: &Tiploc,
+    day: Day,
+) -> Result<(), Memory>
+    requires good { AreGoodRows rows.old }
+    requires live { AreLive (live_table state.now) rows.old }
+    ensures left { OnOk result (AreLeft rows.old rows.new) }
+    ensures added { OnOk result ((all : List Row) → AreRowsOf (live_table state.now) all
+        → lines.new.items ++ gathered (train_in all) (link_in all) place.now day rows.new
+        ≡ lines.old.items ++ gathered (train_in all) (link_in all) place.now day rows.old) }
+{
+    match rows.next() {
+        Some((row, key, body)) => add_row(lines, &Near::row(state, row), key, body, place, day),
+        None => Ok(()),
+    }
+}
