@@ -1,5 +1,5 @@
 -- What is kept under a floor.
-use Rattle.std.proofs.Common.{◌≡◌, arith, List, [], ◌∷◌, length, map, refl, ap, sym, ◌∙◌, subst, inl, inr, ◌⊎◌, Contains, Bool, true, false, cond, Some, None}
+use Rattle.std.proofs.Common.{◌≡◌, arith, List, [], ◌∷◌, length, map, refl, ap, sym, ◌∙◌, subst, Contains, Bool, true, false, cond, Some, None}
 use Rattle.std.specs.Prelude.{filter, Option, ◌↔◌, IsTrue}
 use Rattle.std.specs.declared.cmp.Ordering.TheVariants.{Less, Equal, Greater}
 use Rattle.docker_model.specs.state.Stamp.{FileStamp, file_stamp_cmp, IsKept}

@@ -1,5 +1,5 @@
 -- What a ledger has of the items of a list.
-use Rattle.std.proofs.Common.{◌≡◌, ◌+◌, ℕ, ◌<◌, ◌≤◌, List, map, Bool, true, length, get_or, ◌∙◌, subst, Contains, arith}
+use Rattle.std.proofs.Common.{◌≡◌, ◌+◌, ℕ, ◌<◌, ◌≤◌, List, map, Bool, true, length, get_or, ◌∙◌, subst, arith}
 use Rattle.std.specs.Prelude.{Option, ◌↔◌, IsTrue}
 use Rattle.std.specs.List.{AllWithin}
 use Rattle.std.proofs.lemmas.List.{get_or_default}

@@ -2,8 +2,7 @@
 use Rattle.std.specs.Prelude.{◌≡◌, ℕ, Contains, Bool, false, if◌then◌else◌, List, [], ◌∷◌, map, slice_get, Option, Some, None}
 use Rattle.std.specs.Ordering.{is_eq}
 use Rattle.docker_model.specs.file.Change as model
-use Rattle.docker_model.specs.state.Stamp.{FileStamp, IsKept}
-use Rattle.docker_model.specs.state.Lapse.{lapse_entry}
+use Rattle.docker_model.specs.state.Stamp.{FileStamp}
 use Rattle.docker_model.specs.state.Op as ops
 use Rattle.docker_model.specs.state.Op.{op_of, key_cmp}
 use Rattle.cif_change.specs.declared.key.Key.{Key}

@@ -1,7 +1,8 @@
 //! The union of two ledgers, and what is kept of it.
 ghost use Rattle.std.specs.Prelude.{◌≡◌, ◌+◌, ◌≤◌, ◌↔◌, ◌++◌, [], length, map, vec_len, vec_capacity, IfSome, IsTrue, Contains};
-ghost use Rattle.docker_model.specs.state.Stamp.{ledger_item_cmp, IsKept};
-ghost use Rattle.docker_model.specs.state.Order.{IsStrictlyAscending};
+ghost use Rattle.docker_model.specs.state.Stamp.{file_stamp_cmp, ledger_item_cmp, IsKept};
+ghost use Rattle.docker_model.specs.state.Order.{IsBelow, IsStrictlyAscending};
+ghost use Rattle.docker_join.specs.Meaning.{file_stamp_meant};
 ghost use Rattle.docker_state.specs.Meaning.{floor_meant, item_meant};
 ghost use Rattle.docker_state.specs.Staging.{HasIfKept, HasKeptItems};
 
@@ -118,4 +119,16 @@ fn has_item(ledger: &[LedgerItem], item: &LedgerItem) -> bool
     ensures { IsTrue result ↔ Contains (map item_meant ledger.now) (item_meant item.now) }
 {
     ledger.binary_search(item).is_ok()
+}
+
+/// Whether a file stamp is above that of each item of a ledger: of the last one.
+pub(crate) fn is_above_all(ledger: &[LedgerItem], stamp: &FileStamp) -> bool
+    requires { IsStrictlyAscending ledger_item_cmp (map item_meant ledger.now) }
+    ensures { IsTrue result → (item : _) → Contains (map item_meant ledger.now) item
+        → IsBelow file_stamp_cmp item.stamp (file_stamp_meant stamp.now) }
+{
+    match ledger.split_last() {
+        Some((item, _)) => item.stamp() < *stamp,
+        None => true,
+    }
 }

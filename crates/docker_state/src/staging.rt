@@ -13,7 +13,7 @@ ghost use Rattle.docker_state.specs.Staging.{IsAboveStaged, IsOffered, HasNothin
 
 use crate::floor::{common_floor, floor_of, is_kept};
 use crate::item::LedgerItem;
-use crate::ledger::has_kept_items;
+use crate::ledger::{has_kept_items, is_above_all};
 use crate::state::State;
 use cif_file::Key;
 use cif_line::Memory;
@@ -126,6 +126,10 @@ fn is_to_stage(state: &State, floor: &Option<FileStamp>, key: &Key, entry: &Entr
     ensures { IsTrue result
         ↔ IsToStage state.now (floor_meant floor.now) (key_meant key.now) (entry_meant entry.now) }
 {
+    // What is newer than each file known is greater than the own entry, which takes a search.
+    if is_above_all(state.ledger(), &entry.stamp.file) {
+        return is_kept(floor, &entry.stamp.file);
+    }
     match state.get(key) {
         Some(own) => is_kept(floor, &entry.stamp.file) && own < entry,
         None => is_kept(floor, &entry.stamp.file),

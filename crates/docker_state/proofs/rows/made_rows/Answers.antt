@@ -1,4 +1,4 @@
-use Rattle.std.proofs.Common.{◌≡◌, ◌++◌, ◌∷◌, ◌∙◌, [], List, length, map, ap, sym, subst, arith, rules, vec_len}
+use Rattle.std.proofs.Common.{◌≡◌, ◌∷◌, ◌∙◌, [], List, map, sym, subst, arith, rules, vec_len}
 use Rattle.std.proofs.lemmas.List.{length-append, map-append}
 use Rattle.docker_model.specs.file.Change as model
 use Rattle.cif_file.specs.Meaning.{change_meant}

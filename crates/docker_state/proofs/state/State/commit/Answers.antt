@@ -1,4 +1,4 @@
-use Rattle.std.proofs.Common.{◌≡◌, List, map, ap, sym, ◌∙◌, subst}
+use Rattle.std.proofs.Common.{List, map, ap, ◌∙◌, subst}
 use Rattle.docker_model.specs.state.State.{State, IsJoin}
 use Rattle.docker_model.specs.state.Staging.{staged_state}
 use Rattle.docker_laws.proofs.joins.StagedState.{join_with_staged}

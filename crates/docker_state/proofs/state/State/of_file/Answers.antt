@@ -1,4 +1,4 @@
-use Rattle.std.proofs.Common.{◌≡◌, ◌<◌, ◌^◌, List, [], ◌∷◌, map, length, ap, sym, ◌∙◌, subst, arith, rules}
+use Rattle.std.proofs.Common.{List, [], ◌∷◌, map, length, ap, sym, ◌∙◌, subst, arith}
 use Rattle.std.proofs.lemmas.List.{length-map}
 use Rattle.docker_model.specs.file.Change as model
 use Rattle.docker_model.specs.state.State.{State}

@@ -1,0 +1,85 @@
+-- What is newer than each file of a ledger is newer than each entry over it.
+use Rattle.std.proofs.Common.{◌≡◌, Bool, true, false, List, [], ◌∷◌, ◌++◌, map, refl, ap, sym, ◌∙◌, subst, inl, inr, ◌⊎◌, Contains}
+use Rattle.std.specs.Prelude.{Option, ◌↔◌, IsTrue}
+use Rattle.std.specs.declared.cmp.Ordering.{Ordering}
+use Rattle.std.specs.declared.cmp.Ordering.TheVariants.{Less, Equal, Greater}
+use Rattle.std.specs.Ordering.{is_lt, nat_cmp, ordering_then}
+use Rattle.std.proofs.lemmas.List.{map-append}
+use Rattle.docker_model.specs.file.Change.{Key}
+use Rattle.docker_model.specs.state.Order.{bytes_cmp, IsBelow, IsAtMost, IsStrictlyAscending}
+use Rattle.docker_model.specs.state.Op.{Entry, op_cmp}
+use Rattle.docker_model.specs.state.Stamp.{FileStamp, LedgerItem, file_stamp_cmp, ledger_item_cmp, IsKept}
+use Rattle.docker_model.specs.state.Staging.{IsToStage}
+use Rattle.docker_model.specs.state.State.{State, IsValid, IsGoodEntry}
+use Rattle.docker_laws.proofs.lists.Membership.{Contains-cons, Contains-map, Contains-single, below_by_recursion, cons-Contains, cons-Contains-first, member_of}
+use Rattle.docker_laws.proofs.orders.AtMost.{at_most_below, at_most_or, at_most_trans, level}
+use Rattle.docker_laws.proofs.orders.Orders.{file_stamp_total}
+
+-- an item below another has a stamp that is not above its
+stamp_at_most : (a b : LedgerItem) → IsBelow ledger_item_cmp a b → IsAtMost file_stamp_cmp a.stamp b.stamp
+stamp_at_most a b below = λ above.
+    let bad : Greater ≡ Less =
+    sym (λ i. ordering_then (above i) (ordering_then (nat_cmp a.indicator b.indicator) (bytes_cmp a.last_reference b.last_reference))) ∙ below in cc
+
+-- so it is below what that one is below
+below_with : (a b : LedgerItem) (stamp : FileStamp) → IsBelow ledger_item_cmp a b → IsBelow file_stamp_cmp b.stamp stamp
+    → IsBelow file_stamp_cmp a.stamp stamp
+below_with a b stamp before low = by (at_most_or file_stamp_total stamp a.stamp)
+  where
+    by : IsAtMost file_stamp_cmp stamp a.stamp ⊎ IsBelow file_stamp_cmp a.stamp stamp → IsBelow file_stamp_cmp a.stamp stamp
+    by (inr below) = below
+    by (inl above) =
+        let up = at_most_trans file_stamp_total stamp a.stamp b.stamp above (stamp_at_most a b before) in
+        let same = level file_stamp_total b.stamp stamp (at_most_below file_stamp_cmp b.stamp stamp low) up in
+        let bad : Less ≡ Equal = sym low ∙ same in cc
+
+last_there : (before : List LedgerItem) (last : LedgerItem) → Contains (before ++ last ∷ []) last
+last_there [] last = cons-Contains-first last []
+last_there (item ∷ before) last = cons-Contains item (before ++ last ∷ []) last (last_there before last)
+
+-- what is above the last item of a ledger is above each
+pub above_last : (before : List LedgerItem) (last : LedgerItem) (stamp : FileStamp) → IsStrictlyAscending ledger_item_cmp (before ++ last ∷ [])
+    → IsBelow file_stamp_cmp last.stamp stamp → (item : LedgerItem) → Contains (before ++ last ∷ []) item → IsBelow file_stamp_cmp item.stamp stamp
+above_last [] last stamp up low item among =
+    subst (λ (one : LedgerItem). IsBelow file_stamp_cmp one.stamp stamp) (Contains-single last item among) low
+above_last (first ∷ before) last stamp up low item among =
+    by (λ behind. above_last before last stamp up.1 low item behind) (Contains-cons first (before ++ last ∷ []) item among)
+  where
+    by : (Contains (before ++ last ∷ []) item → IsBelow file_stamp_cmp item.stamp stamp) → (first ≡ item) ⊎ Contains (before ++ last ∷ []) item
+        → IsBelow file_stamp_cmp item.stamp stamp
+    by rest (inl same) = subst (λ (one : LedgerItem). IsBelow file_stamp_cmp one.stamp stamp) same
+        (below_with first last stamp
+        (below_by_recursion (IsBelow ledger_item_cmp first) (before ++ last ∷ []) last up.0 (last_there before last)) low)
+    by rest (inr behind) = rest behind
+
+less_is : (o : Ordering) → is_lt o ≡ true → o ≡ Less
+less_is Less told = refl
+less_is Equal told = let bad : true ≡ false = sym told in cc
+less_is Greater told = let bad : true ≡ false = sym told in cc
+
+-- by a test of the last one
+pub above_each : {A : Type 0} (meant : A → LedgerItem) (items before : List A) (last : A) (stamp file : FileStamp) (b : Bool)
+    → items ≡ before ++ last ∷ [] → IsStrictlyAscending ledger_item_cmp (map meant items) → file ≡ (meant last).stamp
+    → b ≡ is_lt (file_stamp_cmp file stamp) → IsTrue b → (item : LedgerItem) → Contains (map meant items) item → IsBelow file_stamp_cmp item.stamp stamp
+above_each meant items before last stamp file b are up file_is is told item among =
+    let same : map meant items ≡ map meant before ++ meant last ∷ [] = ap (map meant) are ∙ map-append meant before (last ∷ []) in
+    above_last (map meant before) (meant last) stamp (subst (IsStrictlyAscending ledger_item_cmp) same up)
+    (subst (λ (one : FileStamp). IsBelow file_stamp_cmp one stamp) file_is (less_is (file_stamp_cmp file stamp) (sym is ∙ told)))
+    item (subst (λ (all : List LedgerItem). Contains all item) same among)
+
+-- an entry of a file that is above each of a state's is to be staged where it is kept
+pub newest_tells : (own : State) → IsValid own → (floor : Option FileStamp) (key : Key) (entry : Entry)
+    → ((item : LedgerItem) → Contains own.ledger item → IsBelow file_stamp_cmp item.stamp entry.stamp.file)
+    → (b : Bool) → IsTrue b ↔ IsKept floor entry.stamp.file → IsTrue b ↔ IsToStage own floor key entry
+newest_tells own valid floor key entry above b tells = (
+  λ told. record { kept = tells.0 told; greater = greater },
+  λ to. tells.1 to.kept,
+)
+  where
+    greater : (other : Entry) → Contains own.entries (key, other) → Rattle.docker_model.specs.state.Op.entry_cmp other entry ≡ Less
+    greater other among =
+        let good : IsGoodEntry own.ledger (key, other) = member_of (IsGoodEntry own.ledger) own.entries (key, other) valid.entries.0 among in
+        let item = Contains-map (λ (item : LedgerItem). item.stamp) own.ledger other.stamp.file good.stamp.in_ledger in
+        let low : file_stamp_cmp other.stamp.file entry.stamp.file ≡ Less =
+        subst (λ (stamp : FileStamp). IsBelow file_stamp_cmp stamp entry.stamp.file) item.2 (above item.0 item.1) in
+        (λ i. ordering_then (ordering_then (low i) (nat_cmp other.stamp.number entry.stamp.number)) (op_cmp other.op entry.op))
