@@ -6,8 +6,6 @@ mod endless;
 mod feed;
 mod fuse;
 mod memory;
-#[cfg(test)]
-mod tests;
 
 pub use device::{Failed, Memory, Sink, Source, write_all};
 pub use endless::Endless;

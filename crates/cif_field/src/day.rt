@@ -13,9 +13,6 @@ use jiff_core::civil;
 use std::marker::Model;
 use std::{fmt, str};
 
-#[cfg(test)]
-mod tests;
-
 /// How many days after -9999-01-01, where the calendar begins, 1960-01-01 is.
 const FIRST: u32 = 4_367_934;
 

@@ -9,9 +9,6 @@ use crate::printable::is_printable_line;
 use std::marker::Model;
 use thiserror::Error;
 
-#[cfg(test)]
-mod tests;
-
 /// A line of a CIF file: 80 bytes, each from a space (0x20) to a tilde (0x7E).
 #[derive(Clone, Copy, PartialEq, Eq, PartialOrd, Ord, Debug)]
 pub struct Line {

@@ -10,9 +10,6 @@ ghost use Rattle.cif_field.specs.FieldRead.{public_half_minutes, public_text};
 use crate::digits::two_digits;
 use std::marker::Model;
 
-#[cfg(test)]
-mod tests;
-
 /// A scheduled time of day, in half minutes from midnight: 0 to 2879.
 #[derive(Clone, Copy, PartialEq, Eq, PartialOrd, Ord, Debug)]
 pub struct Time {

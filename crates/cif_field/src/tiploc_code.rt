@@ -7,9 +7,6 @@ ghost use Rattle.cif_field.specs.Tiploc.{IsTiplocText};
 use crate::line::are_printable;
 use std::marker::Model;
 
-#[cfg(test)]
-mod tests;
-
 /// A TIPLOC: the code of a timing point, padded with spaces to seven bytes. Its first is not a space.
 #[derive(Clone, Copy, PartialEq, Eq, PartialOrd, Ord, Debug)]
 pub struct Tiploc {

@@ -6,9 +6,6 @@ ghost use Rattle.cif_line.specs.Kind.{meaning};
 use crate::kind_of_record::Kind;
 use cif_field::Line;
 
-#[cfg(test)]
-mod tests;
-
 /// The kind of a record, by its identity in columns 1 and 2. None where no kind has it, as `LN`.
 pub fn kind(line: &Line) -> Option<Kind>
     ensures { option_map meaning result ≡ kind_of line.now }

@@ -22,9 +22,6 @@ use crate::terminating_location::Terminus;
 use crate::tiploc_record::TiplocRecord;
 use cif_field::{Line, Time, is_clock, is_public_time};
 
-#[cfg(test)]
-mod tests;
-
 /// A view of a header (HD), or the first column of its leftmost bad field: 23 for the date of extract, 29 for its time, 47 for the update indicator.
 pub fn header(line: &Line) -> Result<Header<'_>, FieldFault>
     requires kind { HasKind header line.now }

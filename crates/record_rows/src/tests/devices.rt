@@ -1,7 +1,7 @@
 //! The devices in memory, and a sink that fails once and can't tell its bytes.
 ghost use Rattle.std.specs.Prelude.{◌-◌, ◌^◌, ◌<◌, None};
 
-use crate::{Bytes, Endless, Failed, Fuse, Kept, Memory, Sink, Source, write_all};
+use cif_line::{Bytes, Endless, Failed, Fuse, Kept, Memory, Sink, Source, write_all};
 use std::test::Fail;
 
 #[test]

@@ -1,4 +1,4 @@
-use crate::Time;
+use cif_line::Time;
 use std::test::Fail;
 
 fn half_minutes(field: &[u8; 5]) -> Option<u16> {

@@ -1,4 +1,4 @@
-use crate::Tiploc;
+use cif_line::Tiploc;
 use std::test::Fail;
 
 #[test]

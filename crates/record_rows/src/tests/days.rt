@@ -1,4 +1,4 @@
-use crate::{Day, Days, Until};
+use cif_line::{Day, Days, Until};
 use std::test::Fail;
 
 fn number(day: Option<Day>) -> Option<u16> {

@@ -1,4 +1,4 @@
-use crate::{Kind, Line, kind};
+use cif_line::{Kind, Line, kind};
 use std::test::Fail;
 
 fn kind_of(identity: &[u8; 2]) -> Result<Option<Kind>, Fail> {

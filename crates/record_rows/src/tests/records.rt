@@ -1,5 +1,5 @@
 //! Records of each kind that has a view, and their leftmost bad fields.
-use crate::{
+use cif_line::{
     Assoc, Basic, Call, ChangeEnRoute, Days, Extract, FieldFault, Header, Kind, Line, Origin, Stp,
     Terminus, Time, Tiploc, TiplocRecord, Transaction, Until, assoc, basic, call, change, header,
     kind, origin, terminus, tiploc,

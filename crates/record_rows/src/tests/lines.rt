@@ -1,6 +1,4 @@
-use super::{are_printable, bad_column, first_bad_column};
-use crate::printable::is_printable_line;
-use crate::{Line, LineFault};
+use cif_line::{Line, LineFault};
 use std::test::Fail;
 
 #[test]
@@ -34,15 +32,26 @@ fn faults_in_words(rt: HostRuntime) -> Result<(), Fail> {
     Ok(())
 }
 
-// By blocks a line is judged as it is byte by byte.
+// Each byte of a line is judged, in whatever column it is.
 #[test]
 fn lines_by_blocks(rt: HostRuntime) {
     for column in 0..80usize {
-        for byte in [0x00, 0x1F, 0x20, 0x7E, 0x7F, 0x80, 0xFF] {
+        for (byte, printable) in [
+            (0x00, false),
+            (0x1F, false),
+            (0x20, true),
+            (0x7E, true),
+            (0x7F, false),
+            (0x80, false),
+            (0xFF, false),
+        ] {
             let mut bytes = [b'A'; 80];
             bytes[column] = byte;
-            assert_eq!(rt; is_printable_line(&bytes), are_printable(&bytes));
-            assert_eq!(rt; bad_column(&bytes), first_bad_column(&bytes));
+            if printable {
+                assert!(rt; Line::new(&bytes).is_ok());
+            } else {
+                assert_eq!(rt; Line::new(&bytes), Err(LineFault::Byte(column as u8 + 1)));
+            }
         }
     }
 }

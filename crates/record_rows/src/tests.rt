@@ -1,0 +1,7 @@
+mod days;
+mod devices;
+mod identities;
+mod lines;
+mod records;
+mod times;
+mod tiplocs;
