@@ -12,7 +12,7 @@ pub record AreLeft (before after : List Row) : Type 0 where
   pub live : (live : Table) → AreLive live before → AreLive live after
   pub fewer : length after ≤ length before - 1
 
--- and those that are not have no line at a place on the day
+-- what is gathered of the rows before is what is gathered of those after, at any place on the day: the rows that are left out have no line
 abbrev pub ArePassedOver : ℕ → List Row → List Row → Type 0
 ArePassedOver day before after = (place : List ℕ) (live : Table) → AreLive live before → (rows : List Row) → AreRowsOf live rows
     → gathered (train_in rows) (link_in rows) place day before ≡ gathered (train_in rows) (link_in rows) place day after

@@ -126,7 +126,7 @@ fn is_to_stage(state: &State, floor: &Option<FileStamp>, key: &Key, entry: &Entr
     ensures { IsTrue result
         ↔ IsToStage state.now (floor_meant floor.now) (key_meant key.now) (entry_meant entry.now) }
 {
-    // What is newer than each file known is greater than the own entry, which takes a search.
+    // An entry of a file newer than each that is known is greater than the own one, which is not searched for then.
     if is_above_all(state.ledger(), &entry.stamp.file) {
         return is_kept(floor, &entry.stamp.file);
     }

@@ -106,8 +106,8 @@ impl<'a> ScheduleView<'a> {
         days_lately(self.first(), self.key.runs_from, day)
     }
 
-    /// Whether it has begun by a day, and the weekday of it or of one of the two before it is marked: else it runs on none of the three. By a look at eight bytes,
-    /// which takes less than to ask on which of them it runs.
+    /// Whether it has begun by a day, and the weekday of it or of one of the two before it is marked: else it runs on none of the three. By the first day in its key and
+    /// three marks, which takes less than to ask on which of them it runs.
     pub fn may_run_lately(&self, day: Day) -> bool
         ensures { result ≡ may_run_lately self.now.key self.now.lines day }
     {
