@@ -1,5 +1,5 @@
 -- Feeding a taker from a source: what was taken is what the source lost.
-use Rattle.std.proofs.Common.{◌≡◌, ℕ, ◌+◌, ◌<◌, ◌≤◌, List, [], ◌∷◌, ◌++◌, length, take, drop, Some, None, refl, sym, ◌∙◌, ap, subst, arith, append_assoc, append-nil, length-append, ◌^◌, Err, Result, Fits, w64}
+use Rattle.std.proofs.Common.{◌≡◌, ℕ, ◌+◌, ◌<◌, ◌≤◌, List, [], ◌∷◌, ◌++◌, length, take, drop, Some, None, refl, sym, ◌∙◌, ap, subst, arith, append_assoc, append-nil, length-append, ◌^◌, Err, Result, Fits, w64, Ok}
 use Rattle.std.specs.Prelude.{Option, option_map}
 use Rattle.std.proofs.lemmas.List.{length-take-le, take-append-le, take-take}
 use Rattle.cif_device.specs.Device.{Reads, IsEnd}
@@ -113,3 +113,16 @@ pub same_front : (n len : ℕ) (piece into items : List ℕ) → piece ≡ take 
     → take n piece ≡ take n into
 same_front n len piece into items is whole within =
     ap (take n) (is ∙ take-append-le len into (drop (length into) items) (omega arith)) ∙ take-take n len into (omega arith)
+
+-- where the end is told, or a piece was refused, no source failed
+pub none_failed : {Fault : Type 0} (result : Result ℕ (FeedFault Fault)) (before now after : ℕ) → ¬ (result ≡ Err feed.Source) → after ≡ now → now ≡ before
+    → (result ≡ Err feed.Source → after ≡ before + 1) × (after ≡ before + 1 → result ≡ Err feed.Source)
+none_failed result before now after other same kept = (λ is. absurd (other is), λ more. let none : ⊥ = omega (arith, same, kept, more) in absurd none)
+
+-- a count is no failure of the source
+pub count_told : {Fault : Type 0} (count : ℕ) → ¬ (◌≡◌ {A = Result ℕ (FeedFault Fault)} (Ok count) (Err feed.Source))
+count_told count is = cc
+
+-- nor is a refusal
+pub refusal_told : {Fault : Type 0} (fault : Fault) → ¬ (◌≡◌ {A = Result ℕ (FeedFault Fault)} (Err (feed.Refused fault)) (Err feed.Source))
+refusal_told fault is = cc

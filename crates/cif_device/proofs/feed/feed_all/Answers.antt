@@ -1,8 +1,9 @@
 -- Each piece is taken behind those before it.
-use Rattle.std.proofs.Common.{◌≡◌, ◌+◌, ◌<◌, ◌++◌, length, take, refl, ap, arith, ◌∙◌, subst}
+use Rattle.std.proofs.Common.{Ok, Err, ◌≡◌, ◌+◌, ◌<◌, ◌++◌, length, take, refl, ap, arith, ◌∙◌, subst}
 use Rattle.std.proofs.lemmas.List.{length-take-le}
 use Rattle.cif_device.specs.Device.{IsEnd}
-use Rattle.cif_device.proofs.FeedLemmas.{at_once, at_start, end_stays, fed_where_failed, fits_still, next_turn, no_more, nothing_more, nothing_read, one_more, refused_as, refused_behind, same_front}
+use Rattle.cif_device.proofs.FeedLemmas.{at_once, at_start, count_told, end_stays, fed_where_failed, fits_still, next_turn, no_more, none_failed, nothing_more, nothing_read, one_more, refusal_told, refused_as, refused_behind, same_front}
+use Rattle.cif_device.specs.declared.feed.FeedFault.TheVariants as feed
 use Rattle.cif_device.proofs.feed.feed_all.Goals as goal
 
 pub returns-in_default-clause-no_further : goal.returns-in_default-clause-no_further
@@ -41,18 +42,28 @@ returns-then-n-eq0-clause-end g c = λ ok.
     let end : IsEnd (g.S.Source.left c.pieces.source) = c.in-Ok-read.ensures.end c.if-n-eq0.true room in
     end_stays (g.S.Source.left c.pieces.source) (g.S.Source.left c.read.new.self) (take c.in-Ok-read.n c.read.new.into) c.in-Ok-read.ensures.moved end
 
+pub returns-then-n-eq0-clause-source : goal.returns-then-n-eq0-clause-source
+returns-then-n-eq0-clause-source g c =
+    none_failed (Ok c.pieces.fed) (g.S.Source.failures c.args.source.now) (g.S.Source.failures c.pieces.source) (g.S.Source.failures c.read.new.self)
+    (count_told c.pieces.fed) c.in-Ok-read.ensures.no_failure c.pieces.invariant.no_failure
+
+pub returns-then-n-eq0-clause-no_failure : goal.returns-then-n-eq0-clause-no_failure
+returns-then-n-eq0-clause-no_failure g c = λ ok. c.in-Ok-read.ensures.no_failure ∙ c.pieces.invariant.no_failure
+
 pub returns-then-n-eq0-clause-no_further : goal.returns-then-n-eq0-clause-no_further
 returns-then-n-eq0-clause-no_further g c = λ terms text taken.
     one_more g.T.Taker.takes c.pieces.fed terms text (g.S.Source.left c.args.source.now) (g.S.Source.left c.pieces.source)
     (g.S.Source.left c.read.new.self) c.pieces.taker (take c.in-Ok-read.n c.read.new.into) (c.pieces.invariant.turn terms text taken) c.in-Ok-read.ensures.moved
-    (at_once c.in-Ok-read.n c.pieces.piece.len c.read.new.into (c.read.auto.into ∙ c.as_mut_slice.ensures.len) c.pieces.invariant.room c.in-Ok-read.ensures.within)
+    (at_once c.in-Ok-read.n c.pieces.piece.len c.read.new.into (c.read.auto.into ∙ c.as_mut_slice.ensures.len) c.pieces.invariant.room
+    c.in-Ok-read.ensures.within)
 
 pub returns-in-Err-clause-refused : goal.returns-in-Err-clause-refused
 returns-in-Err-clause-refused g c = λ fault is terms text taken.
     let at = c.pieces.invariant.turn terms text taken in
     let long : length c.read.new.into ≡ c.pieces.piece.len = c.read.auto.into ∙ c.as_mut_slice.ensures.len in
     let same : take c.in-Ok-read.n c.deref.result.now ≡ take c.in-Ok-read.n c.read.new.into =
-    same_front c.in-Ok-read.n c.pieces.piece.len c.deref.result.now c.read.new.into c.pieces.piece.items c.deref.ensures.value long c.in-Ok-read.ensures.within in
+    same_front c.in-Ok-read.n c.pieces.piece.len c.deref.result.now c.read.new.into c.pieces.piece.items c.deref.ensures.value long
+    c.in-Ok-read.ensures.within in
     refused_as g.T.Taker.takes g.T.Taker.refuses terms text (g.S.Source.left c.args.source.now) (g.S.Source.left c.read.new.self) c.take.new.self
     c.in-Err.fault fault is
     (refused_behind g.T.Taker.takes g.T.Taker.refuses c.pieces.fed terms text (g.S.Source.left c.args.source.now) (g.S.Source.left c.pieces.source)
@@ -61,11 +72,20 @@ returns-in-Err-clause-refused g c = λ fault is terms text taken.
     (subst (λ piece. g.T.Taker.refuses c.take.new.self terms (text ++ at.bytes) piece c.in-Err.fault) same
     (c.in-Err.ensures.refused terms (text ++ at.bytes) at.taken)))
 
+pub returns-in-Err-clause-source : goal.returns-in-Err-clause-source
+returns-in-Err-clause-source g c =
+    none_failed (Err (feed.Refused c.in-Err.fault)) (g.S.Source.failures c.args.source.now) (g.S.Source.failures c.pieces.source)
+    (g.S.Source.failures c.read.new.self) (refusal_told c.in-Err.fault) c.in-Ok-read.ensures.no_failure c.pieces.invariant.no_failure
+
+pub returns-in-Err-clause-no_failure : goal.returns-in-Err-clause-no_failure
+returns-in-Err-clause-no_failure g c = λ ok. c.in-Ok-read.ensures.no_failure ∙ c.pieces.invariant.no_failure
+
 pub returns-in-Err-clause-no_further : goal.returns-in-Err-clause-no_further
 returns-in-Err-clause-no_further g c = λ terms text taken.
     one_more g.T.Taker.takes c.pieces.fed terms text (g.S.Source.left c.args.source.now) (g.S.Source.left c.pieces.source)
     (g.S.Source.left c.read.new.self) c.pieces.taker (take c.in-Ok-read.n c.read.new.into) (c.pieces.invariant.turn terms text taken) c.in-Ok-read.ensures.moved
-    (at_once c.in-Ok-read.n c.pieces.piece.len c.read.new.into (c.read.auto.into ∙ c.as_mut_slice.ensures.len) c.pieces.invariant.room c.in-Ok-read.ensures.within)
+    (at_once c.in-Ok-read.n c.pieces.piece.len c.read.new.into (c.read.auto.into ∙ c.as_mut_slice.ensures.len) c.pieces.invariant.room
+    c.in-Ok-read.ensures.within)
 
 pub overflow_add-fed : goal.overflow_add-fed
 overflow_add-fed g c =
@@ -73,7 +93,8 @@ overflow_add-fed g c =
     let at = c.pieces.invariant.turn asked.terms asked.text asked.taken in
     let long : length c.read.new.into ≡ c.pieces.piece.len = c.read.auto.into ∙ c.as_mut_slice.ensures.len in
     let same : take c.in-Ok-read.n c.deref.result.now ≡ take c.in-Ok-read.n c.read.new.into =
-    same_front c.in-Ok-read.n c.pieces.piece.len c.deref.result.now c.read.new.into c.pieces.piece.items c.deref.ensures.value long c.in-Ok-read.ensures.within in
+    same_front c.in-Ok-read.n c.pieces.piece.len c.deref.result.now c.read.new.into c.pieces.piece.items c.deref.ensures.value long
+    c.in-Ok-read.ensures.within in
     let taken = subst (λ piece. g.T.Taker.takes c.take.new.self asked.terms ((asked.text ++ at.bytes) ++ piece)) same
     (c.in_default-take.ensures.taken asked.terms (asked.text ++ at.bytes) at.taken) in
     fits_still c.pieces.fed c.in-Ok-read.n asked.text at.bytes (take c.in-Ok-read.n c.read.new.into) at.size
@@ -84,7 +105,8 @@ pub pieces-preserved : goal.pieces-preserved
 pieces-preserved g c =
     let long : length c.read.new.into ≡ c.pieces.piece.len = c.read.auto.into ∙ c.as_mut_slice.ensures.len in
     let same : take c.in-Ok-read.n c.deref.result.now ≡ take c.in-Ok-read.n c.read.new.into =
-    same_front c.in-Ok-read.n c.pieces.piece.len c.deref.result.now c.read.new.into c.pieces.piece.items c.deref.ensures.value long c.in-Ok-read.ensures.within in
+    same_front c.in-Ok-read.n c.pieces.piece.len c.deref.result.now c.read.new.into c.pieces.piece.items c.deref.ensures.value long
+    c.in-Ok-read.ensures.within in
     record {
       turn = λ terms text taken.
           let at = c.pieces.invariant.turn terms text taken in
