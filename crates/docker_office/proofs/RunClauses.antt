@@ -23,7 +23,8 @@ module _ (offices : ℕ) (events : List RunEvent) (exchange : Exchange) (leaves 
   held : Holds dks_2 (sets_of offices events exchange) exchange.states exchange.messages
   held = run_holds dks_2 offices events exchange leaves.good leaves.run
 
-  many : (length exchange.states ≡ length (sets_of offices events exchange).offices) × (length exchange.messages ≡ length (sets_of offices events exchange).messages)
+  many : (length exchange.states ≡ length (sets_of offices events exchange).offices) ×
+      (length exchange.messages ≡ length (sets_of offices events exchange).messages)
   many = sizes dks_2 (sets_of offices events exchange) exchange.states exchange.messages held
 
   -- a reply for each event

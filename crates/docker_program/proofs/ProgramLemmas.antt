@@ -29,7 +29,8 @@ ends_unread words given written job rest office.Lapsed asks at_most unwritten re
 ends_unread words given written job rest office.Sink asks at_most unwritten reads = elim reads [ ]
 
 -- a job that was read whole, by what comes of its writing
-pub ends_unwritten : (words : List Text) (given : Given) (written : Written) (job : JobView) (rest : DeviceBytes) (prepared : PreparedView) (fault : OfficeFault) →
+pub ends_unwritten : (words : List Text) (given : Given) (written : Written) (job : JobView) (rest : DeviceBytes) (prepared : PreparedView)
+    (fault : OfficeFault) →
     AsksFor words given.input job rest → AsksAtMost words given.input rest → IsPrepared given job rest prepared →
     EndsWriting written prepared (Err fault) → EndsBy words given written (Some (Office fault))
 ends_unwritten words given written job rest prepared office.Sink asks at_most is ends =

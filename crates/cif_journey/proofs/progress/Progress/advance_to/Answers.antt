@@ -24,7 +24,8 @@ returns-then-clock-gt-MOST_MIDNIGHTS-clause-ok c = λ lines has. (
 pub returns-clause-ok : goal.returns-clause-ok
 returns-clause-ok c = λ lines has. (
   λ _.
-      sound_by_few (progress_meant c.args.self.now) lines c.args.line.now c.in_ok-times.times.first c.in_ok-times.times.second c.in_ok-times.times.third c.past-clock.result.falls
+      sound_by_few (progress_meant c.args.self.now) lines c.args.line.now c.in_ok-times.times.first c.in_ok-times.times.second c.in_ok-times.times.third
+      c.past-clock.result.falls
       c.past-clock.result.last has c.if-self.false
       (c.in_ok-times.ensures.ok.0 refl) (record { times = c.in_ok-times.ensures.value; falls = c.past-clock.ensures.falls; last = c.past-clock.ensures.last })
       c.if-clock-gt-MOST_MIDNIGHTS.false,
@@ -34,6 +35,8 @@ returns-clause-ok c = λ lines has. (
 pub returns-clause-read : goal.returns-clause-read
 returns-clause-read c = λ lines has.
     sound_read (progress_meant c.args.self.now) lines c.args.line.now
-    (stage_meant c.args.next) c.in_ok-times.times.first c.in_ok-times.times.second c.in_ok-times.times.third c.past-clock.result.falls c.past-clock.result.last has
-    c.requires.«record» (ap (stage_then (progress_meant c.args.self.now).stage) c.requires.kind ∙ c.requires.stage) c.if-self.false (c.in_ok-times.ensures.ok.0 refl)
+    (stage_meant c.args.next) c.in_ok-times.times.first c.in_ok-times.times.second c.in_ok-times.times.third c.past-clock.result.falls
+    c.past-clock.result.last has
+    c.requires.«record» (ap (stage_then (progress_meant c.args.self.now).stage) c.requires.kind ∙ c.requires.stage) c.if-self.false
+    (c.in_ok-times.ensures.ok.0 refl)
     (record { times = c.in_ok-times.ensures.value; falls = c.past-clock.ensures.falls; last = c.past-clock.ensures.last }) c.if-clock-gt-MOST_MIDNIGHTS.false

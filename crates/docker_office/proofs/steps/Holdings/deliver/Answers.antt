@@ -18,7 +18,8 @@ returns-in-None-clause-met c =
     c.index_mut.ensures.value
     ∙ get_or_default c.args.self.now.offices.items c.args.office c.index_mut.result.now no_state c.in-None.ensures.office in
     delivery_met known c.args.self.now holds c.args.office c.args.message c.text_at-text.result.now c.in-None.ensures.office c.in-None.ensures.message
-    (c.text_at-text.ensures.text ∙ ap (λ kept. message_text (texts_of kept) c.args.message) c.as_slice.ensures.value) c.text_at-text.ensures.short c.receive_text.new.office _ (record { offices = refl; messages = refl }) c.receive_text.result
+    (c.text_at-text.ensures.text ∙ ap (λ kept. message_text (texts_of kept) c.args.message) c.as_slice.ensures.value) c.text_at-text.ensures.short
+    c.receive_text.new.office _ (record { offices = refl; messages = refl }) c.receive_text.result
     c.reply_to.result c.reply_to.ensures
     (λ done. subst (λ s. JoinsState dks_2 (length c.text_at-text.result.now) (Some c.text_at-text.result.now) s c.receive_text.new.office) own
     (c.receive_text.ensures.ok done))

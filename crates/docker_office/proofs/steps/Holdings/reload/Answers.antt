@@ -16,7 +16,8 @@ returns-in-None-clause-met c =
     c.index_mut.ensures.value
     ∙ get_or_default c.args.self.now.offices.items c.args.office c.index_mut.result.now no_state c.in-None.ensures.office in
     reload_met known c.args.self.now holds c.args.office c.args.message c.text_at-text.result.now c.in-None.ensures.office c.in-None.ensures.message
-    (c.text_at-text.ensures.text ∙ ap (λ kept. message_text (texts_of kept) c.args.message) c.as_slice.ensures.value) c.text_at-text.ensures.short c.reload_text.new.office _ (record { offices = refl; messages = refl }) c.reload_text.result
+    (c.text_at-text.ensures.text ∙ ap (λ kept. message_text (texts_of kept) c.args.message) c.as_slice.ensures.value) c.text_at-text.ensures.short
+    c.reload_text.new.office _ (record { offices = refl; messages = refl }) c.reload_text.result
     c.reply_to.result c.reply_to.ensures
     c.reload_text.ensures.ok
     (λ wrong. c.reload_text.ensures.unchanged wrong ∙ own) c.reload_text.ensures.state c.reload_text.ensures.source c.reload_text.ensures.only

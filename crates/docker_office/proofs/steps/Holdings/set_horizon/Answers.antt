@@ -12,6 +12,7 @@ pub returns-clause-met : goal.returns-clause-met
 returns-clause-met c =
     λ known holds.
     let own : c.index_mut.result.now ≡ get_or c.args.self.now.offices.items c.args.office no_state =
-    get_or_read_under c.args.self.now.offices.items c.args.office c.len.result c.index_mut.result.now no_state c.index_mut.ensures.value (omega arith) (omega arith) in
+    get_or_read_under c.args.self.now.offices.items c.args.office c.len.result c.index_mut.result.now no_state c.index_mut.ensures.value (omega arith)
+    (omega arith) in
     horizon_met known c.args.self.now holds c.args.office c.args.day c.set_horizon.new.self _ (omega arith) (omega arith)
     (record { offices = refl; messages = refl }) (c.set_horizon.ensures.raised ∙ ap (raise_horizon c.args.day) own)

@@ -12,7 +12,8 @@ pub returns-clause-met : goal.returns-clause-met
 returns-clause-met c =
     λ known holds.
     let own : c.index_mut.result.now ≡ get_or c.args.self.now.offices.items c.args.office no_state =
-    get_or_read_under c.args.self.now.offices.items c.args.office c.len.result c.index_mut.result.now no_state c.index_mut.ensures.value (omega arith) (omega arith) in
+    get_or_read_under c.args.self.now.offices.items c.args.office c.len.result c.index_mut.result.now no_state c.index_mut.ensures.value (omega arith)
+    (omega arith) in
     take_met known c.args.self.now holds c.args.office c.args.text.now c.args.limit (omega arith) c.take_text.new.office _
     (record { offices = refl; messages = refl }) c.take_text.result c.reply_to.result c.reply_to.ensures c.requires
     (λ taken. subst (λ s. TakesFile c.args.limit (Some c.args.text.now) s c.take_text.new.office) own (c.take_text.ensures.ok taken))
