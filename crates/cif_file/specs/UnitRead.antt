@@ -40,7 +40,3 @@ pub record IsUnitOf (line : List ℕ) (unit : Unit) : Type 0 where
 pub record IsOfSome (unit : Unit) : Type 0 where
   pub line : List ℕ
   pub of : IsUnitOf line unit
-
--- these changes were appended
-abbrev pub AppendsChanges : List Change → List model.Change → List Change → Type 0
-AppendsChanges old made new = map change_meant new ≡ map change_meant old ++ made
