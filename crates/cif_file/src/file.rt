@@ -63,7 +63,8 @@ impl CifFile {
         ensures file { file_of_parts result ≡ self }
         ensures parts { ArePartsOfFile result }
     {
-        self.parts
+        let CifFile { parts } = self;
+        parts
     }
 }
 

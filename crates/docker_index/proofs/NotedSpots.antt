@@ -9,8 +9,8 @@ use Rattle.docker_model.specs.file.Change as model
 use Rattle.docker_model.specs.state.State.{AreAscending}
 use Rattle.docker_model.specs.state.Op.{op_of}
 use Rattle.docker_index.specs.declared.mark.Mark.{Mark}
-use Rattle.docker_index.specs.declared.notes.Notes.{Notes}
-use Rattle.docker_index.specs.declared.piece.Piece.{Piece}
+use Rattle.cif_places.specs.declared.notes.Notes.{Notes}
+use Rattle.cif_places.specs.declared.piece.Piece.{Piece}
 use Rattle.docker_index.specs.declared.room.Room.{Room}
 use Rattle.docker_index.specs.declared.slots.Slots.{Slots}
 use Rattle.docker_index.specs.SpotOrder.{Spot}

@@ -1,8 +1,8 @@
 use Rattle.std.proofs.Common.{length, map}
 use Rattle.docker_join.specs.Meaning.{row_meant}
-use Rattle.cif_places.specs.Noted.{items_of}
+use Rattle.docker_index.specs.Noted.{items_of}
 use Rattle.cif_places.proofs.Noted.{AreNotedBefore}
-use Rattle.cif_places.proofs.notes.Notes.of_rows.Given as goal
+use Rattle.docker_index.proofs.noted_rows.notes_of_rows.Given as goal
 
 abbrev pub invariant-loop-row : goal.invariant-loop-row
 invariant-loop-row l = record {
