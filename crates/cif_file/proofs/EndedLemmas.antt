@@ -1,19 +1,18 @@
 -- What is told of a file that was read: its changes, or how many there are.
-use Rattle.std.proofs.Common.{◌≡◌, ℕ, ◌+◌, ◌*◌, ◌<◌, ◌≤◌, Bool, true, false, cond, List, [], ◌∷◌, ◌++◌, length, map, Some, None, refl, sym, subst, arith, length-append}
+use Rattle.std.proofs.Common.{◌≡◌, ℕ, ◌+◌, ◌*◌, ◌≤◌, Bool, true, false, List, [], ◌∷◌, length, Some, None, refl, sym, subst, arith, length-append}
 use Rattle.std.proofs.lemmas.List.{length-map}
 use Rattle.std.specs.Prelude.{Option}
 use Rattle.docker_model.specs.file.File.{most_records}
 use Rattle.docker_model.specs.records.Record.{Kind, kind_of, tiploc_insert, tiploc_amend, tiploc_delete, association, basic_schedule}
 use Rattle.docker_model.specs.file.Change.{Change, Key, Act, acts_by_kind, changes_of_record, changes_from, changes, keeps_code}
-use Rattle.docker_model.specs.file.FileFault.{IsFileText}
 use Rattle.cif_file.specs.declared.ended.Ended.{Ended}
 use Rattle.cif_file.specs.declared.kept.Kept.{Kept}
 use Rattle.cif_file.specs.declared.tally.Tally.{Tally}
 use Rattle.cif_file.specs.KeeperRead.{KeepsAll, CountsChanges}
-use Rattle.cif_file.specs.EndedRead.{IsEnded, file_ended, parts_ended, count_ended}
+use Rattle.cif_file.specs.EndedRead.{file_ended, parts_ended, count_ended}
 use Rattle.cif_places.specs.Noted.{HasNoted, items_put}
 use Rattle.cif_file.specs.MadeChanges.{ArePartsOfFile}
-use Rattle.cif_file.specs.FileRead.{IsOfRecords, IsRead, IsCountOfRecords, IsCounted}
+use Rattle.cif_file.specs.FileRead.{IsRead, IsCounted}
 use Rattle.cif_file.specs.ParserRead.{IsOfFileText, IsCountOfFileText, IsEndedText, ParserState, WasFed, IsReading, EndsBy}
 use Rattle.cif_file.specs.SourceRead.{ReadsText, CountsText, ReadsEnded}
 use Rattle.cif_file.specs.declared.parser.Reading.{Reading}

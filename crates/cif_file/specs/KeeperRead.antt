@@ -1,5 +1,5 @@
 -- What keeps of a file's records what its reader is to tell of them.
-use Rattle.std.specs.Prelude.{◌≡◌, ℕ, ◌<◌, List, [], ◌∷◌, ◌++◌, length, map, if◌then◌else◌}
+use Rattle.std.specs.Prelude.{◌≡◌, ℕ, ◌<◌, List, [], ◌∷◌, ◌++◌, length, if◌then◌else◌}
 use Rattle.docker_model.specs.file.Change.{Change, changes_of_record, schedule_body, delete, put}
 use Rattle.cif_change.specs.declared.key.Key.TheVariants as key
 use Rattle.cif_journey.specs.JourneyRead.{progress_meant}
@@ -7,7 +7,7 @@ use Rattle.cif_file.specs.declared.opened.Opened.{Opened}
 use Rattle.cif_file.specs.declared.kept.Kept.{Kept}
 use Rattle.cif_file.specs.MadeChanges.{HasMade}
 use Rattle.cif_file.specs.declared.tally.Tally.{Tally}
-use Rattle.cif_change.specs.Meaning.{key_meant, change_meant}
+use Rattle.cif_change.specs.Meaning.{key_meant}
 
 abbrev Lines : Type 0
 Lines = List (List ℕ)

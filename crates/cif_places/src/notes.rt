@@ -62,7 +62,8 @@ impl Notes {
     /// Notes the next row, a key that is put with a body. Want of memory leaves out the row.
     pub fn note_put(&mut self, key: &Key, body: &Body) -> Result<(), Memory>
         ensures ok { IsOk result → (items : List Item) → HasNoted items self.old
-            → HasNoted (items ++ (key_meant key.now, put_with (body_meant body.now)) ∷ []) self.new }
+            → HasNoted (items ++ (key_meant key.now, put_with (body_meant body.now)) ∷ [])
+            self.new }
         ensures err { IsErr result → (items : List Item) → HasNoted items self.old
             → HasNoted items self.new }
     {
@@ -75,7 +76,8 @@ impl Notes {
     /// Notes the next row, a key that is not put, so that it names no place. Want of memory leaves out the row.
     pub fn note_none(&mut self) -> Result<(), Memory>
         ensures ok { IsOk result → (items : List Item) (key : model.Key) (op : ops.Op)
-            → body_of op ≡ None → HasNoted items self.old → HasNoted (items ++ (key, op) ∷ []) self.new }
+            → body_of op ≡ None → HasNoted items self.old
+            → HasNoted (items ++ (key, op) ∷ []) self.new }
         ensures err { IsErr result → (items : List Item) → HasNoted items self.old
             → HasNoted items self.new }
     {
@@ -86,9 +88,11 @@ impl Notes {
 
     /// Notes what the next change puts. Want of memory leaves out the change.
     pub fn note_change(&mut self, change: &Change) -> Result<(), Memory>
-        ensures ok { IsOk result → (made : List model.Change) → HasNoted (items_put made) self.old
+        ensures ok { IsOk result → (made : List model.Change)
+            → HasNoted (items_put made) self.old
             → HasNoted (items_put (made ++ change_meant change.now ∷ [])) self.new }
-        ensures err { IsErr result → (made : List model.Change) → HasNoted (items_put made) self.old
+        ensures err { IsErr result → (made : List model.Change)
+            → HasNoted (items_put made) self.old
             → HasNoted (items_put made) self.new }
     {
         match &change.act {

@@ -1,5 +1,5 @@
 -- An index of rows by place: the spots where live schedules call, and those where live associations are.
-use Rattle.std.specs.Prelude.{ℕ, ◌+◌, ◌↔◌, List, [], ◌∷◌, ◌++◌, map, filter, Contains, Option, option_map, slice_get}
+use Rattle.std.specs.Prelude.{ℕ, ◌+◌, ◌↔◌, List, [], ◌∷◌, ◌++◌, map, Contains, Option, option_map, slice_get}
 use Rattle.std.specs.List.{filter_map}
 use Rattle.docker_model.specs.file.Change.{Key}
 use Rattle.docker_model.specs.state.Op.{Op, Entry}

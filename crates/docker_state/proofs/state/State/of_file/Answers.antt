@@ -1,4 +1,4 @@
-use Rattle.std.proofs.Common.{List, [], ◌∷◌, map, length, ap, sym, ◌∙◌, subst, arith}
+use Rattle.std.proofs.Common.{[], ◌∷◌, map, length, ap, sym, ◌∙◌, subst, arith}
 use Rattle.std.proofs.lemmas.List.{length-map}
 use Rattle.docker_model.specs.file.Change as model
 use Rattle.docker_model.specs.state.State.{State}
@@ -9,8 +9,8 @@ use Rattle.cif_file.specs.Meaning.{change_meant}
 use Rattle.docker_join.specs.Meaning.{file_stamp_meant}
 use Rattle.docker_join.proofs.MeantOrder.{ascending_meant}
 use Rattle.cif_places.specs.declared.names.Names.{Names}
-use Rattle.docker_index.specs.Rooms.{AreMadeBy, HasRoomFor}
-use Rattle.docker_index.specs.Noted.{HasNoted, ArePicked, items_of, items_put}
+use Rattle.docker_index.specs.Rooms.{HasRoomFor}
+use Rattle.docker_index.specs.Noted.{ArePicked, items_of, items_put}
 use Rattle.docker_state.specs.Meaning.{row_meant}
 use Rattle.docker_state.specs.Rows.{rows_in}
 use Rattle.docker_state.proofs.FileState.{changes_are, made_records, file_summary, file_valid, ledger_of_file, made_of_file, rows_made_by}
@@ -39,7 +39,9 @@ greatest_rows-rows-requires-clause-records c =
     made_records c.changes-count.ensures.read.records c.changes-count.ensures.read.is_file c.changes-count.ensures.read.few (rows_in c.made_rows-made.result.items)
     (made_of_file c.args.file c.header.result c.header.ensures c.item_of-item.result c.item_of-item.ensures c.changes-count.ensures.read.records
     c.changes-count.ensures.read.of_records
-    c.stamp.result c.stamp.ensures c.into_parts-parts.result.changes.items (changes_are c.args.file c.into_parts-parts.result c.into_parts-parts.ensures.file) (rows_in c.made_rows-made.result.items) c.made_rows-made.ensures.made)
+    c.stamp.result c.stamp.ensures c.into_parts-parts.result.changes.items
+    (changes_are c.args.file c.into_parts-parts.result c.into_parts-parts.ensures.file)
+    (rows_in c.made_rows-made.result.items) c.made_rows-made.ensures.made)
 
 pub greatest_rows-rows-requires-clause-room : goal.greatest_rows-rows-requires-clause-room
 greatest_rows-rows-requires-clause-room c =
@@ -82,7 +84,9 @@ of_rows-requires-clause-valid c =
     (rows_in c.made_rows-made.result.items) c.greatest_rows-rows.result.0.items
     (made_of_file c.args.file c.header.result c.header.ensures c.item_of-item.result c.item_of-item.ensures c.changes-count.ensures.read.records
     c.changes-count.ensures.read.of_records
-    c.stamp.result c.stamp.ensures c.into_parts-parts.result.changes.items (changes_are c.args.file c.into_parts-parts.result c.into_parts-parts.ensures.file) (rows_in c.made_rows-made.result.items) c.made_rows-made.ensures.made)
+    c.stamp.result c.stamp.ensures c.into_parts-parts.result.changes.items
+    (changes_are c.args.file c.into_parts-parts.result c.into_parts-parts.ensures.file)
+    (rows_in c.made_rows-made.result.items) c.made_rows-made.ensures.made)
     c.greatest_rows-rows.ensures.ascending c.greatest_rows-rows.ensures.greatest
     c.changes-count.ensures.read.is_file c.changes-count.ensures.read.few
 
@@ -112,5 +116,7 @@ returns-clause-ok c = λ records of.
     c.in-Ok.ledger.items c.push_reserved.new.self.items c.in-Ok.ensures.items c.push_reserved.ensures.items)
     (rows_in c.made_rows-made.result.items) c.greatest_rows-rows.result.0.items
     (made_of_file c.args.file c.header.result c.header.ensures c.item_of-item.result c.item_of-item.ensures records of
-    c.stamp.result c.stamp.ensures c.into_parts-parts.result.changes.items (changes_are c.args.file c.into_parts-parts.result c.into_parts-parts.ensures.file) (rows_in c.made_rows-made.result.items) c.made_rows-made.ensures.made)
+    c.stamp.result c.stamp.ensures c.into_parts-parts.result.changes.items
+    (changes_are c.args.file c.into_parts-parts.result c.into_parts-parts.ensures.file)
+    (rows_in c.made_rows-made.result.items) c.made_rows-made.ensures.made)
     c.greatest_rows-rows.ensures.ascending c.greatest_rows-rows.ensures.greatest)
