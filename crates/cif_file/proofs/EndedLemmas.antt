@@ -1,17 +1,18 @@
 -- What is told of a file that was read: its changes, or how many there are.
-use Rattle.std.proofs.Common.{◌≡◌, ℕ, ◌+◌, ◌*◌, ◌<◌, ◌≤◌, Bool, true, false, cond, List, [], ◌∷◌, ◌++◌, length, map, Some, None, refl, sym, arith, length-append}
+use Rattle.std.proofs.Common.{◌≡◌, ℕ, ◌+◌, ◌*◌, ◌≤◌, Bool, true, false, List, [], ◌∷◌, length, Some, None, refl, sym, subst, arith, length-append}
 use Rattle.std.proofs.lemmas.List.{length-map}
 use Rattle.std.specs.Prelude.{Option}
 use Rattle.docker_model.specs.file.File.{most_records}
 use Rattle.docker_model.specs.records.Record.{Kind, kind_of, tiploc_insert, tiploc_amend, tiploc_delete, association, basic_schedule}
 use Rattle.docker_model.specs.file.Change.{Change, Key, Act, acts_by_kind, changes_of_record, changes_from, changes, keeps_code}
-use Rattle.docker_model.specs.file.FileFault.{IsFileText}
 use Rattle.cif_file.specs.declared.ended.Ended.{Ended}
 use Rattle.cif_file.specs.declared.kept.Kept.{Kept}
 use Rattle.cif_file.specs.declared.tally.Tally.{Tally}
 use Rattle.cif_file.specs.KeeperRead.{KeepsAll, CountsChanges}
-use Rattle.cif_file.specs.EndedRead.{IsEnded, file_ended, count_ended}
-use Rattle.cif_file.specs.FileRead.{IsOfRecords, IsRead, IsCountOfRecords, IsCounted}
+use Rattle.cif_file.specs.EndedRead.{file_ended, parts_ended, count_ended}
+use Rattle.cif_places.specs.Noted.{HasNoted, items_put}
+use Rattle.cif_file.specs.MadeChanges.{ArePartsOfFile}
+use Rattle.cif_file.specs.FileRead.{IsRead, IsCounted}
 use Rattle.cif_file.specs.ParserRead.{IsOfFileText, IsCountOfFileText, IsEndedText, ParserState, WasFed, IsReading, EndsBy}
 use Rattle.cif_file.specs.SourceRead.{ReadsText, CountsText, ReadsEnded}
 use Rattle.cif_file.specs.declared.parser.Reading.{Reading}
@@ -51,35 +52,43 @@ pub of_file : (limit : ℕ) (text : List ℕ) (ended : Ended Kept) → IsEndedTe
 of_file limit text ended is = record {
   records = is.records;
   is_text = is.is_text;
-  of_records = record { header_is = is.of_records.header_is; count_is = is.of_records.count_is; changes_are = is.of_records.kept.1 };
+  of_records = record { header_is = is.of_records.header_is; count_is = is.of_records.count_is; changes_are = is.of_records.kept.1.changes_are };
 }
 
 -- it is read
-pub is_read : (limit : ℕ) (text : List ℕ) (ended : Ended Kept) → limit ≤ most_records → IsEndedText KeepsAll limit text ended → IsRead (file_ended ended)
+is_read : (limit : ℕ) (text : List ℕ) (ended : Ended Kept) → limit ≤ most_records → IsEndedText KeepsAll limit text ended → IsRead (file_ended ended)
 unfolding of_file
 is_read limit text ended few is =
     let file = of_file limit text ended is in
     let within = is.is_text.within in
     record { records = is.records; of_records = file.of_records; is_file = is.is_text.is; few = omega arith }
 
+-- and the places that its changes name are noted
+are_parts : (limit : ℕ) (text : List ℕ) (ended : Ended Kept) → limit ≤ most_records → IsEndedText KeepsAll limit text ended
+    → ArePartsOfFile (parts_ended ended)
+are_parts limit text ended few is = record {
+  read = is_read limit text ended few is;
+  noted = subst (λ (all : List Change). HasNoted (items_put all) ended.keeper.made.notes) (sym is.of_records.kept.1.changes_are) is.of_records.kept.1.noted;
+}
+
 -- no limit is more than what records can be numbered with
 limit_at : (reading : Reading Kept) (limit : ℕ) (text : List ℕ) → IsReading KeepsAll reading limit text → limit ≤ most_records
 limit_at reading limit text at = let room = reading.records.room in let same = at.counted.limit_is in omega arith
 
 -- and so it is by what a parser was fed, which told no fault
-pub is_read_some : (parser : ParserState) (ended : Ended Kept) → WasFed parser → parser.fault ≡ None → EndsBy KeepsAll parser.reading ended
-    → IsRead (file_ended ended)
-is_read_some parser ended fed none ends =
+pub are_parts_some : (parser : ParserState) (ended : Ended Kept) → WasFed parser → parser.fault ≡ None → EndsBy KeepsAll parser.reading ended
+    → ArePartsOfFile (parts_ended ended)
+are_parts_some parser ended fed none ends =
     let at = reading_at_none parser fed.limit fed.text none fed.read in
-    is_read fed.limit fed.text ended (limit_at parser.reading fed.limit fed.text at) (ends fed.limit fed.text at)
+    are_parts fed.limit fed.text ended (limit_at parser.reading fed.limit fed.text at) (ends fed.limit fed.text at)
 
 -- from a source
 pub reads_text : (limit : ℕ) (left : Option (List ℕ)) (ended : Ended Kept) → ReadsEnded KeepsAll limit left ended → ReadsText limit left (file_ended ended)
 reads_text limit left ended reads = record { text = reads.text; held = reads.held; of_text = of_file limit reads.text ended reads.of_text }
 
-pub reads_read : (limit : ℕ) (left : Option (List ℕ)) (ended : Ended Kept) → limit ≤ most_records → ReadsEnded KeepsAll limit left ended
-    → IsRead (file_ended ended)
-reads_read limit left ended few reads = is_read limit reads.text ended few reads.of_text
+pub reads_parts : (limit : ℕ) (left : Option (List ℕ)) (ended : Ended Kept) → limit ≤ most_records → ReadsEnded KeepsAll limit left ended
+    → ArePartsOfFile (parts_ended ended)
+reads_parts limit left ended few reads = are_parts limit reads.text ended few reads.of_text
 
 -- ---- its counts
 

@@ -1,12 +1,13 @@
 -- What a reader tells of a file whose trailer was read.
-use Rattle.std.specs.Prelude.{◌≡◌, ℕ, List, [], length, map, slice_index_or}
+use Rattle.std.specs.Prelude.{◌≡◌, ℕ, List, [], length, slice_index_or}
 use Rattle.docker_model.specs.file.Change.{changes}
 use Rattle.cif_file.specs.declared.ended.Ended.{Ended}
 use Rattle.cif_file.specs.declared.kept.Kept.{Kept}
+use Rattle.cif_file.specs.declared.parts.FileParts.{FileParts}
 use Rattle.cif_file.specs.declared.tally.Tally.{Tally}
 use Rattle.cif_file.specs.KeeperRead.{Keeps}
+use Rattle.cif_file.specs.MadeChanges.{file_of_parts}
 use Rattle.cif_file.specs.FileRead.{FileRead, FileCounted}
-use Rattle.cif_change.specs.Meaning.{change_meant}
 
 -- the header and the number of these records are told, and their changes were kept
 pub record IsEnded {K : Type 0} (keeps : Keeps K) (records : List (List ℕ)) (ended : Ended K) : Type 0 where
@@ -14,13 +15,18 @@ pub record IsEnded {K : Type 0} (keeps : Keeps K) (records : List (List ℕ)) (e
   pub count_is : ended.records ≡ length records
   pub kept : keeps ended.keeper [] (changes records)
 
--- the file, where the changes themselves were kept
-abbrev pub file_ended : Ended Kept → FileRead
-file_ended ended = record {
-  header_line = ended.header;
-  record_count = ended.records;
-  changes_made = map change_meant ended.keeper.changes.items;
+-- the parts of the file, where the changes themselves were kept
+abbrev pub parts_ended : Ended Kept → FileParts
+parts_ended ended = record {
+  header = ended.header;
+  records = ended.records;
+  changes = ended.keeper.made.changes;
+  notes = ended.keeper.made.notes;
 }
+
+-- the file
+abbrev pub file_ended : Ended Kept → FileRead
+file_ended ended = file_of_parts (parts_ended ended)
 
 -- the counts of the file, where the changes were counted
 abbrev pub count_ended : Ended Tally → FileCounted

@@ -1,12 +1,13 @@
 -- What keeps of a file's records what its reader is to tell of them.
-use Rattle.std.specs.Prelude.{◌≡◌, ℕ, ◌<◌, List, [], ◌∷◌, ◌++◌, length, map, if◌then◌else◌}
+use Rattle.std.specs.Prelude.{◌≡◌, ℕ, ◌<◌, List, [], ◌∷◌, ◌++◌, length, if◌then◌else◌}
 use Rattle.docker_model.specs.file.Change.{Change, changes_of_record, schedule_body, delete, put}
 use Rattle.cif_change.specs.declared.key.Key.TheVariants as key
 use Rattle.cif_journey.specs.JourneyRead.{progress_meant}
 use Rattle.cif_file.specs.declared.opened.Opened.{Opened}
 use Rattle.cif_file.specs.declared.kept.Kept.{Kept}
+use Rattle.cif_file.specs.MadeChanges.{HasMade}
 use Rattle.cif_file.specs.declared.tally.Tally.{Tally}
-use Rattle.cif_change.specs.Meaning.{key_meant, change_meant}
+use Rattle.cif_change.specs.Meaning.{key_meant}
 
 abbrev Lines : Type 0
 Lines = List (List ℕ)
@@ -37,9 +38,9 @@ abbrev pub AddsSingle : {K : Type 0} → Keeps K → K → ℕ → List ℕ → 
 AddsSingle keeps old number line new =
     (lines : Lines) (made : List Change) → keeps old lines made → keeps new lines (made ++ changes_of_record number line [])
 
--- the lines and the changes themselves are kept
+-- the lines and the changes themselves are kept, and the places that these name are noted
 abbrev pub KeepsAll : Kept → Lines → List Change → Type 0
-KeepsAll kept lines made = (kept.lines.items ≡ lines) × (map change_meant kept.changes.items ≡ made)
+KeepsAll kept lines changes = (kept.lines.items ≡ lines) × HasMade kept.made changes
 
 -- the changes are counted, as far as they can be
 abbrev pub CountsChanges : Tally → Lines → List Change → Type 0

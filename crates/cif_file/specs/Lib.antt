@@ -1,4 +1,5 @@
 pub mod FileRead
+pub mod MadeChanges
 pub mod UnitRead
 pub mod KeeperRead
 pub mod EndedRead

@@ -1,14 +1,11 @@
 -- Records that begin anew behind a header or a whole unit, and the changes that those make which are units by themselves.
-use Rattle.std.specs.Prelude.{◌≡◌, ℕ, List, ◌++◌, map}
+use Rattle.std.specs.Prelude.{◌≡◌, ℕ, List}
 use Rattle.docker_model.specs.records.Record.{Kind, HasKind, IsRecord, tiploc_insert, tiploc_amend, tiploc_delete, association, basic_schedule, trailer}
 use Rattle.docker_model.specs.records.Field.{HasGoodFields}
-use Rattle.docker_model.specs.file.Change as model
-use Rattle.cif_change.specs.declared.change.Change.{Change}
 use Rattle.cif_file.specs.declared.single.Single.{Single}
 use Rattle.cif_file.specs.declared.single.Single.TheVariants.{TiplocInsert, TiplocAmend, TiplocDelete, Association}
 use Rattle.cif_file.specs.declared.unit.Unit.{Unit}
 use Rattle.cif_file.specs.declared.unit.Unit.TheVariants as unit
-use Rattle.cif_change.specs.Meaning.{change_meant}
 
 -- the kind of a record that is a unit by itself
 abbrev pub kind_of_single : Single → Kind
@@ -40,7 +37,3 @@ pub record IsUnitOf (line : List ℕ) (unit : Unit) : Type 0 where
 pub record IsOfSome (unit : Unit) : Type 0 where
   pub line : List ℕ
   pub of : IsUnitOf line unit
-
--- these changes were appended
-abbrev pub AppendsChanges : List Change → List model.Change → List Change → Type 0
-AppendsChanges old made new = map change_meant new ≡ map change_meant old ++ made

@@ -1,11 +1,14 @@
 //! A file whose trailer was read.
-ghost use Rattle.cif_file.specs.FileRead.{IsRead, IsCounted};
-ghost use Rattle.cif_file.specs.EndedRead.{file_ended, count_ended};
+ghost use Rattle.cif_file.specs.FileRead.{IsCounted};
+ghost use Rattle.cif_file.specs.MadeChanges.{ArePartsOfFile};
+ghost use Rattle.cif_file.specs.EndedRead.{file_ended, parts_ended, count_ended};
 
 use crate::count::FileCount;
 use crate::file::CifFile;
 use crate::header_line::HeaderLine;
 use crate::kept::Kept;
+use crate::made::Made;
+use crate::parts::FileParts;
 use crate::tally::Tally;
 
 /// A file whose trailer was read: its header, how many records there are, and what was kept of them.
@@ -21,7 +24,7 @@ impl Ended<Kept> {
 
     /// The file with the changes that were kept.
     pub(crate) fn into_file(self) -> CifFile
-        requires { IsRead (file_ended self) }
+        requires { ArePartsOfFile (parts_ended self) }
         ensures { result ≡ file_ended self }
     {
         let Ended {
@@ -29,7 +32,14 @@ impl Ended<Kept> {
             records,
             keeper,
         } = self;
-        CifFile::of(header, records, keeper.into_changes())
+        let Made { changes, notes } = keeper.into_made();
+        FileParts {
+            header,
+            records,
+            changes,
+            notes,
+        }
+        .into_file()
     }
 }
 

@@ -2,8 +2,9 @@
 ghost use Rattle.std.specs.Prelude.{◌≡◌, map};
 ghost use Rattle.cif_change.specs.Meaning.{change_meant};
 ghost use Rattle.cif_file.specs.FileRead.{IsRead};
+ghost use Rattle.cif_file.specs.MadeChanges.{ArePartsOfFile, file_of_parts};
 
-use crate::header_line::HeaderLine;
+use crate::parts::FileParts;
 use cif_change::Change;
 use cif_line::Header;
 use std::marker::Model;
@@ -11,58 +12,26 @@ use std::marker::Model;
 /// A CIF file: its header and the changes that its records make.
 #[derive(Debug, Drop)]
 pub struct CifFile {
-    header: HeaderLine,
-    records: u32,
-    changes: Vec<Change>,
+    parts: FileParts,
 }
 
 impl Model for CifFile {
-    ghost use Rattle.std.specs.Prelude.{map};
-    ghost use Rattle.cif_file.specs.FileRead.{FileRead, IsRead};
+    ghost use Rattle.cif_file.specs.FileRead.{FileRead};
+    ghost use Rattle.cif_file.specs.MadeChanges.{ArePartsOfFile, file_of_parts};
 
     ghost Value = { FileRead };
 
-    ghost use Rattle.cif_change.specs.Meaning.{change_meant};
+    ghost view = { λ file. file_of_parts file.parts };
 
-    ghost view = { λ file. record {
-      header_line = file.header;
-      record_count = file.records;
-      changes_made = map change_meant file.changes.items;
-    } };
-
-    ghost invariant = { λ file. IsRead (record {
-      header_line = file.header;
-      record_count = file.records;
-      changes_made = map change_meant file.changes.items;
-    }) };
+    ghost invariant = { λ file. ArePartsOfFile file.parts };
 }
 
 impl CifFile {
-    /// The file with this header, so many records and these changes.
-    pub(crate) fn of(header: HeaderLine, records: u32, changes: Vec<Change>) -> CifFile
-        requires read { IsRead (record {
-          header_line = header;
-          record_count = records;
-          changes_made = map change_meant changes.items;
-        }) }
-        ensures { result ≡ record {
-          header_line = header;
-          record_count = records;
-          changes_made = map change_meant changes.items;
-        } }
-    {
-        CifFile {
-            header,
-            records,
-            changes,
-        }
-    }
-
     /// A view of the header.
     pub fn header(&self) -> Header<'_>
         ensures { result ≡ self.now.header_line }
     {
-        self.header.view()
+        self.parts.header.view()
     }
 
     /// How many records the file has, the header and the trailer among them.
@@ -70,7 +39,7 @@ impl CifFile {
         ensures count { result ≡ self.now.record_count }
         ensures read { IsRead self.now }
     {
-        self.records
+        self.parts.records
     }
 
     /// The changes, in the order of their records.
@@ -78,14 +47,33 @@ impl CifFile {
         ensures changes { map change_meant result.now ≡ self.now.changes_made }
         ensures read { IsRead self.now }
     {
-        self.changes.as_slice()
+        self.parts.changes.as_slice()
     }
 
     /// The changes, in the order of their records.
     pub fn into_changes(self) -> Vec<Change>
         ensures { map change_meant result.items ≡ self.changes_made }
     {
-        let CifFile { changes, .. } = self;
+        let FileParts { changes, .. } = self.into_parts();
         changes
+    }
+
+    /// The file, taken apart.
+    pub fn into_parts(self) -> FileParts
+        ensures file { file_of_parts result ≡ self }
+        ensures parts { ArePartsOfFile result }
+    {
+        let CifFile { parts } = self;
+        parts
+    }
+}
+
+impl FileParts {
+    /// The file again.
+    pub fn into_file(self) -> CifFile
+        requires { ArePartsOfFile self }
+        ensures { result ≡ file_of_parts self }
+    {
+        CifFile { parts: self }
     }
 }

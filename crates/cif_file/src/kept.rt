@@ -1,20 +1,20 @@
-//! The changes of a file's records, kept.
-ghost use Rattle.std.specs.Prelude.{◌≡◌, [], map};
+//! The changes of a file's records, kept, with the places that they name.
+ghost use Rattle.std.specs.Prelude.{◌≡◌, []};
 ghost use Rattle.cif_file.specs.KeeperRead.{KeepsAll};
 
 use crate::keeper::Keeper;
+use crate::made::Made;
 use crate::opened::Opened;
-use crate::single::{Single, push, push_changes};
-use cif_change::Change;
+use crate::single::{Single, push_changes};
 use cif_line::Line;
 use std::alloc::{AllocError, Global};
 
-/// The changes of a file's records so far, and the lines of the schedule that is being read.
+/// What the records of a file so far have made, and the lines of the schedule that is being read.
 #[derive(Debug, Drop)]
 pub(crate) struct Kept {
     alloc: Global,
     lines: Vec<Line>,
-    changes: Vec<Change>,
+    made: Made,
 }
 
 impl Kept {
@@ -25,16 +25,16 @@ impl Kept {
         Kept {
             alloc,
             lines: Vec::new(alloc),
-            changes: Vec::new(alloc),
+            made: Made::new(alloc),
         }
     }
 
-    /// The changes.
-    pub(crate) fn into_changes(self) -> Vec<Change>
-        ensures { result.items ≡ self.changes.items }
+    /// What was made.
+    pub(crate) fn into_made(self) -> Made
+        ensures { result ≡ self.made }
     {
-        let Kept { changes, .. } = self;
-        changes
+        let Kept { made, .. } = self;
+        made
     }
 }
 
@@ -52,12 +52,12 @@ impl Keeper for Kept {
 
     fn close(&mut self, opened: Opened) -> Result<(), AllocError> {
         let change = opened.change(self.alloc, self.lines.as_slice())?;
-        push(&mut self.changes, change)?;
+        self.made.push(change)?;
         self.lines.clear();
         Ok(())
     }
 
     fn add_single(&mut self, number: u32, single: &Single<'_>) -> Result<(), AllocError> {
-        push_changes(&mut self.changes, number, single)
+        push_changes(&mut self.made, number, single)
     }
 }

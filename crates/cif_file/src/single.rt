@@ -4,8 +4,10 @@ ghost use Rattle.docker_model.specs.records.Record.{HasKind, columns, tiploc_ame
 ghost use Rattle.docker_model.specs.records.Field.{is_deletion, as_new};
 ghost use Rattle.docker_model.specs.file.Change.{changes_of_record, keeps_code, tiploc_key, association_named, tiploc_named, tiploc_details, association_body, delete, put};
 ghost use Rattle.cif_change.specs.Meaning.{change_meant, key_meant};
-ghost use Rattle.cif_file.specs.UnitRead.{AppendsChanges, kind_of_single, line_of_single};
+ghost use Rattle.cif_file.specs.MadeChanges.{Makes};
+ghost use Rattle.cif_file.specs.UnitRead.{kind_of_single, line_of_single};
 
+use crate::made::Made;
 use cif_change::{Act, AssocKey, Body, Change, Key};
 use cif_line::{Assoc, Tiploc, TiplocRecord, Transaction};
 use std::alloc::AllocError;
@@ -25,37 +27,33 @@ pub(crate) enum Single<'a> {
 
 /// Appends the changes that the record makes.
 pub(crate) fn push_changes(
-    changes: &mut Vec<Change>,
+    made: &mut Made,
     number: u32,
     single: &Single<'_>,
 ) -> Result<(), AllocError>
     requires { HasKind (kind_of_single single.now) (line_of_single single.now) }
-    ensures { OnOk result (AppendsChanges changes.old.items
-        (changes_of_record number (line_of_single single.now) []) changes.new.items) }
+    ensures { OnOk result (Makes made.old
+        (changes_of_record number (line_of_single single.now) []) made.new) }
 {
     match single {
-        Single::TiplocInsert(view) => push(changes, tiploc_put(number, view.code(), view)),
-        Single::TiplocAmend(view) => push_amended(changes, number, view),
-        Single::TiplocDelete(view) => push(changes, tiploc_deleted(number, view)),
-        Single::Association(view) => push(changes, association_change(number, view)),
+        Single::TiplocInsert(view) => made.push(tiploc_put(number, view.code(), view)),
+        Single::TiplocAmend(view) => push_amended(made, number, view),
+        Single::TiplocDelete(view) => made.push(tiploc_deleted(number, view)),
+        Single::Association(view) => made.push(association_change(number, view)),
     }
 }
 
 /// Appends the changes that a TIPLOC amendment makes: where it changes the code, the old one is deleted.
-fn push_amended(
-    changes: &mut Vec<Change>,
-    number: u32,
-    view: &TiplocRecord<'_>,
-) -> Result<(), AllocError>
+fn push_amended(made: &mut Made, number: u32, view: &TiplocRecord<'_>) -> Result<(), AllocError>
     requires { HasKind tiploc_amend view.now }
-    ensures { OnOk result (AppendsChanges changes.old.items
-        (changes_of_record number view.now []) changes.new.items) }
+    ensures { OnOk result (Makes made.old
+        (changes_of_record number view.now []) made.new) }
 {
     match other_code(view) {
-        None => push(changes, tiploc_put(number, view.code(), view)),
+        None => made.push(tiploc_put(number, view.code(), view)),
         Some(code) => {
-            push(changes, tiploc_deleted(number, view))?;
-            push(changes, tiploc_put(number, code, view))
+            made.push(tiploc_deleted(number, view))?;
+            made.push(tiploc_put(number, code, view))
         }
     }
 }
@@ -83,15 +81,6 @@ fn count_amended(view: &TiplocRecord<'_>) -> u64
         None => 1,
         Some(_) => 2,
     }
-}
-
-/// Appends a change.
-pub(crate) fn push(changes: &mut Vec<Change>, change: Change) -> Result<(), AllocError>
-    ensures { OnOk result (AppendsChanges changes.old.items (change_meant change ∷ [])
-        changes.new.items) }
-{
-    changes.push(change)?;
-    Ok(())
 }
 
 /// The code that a TIPLOC amendment changes to, if it is another one.

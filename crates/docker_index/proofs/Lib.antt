@@ -13,10 +13,8 @@ pub mod SortedSpots
 pub mod MarkPieces
 pub mod MarkSpots
 pub mod MovedMarks
-pub mod PackedPlaces
 pub mod NotedNames
 pub mod CountedSpots
 pub mod Counted
 pub mod PlacedOrder
-pub mod Noted
 pub mod NotedSpots

@@ -1,7 +1,7 @@
 -- The marks of noted rows stand for the rows' spots.
-use Rattle.std.proofs.Common.{◌≡◌, ℕ, zero, suc, ◌+◌, ◌-◌, ◌≤◌, ◌<◌, List, [], ◌∷◌, ◌++◌, map, take, drop, length, refl, ap, sym, ◌∙◌, subst, Bool, true, false, Some, None, arith, inl, inr, ◌⊎◌, get_or}
+use Rattle.std.proofs.Common.{◌≡◌, ℕ, zero, suc, ◌+◌, ◌≤◌, List, [], ◌∷◌, ◌++◌, map, take, drop, length, refl, ap, sym, ◌∙◌, subst, Bool, true, false, Some, None, arith, get_or}
 use Rattle.std.specs.Prelude.{Option, slice_get, option_map}
-use Rattle.std.specs.List.{filter_map, cons_option}
+use Rattle.std.specs.List.{cons_option}
 use Rattle.std.proofs.lemmas.List.{length-append, length-map}
 use Rattle.std.proofs.lemmas.List.Elements.{filter_map-append}
 use Rattle.std.proofs.lemmas.Option.{get_or_from_slice_get, slice_get-map}
@@ -9,11 +9,10 @@ use Rattle.docker_model.specs.file.Change as model
 use Rattle.docker_model.specs.state.State.{AreAscending}
 use Rattle.docker_model.specs.state.Op.{op_of}
 use Rattle.docker_index.specs.declared.mark.Mark.{Mark}
-use Rattle.docker_index.specs.declared.notes.Notes.{Notes}
-use Rattle.docker_index.specs.declared.piece.Piece.{Piece}
+use Rattle.cif_places.specs.declared.notes.Notes.{Notes}
+use Rattle.cif_places.specs.declared.piece.Piece.{Piece}
 use Rattle.docker_index.specs.declared.room.Room.{Room}
 use Rattle.docker_index.specs.declared.slots.Slots.{Slots}
-use Rattle.docker_index.specs.SpotOrder.{Spot}
 use Rattle.docker_index.specs.Spots.{Places, call_places, link_places, spot_at, spots_from, spots_of, mark_spot, spots_in}
 use Rattle.docker_index.specs.Joined.{AreRanks}
 use Rattle.docker_index.specs.Rooms.{AreMadeBy, HasSlots, HasRoomFor, IsRoom}
@@ -21,7 +20,7 @@ use Rattle.docker_index.specs.Noted.{Item, items_of, items_put, if_asked, number
 use Rattle.docker_index.specs.ByPlace.{AreBelow, AreFrom}
 use Rattle.docker_index.proofs.PlacedOrder.{made_of_rows}
 use Rattle.docker_index.proofs.Positions.{Keyed, some_is}
-use Rattle.docker_index.proofs.CountedSpots.{places_of_rows, places_of_changes, rows_of_changes, links_of_rows, links_of_changes, total, pairs_of}
+use Rattle.docker_index.proofs.CountedSpots.{places_of_rows, places_of_changes, rows_of_changes, links_of_rows, links_of_changes, total}
 
 none_some : {A : Type 0} (a : A) → None ≡ Some a → ⊥
 none_some a h = cc

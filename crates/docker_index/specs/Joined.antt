@@ -14,6 +14,7 @@ use Rattle.docker_join.specs.declared.stamp.FileStamp as stamp
 use Rattle.docker_join.specs.declared.entry.Entry.{Entry}
 use Rattle.docker_join.specs.Meaning.{file_stamp_meant, entry_meant, row_meant}
 use Rattle.docker_join.specs.Rows.{IsJoinOfRows}
+pub use Rattle.cif_places.specs.NamedPlaces.{AreRanks}
 use Rattle.docker_index.specs.SpotOrder.{Spot}
 use Rattle.docker_index.specs.declared.mark.Mark.{Mark}
 use Rattle.docker_index.specs.declared.moves.Moves.{Moves}
@@ -53,10 +54,6 @@ moved_mark ranks moves mark = option_and_then
 -- marks where their places and their rows go
 abbrev pub moved_marks : List ℕ → List (Option ℕ) → List Mark → List Mark
 moved_marks ranks moves marks = filter_map (moved_mark ranks moves) marks
-
--- the indexes of the names among others
-abbrev pub AreRanks : List (List ℕ) → List (List ℕ) → List ℕ → Type 0
-AreRanks others names ranks = map (slice_get others) ranks ≡ map Some names
 
 -- of two rows that go into the join the first goes before the other
 abbrev pub AreRising : List (Option ℕ) → Type 0

@@ -1,68 +1,8 @@
--- What rows have noted: numbers that name their places, and which of the numbers are each row's.
-use Rattle.std.specs.Prelude.{⊤, ℕ, ◌≡◌, ◌+◌, ◌-◌, ◌≤◌, Bool, true, false, List, [], ◌∷◌, ◌++◌, map, take, drop, length, get_or, slice_get, Some}
-use Rattle.docker_model.specs.file.Change as model
-use Rattle.docker_model.specs.file.Change.{Key}
-use Rattle.docker_model.specs.state.Op.{Op, Entry, op_of}
+-- The marks of rows whose places are noted.
+use Rattle.std.specs.Prelude.{ℕ, ◌-◌, Bool, List, [], ◌∷◌, ◌++◌, map, length, get_or}
+use Rattle.cif_places.specs.declared.piece.Piece.{Piece}
+pub use Rattle.cif_places.specs.Noted.{Item, items_of, items_put, Keeps, if_asked, numbers_of, IsNoted, AreNoted, numbers_in, HasNoted, IsNext, no_piece, ArePicked}
 use Rattle.docker_index.specs.declared.mark.Mark.{Mark}
-use Rattle.docker_index.specs.declared.notes.Notes.{Notes}
-use Rattle.docker_index.specs.declared.piece.Piece.{Piece}
-use Rattle.docker_index.specs.Joined.{AreRanks}
-use Rattle.docker_index.specs.Spots.{call_places, link_places}
-
--- a key with its op
-abbrev pub Item : Type 0
-Item = Key × Op
-
--- the keys of rows with their ops
-abbrev pub items_of : List (Key × Entry) → List Item
-items_of rows = map (λ (row : Key × Entry). (row.0, row.1.op)) rows
-
--- the keys of changes with what they make of them
-abbrev pub items_put : List model.Change → List Item
-items_put changes = map (λ (change : model.Change). (change.key, op_of change.act)) changes
-
--- what stands in the one list stands at the same index in the other
-abbrev pub Keeps : {A : Type 0} → List A → List A → Type 0
-Keeps {A} old new = (i : ℕ) (x : A) → slice_get old i ≡ Some x → slice_get new i ≡ Some x
-
--- what is asked for, of links or of calls, where the piece is of such
-abbrev pub if_asked : Bool → Bool → List ℕ → List ℕ
-if_asked true true numbers = numbers
-if_asked true false numbers = []
-if_asked false true numbers = []
-if_asked false false numbers = numbers
-
--- the numbers of a piece, if it is one of links, or of calls, as is asked
-abbrev pub numbers_of : Bool → List ℕ → Piece → List ℕ
-numbers_of links numbers piece = if_asked piece.is_link links (take piece.count (drop piece.from numbers))
-
--- the numbers of a piece name the places of a key with its op
-pub record IsNoted (names : List (List ℕ)) (numbers : List ℕ) (item : Item) (piece : Piece) : Type 0 where
-  pub calls : AreRanks names (call_places item.0 item.1) (numbers_of false numbers piece)
-  pub links : AreRanks names (link_places item.0 item.1) (numbers_of true numbers piece)
-  pub within : piece.from + piece.count ≤ length numbers
-
--- the same of each of them
-abbrev pub AreNoted : List (List ℕ) → List ℕ → List Item → List Piece → Type 0
-AreNoted names numbers [] [] = ⊤
-AreNoted names numbers [] (piece ∷ pieces) = ⊥
-AreNoted names numbers (item ∷ items) [] = ⊥
-AreNoted names numbers (item ∷ items) (piece ∷ pieces) = IsNoted names numbers item piece × AreNoted names numbers items pieces
-
--- how many numbers pieces have
-abbrev pub numbers_in : List Piece → ℕ
-numbers_in [] = 0
-numbers_in (piece ∷ pieces) = piece.count + numbers_in pieces
-
--- the places of the keys with their ops are noted, one behind the other
-pub record HasNoted (items : List Item) (notes : Notes) : Type 0 where
-  pub are : AreNoted notes.names.list.items notes.numbers.items items notes.pieces.items
-  pub apart : numbers_in notes.pieces.items ≤ length notes.numbers.items
-
--- the piece is that of the numbers that came
-pub record IsNext (names : List (List ℕ)) (old new : List ℕ) (item : Item) (piece : Piece) : Type 0 where
-  pub noted : IsNoted names new item piece
-  pub apart : length old + piece.count ≤ length new
 
 -- the mark of a number in a row, by the indexes of the places that have numbers
 abbrev pub mark_of : List ℕ → ℕ → ℕ → Mark
@@ -81,11 +21,3 @@ noted_marks links ranks numbers rows (piece ∷ pieces) =
 -- the marks of these numbers of a row, and of the rows behind it
 abbrev pub marks_left : Bool → List ℕ → List ℕ → ℕ → List Piece → List ℕ → List Mark
 marks_left links ranks numbers rows pieces here = map (mark_of ranks (row_before rows pieces)) here ++ noted_marks links ranks numbers rows pieces
-
--- the piece of a row that has no numbers
-abbrev pub no_piece : Piece
-no_piece = record { is_link = false; from = 0; count = 0 }
-
--- these stand at the indexes
-abbrev pub ArePicked : List Item → List ℕ → List Item → Type 0
-ArePicked items order picked = map (slice_get items) order ≡ map Some picked

@@ -1,28 +1,14 @@
 -- An index of rows by place: the spots where live schedules call, and those where live associations are.
-use Rattle.std.specs.Prelude.{ℕ, ◌+◌, ◌↔◌, List, [], ◌∷◌, ◌++◌, map, filter, Contains, Option, option_map, slice_get}
+use Rattle.std.specs.Prelude.{ℕ, ◌+◌, ◌↔◌, List, [], ◌∷◌, ◌++◌, map, Contains, Option, option_map, slice_get}
 use Rattle.std.specs.List.{filter_map}
-use Rattle.docker_model.specs.records.Record.{kind_of, columns, is_location}
-use Rattle.docker_model.specs.file.Change.{Key, association_key, schedule_key, association_body, schedule_body}
-use Rattle.docker_model.specs.state.Op.{Op, put_with, Entry}
+use Rattle.docker_model.specs.file.Change.{Key}
+use Rattle.docker_model.specs.state.Op.{Op, Entry}
 use Rattle.docker_model.specs.state.Order.{bytes_cmp, IsStrictlyAscending}
+pub use Rattle.cif_places.specs.NamedPlaces.{location_lines, call_places, link_places}
 use Rattle.docker_index.specs.SpotOrder.{Spot, spot_cmp}
 use Rattle.docker_index.specs.declared.mark.Mark.{Mark}
 use Rattle.docker_index.specs.MarkOrder.{mark_cmp}
 use Rattle.docker_index.specs.declared.index.Index.{Index}
-
--- the location records among lines
-abbrev pub location_lines : List (List ℕ) → List (List ℕ)
-location_lines lines = filter (λ line. is_location (kind_of line)) lines
-
--- the TIPLOCs at which a live schedule calls, each as often as a location record names it
-abbrev pub call_places : Key → Op → List (List ℕ)
-call_places (schedule_key key) (put_with (schedule_body lines)) = map (columns 3 9) (location_lines lines)
-call_places _ _ = []
-
--- the location of a live association
-abbrev pub link_places : Key → Op → List (List ℕ)
-link_places (association_key key) (put_with (association_body line)) = key.location ∷ []
-link_places _ _ = []
 
 -- the places of what a row has
 abbrev pub Places : Type 0

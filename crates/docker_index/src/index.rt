@@ -15,12 +15,12 @@ use crate::fill::ascending;
 use crate::mark::Mark;
 use crate::merge::{Moved, merged, ranks_of, union_of};
 use crate::moves::Moves;
-use crate::notes::Notes;
 use crate::room::Room;
 use crate::standing::{Standing, is_put_at, marks_at};
 use crate::walk::Walk;
 use cif_file::Key;
 use cif_line::{Memory, Tiploc};
+use cif_places::Notes;
 use docker_join::Entry;
 use std::alloc::Global;
 

@@ -1,31 +1,27 @@
 //! Two indexes of the rows of a state: the TIPLOCs where its live schedules call, and the locations of its live associations.
+//! What was noted of rows is handed on from the crate below.
 #![tactic(auto)]
 
 mod fill;
 mod index;
 mod laws;
 mod mark;
-mod memo;
 mod merge;
 mod moves;
 mod names;
-mod notes;
-mod noting;
-mod piece;
-mod places;
+mod noted_rows;
 mod room;
 mod slots;
 mod standing;
 mod turns;
 mod walk;
 
+pub use cif_places::{Names, Notes, Piece};
 pub use index::Index;
 pub use laws::{indexes_of_rows, one_index_of_rows};
 pub use mark::Mark;
 pub use moves::Moves;
-pub use names::Names;
-pub use notes::Notes;
-pub use piece::Piece;
+pub use noted_rows::{note_row, notes_of_rows};
 pub use room::Room;
 pub use slots::Slots;
 pub use standing::{Numbered, Standing};

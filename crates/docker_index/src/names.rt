@@ -1,51 +1,7 @@
-//! The places that rows name, by provisional numbers.
-ghost use Rattle.std.specs.Prelude.{◌≡◌, ◌++◌, [], ◌∷◌, Contains, IfOk, IsTrue, IsSome, IfSome, Some, slice_get};
-ghost use Rattle.std.specs.Int.{from_le_bytes, w64};
+//! The places of an index, in order.
+ghost use Rattle.std.specs.Prelude.{◌≡◌, Contains, IsSome, IfSome, Some, slice_get};
 ghost use Rattle.docker_model.specs.state.Order.{bytes_cmp, IsStrictlyAscending};
 ghost use Rattle.docker_index.specs.Rooms.{Includes};
-ghost use Rattle.docker_index.specs.Noted.{Keeps};
-
-use crate::memo::Memo;
-use cif_line::Memory;
-use std::alloc::Global;
-
-/// Places in the order in which they came, each once or more often: the number of a place is an index of it.
-#[derive(Debug, Drop)]
-pub struct Names {
-    /// The places.
-    pub list: Vec<[u8; 7]>,
-    memo: Memo,
-}
-
-impl Names {
-    /// No place yet. It takes no memory.
-    pub(crate) fn new(alloc: Global) -> Names
-        ensures { result.list.items ≡ [] }
-    {
-        Names {
-            list: Vec::new(alloc),
-            memo: Memo::new(alloc),
-        }
-    }
-
-    /// The number of a place, which gets the next one where the memo doesn't know it. `Memory` where the allocator refuses it.
-    pub(crate) fn number_of(&mut self, place: &[u8; 7]) -> Result<u32, Memory>
-        ensures kept { Keeps self.old.list.items self.new.list.items }
-        ensures number { IfOk result (λ number.
-            slice_get self.new.list.items number ≡ Some place.now) }
-    {
-        if let Some(number) = self.memo.find(self.list.as_slice(), place) {
-            return Ok(number);
-        }
-        self.memo.grow()?;
-        let Ok(next) = u32::try_from(self.list.len()) else {
-            return Err(Memory);
-        };
-        self.list.push(*place)?;
-        self.memo.set(place, next);
-        Ok(next)
-    }
-}
 
 /// Places, ascending, each once.
 pub(crate) fn ascending_places(mut places: Vec<[u8; 7]>) -> Vec<[u8; 7]>
@@ -55,31 +11,6 @@ pub(crate) fn ascending_places(mut places: Vec<[u8; 7]>) -> Vec<[u8; 7]>
     places.sort_unstable();
     places.dedup();
     places
-}
-
-/// Whether a place stands at an index of a list.
-pub(crate) fn is_at(places: &[[u8; 7]], index: u32, place: &[u8; 7]) -> bool
-    ensures { IsTrue result → slice_get places.now index ≡ Some place.now }
-{
-    match places.get(index as usize) {
-        Some(one) => is_same(one, place),
-        None => false,
-    }
-}
-
-/// Whether two places are one.
-fn is_same(one: &[u8; 7], other: &[u8; 7]) -> bool
-    ensures { IsTrue result → one.now ≡ other.now }
-{
-    packed(one) == packed(other)
-}
-
-/// A place as one number, its first byte the lowest: two places are compared at once so, not byte by byte.
-pub(crate) fn packed(place: &[u8; 7]) -> u64
-    ensures { result ≡ from_le_bytes w64 (place.now ++ 0 ∷ []) }
-{
-    let [a, b, c, d, e, f, g] = *place;
-    u64::from_le_bytes([a, b, c, d, e, f, g, 0])
 }
 
 /// The index of a place among places that ascend. None where it isn't there.

@@ -8,9 +8,9 @@ ghost use Rattle.docker_index.specs.Noted.{HasNoted, items_of, items_put};
 
 use crate::merge::ranks_of;
 use crate::names::ascending_places;
-use crate::notes::Notes;
 use crate::slots::Slots;
 use cif_line::Memory;
+use cif_places::Notes;
 use std::alloc::Global;
 
 /// The places of an index that is to be made, and room for the rest of it.

@@ -1,4 +1,4 @@
-use crate::{Index, Mark, Moves, Notes, Room, Standing};
+use crate::{Index, Mark, Moves, Room, Standing, notes_of_rows};
 use cif_file::{AssocKey, Body, Key, Lines, ScheduleKey};
 use cif_line::{Day, Line, Stp, Tiploc, Uid};
 use docker_join::{Entry, FileStamp, Merge, Op, Stamp, Table};
@@ -119,7 +119,7 @@ fn update(rt: &HostRuntime) -> Result<Table<Entry>, Fail> {
 
 /// The index of a table's rows.
 fn indexed(rt: &HostRuntime, table: &Table<Entry>) -> Result<Index, Fail> {
-    let notes = Notes::of_rows(rt.alloc(), table.as_slice())?;
+    let notes = notes_of_rows(rt.alloc(), table.as_slice())?;
     let room = Room::for_notes(rt.alloc(), &notes)?;
     Ok(Index::of_rows(room, notes, table.as_slice()))
 }

@@ -21,6 +21,8 @@ use Rattle.cif_change.specs.declared.key.Key.{Key}
 use Rattle.cif_change.specs.declared.change.Change as change
 use Rattle.cif_file.specs.FileRead.{FileRead, IsOfRecords}
 use Rattle.cif_file.specs.Meaning.{change_meant}
+use Rattle.cif_file.specs.declared.parts.FileParts.{FileParts}
+use Rattle.cif_file.specs.MadeChanges.{file_of_parts}
 use Rattle.docker_join.specs.declared.entry.Entry.{Entry}
 use Rattle.docker_join.specs.declared.stamp.FileStamp as code
 use Rattle.docker_join.specs.Meaning.{op_meant, file_stamp_meant}
@@ -167,6 +169,10 @@ module _ (file : FileRead) (head : List ℕ) (head_is : head ≡ file.header_lin
   made_of_file stamp stamp_is moved moved_is made made_is =
       made_is ∙ ap (λ (s : FileStamp). map (made_by s) (map change_meant moved)) (stamp_is ∙ ap (λ (i : stamps.LedgerItem). i.stamp) item_of_file)
       ∙ ap (map (made_by (file_stamp_of lines))) (moved_is ∙ of.changes_are)
+
+-- the parts of a file have its changes
+pub changes_are : (file : FileRead) (parts : FileParts) → file_of_parts parts ≡ file → map change_meant parts.changes.items ≡ file.changes_made
+changes_are file parts same = ap (λ (f : FileRead). f.changes_made) same
 
 -- each row with a greatest entry is one that a change makes
 pub rows_made_by : (file : FileStamp) (all : List model.Change) (made rows : List (Key × Entry)) → map row_meant made ≡ map (made_by file) all

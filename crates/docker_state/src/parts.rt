@@ -12,7 +12,7 @@ use crate::item::LedgerItem;
 use crate::state::State;
 use cif_file::Key;
 use cif_line::Memory;
-use docker_index::{Notes, Room};
+use docker_index::{Notes, Room, note_row};
 use docker_join::Entry;
 use std::alloc::Global;
 use std::marker::Model;
@@ -75,7 +75,7 @@ impl Parts {
         ensures err { IsErr result → self.new ≡ self.old }
     {
         self.entries.reserve(1)?;
-        self.notes.note(&key, &entry.op)?;
+        note_row(&mut self.notes, &key, &entry.op)?;
         self.entries.push_reserved((key, entry));
         Ok(())
     }

@@ -17,7 +17,7 @@ use crate::ledger::{has_kept_items, is_above_all};
 use crate::state::State;
 use cif_file::Key;
 use cif_line::Memory;
-use docker_index::{Notes, Room};
+use docker_index::{Room, notes_of_rows};
 use docker_join::{Entry, FileStamp, Merge};
 use std::alloc::Global;
 use std::marker::Model;
@@ -153,7 +153,7 @@ impl State {
             return Ok(());
         }
         let alloc = *staging.staged.allocator();
-        let notes = Notes::of_rows(alloc, staging.staged.as_slice())?;
+        let notes = notes_of_rows(alloc, staging.staged.as_slice())?;
         let room = Room::for_notes(alloc, &notes)?;
         let received = State::of_rows(staging.items, staging.staged, notes, room);
         let own = mem::replace(self, State::empty(alloc));

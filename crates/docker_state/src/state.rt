@@ -26,7 +26,7 @@ use crate::ledger::{kept_items, room_for, union_of};
 use crate::live::Live;
 use crate::rows::{are_many, greatest_rows, kept_rows, made_rows};
 use crate::uid_rows::rows_of_uid;
-use cif_file::{CifFile, Key};
+use cif_file::{CifFile, FileParts, Key};
 use cif_line::{Day, Tiploc, Uid};
 use docker_index::{Index, Moves, Notes, Room, Standing};
 use docker_join::{Entry, FileStamp, Merge, Table};
@@ -91,7 +91,7 @@ impl State {
         }
     }
 
-    /// The state of the one file. Want of memory, before the file was taken apart, hands it back as it was.
+    /// The state of the one file. Want of memory, before a change was moved, hands it back as it was.
     pub fn of_file(alloc: Global, file: CifFile) -> Result<State, CifFile>
         ensures ok { (records : List (List ℕ)) → IsOfRecords file records
             → IfOk result (IsSummary (records ∷ []) 0) }
@@ -117,14 +117,13 @@ impl State {
         let Ok(pieces) = Vec::with_capacity(alloc, count) else {
             return Err(file);
         };
-        let Ok(notes) = Notes::of_changes(alloc, file.changes()) else {
-            return Err(file);
-        };
-        let Ok(room) = Room::for_notes(alloc, &notes) else {
-            return Err(file);
+        let parts = file.into_parts();
+        let Ok(room) = Room::for_notes(alloc, &parts.notes) else {
+            return Err(parts.into_file());
         };
         ledger.push_reserved(item);
-        let made = made_rows(file.into_changes(), &item.stamp(), made);
+        let FileParts { changes, notes, .. } = parts;
+        let made = made_rows(changes, &item.stamp(), made);
         let (rows, order) = greatest_rows(made, rows, order);
         let notes = notes.picked(order.as_slice(), pieces);
         Ok(State::of_rows(ledger, rows, notes, room))

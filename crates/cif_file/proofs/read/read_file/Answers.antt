@@ -2,12 +2,12 @@
 use Rattle.std.proofs.Common.{sym, subst}
 use Rattle.std.specs.Prelude.{⊤}
 use Rattle.cif_file.specs.SourceRead.{ReadsText}
-use Rattle.cif_file.proofs.EndedLemmas.{reads_text, reads_read}
+use Rattle.cif_file.proofs.EndedLemmas.{reads_text, reads_parts}
 use Rattle.cif_file.proofs.ReadLemmas.{wants_any}
 use Rattle.cif_file.proofs.read.read_file.Goals as goal
 
 pub into_file-requires : goal.into_file-requires
-into_file-requires g c = reads_read c.args.limit (g.S.Source.left c.args.source.now) c.in-Ok.ended c.requires.limit c.in-Ok.ensures.ok
+into_file-requires g c = reads_parts c.args.limit (g.S.Source.left c.args.source.now) c.in-Ok.ended c.requires.limit c.in-Ok.ensures.ok
 
 pub returns-in-Ok-clause-ok : goal.returns-in-Ok-clause-ok
 returns-in-Ok-clause-ok g c =

@@ -1,7 +1,7 @@
 -- A fault that was told is the text's.
 use Rattle.std.proofs.Common.{sym, ap, subst, ◌∙◌}
 use Rattle.cif_file.specs.ParserRead.{ParserState, IsReadingOrFault, IsOfFileText}
-use Rattle.cif_file.proofs.EndedLemmas.{of_file, is_read_some}
+use Rattle.cif_file.proofs.EndedLemmas.{of_file, are_parts_some}
 use Rattle.cif_file.proofs.ParserLemmas.{told_refused, had_failed, reading_of, names_later, names_last}
 use Rattle.cif_file.proofs.parser.FileParser.finish.Goals as goal
 
@@ -21,7 +21,7 @@ returns-in-Some-clause-last c =
 pub into_file-requires : goal.into_file-requires
 into_file-requires c =
     let fed = c.self.invariant in
-    is_read_some (record { reading = c.self.inside.reading; fault = c.self.inside.fault }) c.in-Ok.ended fed c.in-None.is c.in-Ok.ensures.ok
+    are_parts_some (record { reading = c.self.inside.reading; fault = c.self.inside.fault }) c.in-Ok.ended fed c.in-None.is c.in-Ok.ensures.ok
 
 pub returns-in-Ok-clause-ok : goal.returns-in-Ok-clause-ok
 returns-in-Ok-clause-ok c = λ limit text has.

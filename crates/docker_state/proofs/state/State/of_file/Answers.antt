@@ -1,4 +1,4 @@
-use Rattle.std.proofs.Common.{List, [], ◌∷◌, map, length, ap, sym, ◌∙◌, subst, arith}
+use Rattle.std.proofs.Common.{[], ◌∷◌, map, length, ap, sym, ◌∙◌, subst, arith}
 use Rattle.std.proofs.lemmas.List.{length-map}
 use Rattle.docker_model.specs.file.Change as model
 use Rattle.docker_model.specs.state.State.{State}
@@ -8,29 +8,29 @@ use Rattle.docker_model.specs.state.Op.{key_cmp}
 use Rattle.cif_file.specs.Meaning.{change_meant}
 use Rattle.docker_join.specs.Meaning.{file_stamp_meant}
 use Rattle.docker_join.proofs.MeantOrder.{ascending_meant}
-use Rattle.docker_index.specs.declared.names.Names.{Names}
-use Rattle.docker_index.specs.Rooms.{AreMadeBy, HasRoomFor}
-use Rattle.docker_index.specs.Noted.{HasNoted, ArePicked, items_of, items_put}
+use Rattle.cif_places.specs.declared.names.Names.{Names}
+use Rattle.docker_index.specs.Rooms.{HasRoomFor}
+use Rattle.docker_index.specs.Noted.{ArePicked, items_of, items_put}
 use Rattle.docker_state.specs.Meaning.{row_meant}
 use Rattle.docker_state.specs.Rows.{rows_in}
-use Rattle.docker_state.proofs.FileState.{made_records, file_summary, file_valid, ledger_of_file, made_of_file, rows_made_by}
+use Rattle.docker_state.proofs.FileState.{changes_are, made_records, file_summary, file_valid, ledger_of_file, made_of_file, rows_made_by}
 use Rattle.docker_state.proofs.state.State.of_file.Goals as goal
 
 pub made_rows-made-requires-clause-room : goal.made_rows-made-requires-clause-room
 made_rows-made-requires-clause-room c =
     let one = length-map c.changes-count.result.now change_meant in
-    let two = length-map c.into_changes.result.items change_meant in
-    let same = ap length (c.changes-count.ensures.changes ∙ sym c.into_changes.ensures) in
+    let two = length-map c.into_parts-parts.result.changes.items change_meant in
+    let same = ap length (c.changes-count.ensures.changes ∙ sym (changes_are c.args.file c.into_parts-parts.result c.into_parts-parts.ensures.file)) in
     let room = c.in-Ok-with_capacity.ensures.capacity in
-    let size = c.into_changes.result.ok.0 in
+    let size = c.into_parts-parts.result.changes.ok.0 in
     omega arith
 
 pub made_rows-made-requires-clause-few : goal.made_rows-made-requires-clause-few
 made_rows-made-requires-clause-few c =
     let one = length-map c.changes-count.result.now change_meant in
-    let two = length-map c.into_changes.result.items change_meant in
-    let same = ap length (c.changes-count.ensures.changes ∙ sym c.into_changes.ensures) in
-    let size = c.into_changes.result.ok.0 in
+    let two = length-map c.into_parts-parts.result.changes.items change_meant in
+    let same = ap length (c.changes-count.ensures.changes ∙ sym (changes_are c.args.file c.into_parts-parts.result c.into_parts-parts.ensures.file)) in
+    let size = c.into_parts-parts.result.changes.ok.0 in
     let few = c.are_many.ensures.few c.if-are_many.false in
     omega arith
 
@@ -39,35 +39,37 @@ greatest_rows-rows-requires-clause-records c =
     made_records c.changes-count.ensures.read.records c.changes-count.ensures.read.is_file c.changes-count.ensures.read.few (rows_in c.made_rows-made.result.items)
     (made_of_file c.args.file c.header.result c.header.ensures c.item_of-item.result c.item_of-item.ensures c.changes-count.ensures.read.records
     c.changes-count.ensures.read.of_records
-    c.stamp.result c.stamp.ensures c.into_changes.result.items c.into_changes.ensures (rows_in c.made_rows-made.result.items) c.made_rows-made.ensures.made)
+    c.stamp.result c.stamp.ensures c.into_parts-parts.result.changes.items
+    (changes_are c.args.file c.into_parts-parts.result c.into_parts-parts.ensures.file)
+    (rows_in c.made_rows-made.result.items) c.made_rows-made.ensures.made)
 
 pub greatest_rows-rows-requires-clause-room : goal.greatest_rows-rows-requires-clause-room
 greatest_rows-rows-requires-clause-room c =
     let one = length-map c.changes-count.result.now change_meant in
-    let two = length-map c.into_changes.result.items change_meant in
-    let same = ap length (c.changes-count.ensures.changes ∙ sym c.into_changes.ensures) in
+    let two = length-map c.into_parts-parts.result.changes.items change_meant in
+    let same = ap length (c.changes-count.ensures.changes ∙ sym (changes_are c.args.file c.into_parts-parts.result c.into_parts-parts.ensures.file)) in
     let room = c.in-Ok-with_capacity-2.ensures.capacity in
-    let size = c.into_changes.result.ok.0 in
+    let size = c.into_parts-parts.result.changes.ok.0 in
     let made = c.made_rows-made.ensures.len in
     omega arith
 
 pub greatest_rows-rows-requires-clause-order_room : goal.greatest_rows-rows-requires-clause-order_room
 greatest_rows-rows-requires-clause-order_room c =
     let one = length-map c.changes-count.result.now change_meant in
-    let two = length-map c.into_changes.result.items change_meant in
-    let same = ap length (c.changes-count.ensures.changes ∙ sym c.into_changes.ensures) in
+    let two = length-map c.into_parts-parts.result.changes.items change_meant in
+    let same = ap length (c.changes-count.ensures.changes ∙ sym (changes_are c.args.file c.into_parts-parts.result c.into_parts-parts.ensures.file)) in
     let room = c.in-Ok-with_capacity-3.ensures.capacity in
-    let size = c.into_changes.result.ok.0 in
+    let size = c.into_parts-parts.result.changes.ok.0 in
     let made = c.made_rows-made.ensures.len in
     omega arith
 
 pub picked-notes-requires-clause-room : goal.picked-notes-requires-clause-room
 picked-notes-requires-clause-room c =
     let one = length-map c.changes-count.result.now change_meant in
-    let two = length-map c.into_changes.result.items change_meant in
-    let same = ap length (c.changes-count.ensures.changes ∙ sym c.into_changes.ensures) in
+    let two = length-map c.into_parts-parts.result.changes.items change_meant in
+    let same = ap length (c.changes-count.ensures.changes ∙ sym (changes_are c.args.file c.into_parts-parts.result c.into_parts-parts.ensures.file)) in
     let room = c.in-Ok-with_capacity-4.ensures.capacity in
-    let size = c.into_changes.result.ok.0 in
+    let size = c.into_parts-parts.result.changes.ok.0 in
     let made = c.made_rows-made.ensures.len in
     let few = c.greatest_rows-rows.ensures.few in
     let order = ap length c.as_slice.ensures.value in
@@ -82,29 +84,29 @@ of_rows-requires-clause-valid c =
     (rows_in c.made_rows-made.result.items) c.greatest_rows-rows.result.0.items
     (made_of_file c.args.file c.header.result c.header.ensures c.item_of-item.result c.item_of-item.ensures c.changes-count.ensures.read.records
     c.changes-count.ensures.read.of_records
-    c.stamp.result c.stamp.ensures c.into_changes.result.items c.into_changes.ensures (rows_in c.made_rows-made.result.items) c.made_rows-made.ensures.made)
+    c.stamp.result c.stamp.ensures c.into_parts-parts.result.changes.items
+    (changes_are c.args.file c.into_parts-parts.result c.into_parts-parts.ensures.file)
+    (rows_in c.made_rows-made.result.items) c.made_rows-made.ensures.made)
     c.greatest_rows-rows.ensures.ascending c.greatest_rows-rows.ensures.greatest
     c.changes-count.ensures.read.is_file c.changes-count.ensures.read.few
 
 pub of_rows-requires-clause-room : goal.of_rows-requires-clause-room
 of_rows-requires-clause-room c =
     subst (λ (names : Names). HasRoomFor (map row_meant c.greatest_rows-rows.result.0.items) names.list.items c.in-Ok-for_notes.room) (sym c.picked-notes.ensures.names)
-    (c.in-Ok-for_notes.ensures.made (map change_meant c.changes.result.now) (map row_meant c.greatest_rows-rows.result.0.items) c.in-Ok-of_changes.ensures
+    (c.in-Ok-for_notes.ensures.made (map change_meant c.into_parts-parts.result.changes.items) (map row_meant c.greatest_rows-rows.result.0.items)
+    c.into_parts-parts.ensures.parts.noted
     (ascending_meant row_meant (λ (a b : model.Key × ops.Entry). key_cmp a.0 b.0) c.greatest_rows-rows.result.0.items c.greatest_rows-rows.ensures.ascending)
-    (subst (λ (all : List model.Change). AreMadeBy all (map row_meant c.greatest_rows-rows.result.0.items))
-    (c.into_changes.ensures ∙ sym c.changes.ensures.changes)
     (rows_made_by (file_stamp_meant c.stamp.result)
-    (map change_meant c.into_changes.result.items) (rows_in c.made_rows-made.result.items) c.greatest_rows-rows.result.0.items
-    c.made_rows-made.ensures.made c.greatest_rows-rows.ensures.greatest)))
+    (map change_meant c.into_parts-parts.result.changes.items) (rows_in c.made_rows-made.result.items) c.greatest_rows-rows.result.0.items
+    c.made_rows-made.ensures.made c.greatest_rows-rows.ensures.greatest))
 
 pub of_rows-requires-clause-noted : goal.of_rows-requires-clause-noted
 of_rows-requires-clause-noted c =
-    c.picked-notes.ensures.noted (items_put (map change_meant c.into_changes.result.items)) (items_of (map row_meant c.greatest_rows-rows.result.0.items))
-    (subst (λ (all : List model.Change). HasNoted (items_put all) c.in-Ok-of_changes.notes) (sym (c.into_changes.ensures ∙ sym c.changes.ensures.changes))
-    c.in-Ok-of_changes.ensures)
-    (subst (λ order. ArePicked (items_put (map change_meant c.into_changes.result.items)) order (items_of (map row_meant c.greatest_rows-rows.result.0.items)))
+    c.picked-notes.ensures.noted (items_put (map change_meant c.into_parts-parts.result.changes.items)) (items_of (map row_meant c.greatest_rows-rows.result.0.items))
+    c.into_parts-parts.ensures.parts.noted
+    (subst (λ order. ArePicked (items_put (map change_meant c.into_parts-parts.result.changes.items)) order (items_of (map row_meant c.greatest_rows-rows.result.0.items)))
     (sym c.as_slice.ensures.value)
-    (c.greatest_rows-rows.ensures.order (items_put (map change_meant c.into_changes.result.items)) c.made_rows-made.ensures.numbered))
+    (c.greatest_rows-rows.ensures.order (items_put (map change_meant c.into_parts-parts.result.changes.items)) c.made_rows-made.ensures.numbered))
 
 pub returns-clause-ok : goal.returns-clause-ok
 returns-clause-ok c = λ records of.
@@ -114,5 +116,7 @@ returns-clause-ok c = λ records of.
     c.in-Ok.ledger.items c.push_reserved.new.self.items c.in-Ok.ensures.items c.push_reserved.ensures.items)
     (rows_in c.made_rows-made.result.items) c.greatest_rows-rows.result.0.items
     (made_of_file c.args.file c.header.result c.header.ensures c.item_of-item.result c.item_of-item.ensures records of
-    c.stamp.result c.stamp.ensures c.into_changes.result.items c.into_changes.ensures (rows_in c.made_rows-made.result.items) c.made_rows-made.ensures.made)
+    c.stamp.result c.stamp.ensures c.into_parts-parts.result.changes.items
+    (changes_are c.args.file c.into_parts-parts.result c.into_parts-parts.ensures.file)
+    (rows_in c.made_rows-made.result.items) c.made_rows-made.ensures.made)
     c.greatest_rows-rows.ensures.ascending c.greatest_rows-rows.ensures.greatest)

@@ -1,0 +1,30 @@
+-- The changes that a file's records make, with the places that they name.
+use Rattle.std.specs.Prelude.{◌≡◌, List, ◌++◌, map}
+use Rattle.docker_model.specs.file.Change.{Change}
+use Rattle.cif_change.specs.Meaning.{change_meant}
+use Rattle.cif_places.specs.Noted.{HasNoted, items_put}
+use Rattle.cif_file.specs.declared.made.Made.{Made}
+use Rattle.cif_file.specs.declared.parts.FileParts.{FileParts}
+use Rattle.cif_file.specs.FileRead.{FileRead, IsRead}
+
+-- these changes were made, and the places that they name are noted
+pub record HasMade (made : Made) (changes : List Change) : Type 0 where
+  pub changes_are : map change_meant made.changes.items ≡ changes
+  pub noted : HasNoted (items_put changes) made.notes
+
+-- these changes were made behind those that were
+abbrev pub Makes : Made → List Change → Made → Type 0
+Makes old more new = (before : List Change) → HasMade old before → HasMade new (before ++ more)
+
+-- the file that was taken apart
+abbrev pub file_of_parts : FileParts → FileRead
+file_of_parts parts = record {
+  header_line = parts.header;
+  record_count = parts.records;
+  changes_made = map change_meant parts.changes.items;
+}
+
+-- the parts are those of a file that was read, and the places that its changes name are noted
+pub record ArePartsOfFile (parts : FileParts) : Type 0 where
+  pub read : IsRead (file_of_parts parts)
+  pub noted : HasNoted (items_put (map change_meant parts.changes.items)) parts.notes

@@ -1,0 +1,38 @@
+//! The changes that a file's records make, with the places that they name.
+ghost use Rattle.std.specs.Prelude.{[], ◌∷◌, OnOk};
+ghost use Rattle.cif_change.specs.Meaning.{change_meant};
+ghost use Rattle.cif_file.specs.MadeChanges.{HasMade, Makes};
+
+use cif_change::Change;
+use cif_places::Notes;
+use std::alloc::{AllocError, Global};
+
+/// The changes that were made, and what was noted of the places that they name.
+#[derive(Debug, Drop)]
+pub(crate) struct Made {
+    pub(crate) changes: Vec<Change>,
+    pub(crate) notes: Notes,
+}
+
+impl Made {
+    /// No change.
+    pub(crate) fn new(alloc: Global) -> Made
+        ensures { HasMade result [] }
+    {
+        Made {
+            changes: Vec::new(alloc),
+            notes: Notes::new(alloc),
+        }
+    }
+
+    /// Appends a change, whose places are noted while its lines are at hand.
+    pub(crate) fn push(&mut self, change: Change) -> Result<(), AllocError>
+        ensures { OnOk result (Makes self.old (change_meant change ∷ []) self.new) }
+    {
+        if self.notes.note_change(&change).is_err() {
+            return Err(AllocError);
+        }
+        self.changes.push(change)?;
+        Ok(())
+    }
+}

@@ -1,0 +1,15 @@
+//! The parts of a file that was read.
+use crate::header_line::HeaderLine;
+use cif_change::Change;
+use cif_places::Notes;
+
+/// A CIF file, taken apart.
+#[derive(Debug, Drop)]
+pub struct FileParts {
+    pub(crate) header: HeaderLine,
+    pub(crate) records: u32,
+    /// The changes that its records make, in their order.
+    pub changes: Vec<Change>,
+    /// The places that the changes name, which were noted as the records were read.
+    pub notes: Notes,
+}

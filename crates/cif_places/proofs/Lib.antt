@@ -1,0 +1,2 @@
+pub mod PackedPlaces
+pub mod Noted
