@@ -1,31 +1,37 @@
+use super::same;
 use cif_line::Time;
-use std::test::Fail;
+use std::process::Abort;
 
-fn half_minutes(field: &[u8; 5]) -> Option<u16> {
-    match Time::from_field(field) {
+fn half_minutes_are(rt: &impl Abort, field: &[u8; 5], wanted: Option<u16>) {
+    let read = match Time::from_field(field) {
         Some(time) => Some(time.half_minutes()),
         None => None,
-    }
+    };
+    same(rt, read, wanted);
 }
 
 #[test]
 fn fields(rt: HostRuntime) {
-    assert_eq!(rt; half_minutes(b"0000 "), Some(0));
-    assert_eq!(rt; half_minutes(b"0000H"), Some(1));
-    assert_eq!(rt; half_minutes(b"0900 "), Some(1080));
-    assert_eq!(rt; half_minutes(b"2359H"), Some(2879));
-    assert_eq!(rt; half_minutes(b"2400 "), None);
-    assert_eq!(rt; half_minutes(b"0960 "), None);
-    assert_eq!(rt; half_minutes(b"0900h"), None);
-    assert_eq!(rt; half_minutes(b" 900 "), None);
-    assert_eq!(rt; half_minutes(b"     "), None);
+    half_minutes_are(&rt, b"0000 ", Some(0));
+    half_minutes_are(&rt, b"0000H", Some(1));
+    half_minutes_are(&rt, b"0900 ", Some(1080));
+    half_minutes_are(&rt, b"2359H", Some(2879));
+    half_minutes_are(&rt, b"2400 ", None);
+    half_minutes_are(&rt, b"0960 ", None);
+    half_minutes_are(&rt, b"0900h", None);
+    half_minutes_are(&rt, b" 900 ", None);
+    half_minutes_are(&rt, b"     ", None);
+}
+
+fn goes_round(rt: &impl Abort, text: &[u8; 5]) {
+    let time = Time::from_field(text).expect(rt, "a time");
+    same(rt, time.text(), *text);
 }
 
 #[test]
-fn texts(rt: HostRuntime) -> Result<(), Fail> {
-    for text in [b"0000 ", b"0000H", b"0907 ", b"2359H"] {
-        let time = Time::from_field(text).ok_or("a time")?;
-        assert_eq!(rt; &time.text(), text);
-    }
-    Ok(())
+fn texts(rt: HostRuntime) {
+    goes_round(&rt, b"0000 ");
+    goes_round(&rt, b"0000H");
+    goes_round(&rt, b"0907 ");
+    goes_round(&rt, b"2359H");
 }
