@@ -157,7 +157,8 @@ anew_by_unit line begins = by (follows_basic (kind_of line)) refl
     by true h = let bad : false ≡ true = (λ i. is_some (sym (no_unit_by_kind (kind_of line) line h) i)) ∙ begins in cc
 
 -- they lead from whole units to their place
-pub place_over : {K : Type 0} (keeps : Keeps K) (front : Front K) (records : Lines) (line : List ℕ) (next : Place) → (over : IsOver keeps front records) → IsRecord line → HasGoodFields line
+pub place_over : {K : Type 0} (keeps : Keeps K) (front : Front K) (records : Lines) (line : List ℕ) (next : Place) → (over : IsOver keeps front records)
+    → IsRecord line → HasGoodFields line
     → unit_by_kind (kind_of line) line ≡ Some next
     → IsPlaceOf (records ++ line ∷ []) next
 place_over keeps front records line next over is fields begins =
@@ -168,7 +169,8 @@ place_over keeps front records line next over is fields begins =
 -- ---- one more unit
 
 -- the trailer
-pub trailer_added : {K : Type 0} (keeps : Keeps K) (old new : Front K) (records : Lines) (line : List ℕ) → IsOver keeps old records → IsRecord line → HasKind trailer line → HasGoodFields line
+pub trailer_added : {K : Type 0} (keeps : Keeps K) (old new : Front K) (records : Lines) (line : List ℕ) → IsOver keeps old records → IsRecord line
+    → HasKind trailer line → HasGoodFields line
     → new.header ≡ old.header → new.stage ≡ AfterEnd → new.keeper ≡ old.keeper → HasRecords keeps new (records ++ line ∷ [])
 trailer_added keeps old new records line over is kind fields same_header place made = record {
   place = after_end;
@@ -184,7 +186,8 @@ trailer_added keeps old new records line over is kind fields same_header place m
 }
 
 -- a single record
-pub single_added : {K : Type 0} (keeps : Keeps K) (old new : Front K) (records : Lines) (line : List ℕ) (number : ℕ) → IsOver keeps old records → IsRecord line → HasGoodFields line
+pub single_added : {K : Type 0} (keeps : Keeps K) (old new : Front K) (records : Lines) (line : List ℕ) (number : ℕ) → IsOver keeps old records
+    → IsRecord line → HasGoodFields line
     → unit_by_kind (kind_of line) line ≡ Some between_units
     → number ≡ length records + 1 → new.header ≡ old.header → new.stage ≡ BetweenUnits
     → AddsSingle keeps old.keeper number line new.keeper → HasRecords keeps new (records ++ line ∷ [])
@@ -201,7 +204,8 @@ single_added keeps old new records line number over is fields begins counted sam
 }
 
 -- a basic schedule
-pub basic_added : {K : Type 0} (keeps : Keeps K) (old new : Front K) (opened : Opened) (records : Lines) (line : List ℕ) → IsOver keeps old records → IsRecord line → HasKind basic_schedule line
+pub basic_added : {K : Type 0} (keeps : Keeps K) (old new : Front K) (opened : Opened) (records : Lines) (line : List ℕ) → IsOver keeps old records
+    → IsRecord line → HasKind basic_schedule line
     → HasGoodFields line
     → opened.number ≡ length records + 1 → key_meant (key.Schedule opened.key) ≡ schedule_named line → HasLines (progress_meant opened.progress) (line ∷ [])
     → new.header ≡ old.header → new.stage ≡ InSchedule opened → AddsLine keeps old.keeper (as_new line) new.keeper
@@ -217,7 +221,8 @@ basic_added keeps old new opened records line over is kind fields number named h
         lines = line ∷ [];
         before = records;
         place_is = refl;
-        stage_is = stage_of_first line ∙ (λ i. cond ((first_line_iff_test line).0 (record { is = is; kind = kind; fields = fields }) i) (Some after_basic) None);
+        stage_is =
+            stage_of_first line ∙ (λ i. cond ((first_line_iff_test line).0 (record { is = is; kind = kind; fields = fields }) i) (Some after_basic) None);
         whole = refl;
         number_is = number;
         key_is = named;
@@ -232,7 +237,8 @@ between_some : (records : Lines) → IsPlaceOf records between_units → 0 < len
 between_some records at = let told = at_of_place records between_units at in let size = ap (λ (l : Lines). length l) told.whole in omega arith
 
 -- between units all units are whole
-pub over_of_between : {K : Type 0} (keeps : Keeps K) (front : Front K) (records : Lines) → HasRecords keeps front records → front.stage ≡ BetweenUnits → IsOver keeps front records
+pub over_of_between : {K : Type 0} (keeps : Keeps K) (front : Front K) (records : Lines) → HasRecords keeps front records → front.stage ≡ BetweenUnits
+    → IsOver keeps front records
 over_of_between keeps front records has place =
     let told = subst (λ p. IsKept keeps p front.keeper has.place records) place has.kept_are in
     record {
@@ -245,12 +251,14 @@ over_of_between keeps front records has place =
     }
 
 -- what is kept of a schedule being read
-pub opened_of : {K : Type 0} (keeps : Keeps K) (front : Front K) (opened : Opened) (records : Lines) (has : HasRecords keeps front records) → front.stage ≡ InSchedule opened
+pub opened_of : {K : Type 0} (keeps : Keeps K) (front : Front K) (opened : Opened) (records : Lines) (has : HasRecords keeps front records)
+    → front.stage ≡ InSchedule opened
     → IsOpen keeps opened front.keeper has.place records
 opened_of keeps front opened records has place = subst (λ p. IsKept keeps p front.keeper has.place records) place has.kept_are
 
 -- behind a whole schedule all units are whole once its change is made
-pub over_of_closed : {K : Type 0} (keeps : Keeps K) (old new : Front K) (opened : Opened) (records : Lines) → HasRecords keeps old records → old.stage ≡ InSchedule opened → IsWholeBy opened
+pub over_of_closed : {K : Type 0} (keeps : Keeps K) (old new : Front K) (opened : Opened) (records : Lines) → HasRecords keeps old records
+    → old.stage ≡ InSchedule opened → IsWholeBy opened
     → new.header ≡ old.header
     → Closes keeps old.keeper opened new.keeper → IsOver keeps new records
 over_of_closed keeps old new opened records has place whole same_header closed =
@@ -318,7 +326,8 @@ stage_begun [] line begins = (begins_iff_stage line []).0 begins
 stage_begun (basic ∷ others) line begins = (begins_iff_stage basic (others ++ line ∷ [])).0 begins
 
 -- the place with the line is that of the schedule's next stage
-place_followed : {K : Type 0} (keeps : Keeps K) (front : Front K) (opened : Opened) (line : List ℕ) (records : Lines) (before : StandsBefore keeps front opened line records) (next : Stage)
+place_followed : {K : Type 0} (keeps : Keeps K) (front : Front K) (opened : Opened) (line : List ℕ) (records : Lines)
+    (before : StandsBefore keeps front opened line records) (next : Stage)
     → stage_of (before.lines ++ line ∷ []) ≡ Some next → IsPlaceOf (records ++ line ∷ []) (place_in next (before.lines ++ line ∷ []))
 place_followed keeps front opened line records before next at =
     place_of_more records (in_schedule before.stage before.lines) line before.at
@@ -337,7 +346,8 @@ goes_out after_details lines h = absurd cc
 goes_out in_journey lines h = absurd cc
 goes_out after_journey lines h = (refl, refl)
 
-header_followed : {K : Type 0} (keeps : Keeps K) (front : Front K) (opened : Opened) (line : List ℕ) (records : Lines) → StandsBefore keeps front opened line records
+header_followed : {K : Type 0} (keeps : Keeps K) (front : Front K) (opened : Opened) (line : List ℕ) (records : Lines)
+    → StandsBefore keeps front opened line records
     → front.header ≡ header_of (records ++ line ∷ [])
 header_followed keeps front opened line records before =
     let some = some_lines before.lines before.stage before.stage_is in
@@ -345,7 +355,8 @@ header_followed keeps front opened line records before =
     before.header_is ∙ sym (header_stays records (line ∷ []) (omega arith))
 
 -- a line that leaves the schedule open
-pub line_added : {K : Type 0} (keeps : Keeps K) (old new : Front K) (opened : Opened) (line : List ℕ) (records : Lines) → StandsBefore keeps old opened line records
+pub line_added : {K : Type 0} (keeps : Keeps K) (old new : Front K) (opened : Opened) (line : List ℕ) (records : Lines)
+    → StandsBefore keeps old opened line records
     → is_over_by (progress_meant opened.progress).stage ≡ false
     → new.header ≡ old.header → new.stage ≡ InSchedule opened → AddsLine keeps old.keeper line new.keeper
     → HasRecords keeps new (records ++ line ∷ [])
@@ -376,7 +387,8 @@ line_added keeps old new opened line records before inside same_header place add
     }
 
 -- a line that ends the schedule
-pub line_closed : {K : Type 0} (keeps : Keeps K) (old new : Front K) (opened : Opened) (line : List ℕ) (records : Lines) → StandsBefore keeps old opened line records
+pub line_closed : {K : Type 0} (keeps : Keeps K) (old new : Front K) (opened : Opened) (line : List ℕ) (records : Lines)
+    → StandsBefore keeps old opened line records
     → is_over_by (progress_meant opened.progress).stage ≡ true
     → new.header ≡ old.header → new.stage ≡ BetweenUnits
     → ((lines : Lines) (made : List Change) → keeps old.keeper lines made → keeps new.keeper [] (made ++ change_opened opened (lines ++ line ∷ []) ∷ []))
@@ -411,7 +423,8 @@ next_of_unit line begins = by (unit_by_kind (kind_of line) line) refl
     by (Some next) h = (next, h)
 
 -- behind whole units
-pub unit_goes_on : {K : Type 0} (keeps : Keeps K) (front : Front K) (records : Lines) (line : List ℕ) → HasRecords keeps front records → front.stage ≡ BetweenUnits → IsRecord line
+pub unit_goes_on : {K : Type 0} (keeps : Keeps K) (front : Front K) (records : Lines) (line : List ℕ) → HasRecords keeps front records
+    → front.stage ≡ BetweenUnits → IsRecord line
     → HasGoodFields line
     → is_some (unit_by_kind (kind_of line) line) ≡ true → GoesOnWith records line
 unit_goes_on keeps front records line has place is fields begins =
@@ -419,7 +432,8 @@ unit_goes_on keeps front records line has place is fields begins =
     (next.0, place_over keeps front records line next.0 (over_of_between keeps front records has place) is fields next.1)
 
 -- behind a whole schedule
-pub anew_goes_on : {K : Type 0} (keeps : Keeps K) (front : Front K) (opened : Opened) (records : Lines) (line : List ℕ) → HasRecords keeps front records → front.stage ≡ InSchedule opened
+pub anew_goes_on : {K : Type 0} (keeps : Keeps K) (front : Front K) (opened : Opened) (records : Lines) (line : List ℕ) → HasRecords keeps front records
+    → front.stage ≡ InSchedule opened
     → IsWholeBy opened → IsRecord line → HasGoodFields line
     → is_some (unit_by_kind (kind_of line) line) ≡ true → GoesOnWith records line
 anew_goes_on keeps front opened records line has place whole is fields begins =
@@ -434,7 +448,8 @@ anew_goes_on keeps front opened records line has place whole is fields begins =
     )
 
 -- in a schedule
-pub line_goes_on : {K : Type 0} (keeps : Keeps K) (front : Front K) (opened : Opened) (line : List ℕ) (records : Lines) → StandsBefore keeps front opened line records → GoesOnWith records line
+pub line_goes_on : {K : Type 0} (keeps : Keeps K) (front : Front K) (opened : Opened) (line : List ℕ) (records : Lines)
+    → StandsBefore keeps front opened line records → GoesOnWith records line
 line_goes_on keeps front opened line records before =
     let next = stage_begun before.lines line before.goes_on in
     (place_in next.0 (before.lines ++ line ∷ []), place_followed keeps front opened line records before next.0 next.1)
@@ -500,7 +515,8 @@ no_place (in_schedule stage lines) line =
 no_place after_end line = refl
 
 -- a record of no kind does not go on
-pub no_kind : {K : Type 0} (keeps : Keeps K) (front : Front K) (records : Lines) (line : List ℕ) → HasRecords keeps front records → ¬ IsFile records → IsRecord line → kind_of line ≡ None
+pub no_kind : {K : Type 0} (keeps : Keeps K) (front : Front K) (records : Lines) (line : List ℕ) → HasRecords keeps front records → ¬ IsFile records
+    → IsRecord line → kind_of line ≡ None
     → IsNoNext records line bad_kind
 no_kind keeps front records line has unended is none = record {
   place = has.place;
@@ -516,7 +532,8 @@ no_kind keeps front records line has unended is none = record {
     by true h = absurd (unended ((file_iff_place records).1 (has.at ∙ ap Some (end_by_test has.place h))))
 
 -- before the header
-pub no_header : {K : Type 0} (keeps : Keeps K) (front : Front K) (records : Lines) (line : List ℕ) (kind : Kind) → HasRecords keeps front records → front.stage ≡ BeforeHeader → IsRecord line
+pub no_header : {K : Type 0} (keeps : Keeps K) (front : Front K) (records : Lines) (line : List ℕ) (kind : Kind) → HasRecords keeps front records
+    → front.stage ≡ BeforeHeader → IsRecord line
     → HasKind kind line → is_header_kind (Some kind) ≡ false
     → IsNoNext records line bad_place
 no_header keeps front records line kind has at is known other =
@@ -540,7 +557,8 @@ both_false true c h = h
 both_false false c h = refl
 
 -- nor a header with a bad field
-pub bad_header : {K : Type 0} (keeps : Keeps K) (front : Front K) (records : Lines) (line : List ℕ) (column : ℕ) → HasRecords keeps front records → front.stage ≡ BeforeHeader → IsRecord line
+pub bad_header : {K : Type 0} (keeps : Keeps K) (front : Front K) (records : Lines) (line : List ℕ) (column : ℕ) → HasRecords keeps front records
+    → front.stage ≡ BeforeHeader → IsRecord line
     → HasKind header line → leftmost_bad_field line ≡ Some column
     → IsNoNext records line (bad_field column)
 bad_header keeps front records line column has at is known bad =
@@ -557,7 +575,8 @@ bad_header keeps front records line column has at is known bad =
     }
 
 -- a good header is the first record
-pub header_added : {K : Type 0} (keeps : Keeps K) (old new : Front K) (records : Lines) (line : List ℕ) → HasRecords keeps old records → old.stage ≡ BeforeHeader → IsRecord line
+pub header_added : {K : Type 0} (keeps : Keeps K) (old new : Front K) (records : Lines) (line : List ℕ) → HasRecords keeps old records
+    → old.stage ≡ BeforeHeader → IsRecord line
     → HasKind header line → HasGoodFields line
     → new.header ≡ Some line → new.stage ≡ BetweenUnits → new.keeper ≡ old.keeper → HasRecords keeps new (records ++ line ∷ [])
 header_added keeps old new records line has at is kind fields same_header place made =
@@ -596,7 +615,8 @@ cause_between : (line : List ℕ) (kind : Kind) → HasKind kind line → kind_c
 cause_between line kind known = λ i. cond (is_none (known i)) bad_kind (place_cause between_units line)
 
 -- a record that begins no unit, or whose fields are not good, does not go on between units
-pub bad_between : {K : Type 0} (keeps : Keeps K) (front : Front K) (records : Lines) (line : List ℕ) (kind : Kind) → HasRecords keeps front records → front.stage ≡ BetweenUnits → IsRecord line
+pub bad_between : {K : Type 0} (keeps : Keeps K) (front : Front K) (records : Lines) (line : List ℕ) (kind : Kind) → HasRecords keeps front records
+    → front.stage ≡ BetweenUnits → IsRecord line
     → HasKind kind line
     → ¬ ((is_some (unit_by_kind (kind_of line) line) ≡ true) × HasGoodFields line) → IsNoNext records line (place_cause between_units line)
 bad_between keeps front records line kind has at is known bad =
@@ -609,7 +629,8 @@ bad_between keeps front records line kind has at is known bad =
     }
 
 -- nor behind a whole schedule
-pub bad_behind : {K : Type 0} (keeps : Keeps K) (front : Front K) (opened : Opened) (records : Lines) (line : List ℕ) (kind : Kind) → HasRecords keeps front records
+pub bad_behind : {K : Type 0} (keeps : Keeps K) (front : Front K) (opened : Opened) (records : Lines) (line : List ℕ) (kind : Kind)
+    → HasRecords keeps front records
     → front.stage ≡ InSchedule opened → IsWholeBy opened → IsRecord line → HasKind kind line
     → follows_basic (kind_of line) ≡ false → ¬ ((is_some (unit_by_kind (kind_of line) line) ≡ true) × HasGoodFields line)
     → IsNoNext records line (place_cause between_units line)
@@ -633,7 +654,8 @@ not_may stage lines bad = by (may_end stage lines) refl
     by true h = absurd (bad h)
 
 -- nor does what begins anew, behind a schedule that is not whole
-pub not_whole : {K : Type 0} (keeps : Keeps K) (front : Front K) (opened : Opened) (records : Lines) (line : List ℕ) (kind : Kind) → HasRecords keeps front records → front.stage ≡ InSchedule opened
+pub not_whole : {K : Type 0} (keeps : Keeps K) (front : Front K) (opened : Opened) (records : Lines) (line : List ℕ) (kind : Kind)
+    → HasRecords keeps front records → front.stage ≡ InSchedule opened
     → ((lines : Lines) → HasLines (progress_meant opened.progress) lines → ¬ IsSchedule lines) → IsRecord line → HasKind kind line
     → follows_basic (kind_of line) ≡ false → IsNoNext records line bad_place
 not_whole keeps front opened records line kind has at open_end is known stops =
@@ -657,11 +679,13 @@ not_whole keeps front opened records line kind has at open_end is known stops =
     none_stage false o h = refl
 
 -- a line that a schedule does not go on with
-pub bad_line : {K : Type 0} (keeps : Keeps K) (wants : Type 0) (front : Front K) (opened : Opened) (records : Lines) (line : List ℕ) (cause : Option fault.FileCause) → HasRecords keeps front records
+pub bad_line : {K : Type 0} (keeps : Keeps K) (wants : Type 0) (front : Front K) (opened : Opened) (records : Lines) (line : List ℕ)
+    (cause : Option fault.FileCause) → HasRecords keeps front records
     → front.stage ≡ InSchedule opened → IsRecord line
     → follows_basic (kind_of line) ≡ true → ((lines : Lines) → HasLines (progress_meant opened.progress) lines → IsScheduleCause lines line cause)
     → IsNoNextCause wants records line cause
-bad_line keeps wants front opened records line None has at is follow told = let here = opened_of keeps front opened records has at in absurd (told here.lines here.progress_is)
+bad_line keeps wants front opened records line None has at is follow told =
+    let here = opened_of keeps front opened records has at in absurd (told here.lines here.progress_is)
 bad_line keeps wants front opened records line (Some cause) has at is follow told =
     let here = opened_of keeps front opened records has at in
     let found : IsPlaceOf records (in_schedule here.stage here.lines) = has.at ∙ ap Some here.place_is in

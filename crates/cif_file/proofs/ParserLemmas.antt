@@ -85,7 +85,8 @@ end_by_test _ h = absurd cc
 -- ---- the next record
 
 -- behind the trailer
-pub after_cause : {K : Type 0} (keeps : Keeps K) (limit : ℕ) (front : Front K) (records : Lines) (line : List ℕ) → HasRecords keeps front records → IsFile records → length records < limit
+pub after_cause : {K : Type 0} (keeps : Keeps K) (limit : ℕ) (front : Front K) (records : Lines) (line : List ℕ) → HasRecords keeps front records
+    → IsFile records → length records < limit
     → IsCauseNext limit records line after_trailer
 after_cause keeps limit front records line has is under = record {
   place = after_end;
@@ -99,7 +100,8 @@ after_cause keeps limit front records line has is under = record {
     none false = refl
 
 -- a line that is no record
-pub line_cause : {K : Type 0} (keeps : Keeps K) (wants : Type 0) (limit : ℕ) (front : Front K) (records : Lines) (line : List ℕ) (cause : Option model.FileCause) → HasRecords keeps front records → ¬ IsFile records
+pub line_cause : {K : Type 0} (keeps : Keeps K) (wants : Type 0) (limit : ℕ) (front : Front K) (records : Lines) (line : List ℕ)
+    (cause : Option model.FileCause) → HasRecords keeps front records → ¬ IsFile records
     → length records < limit → ¬ IsRecord line
     → ((place : Place) → cause ≡ Some (length_cause place line)) → IsCauseBehind wants limit records line cause
 line_cause keeps wants limit front records line None has unended under bad told = absurd (let never = told has.place in cc)
@@ -124,7 +126,8 @@ line_cause keeps wants limit front records line (Some cause) has unended under b
         test true h = absurd (unended ((file_iff_place records).1 (has.at ∙ ap Some (end_by_test has.place h))))
 
 -- a record that the front refuses
-pub front_cause : (wants : Type 0) (limit : ℕ) (records : Lines) (line : List ℕ) (cause : FileCause) → length records < limit → IsNoNextCause wants records line (cause_meant cause)
+pub front_cause : (wants : Type 0) (limit : ℕ) (records : Lines) (line : List ℕ) (cause : FileCause) → length records < limit
+    → IsNoNextCause wants records line (cause_meant cause)
     → IsCauseBehind wants limit records line (cause_meant cause)
 front_cause wants limit records line cause under told = by (cause_meant cause) told
   where
@@ -145,7 +148,8 @@ ended_read keeps old new limit text front reading plain counted none = record {
 }
 
 -- and so is its fault told
-pub ended_fault : {K : Type 0} (keeps : Keeps K) (wants : Type 0) (old : Reading K) (limit : ℕ) (text front : List ℕ) (fault : FileFault) → IsReading keeps old limit text → HasNoFeed front
+pub ended_fault : {K : Type 0} (keeps : Keeps K) (wants : Type 0) (old : Reading K) (limit : ℕ) (text front : List ℕ) (fault : FileFault)
+    → IsReading keeps old limit text → HasNoFeed front
     → IsFaultNext wants limit (told_lines text) (strip_carriage_return (open_line text ++ front)) fault → IsFaultTold limit (text ++ (front ++ 10 ∷ [])) fault
 ended_fault keeps wants old limit text front fault reading plain next = by (cause_meant fault.cause) next.cause
   where
@@ -159,7 +163,8 @@ ended_fault keeps wants old limit text front fault reading plain next = by (caus
         (fault_at_feed limit text front [] told.place plain told.at reading.counted.within told.here)
 
 -- or it is too long
-pub ended_long : {K : Type 0} (keeps : Keeps K) (old : Reading K) (limit : ℕ) (text front : List ℕ) (fault : FileFault) → IsReading keeps old limit text → HasNoFeed front
+pub ended_long : {K : Type 0} (keeps : Keeps K) (old : Reading K) (limit : ℕ) (text front : List ℕ) (fault : FileFault) → IsReading keeps old limit text
+    → HasNoFeed front
     → 82 ≤ length (open_line text ++ front)
     → IsLongNext limit (told_lines text) fault → IsFaultTold limit (text ++ (front ++ 10 ∷ [])) fault
 ended_long keeps old limit text front fault reading plain many next =
@@ -190,7 +195,8 @@ kept_read keeps old new limit text more reading plain few records kept = record 
 }
 
 -- or it is too long
-pub kept_long : {K : Type 0} (keeps : Keeps K) (old : Reading K) (limit : ℕ) (text more : List ℕ) (fault : FileFault) → IsReading keeps old limit text → HasNoFeed more
+pub kept_long : {K : Type 0} (keeps : Keeps K) (old : Reading K) (limit : ℕ) (text more : List ℕ) (fault : FileFault) → IsReading keeps old limit text
+    → HasNoFeed more
     → ¬ (length old.partial.items + length more ≤ 81)
     → IsLongNext limit (told_lines text) fault → IsFaultTold limit (text ++ more) fault
 kept_long keeps old limit text more fault reading plain many next =
@@ -227,12 +233,15 @@ counted_open : {K : Type 0} (keeps : Keeps K) (records : Records K) (limit : ℕ
 counted_open keeps records limit text some counted = subst (HasCounted keeps records limit) (sym (lines_of_open text some)) counted
 
 -- where no line is open, all lines are told
-pub counted_ended : {K : Type 0} (keeps : Keeps K) (reading : Reading K) (limit : ℕ) (text : List ℕ) → IsReading keeps reading limit text → reading.partial.items ≡ []
+pub counted_ended : {K : Type 0} (keeps : Keeps K) (reading : Reading K) (limit : ℕ) (text : List ℕ) → IsReading keeps reading limit text
+    → reading.partial.items ≡ []
     → HasCounted keeps reading.records limit (lines_of text)
-counted_ended keeps reading limit text is none = subst (HasCounted keeps reading.records limit) (sym (lines_of_ended text (sym is.partial_is ∙ none))) is.counted
+counted_ended keeps reading limit text is none =
+    subst (HasCounted keeps reading.records limit) (sym (lines_of_ended text (sym is.partial_is ∙ none))) is.counted
 
 -- a fault of the open line at the end is the text's
-pub end_fault : {K : Type 0} (keeps : Keeps K) (wants : Type 0) (reading : Reading K) (limit : ℕ) (text : List ℕ) (fault : FileFault) → IsReading keeps reading limit text → 0 < length (open_line text)
+pub end_fault : {K : Type 0} (keeps : Keeps K) (wants : Type 0) (reading : Reading K) (limit : ℕ) (text : List ℕ) (fault : FileFault)
+    → IsReading keeps reading limit text → 0 < length (open_line text)
     → IsFaultNext wants limit (told_lines text) (strip_carriage_return (open_line text)) fault → IsRefused limit text fault
 end_fault keeps wants reading limit text fault is some next = by (cause_meant fault.cause) next.cause
   where
@@ -253,7 +262,8 @@ file_at_end keeps records limit text ended counted told =
     record { records = lines_of text; is_text = record { lines = refl; is = is.0; within = counted.within }; of_records = is.1 }
 
 -- the fault behind the last record of a text with no end is the text's
-pub no_end_at_end : {K : Type 0} (keeps : Keeps K) (records : Records K) (limit : ℕ) (text : List ℕ) (fault : FileFault) → HasCounted keeps records limit (lines_of text) → EndsUnended keeps records fault
+pub no_end_at_end : {K : Type 0} (keeps : Keeps K) (records : Records K) (limit : ℕ) (text : List ℕ) (fault : FileFault)
+    → HasCounted keeps records limit (lines_of text) → EndsUnended keeps records fault
     → IsRefused limit text fault
 no_end_at_end keeps records limit text fault counted ends =
     let told = ends limit (lines_of text) counted in subst (IsCauseOf limit text fault.number) (sym told.1) (inr (record {
@@ -265,7 +275,8 @@ no_end_at_end keeps records limit text fault counted ends =
     }))
 
 -- no record that is told is at fault
-pub reading_tells_none : {K : Type 0} (keeps : Keeps K) (reading : Reading K) (limit : ℕ) (text : List ℕ) → IsReading keeps reading limit text → (fault : model.FileFault)
+pub reading_tells_none : {K : Type 0} (keeps : Keeps K) (reading : Reading K) (limit : ℕ) (text : List ℕ) → IsReading keeps reading limit text
+    → (fault : model.FileFault)
     → ¬ IsFaultSoFar limit text fault
 reading_tells_none keeps reading limit text is = no_fault_told limit text is.counted.has.place is.counted.has.at is.counted.within is.short
 
@@ -282,7 +293,8 @@ told_refused limit text fault told = by (cause_meant fault.cause) told
 -- ---- a line that is too long
 
 -- a record that is too long, above the limit
-pub long_over : {K : Type 0} (keeps : Keeps K) (records : Records K) (limit : ℕ) (taken : Lines) (fault : FileFault) → HasCounted keeps records limit taken → fault.number ≡ records.next
+pub long_over : {K : Type 0} (keeps : Keeps K) (records : Records K) (limit : ℕ) (taken : Lines) (fault : FileFault) → HasCounted keeps records limit taken
+    → fault.number ≡ records.next
     → records.limit < records.next → cause_meant fault.cause ≡ Some too_many
     → IsLongNext limit taken fault
 long_over keeps records limit taken fault counted number over told = record {
@@ -295,7 +307,8 @@ long_over keeps records limit taken fault counted number over told = record {
 }
 
 -- and within it
-pub long_within : {K : Type 0} (keeps : Keeps K) (records : Records K) (limit : ℕ) (taken : Lines) (fault : FileFault) (ended : Bool) → HasCounted keeps records limit taken
+pub long_within : {K : Type 0} (keeps : Keeps K) (records : Records K) (limit : ℕ) (taken : Lines) (fault : FileFault) (ended : Bool)
+    → HasCounted keeps records limit taken
     → fault.number ≡ records.next → records.next ≤ records.limit
     → (ended ≡ true) ↔ IsFile taken → cause_meant fault.cause ≡ Some (cond ended after_trailer bad_length) → IsLongNext limit taken fault
 long_within keeps records limit taken fault ended counted number within iff told = record {
@@ -324,7 +337,8 @@ long_within keeps records limit taken fault ended counted number within iff told
 -- ---- a line that ends, by what was taken of it
 
 -- bytes that do not fit are more than 81 with those that came before
-pub ended_many : {K : Type 0} (keeps : Keeps K) (old : Reading K) (limit : ℕ) (text front : List ℕ) → IsReading keeps old limit text → ¬ (length old.partial.items + length front ≤ 81)
+pub ended_many : {K : Type 0} (keeps : Keeps K) (old : Reading K) (limit : ℕ) (text front : List ℕ) → IsReading keeps old limit text
+    → ¬ (length old.partial.items + length front ≤ 81)
     → 82 ≤ length (open_line text ++ front)
 ended_many keeps old limit text front reading many =
     let same = ap (λ (l : List ℕ). length l) reading.partial_is in
@@ -332,7 +346,8 @@ ended_many keeps old limit text front reading many =
     above 81 (length (open_line text ++ front)) (λ few. many (omega arith))
 
 -- the line that was taken is that of the text
-pub taken_is : {K : Type 0} (keeps : Keeps K) (old : Reading K) (limit : ℕ) (text front raw line : List ℕ) → IsReading keeps old limit text → raw ≡ old.partial.items ++ front
+pub taken_is : {K : Type 0} (keeps : Keeps K) (old : Reading K) (limit : ℕ) (text front raw line : List ℕ) → IsReading keeps old limit text
+    → raw ≡ old.partial.items ++ front
     → line ≡ strip_carriage_return raw
     → line ≡ strip_carriage_return (open_line text ++ front)
 taken_is keeps old limit text front raw line reading whole strip = strip ∙ ap strip_carriage_return (whole ∙ ap (λ l. l ++ front) reading.partial_is)
@@ -345,8 +360,10 @@ ended_ok keeps old new limit text front line reading plain same counted none =
     ended_read keeps old new limit text front reading plain (subst (λ l. HasCounted keeps new.records limit (told_lines text ++ l ∷ [])) same counted) none
 
 -- a fault of the line that ends is the text's
-pub ended_err : {K : Type 0} (keeps : Keeps K) (wants : Type 0) (old : Reading K) (limit : ℕ) (text front line : List ℕ) (fault : FileFault) → IsReading keeps old limit text → HasNoFeed front
-    → line ≡ strip_carriage_return (open_line text ++ front) → FaultsNext keeps wants old.records line fault → IsFaultTold limit (text ++ (front ++ 10 ∷ [])) fault
+pub ended_err : {K : Type 0} (keeps : Keeps K) (wants : Type 0) (old : Reading K) (limit : ℕ) (text front line : List ℕ) (fault : FileFault)
+    → IsReading keeps old limit text → HasNoFeed front
+    → line ≡ strip_carriage_return (open_line text ++ front) → FaultsNext keeps wants old.records line fault
+    → IsFaultTold limit (text ++ (front ++ 10 ∷ [])) fault
 ended_err keeps wants old limit text front line fault reading plain same told =
     ended_fault keeps wants old limit text front fault reading plain
     (subst (λ l. IsFaultNext wants limit (told_lines text) l fault) same (told limit (told_lines text) reading.counted))
@@ -360,7 +377,8 @@ empty_is old none = by old.partial.items (eqb-true (length old.partial.items) 0 
     by (byte ∷ bytes) h = absurd (omega arith)
 
 -- where bytes are kept a line is open
-pub some_is_open : {K : Type 0} (keeps : Keeps K) (old : Reading K) (limit : ℕ) (text : List ℕ) → IsReading keeps old limit text → false ≡ (length old.partial.items == 0)
+pub some_is_open : {K : Type 0} (keeps : Keeps K) (old : Reading K) (limit : ℕ) (text : List ℕ) → IsReading keeps old limit text
+    → false ≡ (length old.partial.items == 0)
     → 0 < length (open_line text)
 some_is_open keeps old limit text reading some =
     let size = ap (λ (l : List ℕ). length l) reading.partial_is in
@@ -450,7 +468,8 @@ told_of_piece limit text piece rest front behind fault whole cut told =
     (subst (λ t. IsFaultTold limit t fault) here told))
 
 -- a line more was read
-pub read_on : {K : Type 0} (keeps : Keeps K) (reading : Reading K) (limit : ℕ) (text piece rest front behind : List ℕ) → before_rest piece rest ++ rest ≡ piece → IsCut rest front behind
+pub read_on : {K : Type 0} (keeps : Keeps K) (reading : Reading K) (limit : ℕ) (text piece rest front behind : List ℕ)
+    → before_rest piece rest ++ rest ≡ piece → IsCut rest front behind
     → IsReading keeps reading limit ((text ++ before_rest piece rest) ++ (front ++ 10 ∷ [])) → IsReading keeps reading limit (text ++ before_rest piece behind)
 read_on keeps reading limit text piece rest front behind whole cut is =
     let more = cut_more piece rest front behind whole cut in
@@ -473,11 +492,13 @@ pub fault_at_read : (parser : ParserState) (limit : ℕ) (text : List ℕ) (faul
 fault_at_read parser limit text fault at has = subst (IsReadingOrFault parser.reading limit text) at has
 
 -- what a parser without a fault was fed, its reading has read
-pub reading_at_none : (parser : ParserState) (limit : ℕ) (text : List ℕ) → parser.fault ≡ None → HasRead parser limit text → IsReading KeepsAll parser.reading limit text
+pub reading_at_none : (parser : ParserState) (limit : ℕ) (text : List ℕ) → parser.fault ≡ None → HasRead parser limit text
+    → IsReading KeepsAll parser.reading limit text
 reading_at_none parser limit text at has = subst (IsReadingOrFault parser.reading limit text) at has
 
 -- and the other way round
-pub none_at_reading : (parser : ParserState) (limit : ℕ) (text : List ℕ) → parser.fault ≡ None → IsReading KeepsAll parser.reading limit text → HasRead parser limit text
+pub none_at_reading : (parser : ParserState) (limit : ℕ) (text : List ℕ) → parser.fault ≡ None → IsReading KeepsAll parser.reading limit text
+    → HasRead parser limit text
 none_at_reading parser limit text at is = subst (IsReadingOrFault parser.reading limit text) (sym at) is
 
 -- what a parser that told no fault was fed, its reading has read
@@ -491,7 +512,8 @@ had_failed parser fault at none = none fault at
 
 -- ---- a fault of a record that wasn't told before
 
-later_than : {K : Type 0} (keeps : Keeps K) (reading : Reading K) (limit : ℕ) (text : List ℕ) (fault : FileFault) → IsReading keeps reading limit text → fault.number ≡ length (told_lines text) + 1
+later_than : {K : Type 0} (keeps : Keeps K) (reading : Reading K) (limit : ℕ) (text : List ℕ) (fault : FileFault) → IsReading keeps reading limit text
+    → fault.number ≡ length (told_lines text) + 1
     → lines_told text < fault.number
 later_than keeps reading limit text fault is number = let same = lines_told_short text is.short in omega arith
 
@@ -523,13 +545,15 @@ later_front : (text more : List ℕ) (fault : FileFault) → lines_told (text ++
 later_front text more fault later = let grown = lines_told_grow text more in omega arith
 
 -- what is behind a front that was read is behind what was read before it
-pub later_piece : {K : Type 0} (keeps : Keeps K) (wants : Type 0) (old new : Reading K) (front : List ℕ) (fault : FileFault) → GoesOn (IsReading keeps old) front (IsReading keeps new) → IsLater keeps wants new fault
+pub later_piece : {K : Type 0} (keeps : Keeps K) (wants : Type 0) (old new : Reading K) (front : List ℕ) (fault : FileFault)
+    → GoesOn (IsReading keeps old) front (IsReading keeps new) → IsLater keeps wants new fault
     → IsLater keeps wants old fault
 later_piece keeps wants old new front fault read later = λ limit text is.
     let behind = later limit (text ++ front) (read limit text is) in (later_front text front fault behind.0, behind.1)
 
 -- such a fault is behind what the text tells
-pub later_end : {K : Type 0} (keeps : Keeps K) (wants : Type 0) (reading : Reading K) (fault : FileFault) → ((limit : ℕ) (text : List ℕ) → IsReading keeps reading limit text → IsNoEndOf (lines_of text) fault)
+pub later_end : {K : Type 0} (keeps : Keeps K) (wants : Type 0) (reading : Reading K) (fault : FileFault)
+    → ((limit : ℕ) (text : List ℕ) → IsReading keeps reading limit text → IsNoEndOf (lines_of text) fault)
     → IsLater keeps wants reading fault
 later_end keeps wants reading fault told = λ limit text is.
     let same = lines_told_short text is.short in
@@ -538,24 +562,28 @@ later_end keeps wants reading fault told = λ limit text is.
     (omega arith, no_want wants fault no_end (told limit text is).1)
 
 -- and is no want of memory
-pub last_end : {K : Type 0} (keeps : Keeps K) (reading : Reading K) (fault : FileFault) → ((limit : ℕ) (text : List ℕ) → IsReading keeps reading limit text → IsNoEndOf (lines_of text) fault)
+pub last_end : {K : Type 0} (keeps : Keeps K) (reading : Reading K) (fault : FileFault)
+    → ((limit : ℕ) (text : List ℕ) → IsReading keeps reading limit text → IsNoEndOf (lines_of text) fault)
     → IsLast keeps reading fault
 last_end keeps reading fault told = λ memory limit text is.
     let bad : ◌≡◌ {A = Option model.FileCause} None (Some no_end) = sym (ap cause_meant memory) ∙ (told limit text is).1 in absurd cc
 
 -- the open line is the last
-pub last_open : {K : Type 0} (keeps : Keeps K) (wants : Type 0) (reading : Reading K) (line : List ℕ) (fault : FileFault) → false ≡ (length reading.partial.items == 0) → FaultsNext keeps wants reading.records line fault
+pub last_open : {K : Type 0} (keeps : Keeps K) (wants : Type 0) (reading : Reading K) (line : List ℕ) (fault : FileFault)
+    → false ≡ (length reading.partial.items == 0) → FaultsNext keeps wants reading.records line fault
     → IsLast keeps reading fault
 last_open keeps wants reading line fault some told =
     λ _ limit text is. (told limit (told_lines text) is.counted).number ∙ sym (length_at_end text (some_is_open keeps reading limit text is some))
 
 -- what is later than what was read is later than what a parser was fed that told no fault
-pub names_later : (parser : ParserState) (reading : Reading Kept) (fault : FileFault) → parser.fault ≡ None → parser.reading ≡ reading → IsLater KeepsAll ⊤ reading fault
+pub names_later : (parser : ParserState) (reading : Reading Kept) (fault : FileFault) → parser.fault ≡ None → parser.reading ≡ reading
+    → IsLater KeepsAll ⊤ reading fault
     → NamesLater parser fault
 names_later parser reading fault none same told = λ _ limit text has. (told limit text (reading_of parser reading limit text none same has)).0
 
 -- and of the last record
-pub names_last : (parser : ParserState) (reading : Reading Kept) (fault : FileFault) → parser.fault ≡ None → parser.reading ≡ reading → IsLast KeepsAll reading fault
+pub names_last : (parser : ParserState) (reading : Reading Kept) (fault : FileFault) → parser.fault ≡ None → parser.reading ≡ reading
+    → IsLast KeepsAll reading fault
     → NamesLast parser fault
 names_last parser reading fault none same told =
     λ _ memory limit text has. told memory limit text (reading_of parser reading limit text none same has)

@@ -69,7 +69,8 @@ held_all (Some told) (Some rest) text lost end =
 
 -- what is told of the text that was read to the end
 pub file_read : {K : Type 0} (keeps : Keeps K) (limit count : ℕ) (initial now : Option (List ℕ)) (reading : Reading K) (result : Result (Ended K) ReadFault)
-    → HasFed (TakesFile keeps) count limit [] initial now reading → IsEnd now → IfOk result (EndsBy keeps reading) → IfOk result (ReadsEnded keeps limit initial)
+    → HasFed (TakesFile keeps) count limit [] initial now reading → IsEnd now → IfOk result (EndsBy keeps reading)
+    → IfOk result (ReadsEnded keeps limit initial)
 file_read keeps limit count initial now reading (Ok ended) at end of =
     record { text = at.bytes; held = held_all initial now at.bytes at.lost end; of_text = of limit at.bytes at.taken.read }
 file_read keeps limit count initial now reading (Err fault) at end of = tt
@@ -146,7 +147,8 @@ fault_at_end limit text fault told result refused memory file is =
     subst (IsFaultOf limit text) as_file.0 (refused_of limit text fault refused as_file.1)
 
 -- want of memory at the end is at the last record
-pub memory_at_end : {K : Type 0} (keeps : Keeps K) (wants : Type 0) {A : Type 0} (limit : ℕ) (text : List ℕ) (reading : Reading K) (fault : FileFault) (result : ReadFault) → IsReading keeps reading limit text
+pub memory_at_end : {K : Type 0} (keeps : Keeps K) (wants : Type 0) {A : Type 0} (limit : ℕ) (text : List ℕ) (reading : Reading K) (fault : FileFault)
+    (result : ReadFault) → IsReading keeps reading limit text
     → IsRefused limit text fault → IsLater keeps wants reading fault → IsLast keeps reading fault → (fault.cause ≢ Memory → result ≡ read.File fault)
     → ◌≡◌ {A = Result A ReadFault} (Err result) (Err read.Memory)
     → wants × WantsMemoryAt limit (lines_of text) (length (lines_of text))
@@ -199,7 +201,8 @@ refused_before keeps wants limit initial next reading fault told result has memo
 -- want of memory before the end is at a record that the piece is the first to tell
 pub wants_before : {K : Type 0} (keeps : Keeps K) (wants : Type 0) {A : Type 0} (limit : ℕ) (initial next : Option (List ℕ)) (reading : Reading K)
     (fault : FileFault) (result : ReadFault) → HasRefusedFile keeps wants limit initial next reading fault
-    → (fault.cause ≢ Memory → result ≡ read.File fault) → ◌≡◌ {A = Result A ReadFault} (Err result) (Err read.Memory) → WantsMemoryBy wants 65536 limit initial next
+    → (fault.cause ≢ Memory → result ≡ read.File fault) → ◌≡◌ {A = Result A ReadFault} (Err result) (Err read.Memory)
+    → WantsMemoryBy wants 65536 limit initial next
 wants_before keeps wants limit initial next reading fault result has file is =
     let wanting = told_as_memory fault result file is in
     let more = has.more in

@@ -58,7 +58,8 @@ part_kept (suc f) n (x ∷ xs) [] keeps within = absurd (none_some x (keeps 0 x 
 part_kept (suc f) n (x ∷ xs) (y ∷ ys) keeps within = part_kept f n xs ys (λ i z is. keeps (suc i) z is) (omega arith)
 
 -- numbers name what they named
-pub ranks_kept : (old new : List (List ℕ)) → Keeps old new → (places : List (List ℕ)) (numbers : List ℕ) → AreRanks old places numbers → AreRanks new places numbers
+pub ranks_kept : (old new : List (List ℕ)) → Keeps old new → (places : List (List ℕ)) (numbers : List ℕ) → AreRanks old places numbers
+    → AreRanks new places numbers
 ranks_kept old new keeps [] [] are = refl
 ranks_kept old new keeps [] (n ∷ ns) are = absurd (let len : suc (length (map (slice_get old) ns)) ≡ 0 = ap length are in omega arith)
 ranks_kept old new keeps (place ∷ places) [] are = absurd (let len : 0 ≡ suc (length (map Some places)) = ap length are in omega arith)
@@ -224,7 +225,8 @@ pub calls_put : (names : List (List ℕ)) (old new : List ℕ) → Keeps old new
 calls_put names old new kept from count from_is count_is key body schedule lines key_is body_is are =
     subst (λ (item : Item). IsNext names old new item (record { is_link = false; from = from; count = count }))
     (sym (λ i. (key_is i, put_with (body_is i))))
-    (subst (λ n. IsNext names old new (schedule_key schedule, put_with (schedule_body lines)) (record { is_link = false; from = n; count = count })) (sym from_is)
+    (subst (λ n. IsNext names old new (schedule_key schedule, put_with (schedule_body lines)) (record { is_link = false; from = n; count = count }))
+    (sym from_is)
     (calls_next names old new kept count count_is schedule lines are))
 
 -- a number that is pushed is that of its place

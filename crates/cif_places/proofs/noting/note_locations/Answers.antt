@@ -22,7 +22,8 @@ loop-line-preserved-in_ok-note_place c =
       noted = place_noted (map (columns 3 9) (location_lines c.args.lines.now)) (map (columns 3 9) (location_lines c.in-Some.behind.now))
           (columns 3 9 c.in-Some.line.now) c.loop-line.names.list.items c.note_place.new.names.list.items c.args.numbers.now.items
           c.loop-line.numbers.items c.note_place.new.numbers.items c.note_place.ensures.names c.loop-line.invariant.numbers c.note_place.ensures.numbers
-          (subst (λ (place : List ℕ). AreRanks c.note_place.new.names.list.items (place ∷ []) (drop (length c.loop-line.numbers.items) c.note_place.new.numbers.items))
+          (subst (λ (place : List ℕ). AreRanks c.note_place.new.names.list.items (place ∷ [])
+          (drop (length c.loop-line.numbers.items) c.note_place.new.numbers.items))
           c.tiploc_in.ensures (c.in_ok-note_place.ensures.noted refl))
           (subst (λ (rest : List (List ℕ)). IsLeft c.loop-line.names.list.items (map (columns 3 9) (location_lines c.args.lines.now)) rest
           c.args.numbers.now.items c.loop-line.numbers.items) places c.loop-line.invariant.noted);
@@ -42,5 +43,6 @@ loop-line-preserved c =
 pub returns-clause-noted : goal.returns-clause-noted
 returns-clause-noted c = λ ok.
     all_came c.loop-line.names.list.items (map (columns 3 9) (location_lines c.args.lines.now)) c.args.numbers.now.items c.loop-line.numbers.items
-    (subst (λ (rest : List (List ℕ)). IsLeft c.loop-line.names.list.items (map (columns 3 9) (location_lines c.args.lines.now)) (map (columns 3 9) (location_lines rest))
+    (subst (λ (rest : List (List ℕ)). IsLeft c.loop-line.names.list.items (map (columns 3 9) (location_lines c.args.lines.now))
+    (map (columns 3 9) (location_lines rest))
     c.args.numbers.now.items c.loop-line.numbers.items) (no_lines c.loop-line.rest.now c.in_default.ensures.cases) c.loop-line.invariant.noted)

@@ -12,7 +12,8 @@ pub loop-row-preserved : goal.loop-row-preserved
 loop-row-preserved c =
     let whole : c.loop-row.rest.now ≡ c.in-Some.row.now ∷ c.in-Some.behind.now = search rules in
     record {
-      noted = one_noted (items_of (map row_meant c.args.rows.now)) (items_of (map row_meant c.loop-row.rest.now)) (items_of (map row_meant c.in-Some.behind.now))
+      noted = one_noted (items_of (map row_meant c.args.rows.now)) (items_of (map row_meant c.loop-row.rest.now))
+          (items_of (map row_meant c.in-Some.behind.now))
           ((row_meant c.in-Some.row.now).0, (row_meant c.in-Some.row.now).1.op) c.loop-row.notes c.note_row.new.notes
           (ap (λ xs. items_of (map row_meant xs)) whole) (c.in_ok-note_row.ensures.ok refl) c.loop-row.invariant.noted;
     }
@@ -20,4 +21,5 @@ loop-row-preserved c =
 pub returns : goal.returns
 returns c =
     all_noted (items_of (map row_meant c.args.rows.now)) (items_of (map row_meant c.loop-row.rest.now)) c.loop-row.notes
-    (length-map {B = Item} (map row_meant c.loop-row.rest.now) _ ∙ length-map c.loop-row.rest.now row_meant ∙ c.in_default.ensures.cases) c.loop-row.invariant.noted
+    (length-map {B = Item} (map row_meant c.loop-row.rest.now) _ ∙ length-map c.loop-row.rest.now row_meant ∙ c.in_default.ensures.cases)
+    c.loop-row.invariant.noted

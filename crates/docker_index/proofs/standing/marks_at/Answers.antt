@@ -13,4 +13,5 @@ returns-in-Some-clause-rows c = λ rows.
 
 pub returns-in-None-clause-piece : goal.returns-in-None-clause-piece
 returns-in-None-clause-piece c =
-    no_piece c.args.places.now c.args.marks.now c.args.place.now (λ among. let bad : false ≡ true = c.in-None.ensures.among among in cc) (spots_in c.args.places.now c.args.marks.now) refl
+    no_piece c.args.places.now c.args.marks.now c.args.place.now (λ among. let bad : false ≡ true = c.in-None.ensures.among among in cc)
+    (spots_in c.args.places.now c.args.marks.now) refl

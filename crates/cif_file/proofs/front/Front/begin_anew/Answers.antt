@@ -7,5 +7,6 @@ returns-clause-read g c = λ line is whole.
     on_ok_one c.add_unit.result (c.add_unit.ensures.read line is)
     (λ begins. λ records has counted.
     begins records
-    (over_of_closed g.K.Keeper.keeps c.args.self.now c.close.new.self c.args.opened records has c.requires.stage whole c.close.ensures.header c.in_ok-close.ensures.kept)
+    (over_of_closed g.K.Keeper.keeps c.args.self.now c.close.new.self c.args.opened records has c.requires.stage whole c.close.ensures.header
+    c.in_ok-close.ensures.kept)
     counted)

@@ -5,11 +5,13 @@ use Rattle.cif_file.proofs.front.Front.is_ended.Goals as goal
 
 pub returns-in-BeforeHeader : goal.returns-in-BeforeHeader
 returns-in-BeforeHeader g c =
-    λ records has. ended_iff g.K.Keeper.keeps c.args.self.now records false has (λ place told. tells_before g.K.Keeper.keeps c.args.self.now records place c.in-BeforeHeader.is told)
+    λ records has. ended_iff g.K.Keeper.keeps c.args.self.now records false has
+    (λ place told. tells_before g.K.Keeper.keeps c.args.self.now records place c.in-BeforeHeader.is told)
 
 pub returns-in-BetweenUnits : goal.returns-in-BetweenUnits
 returns-in-BetweenUnits g c =
-    λ records has. ended_iff g.K.Keeper.keeps c.args.self.now records false has (λ place told. tells_between g.K.Keeper.keeps c.args.self.now records place c.in-BetweenUnits.is told)
+    λ records has. ended_iff g.K.Keeper.keeps c.args.self.now records false has
+    (λ place told. tells_between g.K.Keeper.keeps c.args.self.now records place c.in-BetweenUnits.is told)
 
 pub returns-in-InSchedule : goal.returns-in-InSchedule
 returns-in-InSchedule g c =
@@ -18,4 +20,5 @@ returns-in-InSchedule g c =
 
 pub returns-in-AfterEnd : goal.returns-in-AfterEnd
 returns-in-AfterEnd g c =
-    λ records has. ended_iff g.K.Keeper.keeps c.args.self.now records true has (λ place told. tells_ended g.K.Keeper.keeps c.args.self.now records place c.in-AfterEnd.is told)
+    λ records has. ended_iff g.K.Keeper.keeps c.args.self.now records true has
+    (λ place told. tells_ended g.K.Keeper.keeps c.args.self.now records place c.in-AfterEnd.is told)

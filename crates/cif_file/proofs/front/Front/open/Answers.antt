@@ -14,4 +14,5 @@ returns-clause-read g c = λ records over counted.
     basic_added g.K.Keeper.keeps c.args.self.now _ c.opened_schedule-opened.result records c.args.view.now over c.requires.is c.requires.by_kind.1
     c.requires.good_fields (c.opened_schedule-opened.ensures.number
     ∙ counted) c.opened_schedule-opened.ensures.key c.opened_schedule-opened.ensures.progress refl refl
-    (subst (λ line. AddsLine g.K.Keeper.keeps c.args.self.now.keeper line c.add_line.new.self) (c.as_new.ensures ∙ ap as_new c.line.ensures.line) c.in_ok-add_line.ensures.kept)
+    (subst (λ line. AddsLine g.K.Keeper.keeps c.args.self.now.keeper line c.add_line.new.self) (c.as_new.ensures ∙ ap as_new c.line.ensures.line)
+    c.in_ok-add_line.ensures.kept)

@@ -8,7 +8,8 @@ use Rattle.cif_file.proofs.front.Front.take.Goals as goal
 
 pub returns-in_default-clause-err : goal.returns-in_default-clause-err
 returns-in_default-clause-err g c = λ records has unended.
-    no_kind g.K.Keeper.keeps c.args.self.now records c.args.line.now has unended c.bytes-record.ensures.«record» (sym c.kind.ensures ∙ ap (option_map meaning) c.in_default.is)
+    no_kind g.K.Keeper.keeps c.args.self.now records c.args.line.now has unended c.bytes-record.ensures.«record»
+    (sym c.kind.ensures ∙ ap (option_map meaning) c.in_default.is)
 
 pub returns-in-BeforeHeader-clause-err : goal.returns-in-BeforeHeader-clause-err
 returns-in-BeforeHeader-clause-err g c = if_err_by c.take_header.result (λ cause told. λ records has unended. told records has) c.take_header.ensures.err

@@ -20,4 +20,5 @@ returns-in_err-view-clause-err g c =
 pub returns-clause-read : goal.returns-clause-read
 returns-clause-read g c = λ records has.
     header_added g.K.Keeper.keeps c.args.self.now _ records c.args.line.now has c.requires.stage c.requires.«record»
-    (c.requires.kind ∙ ap (λ kind. Some (meaning kind)) c.in-Header.is) (c.in_ok-view.ensures.ok.0 refl) (ap Some (c.of.ensures ∙ c.in_ok-view.ensures.value)) refl refl
+    (c.requires.kind ∙ ap (λ kind. Some (meaning kind)) c.in-Header.is) (c.in_ok-view.ensures.ok.0 refl)
+    (ap Some (c.of.ensures ∙ c.in_ok-view.ensures.value)) refl refl

@@ -13,7 +13,8 @@ returns-then-is_empty-clause-read g c =
     on_ok_one c.take.result c.take.ensures.read
     (λ taken. λ limit text reading.
     ended_ok g.K.Keeper.keeps c.args.self.now _ limit text c.args.front.now c.without_return.result.now reading c.requires
-    (taken_is g.K.Keeper.keeps c.args.self.now limit text c.args.front.now c.args.front.now c.without_return.result.now reading (ap (λ l. l ++ c.args.front.now) (sym none))
+    (taken_is g.K.Keeper.keeps c.args.self.now limit text c.args.front.now c.args.front.now c.without_return.result.now reading
+    (ap (λ l. l ++ c.args.front.now) (sym none))
     c.without_return.ensures.line) (taken limit (told_lines text) reading.counted) none)
 
 pub returns-then-is_empty-clause-err : goal.returns-then-is_empty-clause-err
@@ -22,14 +23,16 @@ returns-then-is_empty-clause-err g c =
     if_err_by c.take.result
     (λ fault told. λ limit text reading.
     ended_err g.K.Keeper.keeps g.K.Keeper.wants c.args.self.now limit text c.args.front.now c.without_return.result.now fault reading c.requires
-    (taken_is g.K.Keeper.keeps c.args.self.now limit text c.args.front.now c.args.front.now c.without_return.result.now reading (ap (λ l. l ++ c.args.front.now) (sym none))
+    (taken_is g.K.Keeper.keeps c.args.self.now limit text c.args.front.now c.args.front.now c.without_return.result.now reading
+    (ap (λ l. l ++ c.args.front.now) (sym none))
     c.without_return.ensures.line) told)
     c.take.ensures.err
 
 pub returns-then-not-extend-clause-err : goal.returns-then-not-extend-clause-err
 returns-then-not-extend-clause-err g c = λ limit text reading.
     ended_long g.K.Keeper.keeps c.args.self.now limit text c.args.front.now c.too_long.result reading c.requires
-    (ended_many g.K.Keeper.keeps c.args.self.now limit text c.args.front.now reading (λ few. false≢true (sym c.if-not-extend.true ∙ c.extend.ensures.fits.1 few)))
+    (ended_many g.K.Keeper.keeps c.args.self.now limit text c.args.front.now reading
+    (λ few. false≢true (sym c.if-not-extend.true ∙ c.extend.ensures.fits.1 few)))
     (c.too_long.ensures limit (told_lines text) reading.counted)
 
 pub returns-clause-read : goal.returns-clause-read
@@ -51,11 +54,14 @@ returns-clause-err g c =
     c.take-taken.ensures.err
 
 pub returns-then-is_empty-clause-later : goal.returns-then-is_empty-clause-later
-returns-then-is_empty-clause-later g c = if_err_by c.take.result (later_next g.K.Keeper.keeps g.K.Keeper.wants c.args.self.now c.without_return.result.now) c.take.ensures.err
+returns-then-is_empty-clause-later g c =
+    if_err_by c.take.result (later_next g.K.Keeper.keeps g.K.Keeper.wants c.args.self.now c.without_return.result.now) c.take.ensures.err
 
 pub returns-then-not-extend-clause-later : goal.returns-then-not-extend-clause-later
 returns-then-not-extend-clause-later g c =
-    later_long g.K.Keeper.keeps g.K.Keeper.wants c.args.self.now c.too_long.result (λ limit text reading. c.too_long.ensures limit (told_lines text) reading.counted)
+    later_long g.K.Keeper.keeps g.K.Keeper.wants c.args.self.now c.too_long.result
+    (λ limit text reading. c.too_long.ensures limit (told_lines text) reading.counted)
 
 pub returns-clause-later : goal.returns-clause-later
-returns-clause-later g c = if_err_by c.take-taken.result (later_next g.K.Keeper.keeps g.K.Keeper.wants c.args.self.now c.without_return-2.result.now) c.take-taken.ensures.err
+returns-clause-later g c =
+    if_err_by c.take-taken.result (later_next g.K.Keeper.keeps g.K.Keeper.wants c.args.self.now c.without_return-2.result.now) c.take-taken.ensures.err

@@ -28,7 +28,8 @@ pub loop-front-preserved : goal.loop-front-preserved
 loop-front-preserved g c = record {
   whole = (cut_more c.args.piece.now c.loop-front.rest.now c.in-Some.front.now c.in-Some.behind.now c.loop-front.invariant.whole c.in-Some.ensures).1;
   are = λ limit text is.
-      read_on g.K.Keeper.keeps c.end_line.new.self limit text c.args.piece.now c.loop-front.rest.now c.in-Some.front.now c.in-Some.behind.now c.loop-front.invariant.whole
+      read_on g.K.Keeper.keeps c.end_line.new.self limit text c.args.piece.now c.loop-front.rest.now c.in-Some.front.now c.in-Some.behind.now
+      c.loop-front.invariant.whole
       c.in-Some.ensures
       (c.in_ok-end_line.ensures.read limit (text ++ before_rest c.args.piece.now c.loop-front.rest.now) (c.loop-front.invariant.are limit text is));
 }
@@ -52,11 +53,13 @@ pub returns-in_err-end_line-clause-later : goal.returns-in_err-end_line-clause-l
 returns-in_err-end_line-clause-later g c =
     let same = err_from_is_err_and c.from_residual.result c.from_residual.ensures.1 in
     rw same.1
-    (later_piece g.K.Keeper.keeps g.K.Keeper.wants c.args.self.now c.loop-front.self (before_rest c.args.piece.now c.loop-front.rest.now) same.0 c.loop-front.invariant.are
+    (later_piece g.K.Keeper.keeps g.K.Keeper.wants c.args.self.now c.loop-front.self (before_rest c.args.piece.now c.loop-front.rest.now) same.0
+    c.loop-front.invariant.are
     (subst (IsLater g.K.Keeper.keeps g.K.Keeper.wants c.loop-front.self) (sym same.2) c.in_err-end_line.ensures.later))
 
 pub returns-clause-later : goal.returns-clause-later
 returns-clause-later g c =
     if_err_by c.keep.result
-    (λ fault. later_piece g.K.Keeper.keeps g.K.Keeper.wants c.args.self.now c.loop-front.self (before_rest c.args.piece.now c.loop-front.rest.now) fault c.loop-front.invariant.are)
+    (λ fault. later_piece g.K.Keeper.keeps g.K.Keeper.wants c.args.self.now c.loop-front.self (before_rest c.args.piece.now c.loop-front.rest.now) fault
+    c.loop-front.invariant.are)
     c.keep.ensures.later

@@ -17,4 +17,5 @@ returns-clause-read g c = λ limit text reading.
 
 pub returns-then-not-extend-clause-later : goal.returns-then-not-extend-clause-later
 returns-then-not-extend-clause-later g c =
-    later_long g.K.Keeper.keeps g.K.Keeper.wants c.args.self.now c.too_long.result (λ limit text reading. c.too_long.ensures limit (told_lines text) reading.counted)
+    later_long g.K.Keeper.keeps g.K.Keeper.wants c.args.self.now c.too_long.result
+    (λ limit text reading. c.too_long.ensures limit (told_lines text) reading.counted)

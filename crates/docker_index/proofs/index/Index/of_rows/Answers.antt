@@ -13,7 +13,8 @@ pub ascending-calls-requires-clause-slots : goal.ascending-calls-requires-clause
 ascending-calls-requires-clause-slots c =
     let len : c.len.result ≡ length c.args.room.places.items = search rules in
     let walk = calls_walk c.args.notes.names.list.items c.args.room.places.items c.args.room.ranks.items c.args.notes.numbers.items c.requires.room.ranks
-    (length c.args.rows.now) (map row_meant c.args.rows.now) c.args.notes.pieces.items (sym (length-map c.args.rows.now row_meant)) c.requires.noted c.of-called.result
+    (length c.args.rows.now) (map row_meant c.args.rows.now) c.args.notes.pieces.items (sym (length-map c.args.rows.now row_meant)) c.requires.noted
+    c.of-called.result
     (c.of-called.ensures ∙ (λ i. noted_marks false (c.as_slice-ranks.ensures.value i) (c.as_slice-numbers.ensures.value i) (length c.args.rows.now)
     (c.as_slice-pieces.ensures.value i))) in
     subst (λ (p : ℕ × ℕ). HasSlots p.0 p.1 c.args.room.calls) (λ i. (sym len i, sym walk.len i)) c.requires.room.calls
@@ -22,7 +23,8 @@ pub ascending-calls-requires-clause-below : goal.ascending-calls-requires-clause
 ascending-calls-requires-clause-below c =
     let len : c.len.result ≡ length c.args.room.places.items = search rules in
     let walk = calls_walk c.args.notes.names.list.items c.args.room.places.items c.args.room.ranks.items c.args.notes.numbers.items c.requires.room.ranks
-    (length c.args.rows.now) (map row_meant c.args.rows.now) c.args.notes.pieces.items (sym (length-map c.args.rows.now row_meant)) c.requires.noted c.of-called.result
+    (length c.args.rows.now) (map row_meant c.args.rows.now) c.args.notes.pieces.items (sym (length-map c.args.rows.now row_meant)) c.requires.noted
+    c.of-called.result
     (c.of-called.ensures ∙ (λ i. noted_marks false (c.as_slice-ranks.ensures.value i) (c.as_slice-numbers.ensures.value i) (length c.args.rows.now)
     (c.as_slice-pieces.ensures.value i))) in
     subst (λ places. AreBelow places c.of-called.result) (sym len) walk.below
@@ -30,7 +32,8 @@ ascending-calls-requires-clause-below c =
 pub ascending-calls-requires-clause-rows : goal.ascending-calls-requires-clause-rows
 ascending-calls-requires-clause-rows c =
     let walk = calls_walk c.args.notes.names.list.items c.args.room.places.items c.args.room.ranks.items c.args.notes.numbers.items c.requires.room.ranks
-    (length c.args.rows.now) (map row_meant c.args.rows.now) c.args.notes.pieces.items (sym (length-map c.args.rows.now row_meant)) c.requires.noted c.of-called.result
+    (length c.args.rows.now) (map row_meant c.args.rows.now) c.args.notes.pieces.items (sym (length-map c.args.rows.now row_meant)) c.requires.noted
+    c.of-called.result
     (c.of-called.ensures ∙ (λ i. noted_marks false (c.as_slice-ranks.ensures.value i) (c.as_slice-numbers.ensures.value i) (length c.args.rows.now)
     (c.as_slice-pieces.ensures.value i))) in
     walk.from
@@ -39,7 +42,8 @@ pub ascending-links-requires-clause-slots : goal.ascending-links-requires-clause
 ascending-links-requires-clause-slots c =
     let len : c.len-2.result ≡ length c.args.room.places.items = search rules in
     let walk = links_walk c.args.notes.names.list.items c.args.room.places.items c.args.room.ranks.items c.args.notes.numbers.items c.requires.room.ranks
-    (length c.args.rows.now) (map row_meant c.args.rows.now) c.args.notes.pieces.items (sym (length-map c.args.rows.now row_meant)) c.requires.noted c.of-linked.result
+    (length c.args.rows.now) (map row_meant c.args.rows.now) c.args.notes.pieces.items (sym (length-map c.args.rows.now row_meant)) c.requires.noted
+    c.of-linked.result
     (c.of-linked.ensures ∙ (λ i. noted_marks true (c.as_slice-ranks.ensures.value i) (c.as_slice-numbers.ensures.value i) (length c.args.rows.now)
     (c.as_slice-pieces.ensures.value i))) in
     subst (λ (p : ℕ × ℕ). HasSlots p.0 p.1 c.args.room.links) (λ i. (sym len i, sym walk.len i)) c.requires.room.links
@@ -48,7 +52,8 @@ pub ascending-links-requires-clause-below : goal.ascending-links-requires-clause
 ascending-links-requires-clause-below c =
     let len : c.len-2.result ≡ length c.args.room.places.items = search rules in
     let walk = links_walk c.args.notes.names.list.items c.args.room.places.items c.args.room.ranks.items c.args.notes.numbers.items c.requires.room.ranks
-    (length c.args.rows.now) (map row_meant c.args.rows.now) c.args.notes.pieces.items (sym (length-map c.args.rows.now row_meant)) c.requires.noted c.of-linked.result
+    (length c.args.rows.now) (map row_meant c.args.rows.now) c.args.notes.pieces.items (sym (length-map c.args.rows.now row_meant)) c.requires.noted
+    c.of-linked.result
     (c.of-linked.ensures ∙ (λ i. noted_marks true (c.as_slice-ranks.ensures.value i) (c.as_slice-numbers.ensures.value i) (length c.args.rows.now)
     (c.as_slice-pieces.ensures.value i))) in
     subst (λ places. AreBelow places c.of-linked.result) (sym len) walk.below
@@ -56,7 +61,8 @@ ascending-links-requires-clause-below c =
 pub ascending-links-requires-clause-rows : goal.ascending-links-requires-clause-rows
 ascending-links-requires-clause-rows c =
     let walk = links_walk c.args.notes.names.list.items c.args.room.places.items c.args.room.ranks.items c.args.notes.numbers.items c.requires.room.ranks
-    (length c.args.rows.now) (map row_meant c.args.rows.now) c.args.notes.pieces.items (sym (length-map c.args.rows.now row_meant)) c.requires.noted c.of-linked.result
+    (length c.args.rows.now) (map row_meant c.args.rows.now) c.args.notes.pieces.items (sym (length-map c.args.rows.now row_meant)) c.requires.noted
+    c.of-linked.result
     (c.of-linked.ensures ∙ (λ i. noted_marks true (c.as_slice-ranks.ensures.value i) (c.as_slice-numbers.ensures.value i) (length c.args.rows.now)
     (c.as_slice-pieces.ensures.value i))) in
     walk.from
@@ -64,11 +70,13 @@ ascending-links-requires-clause-rows c =
 pub returns : goal.returns
 returns c =
     let called = calls_walk c.args.notes.names.list.items c.args.room.places.items c.args.room.ranks.items c.args.notes.numbers.items c.requires.room.ranks
-    (length c.args.rows.now) (map row_meant c.args.rows.now) c.args.notes.pieces.items (sym (length-map c.args.rows.now row_meant)) c.requires.noted c.of-called.result
+    (length c.args.rows.now) (map row_meant c.args.rows.now) c.args.notes.pieces.items (sym (length-map c.args.rows.now row_meant)) c.requires.noted
+    c.of-called.result
     (c.of-called.ensures ∙ (λ i. noted_marks false (c.as_slice-ranks.ensures.value i) (c.as_slice-numbers.ensures.value i) (length c.args.rows.now)
     (c.as_slice-pieces.ensures.value i))) in
     let linked = links_walk c.args.notes.names.list.items c.args.room.places.items c.args.room.ranks.items c.args.notes.numbers.items c.requires.room.ranks
-    (length c.args.rows.now) (map row_meant c.args.rows.now) c.args.notes.pieces.items (sym (length-map c.args.rows.now row_meant)) c.requires.noted c.of-linked.result
+    (length c.args.rows.now) (map row_meant c.args.rows.now) c.args.notes.pieces.items (sym (length-map c.args.rows.now row_meant)) c.requires.noted
+    c.of-linked.result
     (c.of-linked.ensures ∙ (λ i. noted_marks true (c.as_slice-ranks.ensures.value i) (c.as_slice-numbers.ensures.value i) (length c.args.rows.now)
     (c.as_slice-pieces.ensures.value i))) in
     record {

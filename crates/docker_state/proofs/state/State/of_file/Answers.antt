@@ -36,7 +36,8 @@ made_rows-made-requires-clause-few c =
 
 pub greatest_rows-rows-requires-clause-records : goal.greatest_rows-rows-requires-clause-records
 greatest_rows-rows-requires-clause-records c =
-    made_records c.changes-count.ensures.read.records c.changes-count.ensures.read.is_file c.changes-count.ensures.read.few (rows_in c.made_rows-made.result.items)
+    made_records c.changes-count.ensures.read.records c.changes-count.ensures.read.is_file c.changes-count.ensures.read.few
+    (rows_in c.made_rows-made.result.items)
     (made_of_file c.args.file c.header.result c.header.ensures c.item_of-item.result c.item_of-item.ensures c.changes-count.ensures.read.records
     c.changes-count.ensures.read.of_records
     c.stamp.result c.stamp.ensures c.into_parts-parts.result.changes.items
@@ -92,7 +93,8 @@ of_rows-requires-clause-valid c =
 
 pub of_rows-requires-clause-room : goal.of_rows-requires-clause-room
 of_rows-requires-clause-room c =
-    subst (λ (names : Names). HasRoomFor (map row_meant c.greatest_rows-rows.result.0.items) names.list.items c.in-Ok-for_notes.room) (sym c.picked-notes.ensures.names)
+    subst (λ (names : Names). HasRoomFor (map row_meant c.greatest_rows-rows.result.0.items) names.list.items c.in-Ok-for_notes.room)
+    (sym c.picked-notes.ensures.names)
     (c.in-Ok-for_notes.ensures.made (map change_meant c.into_parts-parts.result.changes.items) (map row_meant c.greatest_rows-rows.result.0.items)
     c.into_parts-parts.ensures.parts.noted
     (ascending_meant row_meant (λ (a b : model.Key × ops.Entry). key_cmp a.0 b.0) c.greatest_rows-rows.result.0.items c.greatest_rows-rows.ensures.ascending)
@@ -102,9 +104,11 @@ of_rows-requires-clause-room c =
 
 pub of_rows-requires-clause-noted : goal.of_rows-requires-clause-noted
 of_rows-requires-clause-noted c =
-    c.picked-notes.ensures.noted (items_put (map change_meant c.into_parts-parts.result.changes.items)) (items_of (map row_meant c.greatest_rows-rows.result.0.items))
+    c.picked-notes.ensures.noted (items_put (map change_meant c.into_parts-parts.result.changes.items))
+    (items_of (map row_meant c.greatest_rows-rows.result.0.items))
     c.into_parts-parts.ensures.parts.noted
-    (subst (λ order. ArePicked (items_put (map change_meant c.into_parts-parts.result.changes.items)) order (items_of (map row_meant c.greatest_rows-rows.result.0.items)))
+    (subst (λ order. ArePicked (items_put (map change_meant c.into_parts-parts.result.changes.items)) order
+    (items_of (map row_meant c.greatest_rows-rows.result.0.items)))
     (sym c.as_slice.ensures.value)
     (c.greatest_rows-rows.ensures.order (items_put (map change_meant c.into_parts-parts.result.changes.items)) c.made_rows-made.ensures.numbered))
 
