@@ -5,6 +5,7 @@ mod floor;
 mod item;
 mod ledger;
 mod live;
+mod near;
 mod parts;
 mod rows;
 mod staging;

@@ -29,6 +29,8 @@ pub struct Staging {
     floor: Option<FileStamp>,
     items: Vec<LedgerItem>,
     staged: Vec<(Key, Entry)>,
+    // the index in the state's entries at which that of the next key is looked for first: keys are offered in order
+    near: usize,
 }
 
 impl Model for Staging {
@@ -60,6 +62,7 @@ impl Staging {
             floor,
             items,
             staged: Vec::new(alloc),
+            near: 0,
         })
     }
 
@@ -106,7 +109,7 @@ impl Staging {
             → (IsOk result) × (self.new ≡ self.old) }
         ensures err { IsErr result → self.new ≡ self.old }
     {
-        if is_to_stage(state, &self.floor, &key, &entry) {
+        if is_to_stage(state, &self.floor, &key, &entry, &mut self.near) {
             self.staged.push((key, entry))?;
         }
         Ok(())
@@ -121,8 +124,14 @@ impl Staging {
     }
 }
 
-/// Whether an entry is kept under a floor and greater than the state's own of its key, if there is one.
-fn is_to_stage(state: &State, floor: &Option<FileStamp>, key: &Key, entry: &Entry) -> bool
+/// Whether an entry is kept under a floor and greater than the state's own of its key, if there is one. The own one is looked for at an index first.
+fn is_to_stage(
+    state: &State,
+    floor: &Option<FileStamp>,
+    key: &Key,
+    entry: &Entry,
+    near: &mut usize,
+) -> bool
     ensures { IsTrue result
         ↔ IsToStage state.now (floor_meant floor.now) (key_meant key.now) (entry_meant entry.now) }
 {
@@ -130,7 +139,7 @@ fn is_to_stage(state: &State, floor: &Option<FileStamp>, key: &Key, entry: &Entr
     if is_above_all(state.ledger(), &entry.stamp.file) {
         return is_kept(floor, &entry.stamp.file);
     }
-    match state.get(key) {
+    match state.get_near(key, near) {
         Some(own) => is_kept(floor, &entry.stamp.file) && own < entry,
         None => is_kept(floor, &entry.stamp.file),
     }

@@ -24,6 +24,7 @@ use crate::floor::{common_floor, floor_of};
 use crate::item::{LedgerItem, item_of};
 use crate::ledger::{kept_items, room_for, union_of};
 use crate::live::Live;
+use crate::near::entry_near;
 use crate::rows::{are_many, greatest_rows, kept_rows, made_rows};
 use crate::uid_rows::rows_of_uid;
 use cif_file::{CifFile, FileParts, Key};
@@ -174,6 +175,15 @@ impl State {
         ensures valid { IsValid self.now }
     {
         self.entries.get(key)
+    }
+
+    /// The same. Where the row with this index is that of the key, nothing is searched. The index is then that of the row behind it.
+    pub(crate) fn get_near(&self, key: &Key, near: &mut usize) -> Option<&Entry>
+        ensures entry { option_map entry_meant (option_copied result)
+            ≡ entry_at self.now (key_meant key.now) }
+        ensures valid { IsValid self.now }
+    {
+        entry_near(self.entries.as_slice(), key, near)
     }
 
     /// The live table: the keys that are put, each with its body, in the order of the keys.
