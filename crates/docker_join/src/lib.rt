@@ -10,6 +10,3 @@ pub use entry::{Entry, Op};
 pub use merge::{Merge, Pick};
 pub use stamp::{FileStamp, Stamp};
 pub use table::Table;
-
-#[cfg(test)]
-mod tests;

@@ -12,7 +12,6 @@ pub mod FileState
 pub mod PartsLemmas
 pub mod LiveTable
 pub mod HorizonLemmas
-pub mod TestLemmas
 pub mod StagingLemmas
 pub mod LedgerSearch
 pub mod UidRows

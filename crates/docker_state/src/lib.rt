@@ -18,6 +18,3 @@ pub use live::Live;
 pub use parts::Parts;
 pub use staging::Staging;
 pub use state::State;
-
-#[cfg(test)]
-mod tests;
