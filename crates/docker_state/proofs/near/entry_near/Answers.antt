@@ -1,0 +1,27 @@
+use Rattle.std.proofs.Common.{rules, ◌∙◌, ap, sym}
+use Rattle.std.specs.Cmp.{Equal-is}
+use Rattle.std.proofs.lemmas.Fn.{always_returns_same}
+use Rattle.std.proofs.lemmas.List.{get_or_default}
+use Rattle.cif_file.specs.Meaning.{key_meant}
+use Rattle.docker_model.specs.state.Op.{key_cmp}
+use Rattle.docker_join.proofs.Lookup.{by_key, row_found, row_missing, rows_rise}
+use Rattle.docker_state.proofs.near.entry_near.Goals as goal
+
+pub returns-then-eq : goal.returns-then-eq
+returns-then-eq c =
+    let found = c.in-Some.ensures.lookup.3 in
+    let tied = (Equal-is (key_cmp (key_meant c.in-Some.row.now.0) (key_meant c.args.key.now))).0 (sym c.eq.ensures ∙ c.if-eq.true) in
+    row_found c.args.rows.now (key_meant c.args.key.now) c.args.near.now c.in-Some.row.now c.requires found.0 (found.1 c.in-Some.row.now)
+    (λ d. ap (by_key (key_meant c.args.key.now)) (sym (found.1 d)) ∙ tied)
+
+pub returns-in-Ok : goal.returns-in-Ok
+returns-in-Ok c =
+    row_found c.args.rows.now (key_meant c.args.key.now) c.in-Ok.at _ c.requires c.in-Ok.ensures.bound
+    (get_or_default c.args.rows.now c.in-Ok.at c.index-rows-at.result _ c.in-Ok.ensures.bound)
+    (λ d. c.in-Ok.ensures.position (by_key (key_meant c.args.key.now)) (always_returns_same _ _ _ (λ a r f h. search rules)) d)
+
+pub returns-in-Err : goal.returns-in-Err
+returns-in-Err c =
+    row_missing c.args.rows.now (key_meant c.args.key.now) c.in-Err.field-0 c.requires
+    (c.in-Err.ensures.position (by_key (key_meant c.args.key.now)) (always_returns_same _ _ _ (λ a r f h. search rules))
+    (rows_rise c.args.rows.now (key_meant c.args.key.now) c.requires))

@@ -1,0 +1,16 @@
+use Rattle.std.proofs.Common.{ap, ◌∙◌, List}
+use Rattle.std.specs.Option.{option_map}
+use Rattle.cif_change.specs.declared.key.Key.{Key}
+use Rattle.cif_file.specs.Meaning.{key_meant}
+use Rattle.docker_join.specs.declared.entry.Entry.{Entry}
+use Rattle.docker_join.specs.Meaning.{entry_meant}
+use Rattle.docker_join.specs.Rows.{value_at}
+use Rattle.docker_state.proofs.StateLemmas.{entry_of_rows}
+use Rattle.docker_state.proofs.state.State.get_near.Goals as goal
+
+pub returns-clause-entry : goal.returns-clause-entry
+returns-clause-entry c =
+    rw (← c.self.view_is)
+    (ap (option_map entry_meant)
+    (c.entry_near.ensures ∙ ap (λ (rows : List (Key × Entry)). value_at rows (key_meant c.args.key.now)) c.as_slice.ensures.rows)
+    ∙ entry_of_rows c.self.inside.horizon c.self.inside.ledger.items c.self.inside.entries (key_meant c.args.key.now))
