@@ -15,6 +15,3 @@ pub use fault::Fault;
 pub use fault_line::{FaultText, fault_text, status};
 pub use output::emit;
 pub use prepared_job::{Prepared, prepare};
-
-#[cfg(test)]
-mod tests;

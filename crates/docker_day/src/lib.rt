@@ -21,6 +21,3 @@ pub use docker_train::{Occasion, ScheduleView, chosen, falls, runs};
 pub use fault::DockerFault;
 pub use making::docker;
 pub use print::write_docker;
-
-#[cfg(test)]
-mod tests;
