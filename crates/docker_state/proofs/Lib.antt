@@ -17,3 +17,4 @@ pub mod LedgerSearch
 pub mod UidRows
 pub mod NoFile
 pub mod Newest
+pub mod SameLines

@@ -8,6 +8,7 @@ mod live;
 mod near;
 mod parts;
 mod rows;
+mod same;
 mod staging;
 mod state;
 mod uid_rows;
