@@ -1,13 +1,13 @@
 ghost use Rattle.std.specs.Prelude.{◌<◌};
 
 use cif_file::{
-    Act, Body, Change, CifFile, FileCause, FileFault, FileParser, Journey, Key, ReadFault,
+    Act, Body, Change, CifFile, FileCause, FileFault, FileParser, Journey, Key, Lines, ReadFault,
     ScheduleKey, judge_file, read_pieces,
 };
 use cif_line::{Bytes, Day, Extract, Line, Stp, Tiploc, Uid};
-use std::alloc::{AllocError, Global};
+use std::alloc::Global;
+use std::fmt::{Debug, Display};
 use std::process::Abort;
-use std::test::Fail;
 
 mod counts;
 mod sources;
@@ -133,14 +133,29 @@ const NEW: [u8; 63] = *b"         ASHFIELD NEW                                  
 /// The records of the file of one schedule.
 const F2: [&[u8]; 5] = [HD, BS, LO, LT, ZZ];
 
+// A test's values are compared by calls of these, which end the test where they differ: an assertion in a function of its own is proved once for all rows.
+
+fn same<T: PartialEq + Debug + Drop>(rt: &impl Abort, got: T, wanted: T) {
+    assert_eq!(rt; got, wanted);
+}
+
+fn same_in<T: PartialEq + Debug + Drop>(rt: &impl Abort, name: &str, got: T, wanted: T) {
+    assert_eq!(rt; got, wanted, "{name}");
+}
+
+fn prints<T: Display + Drop>(rt: &impl Abort, alloc: Global, value: T, wanted: &str) {
+    let text = format!(in alloc; "{value}").expect(rt, "the text");
+    same(rt, text.as_str(), wanted);
+}
+
 /// The text of these records, with this line end behind each.
-fn text(alloc: Global, records: &[&[u8]], end: &[u8]) -> Result<Vec<u8>, AllocError> {
+fn text(rt: &impl Abort, alloc: Global, records: &[&[u8]], end: &[u8]) -> Vec<u8> {
     let mut text = Vec::new(alloc);
     for record in records {
-        text.extend_from_slice(record)?;
-        text.extend_from_slice(end)?;
+        text.extend_from_slice(record).expect(rt, "room");
+        text.extend_from_slice(end).expect(rt, "room");
     }
-    Ok(text)
+    text
 }
 
 /// The fault of this cause at this record.
@@ -149,45 +164,56 @@ fn at(number: u32, cause: FileCause) -> FileFault {
 }
 
 /// The key of the schedule of C10001.
-fn schedule() -> Result<Key, Fail> {
-    Ok(Key::Schedule(ScheduleKey {
-        uid: Uid::from_field(b"C10001").ok_or("a UID")?,
-        runs_from: Day::from_number(23537).ok_or("a day")?,
+fn schedule(rt: &impl Abort) -> Key {
+    Key::Schedule(ScheduleKey {
+        uid: Uid::from_field(b"C10001").expect(rt, "a UID"),
+        runs_from: Day::from_number(23537).expect(rt, "a day"),
         stp: Stp::Permanent,
-    }))
+    })
+}
+
+/// A line of this text.
+fn line(rt: &impl Abort, text: &[u8]) -> Line {
+    Line::new(text).expect(rt, "a line")
 }
 
 /// That this is the file of one schedule.
-fn check_f2(rt: &impl Abort, file: CifFile) -> Result<(), Fail> {
+fn check_f2(rt: &impl Abort, file: CifFile) {
+    check_header(rt, &file);
+    same(rt, file.records(), 5);
+    same(rt, file.changes().len(), 1);
+    let only = file.changes().first().expect(rt, "one change");
+    same(rt, only.number, 2);
+    same(rt, only.key, schedule(rt));
+    check_lines(rt, &only.act);
+    same(rt, file.into_changes().len(), 1);
+}
+
+/// That its header is that of the file of one schedule.
+fn check_header(rt: &impl Abort, file: &CifFile) {
     let header = file.header();
-    assert_eq!(rt; header.day().number(), 23536);
-    assert_eq!(rt; header.minute(), 1260);
-    assert_eq!(rt; *header.reference(), *b"DFROC1A");
-    assert_eq!(rt; *header.last_reference(), *b"DFROC1Z");
-    assert_eq!(rt; header.extract(), Extract::Update);
-    assert_eq!(rt; file.records(), 5);
-    match file.changes() {
-        [only] => {
-            assert_eq!(rt; only.number, 2);
-            assert_eq!(rt; only.key, schedule()?);
-            check_lines(rt, &only.act)?;
-        }
-        _ => assert!(rt; false, "one change"),
+    same(rt, header.day().number(), 23536);
+    same(rt, header.minute(), 1260);
+    same(rt, *header.reference(), *b"DFROC1A");
+    same(rt, *header.last_reference(), *b"DFROC1Z");
+    same(rt, header.extract(), Extract::Update);
+}
+
+/// The lines of the schedule that it puts, if it puts one.
+fn lines_of(act: &Act) -> Option<&Lines> {
+    match act {
+        Act::Put(Body::Schedule(lines)) => Some(lines),
+        _ => None,
     }
-    assert_eq!(rt; file.into_changes().len(), 1);
-    Ok(())
 }
 
 /// That it puts the three lines of the schedule.
-fn check_lines(rt: &impl Abort, act: &Act) -> Result<(), Fail> {
-    let Act::Put(Body::Schedule(lines)) = act else {
-        return Err("a schedule")?;
-    };
-    assert_eq!(rt; lines.len(), 3);
-    assert!(rt; !lines.is_empty());
-    let wanted = [Line::new(BS)?, Line::new(LO)?, Line::new(LT)?];
-    assert_eq!(rt; lines.as_slice(), wanted.as_slice());
-    Ok(())
+fn check_lines(rt: &impl Abort, act: &Act) {
+    let lines = lines_of(act).expect(rt, "a schedule");
+    same(rt, lines.len(), 3);
+    same(rt, lines.is_empty(), false);
+    let wanted = [line(rt, BS), line(rt, LO), line(rt, LT)];
+    same(rt, lines.as_slice(), wanted.as_slice());
 }
 
 /// The fault of a text in pieces of this length.
@@ -218,151 +244,213 @@ fn told(fault: Option<FileFault>) -> Option<ReadFault> {
 }
 
 /// That the text has this fault, or none, in one piece, in pieces of any length, and from then on; and that a reader which keeps nothing tells the same.
-fn check_fault(
-    rt: &impl Abort,
-    alloc: Global,
-    text: &[u8],
-    wanted: Option<FileFault>,
-    name: &str,
-) -> Result<(), Fail> {
-    assert_eq!(rt; read_pieces(alloc, &[text], 1000).err(), wanted, "{name}");
-    assert_eq!(rt; fault_by(alloc, text, 1), wanted, "{name}");
-    assert_eq!(rt; fault_by(alloc, text, 7), wanted, "{name}");
-    assert_eq!(rt; fault_by(alloc, text, 4096), wanted, "{name}");
-    assert_eq!(rt; judged_fault(alloc, text), told(wanted), "{name}");
+fn check_fault(rt: &impl Abort, alloc: Global, text: &[u8], wanted: Option<FileFault>, name: &str) {
+    let whole = read_pieces(alloc, &[text], 1000).err();
+    same_in(rt, name, whole, wanted);
+    same_in(rt, name, fault_by(alloc, text, 1), wanted);
+    same_in(rt, name, fault_by(alloc, text, 7), wanted);
+    same_in(rt, name, fault_by(alloc, text, 4096), wanted);
+    same_in(rt, name, judged_fault(alloc, text), told(wanted));
     let mut parser = FileParser::new(alloc, 1000);
     if let Err(fault) = parser.feed(text) {
-        assert_eq!(rt; Some(fault), wanted, "{name}");
-        assert_eq!(rt; parser.feed(b""), Err(fault), "{name}");
-        assert_eq!(rt; parser.feed(HD), Err(fault), "{name}");
-        assert_eq!(rt; parser.feed(b"\n"), Err(fault), "{name}");
+        same_in(rt, name, Some(fault), wanted);
+        check_again(rt, &mut parser, fault, name);
     }
-    assert_eq!(rt; parser.finish().err(), wanted, "{name}");
-    Ok(())
+    same_in(rt, name, parser.finish().err(), wanted);
+}
+
+/// That the parser tells this fault of whatever it is fed.
+fn check_again(rt: &impl Abort, parser: &mut FileParser, fault: FileFault, name: &str) {
+    same_in(rt, name, parser.feed(b""), Err(fault));
+    same_in(rt, name, parser.feed(HD), Err(fault));
+    same_in(rt, name, parser.feed(b"\n"), Err(fault));
 }
 
 /// The changes of the file of these records.
-fn changes(rt: &impl Abort, alloc: Global, records: &[&[u8]]) -> Result<Vec<Change>, Fail> {
-    let text = text(alloc, records, b"\n")?;
-    let file = read_pieces(alloc, &[text.as_slice()], 1000)?;
-    assert_eq!(rt; file.records() as usize, records.len());
-    Ok(file.into_changes())
+fn changes(rt: &impl Abort, alloc: Global, records: &[&[u8]]) -> Vec<Change> {
+    let text = text(rt, alloc, records, b"\n");
+    let file = read_pieces(alloc, &[text.as_slice()], 1000).expect(rt, "a file");
+    same(rt, file.records() as usize, records.len());
+    file.into_changes()
+}
+
+/// That the text of these records has this fault.
+fn is_refused(
+    rt: &impl Abort,
+    alloc: Global,
+    records: &[&[u8]],
+    number: u32,
+    cause: FileCause,
+    name: &str,
+) {
+    let text = text(rt, alloc, records, b"\n");
+    let fault = at(number, cause);
+    check_fault(rt, alloc, text.as_slice(), Some(fault), name);
+}
+
+/// Records of a text that is refused, the record at fault, the cause, and the row's name.
+type Refused = (&'static [&'static [u8]], u32, FileCause, &'static str);
+
+const REFUSED: &[Refused] = &[
+    (&[], 1, FileCause::NoEnd, "empty"),
+    (&[BS], 1, FileCause::Place, "BS first"),
+    (&[HD_OTHER], 1, FileCause::Field(47), "indicator X"),
+    (&[HD, SHORT], 2, FileCause::Length, "79 characters"),
+    (&[HD, TAB], 2, FileCause::Byte(20), "a tab"),
+    (&[HD, LN], 2, FileCause::Kind, "LN"),
+    (&[HD, ZZ, LI_0000], 3, FileCause::After, "LI behind ZZ"),
+    (&[HD, BS, LT], 3, FileCause::Place, "LT behind BS"),
+    (&[HD, BS, ZZ], 3, FileCause::Place, "ZZ behind BS"),
+    (&[HD, BS, LO_2400], 3, FileCause::Field(11), "2400"),
+    (&[HD, BS], 3, FileCause::NoEnd, "an end behind BS"),
+    (&[HD, BS, LO, LT], 5, FileCause::NoEnd, "no ZZ"),
+    (&[HD, BS_FEBRUARY], 2, FileCause::Field(10), "29 February"),
+    (
+        &[HD, BS_NIGHT, LO_2355, LI_0010, LI_0005, LT_0001, ZZ],
+        6,
+        FileCause::Midnights,
+        "three midnights",
+    ),
+];
+
+/// That the file of one schedule has too many records where three is the limit.
+fn check_limit(rt: &impl Abort, alloc: Global) {
+    let text = text(rt, alloc, &F2, b"\n");
+    let fault = read_pieces(alloc, &[text.as_slice()], 3).err();
+    same(rt, fault, Some(at(4, FileCause::TooMany)));
 }
 
 #[test]
-fn refused_texts(rt: HostRuntime) -> Result<(), Fail> {
-    let rows: [(&[&[u8]], u32, FileCause, &str); 14] = [
-        (&[], 1, FileCause::NoEnd, "empty"),
-        (&[BS], 1, FileCause::Place, "BS first"),
-        (&[HD_OTHER], 1, FileCause::Field(47), "indicator X"),
-        (&[HD, SHORT], 2, FileCause::Length, "79 characters"),
-        (&[HD, TAB], 2, FileCause::Byte(20), "a tab"),
-        (&[HD, LN], 2, FileCause::Kind, "LN"),
-        (&[HD, ZZ, LI_0000], 3, FileCause::After, "LI behind ZZ"),
-        (&[HD, BS, LT], 3, FileCause::Place, "LT behind BS"),
-        (&[HD, BS, ZZ], 3, FileCause::Place, "ZZ behind BS"),
-        (&[HD, BS, LO_2400], 3, FileCause::Field(11), "2400"),
-        (&[HD, BS], 3, FileCause::NoEnd, "an end behind BS"),
-        (&[HD, BS, LO, LT], 5, FileCause::NoEnd, "no ZZ"),
-        (&[HD, BS_FEBRUARY], 2, FileCause::Field(10), "29 February"),
-        (
-            &[HD, BS_NIGHT, LO_2355, LI_0010, LI_0005, LT_0001, ZZ],
-            6,
-            FileCause::Midnights,
-            "three midnights",
-        ),
-    ];
-    for (records, number, cause, name) in rows {
-        let text = text(rt.alloc(), records, b"\n")?;
-        check_fault(
-            &rt,
-            rt.alloc(),
-            text.as_slice(),
-            Some(at(number, cause)),
-            name,
-        )?;
+fn refused_texts(rt: HostRuntime) {
+    for (records, number, cause, name) in REFUSED {
+        is_refused(&rt, rt.alloc(), records, *number, *cause, name);
     }
-    let text = text(rt.alloc(), &F2, b"\n")?;
-    let answer = read_pieces(rt.alloc(), &[text.as_slice()], 3);
-    assert_eq!(rt; answer.err(), Some(at(4, FileCause::TooMany)));
-    Ok(())
+    check_limit(&rt, rt.alloc());
 }
 
-#[test]
-fn accepted_texts(rt: HostRuntime) -> Result<(), Fail> {
-    let deletion = Change {
+/// That the changes of the file of these records are these.
+fn changes_are(rt: &impl Abort, alloc: Global, records: &[&[u8]], wanted: &[Change]) {
+    let changes = changes(rt, alloc, records);
+    same(rt, changes.as_slice(), wanted);
+}
+
+/// That the changes of the file of these records stand at these records.
+fn changes_stand_at(rt: &impl Abort, alloc: Global, records: &[&[u8]], numbers: &[u32]) {
+    let changes = changes(rt, alloc, records);
+    same(rt, changes.len(), numbers.len());
+    for (change, number) in changes.iter().zip(numbers) {
+        same(rt, change.number, *number);
+    }
+}
+
+/// The deletion at the second record.
+fn deletion(key: &Key) -> Change {
+    Change {
         number: 2,
-        key: schedule()?,
+        key: *key,
         act: Act::Delete,
-    };
-    let deleted = changes(&rt, rt.alloc(), &[HD, BS_DELETED, LO_2400, LT, ZZ])?;
-    assert_eq!(rt; deleted.as_slice(), [deletion].as_slice());
-    let rows: [(&[&[u8]], &[u32]); 4] = [
-        (
-            &[HD, BS_NIGHT, LO_2355, LI_0000, LI_0010, LT_0020, ZZ],
-            &[2],
-        ),
-        (
-            &[HD, BS_NIGHT, LO_2355, LI_0010, LI_0005, LT_0006, ZZ],
-            &[2],
-        ),
-        (
-            &[HD, BS, LO, LT, BS_OVERLAY, LO_0915, LT, BS_CANCELLED, ZZ],
-            &[2, 5, 8],
-        ),
-        (
-            &[
-                HD, BS, LO, LT, AA, BS_NIGHT, LO_2355, CR, LI_0010, LT_0020, ZZ,
-            ],
-            &[2, 5, 6],
-        ),
-    ];
-    for (records, numbers) in rows {
-        let changes = changes(&rt, rt.alloc(), records)?;
-        assert_eq!(rt; changes.len(), numbers.len());
-        for (change, number) in changes.iter().zip(numbers) {
-            assert_eq!(rt; change.number, *number);
-        }
     }
-    Ok(())
 }
 
-#[test]
-fn four_texts_of_one_file(rt: HostRuntime) -> Result<(), Fail> {
-    let mut whole = text(rt.alloc(), &F2, b"\n")?;
-    check_f2(&rt, read_pieces(rt.alloc(), &[whole.as_slice()], 5)?)?;
-    let mut parser = FileParser::new(rt.alloc(), 4_294_967_294);
-    for byte in &whole {
-        parser.feed(&[*byte])?;
-    }
-    check_f2(&rt, parser.finish()?)?;
-    let returns = text(rt.alloc(), &F2, b"\r\n")?;
-    check_f2(&rt, read_pieces(rt.alloc(), &[returns.as_slice()], 5)?)?;
-    whole.pop();
-    check_f2(&rt, read_pieces(rt.alloc(), &[whole.as_slice()], 5)?)
-}
-
-#[test]
-fn renames(rt: HostRuntime) -> Result<(), Fail> {
-    let old = Key::Tiploc(Tiploc::from_text("ASHFELD").ok_or("a TIPLOC")?);
-    let new = Key::Tiploc(Tiploc::from_text("ASHFLDN").ok_or("a TIPLOC")?);
-    let put = |key: Key, body: [u8; 63]| Change {
+/// What the second record puts of a timing point.
+fn put(key: &Key, body: [u8; 63]) -> Change {
+    Change {
         number: 2,
-        key,
+        key: *key,
         act: Act::Put(Body::Tiploc(body)),
-    };
-    let deletion = Change {
-        number: 2,
-        key: old,
-        act: Act::Delete,
-    };
-    let inserted = changes(&rt, rt.alloc(), &[HD, TI, ZZ])?;
-    assert_eq!(rt; inserted.as_slice(), [put(old, CENTRAL)].as_slice());
-    let renamed = changes(&rt, rt.alloc(), &[HD, TA_RENAMED, ZZ])?;
-    assert_eq!(rt; renamed.as_slice(), [deletion, put(new, NEW)].as_slice());
-    let kept = changes(&rt, rt.alloc(), &[HD, TA_SAME, ZZ])?;
-    assert_eq!(rt; kept.as_slice(), [put(old, CENTRAL)].as_slice());
-    Ok(())
+    }
+}
+
+/// Records of a text that is accepted, and where its changes stand.
+type Accepted = (&'static [&'static [u8]], &'static [u32]);
+
+const ACCEPTED: &[Accepted] = &[
+    (
+        &[HD, BS_NIGHT, LO_2355, LI_0000, LI_0010, LT_0020, ZZ],
+        &[2],
+    ),
+    (
+        &[HD, BS_NIGHT, LO_2355, LI_0010, LI_0005, LT_0006, ZZ],
+        &[2],
+    ),
+    (
+        &[HD, BS, LO, LT, BS_OVERLAY, LO_0915, LT, BS_CANCELLED, ZZ],
+        &[2, 5, 8],
+    ),
+    (
+        &[
+            HD, BS, LO, LT, AA, BS_NIGHT, LO_2355, CR, LI_0010, LT_0020, ZZ,
+        ],
+        &[2, 5, 6],
+    ),
+];
+
+#[test]
+fn accepted_texts(rt: HostRuntime) {
+    let deleted = [deletion(&schedule(&rt))];
+    changes_are(
+        &rt,
+        rt.alloc(),
+        &[HD, BS_DELETED, LO_2400, LT, ZZ],
+        &deleted,
+    );
+    for (records, numbers) in ACCEPTED {
+        changes_stand_at(&rt, rt.alloc(), records, numbers);
+    }
+}
+
+/// That this text is the file of one schedule.
+fn check_f2_text(rt: &impl Abort, alloc: Global, text: &[u8]) {
+    let file = read_pieces(alloc, &[text], 5).expect(rt, "a file");
+    check_f2(rt, file);
+}
+
+/// That the records of the file of one schedule with this line end are.
+fn check_f2_ends(rt: &impl Abort, alloc: Global, end: &[u8]) {
+    let whole = text(rt, alloc, &F2, end);
+    check_f2_text(rt, alloc, whole.as_slice());
+}
+
+/// That they are without the last line feed.
+fn check_f2_open(rt: &impl Abort, alloc: Global) {
+    let mut whole = text(rt, alloc, &F2, b"\n");
+    whole.pop();
+    check_f2_text(rt, alloc, whole.as_slice());
+}
+
+/// That they are in pieces of one byte.
+fn check_f2_bytes(rt: &impl Abort, alloc: Global) {
+    let whole = text(rt, alloc, &F2, b"\n");
+    let mut parser = FileParser::new(alloc, 4_294_967_294);
+    for byte in &whole {
+        parser.feed(&[*byte]).expect(rt, "a good byte");
+    }
+    let file = parser.finish().expect(rt, "a file");
+    check_f2(rt, file);
+}
+
+#[test]
+fn four_texts_of_one_file(rt: HostRuntime) {
+    check_f2_ends(&rt, rt.alloc(), b"\n");
+    check_f2_bytes(&rt, rt.alloc());
+    check_f2_ends(&rt, rt.alloc(), b"\r\n");
+    check_f2_open(&rt, rt.alloc());
+}
+
+/// The key of a timing point.
+fn tiploc(rt: &impl Abort, code: &str) -> Key {
+    Key::Tiploc(Tiploc::from_text(code).expect(rt, "a TIPLOC"))
+}
+
+#[test]
+fn renames(rt: HostRuntime) {
+    let alloc = rt.alloc();
+    let old = tiploc(&rt, "ASHFELD");
+    let new = tiploc(&rt, "ASHFLDN");
+    changes_are(&rt, alloc, &[HD, TI, ZZ], &[put(&old, CENTRAL)]);
+    let renamed = [deletion(&old), put(&new, NEW)];
+    changes_are(&rt, alloc, &[HD, TA_RENAMED, ZZ], &renamed);
+    changes_are(&rt, alloc, &[HD, TA_SAME, ZZ], &[put(&old, CENTRAL)]);
 }
 
 /// The fault of the first bytes of the file of one schedule, so many, where each line and its end have this many bytes.
@@ -385,74 +473,111 @@ fn cut_fault(length: u32, width: u32) -> Option<FileFault>
     Some(at(records.saturating_add(1), FileCause::NoEnd))
 }
 
-#[test]
-fn cut_texts(rt: HostRuntime) -> Result<(), Fail> {
-    let ends: [(&[u8], bool); 2] = [(b"\n", false), (b"\r\n", true)];
-    for (end, has_return) in ends {
-        let whole = text(rt.alloc(), &F2, end)?;
-        let width = if has_return { 82 } else { 81 };
-        let mut cut = Vec::new(rt.alloc());
-        let mut length: u32 = 0;
-        for byte in &whole {
-            check_fault(
-                &rt,
-                rt.alloc(),
-                cut.as_slice(),
-                cut_fault(length, width),
-                "a cut text",
-            )?;
-            cut.push(*byte)?;
-            length = length.saturating_add(1);
-        }
-        assert_eq!(rt; length, width * 5);
-        check_fault(&rt, rt.alloc(), cut.as_slice(), None, "a whole text")?;
+/// That each beginning of the file of one schedule has its fault, where a line and its end have this many bytes.
+fn check_cuts(rt: &impl Abort, alloc: Global, end: &[u8], width: u32)
+    requires { 80 < width }
+{
+    let whole = text(rt, alloc, &F2, end);
+    let mut cut = Vec::new(alloc);
+    let mut length: u32 = 0;
+    for byte in &whole {
+        let fault = cut_fault(length, width);
+        check_fault(rt, alloc, cut.as_slice(), fault, "a cut text");
+        cut.push(*byte).expect(rt, "room");
+        length = length.saturating_add(1);
     }
-    Ok(())
+    same(rt, length, width.saturating_mul(5));
+    check_fault(rt, alloc, cut.as_slice(), None, "a whole text");
 }
 
 #[test]
-fn texts_without_end(rt: HostRuntime) -> Result<(), Fail> {
-    let mut parser = FileParser::new(rt.alloc(), 1000);
+fn cut_texts(rt: HostRuntime) {
+    check_cuts(&rt, rt.alloc(), b"\n", 81);
+    check_cuts(&rt, rt.alloc(), b"\r\n", 82);
+}
+
+/// That a parser takes records without end up to the thousandth, and no more.
+fn check_records_without_end(rt: &impl Abort, alloc: Global) {
+    let mut parser = FileParser::new(alloc, 1000);
     let mut again = Ok(());
-    parser.feed(HD)?;
-    parser.feed(b"\n")?;
+    same(rt, parser.feed(HD), Ok(()));
+    same(rt, parser.feed(b"\n"), Ok(()));
     for number in 2..2000 {
         let _ = parser.feed(TI);
         again = parser.feed(b"\n");
-        assert_eq!(rt; again.is_ok(), number <= 1000, "record {number}");
+        same(rt, (number, again.is_ok()), (number, number <= 1000));
     }
     let fault = at(1001, FileCause::TooMany);
-    assert_eq!(rt; again, Err(fault));
-    assert_eq!(rt; parser.finish().err(), Some(fault));
-    let mut parser = FileParser::new(rt.alloc(), 1000);
-    for length in 1..200 {
-        let fed = parser.feed(b"H");
-        let wanted = if length <= 81 {
-            Ok(())
-        } else {
-            Err(at(1, FileCause::Length))
-        };
-        assert_eq!(rt; fed, wanted, "{length} bytes");
+    same(rt, again, Err(fault));
+    same(rt, parser.finish().err(), Some(fault));
+}
+
+/// The fault of a line without end of which so many bytes came.
+fn long_fault(length: u32) -> Option<FileFault> {
+    if length <= 81 {
+        None
+    } else {
+        Some(at(1, FileCause::Length))
     }
-    Ok(())
 }
 
 #[test]
-fn a_journey(rt: HostRuntime) -> Result<(), Fail> {
+fn texts_without_end(rt: HostRuntime) {
+    check_records_without_end(&rt, rt.alloc());
+    let mut parser = FileParser::new(rt.alloc(), 1000);
+    for length in 1..200 {
+        let fault = parser.feed(b"H").err();
+        same(&rt, (length, fault), (length, long_fault(length)));
+    }
+}
+
+#[test]
+fn a_journey(rt: HostRuntime) {
     let mut journey = Journey::new();
-    let basic = Line::new(BS)?;
-    let origin = Line::new(LO)?;
-    let terminus = Line::new(LT)?;
-    assert!(rt; !journey.complete());
-    assert_eq!(rt; journey.line(&basic), Ok(()));
-    assert!(rt; !journey.complete());
-    assert_eq!(rt; journey.line(&terminus), Err(FileCause::Place));
-    assert!(rt; !journey.complete());
-    assert_eq!(rt; journey.line(&origin), Ok(()));
-    assert!(rt; !journey.complete());
-    assert_eq!(rt; journey.line(&terminus), Ok(()));
-    assert!(rt; journey.complete());
-    Ok(())
+    let basic = line(&rt, BS);
+    let origin = line(&rt, LO);
+    let terminus = line(&rt, LT);
+    same(&rt, journey.complete(), false);
+    same(&rt, journey.line(&basic), Ok(()));
+    same(&rt, journey.complete(), false);
+    same(&rt, journey.line(&terminus), Err(FileCause::Place));
+    same(&rt, journey.complete(), false);
+    same(&rt, journey.line(&origin), Ok(()));
+    same(&rt, journey.complete(), false);
+    same(&rt, journey.line(&terminus), Ok(()));
+    same(&rt, journey.complete(), true);
+}
+
+/// The want of memory that is told from then on, where what the line feed of this record told comes after another.
+fn wanting_from(
+    fed: Option<FileFault>,
+    wanting: Option<FileFault>,
+    number: u32,
+) -> Option<FileFault> {
+    match (wanting, fed) {
+        (None, Some(_)) => Some(at(number, FileCause::Memory)),
+        _ => wanting,
+    }
+}
+
+/// The file that the parser has, where no memory was wanting; else none, and the fault is want of memory at this record, or as it was told before.
+fn file_at_end(
+    rt: &impl Abort,
+    parser: FileParser,
+    wanting: Option<FileFault>,
+    number: u32,
+) -> Option<CifFile> {
+    match parser.finish() {
+        Ok(file) => {
+            same_in(rt, "a file", wanting, None);
+            Some(file)
+        }
+        Err(fault) => {
+            let wanted = wanting.unwrap_or(at(number, FileCause::Memory));
+            same_in(rt, "the end", fault, wanted);
+            None
+        }
+    }
 }
 
 /// The file of these records, fed one by one with a line feed between them; none where memory was wanting. That is told by the line feed of the very record
@@ -467,56 +592,44 @@ fn file_or_wanting(
     let mut wanting = None;
     let mut number: u32 = 1;
     for record in front {
-        assert_eq!(rt; parser.feed(record).err(), wanting, "record {number}");
+        let fault = parser.feed(record).err();
+        same(rt, (number, fault), (number, wanting));
         let fed = parser.feed(b"\n").err();
-        if wanting.is_none() && fed.is_some() {
-            wanting = Some(at(number, FileCause::Memory));
-        }
-        assert_eq!(rt; fed, wanting, "the end of record {number}");
+        wanting = wanting_from(fed, wanting, number);
+        same(rt, (number, fed), (number, wanting));
         number = number.saturating_add(1);
     }
-    assert_eq!(rt; parser.feed(last).err(), wanting, "record {number}");
-    match parser.finish() {
-        Ok(file) => {
-            assert!(rt; wanting.is_none(), "a file");
-            Some(file)
-        }
-        Err(fault) => {
-            let wanted = wanting.unwrap_or(at(number, FileCause::Memory));
-            assert_eq!(rt; fault, wanted, "the end");
-            None
-        }
-    }
+    let fault = parser.feed(last).err();
+    same(rt, (number, fault), (number, wanting));
+    file_at_end(rt, parser, wanting, number)
 }
 
 #[test]
-fn want_of_memory(rt: HostRuntime) -> Result<(), Fail> {
+fn want_of_memory(rt: HostRuntime) {
     if let Some(file) = file_or_wanting(&rt, rt.alloc(), &[HD, BS, LO, LT], ZZ) {
-        check_f2(&rt, file)?;
+        check_f2(&rt, file);
     }
     if let Some(file) = file_or_wanting(&rt, rt.alloc(), &[HD, BS_DELETED], ZZ) {
-        assert_eq!(rt; file.changes().len(), 1);
+        same(&rt, file.changes().len(), 1);
     }
-    Ok(())
+}
+
+/// That a fault of this cause at the seventh record is printed so.
+fn cause_prints(rt: &impl Abort, alloc: Global, cause: FileCause, wanted: &str) {
+    prints(rt, alloc, at(7, cause), wanted);
 }
 
 #[test]
-fn printed_faults(rt: HostRuntime) -> Result<(), Fail> {
-    let printed = [
-        (FileCause::Length, "record 7: Length"),
-        (FileCause::Byte(12), "record 7: Byte 12"),
-        (FileCause::Kind, "record 7: Kind"),
-        (FileCause::Place, "record 7: Place"),
-        (FileCause::Field(23), "record 7: Field 23"),
-        (FileCause::Midnights, "record 7: Midnights"),
-        (FileCause::NoEnd, "record 7: NoEnd"),
-        (FileCause::After, "record 7: After"),
-        (FileCause::TooMany, "record 7: TooMany"),
-        (FileCause::Memory, "record 7: Memory"),
-    ];
-    for (cause, wanted) in printed {
-        let text = format!(in rt.alloc(); "{}", at(7, cause))?;
-        assert_eq!(rt; text.as_str(), wanted);
-    }
-    Ok(())
+fn printed_faults(rt: HostRuntime) {
+    let alloc = rt.alloc();
+    cause_prints(&rt, alloc, FileCause::Length, "record 7: Length");
+    cause_prints(&rt, alloc, FileCause::Byte(12), "record 7: Byte 12");
+    cause_prints(&rt, alloc, FileCause::Kind, "record 7: Kind");
+    cause_prints(&rt, alloc, FileCause::Place, "record 7: Place");
+    cause_prints(&rt, alloc, FileCause::Field(23), "record 7: Field 23");
+    cause_prints(&rt, alloc, FileCause::Midnights, "record 7: Midnights");
+    cause_prints(&rt, alloc, FileCause::NoEnd, "record 7: NoEnd");
+    cause_prints(&rt, alloc, FileCause::After, "record 7: After");
+    cause_prints(&rt, alloc, FileCause::TooMany, "record 7: TooMany");
+    cause_prints(&rt, alloc, FileCause::Memory, "record 7: Memory");
 }

@@ -12,9 +12,9 @@ use records::{
     HEAD_OF_NO_TAG, ITEM, ITEM_5A, ITEM_7B, ITEM_LATE, LO, LT, MARK, MOST, OLD_MARK, ONE, TA, TI,
     TWO, ZZ,
 };
-use std::alloc::{AllocError, Global};
+use std::alloc::Global;
+use std::fmt::Debug;
 use std::process::Abort;
-use std::test::Fail;
 
 mod endless;
 mod failing;
@@ -25,112 +25,149 @@ mod parts;
 mod received;
 mod records;
 
+// A test's values are compared by calls of these, which end the test where they differ: an assertion in a function of its own is proved once for all rows.
+
+fn same<T: PartialEq + Debug + Drop>(rt: &impl Abort, got: T, wanted: T) {
+    assert_eq!(rt; got, wanted);
+}
+
+fn same_in<T: PartialEq + Debug + Drop>(rt: &impl Abort, name: &str, got: T, wanted: T) {
+    assert_eq!(rt; got, wanted, "{name}");
+}
+
 /// The pieces joined.
-fn joined_text(alloc: Global, pieces: &[&[u8]]) -> Result<Vec<u8>, AllocError> {
+fn joined_text(rt: &impl Abort, alloc: Global, pieces: &[&[u8]]) -> Vec<u8> {
     let mut text = Vec::new(alloc);
     for piece in pieces {
-        text.extend_from_slice(piece)?;
+        text.extend_from_slice(piece).expect(rt, "room");
     }
-    Ok(text)
+    text
+}
+
+/// The text of these records.
+fn lines(rt: &impl Abort, alloc: Global, records: &[&[u8]]) -> Vec<u8> {
+    let mut text = Vec::new(alloc);
+    for record in records {
+        text.extend_from_slice(record).expect(rt, "room");
+        text.push(b'\n').expect(rt, "room");
+    }
+    text
 }
 
 /// The state of the file of these records.
-fn state(alloc: Global, records: &[&[u8]]) -> Result<State, Fail> {
-    let mut text = Vec::new(alloc);
-    for record in records {
-        text.extend_from_slice(record)?;
-        text.push(b'\n')?;
-    }
-    let file = read_pieces(alloc, &[text.as_slice()], 1000)?;
-    match State::of_file(alloc, file) {
-        Ok(state) => Ok(state),
-        Err(_) => Err("memory")?,
-    }
+fn state(rt: &impl Abort, alloc: Global, records: &[&[u8]]) -> State {
+    let text = lines(rt, alloc, records);
+    let file = read_pieces(alloc, &[text.as_slice()], 1000).expect(rt, "a file");
+    State::of_file(alloc, file).expect(rt, "room")
 }
 
-/// The join of the states of two files.
-fn both(alloc: Global, one: &[&[u8]], other: &[&[u8]]) -> Result<State, Fail> {
-    match state(alloc, one)?.join(alloc, state(alloc, other)?) {
-        Ok(joined) => Ok(joined),
-        Err(_) => Err("memory")?,
-    }
+/// The join of two states.
+fn join(rt: &impl Abort, alloc: Global, one: State, other: State) -> State {
+    one.join(alloc, other).expect(rt, "room")
 }
 
 /// The text that is written of a state.
-fn written(alloc: Global, state: &State) -> Result<Vec<u8>, Fail> {
-    let mut kept = Kept::new(alloc, 1000)?;
-    write_state(state, &mut kept)?;
-    Ok(Vec::from_slice(alloc, kept.bytes())?)
+fn written(rt: &impl Abort, alloc: Global, state: &State) -> Kept {
+    let mut kept = Kept::new(alloc, 1000).expect(rt, "room");
+    same(rt, write_state(state, &mut kept), Ok(()));
+    kept
+}
+
+/// That a state has this text.
+fn text_is(rt: &impl Abort, alloc: Global, state: &State, wanted: &[u8]) {
+    let text = written(rt, alloc, state);
+    same(rt, text.bytes(), wanted);
+}
+
+/// The state of a text, which is read by so many bytes.
+fn read(rt: &impl Abort, alloc: Global, text: &[u8], step: usize, limit: u64) -> State
+    requires { 0 < step }
+{
+    let mut source = Bytes::new(text, step);
+    read_state(alloc, &mut source, limit).expect(rt, "a state")
 }
 
 /// The text of the file of 9 June with its schedule: 311 bytes.
-fn known_text(alloc: Global) -> Result<Vec<u8>, AllocError> {
-    joined_text(alloc, &[MARK, ONE, ITEM, ONE, HEAD, BS, LO, LT])
+fn known_text(rt: &impl Abort, alloc: Global) -> Vec<u8> {
+    joined_text(rt, alloc, &[MARK, ONE, ITEM, ONE, HEAD, BS, LO, LT])
+}
+
+/// The state of that file.
+fn known_state(rt: &impl Abort, alloc: Global) -> State {
+    state(rt, alloc, &[HD, BS, LO, LT, ZZ])
 }
 
 /// That a state has a text of so many bytes, and that this text is read back.
-fn goes_round(
-    rt: &impl Abort,
-    alloc: Global,
-    state: &State,
-    len: usize,
-    step: usize,
-) -> Result<(), Fail> {
-    let text = written(alloc, state)?;
-    assert_eq!(rt; text.len(), len);
-    assert_eq!(rt; encoded_len(state), len as u128);
-    if step > 0 {
-        let read = read_state(alloc, &mut Bytes::new(text.as_slice(), step), len as u64)?;
-        let again = written(alloc, &read)?;
-        assert_eq!(rt; again.as_slice(), text.as_slice());
-    }
-    Ok(())
+fn goes_round(rt: &impl Abort, alloc: Global, state: &State, len: usize, step: usize)
+    requires { 0 < step }
+{
+    let text = written(rt, alloc, state);
+    same(rt, text.bytes().len(), len);
+    same(rt, encoded_len(state), len as u128);
+    let again = read(rt, alloc, text.bytes(), step, len as u64);
+    text_is(rt, alloc, &again, text.bytes());
 }
 
 #[test]
-fn the_text_of_a_schedule(rt: HostRuntime) -> Result<(), Fail> {
+fn the_text_of_a_schedule(rt: HostRuntime) {
     let alloc = rt.alloc();
-    let state = state(alloc, &[HD, BS, LO, LT, ZZ])?;
-    let known = known_text(alloc)?;
-    let text = written(alloc, &state)?;
-    assert_eq!(rt; text.as_slice(), known.as_slice());
-    goes_round(&rt, alloc, &state, 311, 1)?;
-    goes_round(&rt, alloc, &state, 311, 4096)
+    let state = known_state(&rt, alloc);
+    let known = known_text(&rt, alloc);
+    text_is(&rt, alloc, &state, known.as_slice());
+    goes_round(&rt, alloc, &state, 311, 1);
+    goes_round(&rt, alloc, &state, 311, 4096);
 }
 
 #[test]
-fn the_text_of_nothing(rt: HostRuntime) -> Result<(), Fail> {
+fn the_text_of_nothing(rt: HostRuntime) {
     let alloc = rt.alloc();
     let empty = State::empty(alloc);
-    let text = written(alloc, &empty)?;
-    assert_eq!(rt;
-        text.as_slice(),
-        b"DKS2\0\0\0\0\0\0\0\0\0\0\0\0\0\0\0\0\0\0".as_slice()
-    );
-    goes_round(&rt, alloc, &empty, 22, 3)
+    let wanted = b"DKS2\0\0\0\0\0\0\0\0\0\0\0\0\0\0\0\0\0\0";
+    text_is(&rt, alloc, &empty, wanted);
+    goes_round(&rt, alloc, &empty, 22, 3);
 }
 
 #[test]
-fn texts_of_each_kind_of_entry(rt: HostRuntime) -> Result<(), Fail> {
+fn texts_of_each_kind_of_entry(rt: HostRuntime) {
     let alloc = rt.alloc();
-    let deleted = both(alloc, &[HD_9B, BS_DELETED, ZZ], &[HD_8A, BS, LO, LT, ZZ])?;
-    goes_round(&rt, alloc, &deleted, 86, 1)?;
-    let renamed = both(alloc, &[HD, TI, ZZ], &[HD_10B, TA, ZZ])?;
-    goes_round(&rt, alloc, &renamed, 171, 7)?;
-    let associated = state(alloc, &[HD, AA, ZZ])?;
-    goes_round(&rt, alloc, &associated, 161, 1)
+    let deletion = state(&rt, alloc, &[HD_9B, BS_DELETED, ZZ]);
+    let before = state(&rt, alloc, &[HD_8A, BS, LO, LT, ZZ]);
+    let deleted = join(&rt, alloc, deletion, before);
+    goes_round(&rt, alloc, &deleted, 86, 1);
+    let place = state(&rt, alloc, &[HD, TI, ZZ]);
+    let amended = state(&rt, alloc, &[HD_10B, TA, ZZ]);
+    let renamed = join(&rt, alloc, place, amended);
+    goes_round(&rt, alloc, &renamed, 171, 7);
+    let associated = state(&rt, alloc, &[HD, AA, ZZ]);
+    goes_round(&rt, alloc, &associated, 161, 1);
 }
 
 #[test]
-fn a_full_sink_has_a_beginning(rt: HostRuntime) -> Result<(), Fail> {
+fn a_full_sink_has_a_beginning(rt: HostRuntime) {
     let alloc = rt.alloc();
-    let state = state(alloc, &[HD, BS, LO, LT, ZZ])?;
-    let known = known_text(alloc)?;
-    let mut kept = Kept::new(alloc, 20)?;
-    assert!(rt; write_state(&state, &mut kept).is_err());
-    let front = known.as_slice().get(..20).ok_or("short")?;
-    assert_eq!(rt; kept.bytes(), front);
-    Ok(())
+    let state = known_state(&rt, alloc);
+    let known = known_text(&rt, alloc);
+    let mut kept = Kept::new(alloc, 20).expect(&rt, "room");
+    same(&rt, write_state(&state, &mut kept).is_err(), true);
+    let front = known.as_slice().get(..20).expect(&rt, "20 bytes");
+    same(&rt, kept.bytes(), front);
+}
+
+/// A fault of a text.
+fn at(at: u64, cause: StateCause) -> StateFault {
+    StateFault { at, cause }
+}
+
+/// The fault that a parser tells of a piece which begins there, or a byte of it behind the state.
+fn fault_in(parser: &mut StateParser, piece: &[u8], begins: u64) -> Option<StateFault> {
+    match parser.feed(piece) {
+        Ok((used, _)) if used < piece.len() => {
+            let end = begins.saturating_add(used as u64);
+            Some(at(end, StateCause::Tail))
+        }
+        Ok(_) => None,
+        Err(fault) => Some(fault),
+    }
 }
 
 /// The fault of a text, as a parser that is fed so many bytes at once tells it, and a byte behind the state where it is left.
@@ -138,39 +175,39 @@ fn told(alloc: Global, text: &[u8], limit: u64, step: usize) -> Option<StateFaul
     requires { 0 < step }
 {
     let mut parser = StateParser::new(alloc, limit);
-    let mut at = 0u64;
+    let mut begins: u64 = 0;
     for piece in text.chunks(step) {
-        match parser.feed(piece) {
-            Ok((used, _)) => {
-                at = at.saturating_add(used as u64);
-                if used < piece.len() {
-                    let cause = StateCause::Tail;
-                    return Some(StateFault { at, cause });
-                }
-            }
-            Err(fault) => return Some(fault),
+        let fault = fault_in(&mut parser, piece, begins);
+        if fault.is_some() {
+            return fault;
         }
+        begins = begins.saturating_add(piece.len() as u64);
     }
     parser.finish().err()
 }
 
-/// That a text of these pieces has this fault under this limit, as each way of reading tells it.
-fn refused(
+/// That a text has this fault under this limit, where it is read by so many bytes and where a parser is fed so many.
+fn refused_by(
     rt: &impl Abort,
     alloc: Global,
-    pieces: &[&[u8]],
+    text: &[u8],
     limit: u64,
-    wanted: (u64, StateCause),
-) -> Result<(), Fail> {
-    let text = joined_text(alloc, pieces)?;
-    let (at, cause) = wanted;
-    let fault = StateFault { at, cause };
-    for step in [1, 4096] {
-        let read = read_state(alloc, &mut Bytes::new(text.as_slice(), step), limit);
-        assert_eq!(rt; read.err(), Some(ReadFault::State(fault)));
-        assert_eq!(rt; told(alloc, text.as_slice(), limit, step), Some(fault));
-    }
-    Ok(())
+    fault: StateFault,
+    step: usize,
+)
+    requires { 0 < step }
+{
+    let mut source = Bytes::new(text, step);
+    let read = read_state(alloc, &mut source, limit).err();
+    same(rt, read, Some(ReadFault::State(fault)));
+    same(rt, told(alloc, text, limit, step), Some(fault));
+}
+
+/// That a text of these pieces has this fault under this limit, as each way of reading tells it.
+fn refused(rt: &impl Abort, alloc: Global, pieces: &[&[u8]], limit: u64, fault: StateFault) {
+    let text = joined_text(rt, alloc, pieces);
+    refused_by(rt, alloc, text.as_slice(), limit, fault, 1);
+    refused_by(rt, alloc, text.as_slice(), limit, fault, 4096);
 }
 
 /// Pieces of a text that is refused, and its fault.
@@ -201,14 +238,13 @@ const LEDGERS: &[Row] = &[
 ];
 
 #[test]
-fn faults_of_the_ledger(rt: HostRuntime) -> Result<(), Fail> {
+fn faults_of_the_ledger(rt: HostRuntime) {
     let alloc = rt.alloc();
-    for (pieces, at, cause) in LEDGERS {
-        refused(&rt, alloc, pieces, 1000, (*at, *cause))?;
+    for (pieces, place, cause) in LEDGERS {
+        refused(&rt, alloc, pieces, 1000, at(*place, *cause));
     }
-    refused(&rt, alloc, &[b"XYZ"], 3, (0, StateCause::Short))?;
-    refused(&rt, alloc, &[b"XYZ"], 2, (2, StateCause::Long))?;
-    Ok(())
+    refused(&rt, alloc, &[b"XYZ"], 3, at(0, StateCause::Short));
+    refused(&rt, alloc, &[b"XYZ"], 2, at(2, StateCause::Long));
 }
 
 /// Faults of an entry.
@@ -251,98 +287,91 @@ const ENTRIES: &[Row] = &[
 ];
 
 #[test]
-fn faults_of_an_entry(rt: HostRuntime) -> Result<(), Fail> {
+fn faults_of_an_entry(rt: HostRuntime) {
     let alloc = rt.alloc();
-    for (pieces, at, cause) in ENTRIES {
-        refused(&rt, alloc, pieces, 1000, (*at, *cause))?;
+    for (pieces, place, cause) in ENTRIES {
+        refused(&rt, alloc, pieces, 1000, at(*place, *cause));
     }
-    Ok(())
+}
+
+/// That each front of a text, whose parts begin at these places, is too short.
+fn refused_fronts(rt: &impl Abort, alloc: Global, text: &[u8], places: &[u64]) {
+    for (n, _) in text.iter().enumerate() {
+        let fault = at(last_place(places, n), StateCause::Short);
+        refused(rt, alloc, &[&text[..n]], 1000, fault);
+    }
 }
 
 #[test]
-fn faults_of_length(rt: HostRuntime) -> Result<(), Fail> {
+fn faults_of_length(rt: HostRuntime) {
     let alloc = rt.alloc();
-    let known = known_text(alloc)?;
-    refused(
-        &rt,
-        alloc,
-        &[known.as_slice(), b"\0"],
-        1000,
-        (311, StateCause::Tail),
-    )?;
-    refused(
-        &rt,
-        alloc,
-        &[known.as_slice(), b"\0"],
-        311,
-        (311, StateCause::Tail),
-    )?;
-    refused(
-        &rt,
-        alloc,
-        &[known.as_slice()],
-        310,
-        (310, StateCause::Long),
-    )?;
-    for (n, _) in known.as_slice().iter().enumerate() {
-        let at = last_place(&BEGINNINGS, n);
-        let front = &known.as_slice()[..n];
-        refused(&rt, alloc, &[front], 1000, (at, StateCause::Short))?;
-    }
-    Ok(())
+    let known = known_text(&rt, alloc);
+    let known = known.as_slice();
+    let tail = at(311, StateCause::Tail);
+    refused(&rt, alloc, &[known, b"\0"], 1000, tail);
+    refused(&rt, alloc, &[known, b"\0"], 311, tail);
+    refused(&rt, alloc, &[known], 310, at(310, StateCause::Long));
+    refused_fronts(&rt, alloc, known, &BEGINNINGS);
+}
+
+/// That a parser which is fed more than a state uses the bytes of the state alone.
+fn uses_the_state(rt: &impl Abort, alloc: Global, known: &[u8]) {
+    let longer = joined_text(rt, alloc, &[known, b"\0"]);
+    let mut parser = StateParser::new(alloc, 1000);
+    same(rt, parser.feed(longer.as_slice()), Ok((311, Step::Done)));
+    same(rt, parser.feed(longer.as_slice()), Ok((0, Step::Done)));
+    let state = parser.finish().expect(rt, "a state");
+    text_is(rt, alloc, &state, known);
 }
 
 #[test]
-fn a_parser_uses_the_bytes_of_the_state_alone(rt: HostRuntime) -> Result<(), Fail> {
+fn a_parser_uses_the_bytes_of_the_state_alone(rt: HostRuntime) {
     let alloc = rt.alloc();
-    let known = known_text(alloc)?;
-    let longer = joined_text(alloc, &[known.as_slice(), b"\0"])?;
+    let known = known_text(&rt, alloc);
+    uses_the_state(&rt, alloc, known.as_slice());
     let mut parser = StateParser::new(alloc, 1000);
-    assert_eq!(rt; parser.feed(longer.as_slice())?, (311, Step::Done));
-    assert_eq!(rt; parser.feed(longer.as_slice())?, (0, Step::Done));
-    let text = written(alloc, &parser.finish()?)?;
-    assert_eq!(rt; text.as_slice(), known.as_slice());
-    let mut parser = StateParser::new(alloc, 1000);
-    let front = known.as_slice().get(..310).ok_or("short")?;
-    assert_eq!(rt; parser.feed(front)?, (310, Step::More));
-    let short = StateFault {
-        at: 41,
-        cause: StateCause::Short,
-    };
-    assert_eq!(rt; parser.finish().err(), Some(short));
-    Ok(())
+    let front = known.as_slice().get(..310).expect(&rt, "310 bytes");
+    same(&rt, parser.feed(front), Ok((310, Step::More)));
+    let short = at(41, StateCause::Short);
+    same(&rt, parser.finish().err(), Some(short));
 }
 
 #[test]
 fn a_fault_is_told_again(rt: HostRuntime) {
     let mut parser = StateParser::new(rt.alloc(), 1000);
-    let first = parser.feed(b"DKS1");
-    let second = parser.feed(b"DKS2");
-    let fault = StateFault {
-        at: 0,
-        cause: StateCause::Mark,
-    };
-    assert_eq!(rt; first, Err(fault));
-    assert_eq!(rt; second, Err(fault));
-    assert_eq!(rt; parser.finish().err(), Some(fault));
+    let fault = at(0, StateCause::Mark);
+    same(&rt, parser.feed(b"DKS1"), Err(fault));
+    same(&rt, parser.feed(b"DKS2"), Err(fault));
+    same(&rt, parser.finish().err(), Some(fault));
+}
+
+/// That a parser wants memory, at the item or at the entry, and does so again.
+fn wants_memory(rt: &impl Abort, parser: &mut StateParser, known: &[u8], fault: StateFault) {
+    same(rt, fault.cause, StateCause::Memory);
+    same(rt, fault.at == 14 || fault.at == 41, true);
+    same(rt, parser.feed(known), Err(fault));
+}
+
+/// That a text is fed, or memory is wanting.
+fn fed_or_wanting(rt: &impl Abort, alloc: Global, known: &[u8]) {
+    let mut parser = StateParser::new(alloc, 1000);
+    match parser.feed(known) {
+        Ok(answer) => same(rt, answer, (311, Step::Done)),
+        Err(fault) => wants_memory(rt, &mut parser, known, fault),
+    }
+}
+
+/// That it is read, or memory is wanting.
+fn read_or_wanting(rt: &impl Abort, alloc: Global, known: &[u8]) {
+    match read_state(alloc, &mut Bytes::new(known, 64), 311) {
+        Ok(state) => same(rt, encoded_len(&state), 311),
+        Err(fault) => same(rt, fault, ReadFault::Memory),
+    }
 }
 
 #[test]
-fn want_of_memory_names_its_item(rt: HostRuntime) -> Result<(), Fail> {
-    let alloc = rt.alloc();
-    let known = known_text(alloc)?;
-    let mut parser = StateParser::new(alloc, 1000);
-    match parser.feed(known.as_slice()) {
-        Ok(answer) => assert_eq!(rt; answer, (311, Step::Done)),
-        Err(fault) => {
-            assert_eq!(rt; fault.cause, StateCause::Memory);
-            assert!(rt; fault.at == 14 || fault.at == 41);
-            assert_eq!(rt; parser.feed(known.as_slice()), Err(fault));
-        }
-    }
-    match read_state(alloc, &mut Bytes::new(known.as_slice(), 64), 311) {
-        Ok(state) => assert_eq!(rt; encoded_len(&state), 311),
-        Err(fault) => assert_eq!(rt; fault, ReadFault::Memory),
-    }
-    Ok(())
+fn want_of_memory_names_its_item(rt: HostRuntime) {
+    let known = known_text(&rt, rt.alloc());
+    fed_or_wanting(&rt, rt.alloc(), known.as_slice());
+    read_or_wanting(&rt, rt.alloc(), known.as_slice());
 }

@@ -1,9 +1,11 @@
 //! Files that are read from a source.
+ghost use Rattle.std.specs.Prelude.{◌<◌};
 
-use super::{F2, HD, TI, at, check_f2, text};
-use cif_file::{FileCause, ReadFault, judge_file, read_file};
+use super::{F2, HD, TI, at, check_f2, prints, same, same_in, text};
+use cif_file::{FileCause, FileFault, ReadFault, judge_file, read_file};
 use cif_line::{Bytes, Endless, Failed, Source};
-use std::test::Fail;
+use std::alloc::Global;
+use std::process::Abort;
 
 /// A source that fails where its bytes end, once for each read. It can't tell its bytes.
 #[derive(Drop)]
@@ -35,82 +37,116 @@ impl Source for Broken<'_> {
     }
 }
 
-#[test]
-fn a_file_by_reads_of_any_length(rt: HostRuntime) -> Result<(), Fail> {
-    let whole = text(rt.alloc(), &F2, b"\n")?;
-    for step in [1, 7, 81, 4096] {
-        let mut source = Bytes::new(whole.as_slice(), step);
-        check_f2(&rt, read_file(rt.alloc(), &mut source, 5)?)?;
-        assert!(rt; source.left().is_empty());
-        let mut source = Bytes::new(whole.as_slice(), step);
-        let fault = read_file(rt.alloc(), &mut source, 4).err();
-        assert_eq!(rt; fault, Some(ReadFault::File(at(5, FileCause::TooMany))));
-    }
-    Ok(())
+/// That this text, read in pieces of so many bytes, is the file of one schedule, and has too many records where four is the limit.
+fn check_reads(rt: &impl Abort, alloc: Global, text: &[u8], step: usize)
+    requires { 0 < step }
+{
+    let mut source = Bytes::new(text, step);
+    let file = read_file(alloc, &mut source, 5).expect(rt, "a file");
+    check_f2(rt, file);
+    same(rt, source.left().is_empty(), true);
+    let mut source = Bytes::new(text, step);
+    let fault = read_file(alloc, &mut source, 4).err();
+    let too_many = at(5, FileCause::TooMany);
+    same(rt, fault, Some(ReadFault::File(too_many)));
 }
 
 #[test]
-fn sources_that_fail(rt: HostRuntime) -> Result<(), Fail> {
-    let whole = text(rt.alloc(), &F2, b"\n")?;
-    for length in [0, 81, 100, 405] {
-        let bytes = whole.as_slice().get(..length).ok_or("a front")?;
-        let mut source = Broken { bytes, failures: 0 };
-        let fault = read_file(rt.alloc(), &mut source, 5).err();
-        assert_eq!(rt; fault, Some(ReadFault::Source), "{length} bytes");
-        assert_eq!(rt; source.failures, 1);
-        let mut source = Broken { bytes, failures: 0 };
-        let fault = judge_file(rt.alloc(), &mut source, 5).err();
-        assert_eq!(rt; fault, Some(ReadFault::Source), "{length} bytes");
-        assert_eq!(rt; source.failures, 1);
-    }
-    let mut source = Broken {
-        bytes: TI,
-        failures: 0,
-    };
-    let fault = read_file(rt.alloc(), &mut source, 5).err();
-    assert_eq!(rt; fault, Some(ReadFault::Source), "an open line");
-    Ok(())
+fn a_file_by_reads_of_any_length(rt: HostRuntime) {
+    let whole = text(&rt, rt.alloc(), &F2, b"\n");
+    check_reads(&rt, rt.alloc(), whole.as_slice(), 1);
+    check_reads(&rt, rt.alloc(), whole.as_slice(), 7);
+    check_reads(&rt, rt.alloc(), whole.as_slice(), 81);
+    check_reads(&rt, rt.alloc(), whole.as_slice(), 4096);
+}
+
+/// That a source which fails behind these bytes is told to be read, and that it failed once.
+fn read_fails(rt: &impl Abort, alloc: Global, bytes: &[u8], name: &str) {
+    let mut source = Broken { bytes, failures: 0 };
+    let fault = read_file(alloc, &mut source, 5).err();
+    same_in(rt, name, fault, Some(ReadFault::Source));
+    same_in(rt, name, source.failures, 1);
+}
+
+/// The same where it is judged.
+fn judging_fails(rt: &impl Abort, alloc: Global, bytes: &[u8], name: &str) {
+    let mut source = Broken { bytes, failures: 0 };
+    let fault = judge_file(alloc, &mut source, 5).err();
+    same_in(rt, name, fault, Some(ReadFault::Source));
+    same_in(rt, name, source.failures, 1);
+}
+
+/// That both fail behind so many bytes of a text.
+fn front_fails(rt: &impl Abort, alloc: Global, text: &[u8], length: usize, name: &str) {
+    let bytes = text.get(..length).expect(rt, "a front");
+    read_fails(rt, alloc, bytes, name);
+    judging_fails(rt, alloc, bytes, name);
 }
 
 #[test]
-fn sources_without_end(rt: HostRuntime) -> Result<(), Fail> {
-    let header = text(rt.alloc(), &[HD], b"\n")?;
-    let insert = text(rt.alloc(), &[TI], b"\n")?;
+fn sources_that_fail(rt: HostRuntime) {
+    let whole = text(&rt, rt.alloc(), &F2, b"\n");
+    front_fails(&rt, rt.alloc(), whole.as_slice(), 0, "0 bytes");
+    front_fails(&rt, rt.alloc(), whole.as_slice(), 81, "81 bytes");
+    front_fails(&rt, rt.alloc(), whole.as_slice(), 100, "100 bytes");
+    front_fails(&rt, rt.alloc(), whole.as_slice(), 405, "405 bytes");
+    read_fails(&rt, rt.alloc(), TI, "an open line");
+}
+
+/// That a text which goes on without end has this fault, where it is read and where it is judged, in pieces of so many bytes.
+fn endless_fails(
+    rt: &impl Abort,
+    alloc: Global,
+    first: &[u8],
+    again: &[u8],
+    limit: u16,
+    step: usize,
+    fault: FileFault,
+)
+    requires { 0 < step }
+{
+    assert!(rt; !again.is_empty());
+    let limit = u32::from(limit);
+    let mut source = Endless::new(first, again, step);
+    let told = read_file(alloc, &mut source, limit).err();
+    same(rt, told, Some(ReadFault::File(fault)));
+    let mut source = Endless::new(first, again, step);
+    let told = judge_file(alloc, &mut source, limit).err();
+    same(rt, told, Some(ReadFault::File(fault)));
+}
+
+/// The same in pieces of any length.
+fn check_endless(
+    rt: &impl Abort,
+    alloc: Global,
+    first: &[u8],
+    again: &[u8],
+    limit: u16,
+    fault: FileFault,
+) {
+    endless_fails(rt, alloc, first, again, limit, 1, fault);
+    endless_fails(rt, alloc, first, again, limit, 7, fault);
+    endless_fails(rt, alloc, first, again, limit, 4096, fault);
+}
+
+#[test]
+fn sources_without_end(rt: HostRuntime) {
+    let alloc = rt.alloc();
+    let header = text(&rt, alloc, &[HD], b"\n");
+    let insert = text(&rt, alloc, &[TI], b"\n");
     let (hd, ti) = (header.as_slice(), insert.as_slice());
-    let rows: [(&[u8], &[u8], u32, u32, FileCause); 5] = [
-        (hd, ti, 1000, 1001, FileCause::TooMany),
-        (hd, hd, 1000, 2, FileCause::Place),
-        (ti, ti, 1000, 1, FileCause::Place),
-        (hd, ti, 0, 1, FileCause::TooMany),
-        (b"", b"H", 1000, 1, FileCause::Length),
-    ];
-    for (first, again, limit, number, cause) in rows {
-        for step in [1, 7, 4096] {
-            assert!(rt; !again.is_empty());
-            let mut source = Endless::new(first, again, step);
-            let fault = read_file(rt.alloc(), &mut source, limit).err();
-            assert_eq!(rt; fault, Some(ReadFault::File(at(number, cause))));
-            let mut source = Endless::new(first, again, step);
-            let fault = judge_file(rt.alloc(), &mut source, limit).err();
-            assert_eq!(rt; fault, Some(ReadFault::File(at(number, cause))));
-        }
-    }
-    Ok(())
+    check_endless(&rt, alloc, hd, ti, 1000, at(1001, FileCause::TooMany));
+    check_endless(&rt, alloc, hd, hd, 1000, at(2, FileCause::Place));
+    check_endless(&rt, alloc, ti, ti, 1000, at(1, FileCause::Place));
+    check_endless(&rt, alloc, hd, ti, 0, at(1, FileCause::TooMany));
+    check_endless(&rt, alloc, b"", b"H", 1000, at(1, FileCause::Length));
 }
 
 #[test]
-fn printed_read_faults(rt: HostRuntime) -> Result<(), Fail> {
-    let printed = [
-        (ReadFault::Source, "the source failed"),
-        (
-            ReadFault::File(at(3, FileCause::Field(11))),
-            "record 3: Field 11",
-        ),
-        (ReadFault::Memory, "want of memory"),
-    ];
-    for (fault, wanted) in printed {
-        let text = format!(in rt.alloc(); "{fault}")?;
-        assert_eq!(rt; text.as_str(), wanted);
-    }
-    Ok(())
+fn printed_read_faults(rt: HostRuntime) {
+    let alloc = rt.alloc();
+    let bad_field = at(3, FileCause::Field(11));
+    prints(&rt, alloc, ReadFault::Source, "the source failed");
+    prints(&rt, alloc, ReadFault::File(bad_field), "record 3: Field 11");
+    prints(&rt, alloc, ReadFault::Memory, "want of memory");
 }

@@ -4,131 +4,149 @@ use super::records::{
     AA, AFTER, ASHFELD_HEAD, BS, GREATEST, HD, HEAD, HEAD_LAPSED, ITEM, JOINS_HEAD, LAPSED, LAST,
     LO, LT, NOTHING, ONE, PUT, SCHEDULE_HEAD, TI, TOO_LATE, ZZ,
 };
-use super::{goes_round, joined_text, refused, state, written};
-use cif_line::{Bytes, Day};
-use docker_bytes::{StateCause, read_state};
+use super::{at, goes_round, joined_text, read, refused, same, state, text_is};
+use cif_line::Day;
+use docker_bytes::{StateCause, StateFault};
 use docker_state::State;
-use std::alloc::{AllocError, Global};
+use std::alloc::Global;
 use std::process::Abort;
-use std::test::Fail;
 
 /// The text of one file and of one entry of these parts, under a horizon.
-fn under(alloc: Global, horizon: &[u8], parts: &[&[u8]]) -> Result<Vec<u8>, AllocError> {
-    let entry = joined_text(alloc, parts)?;
-    joined_text(alloc, &[b"DKS2", horizon, ONE, ITEM, ONE, entry.as_slice()])
+fn under(rt: &impl Abort, alloc: Global, horizon: &[u8], parts: &[&[u8]]) -> Vec<u8> {
+    let entry = joined_text(rt, alloc, parts);
+    let pieces = [b"DKS2", horizon, ONE, ITEM, ONE, entry.as_slice()];
+    joined_text(rt, alloc, &pieces)
 }
 
 /// That a text is that of a state, which is written so again, of which the horizon is told.
-fn accepted(rt: &impl Abort, alloc: Global, text: &[u8], horizon: u16) -> Result<(), Fail> {
-    let state = read_state(alloc, &mut Bytes::new(text, 4096), 1000)?;
-    assert_eq!(rt; state.horizon(), horizon);
-    let again = written(alloc, &state)?;
-    assert_eq!(rt; again.as_slice(), text);
-    goes_round(rt, alloc, &state, text.len(), 1)
+fn accepted(rt: &impl Abort, alloc: Global, text: &[u8], horizon: u16) {
+    let state = read(rt, alloc, text, 4096, 1000);
+    same(rt, state.horizon(), horizon);
+    text_is(rt, alloc, &state, text);
+    goes_round(rt, alloc, &state, text.len(), 1);
 }
 
-/// That a text of one entry under a horizon is refused there.
+/// That a text of one entry under a horizon is so.
+fn accepted_under(rt: &impl Abort, alloc: Global, horizon: &[u8], parts: &[&[u8]], number: u16) {
+    let text = under(rt, alloc, horizon, parts);
+    accepted(rt, alloc, text.as_slice(), number);
+}
+
+/// That it is refused there.
 fn refused_under(
     rt: &impl Abort,
     alloc: Global,
     horizon: &[u8],
     parts: &[&[u8]],
-    wanted: (u64, StateCause),
-) -> Result<(), Fail> {
-    let text = under(alloc, horizon, parts)?;
-    refused(rt, alloc, &[text.as_slice()], 1000, wanted)
+    fault: StateFault,
+) {
+    let text = under(rt, alloc, horizon, parts);
+    refused(rt, alloc, &[text.as_slice()], 1000, fault);
+}
+
+/// The entry of the schedule.
+const SCHEDULE: &[&[u8]] = &[HEAD, BS, LO, LT];
+
+/// The entry of the association.
+const ASSOCIATION: &[&[u8]] = &[JOINS_HEAD, PUT, AA];
+
+#[test]
+fn horizons_of_no_day(rt: HostRuntime) {
+    let alloc = rt.alloc();
+    let bad = at(4, StateCause::Horizon);
+    refused_under(&rt, alloc, TOO_LATE, SCHEDULE, bad);
+    refused(&rt, alloc, &[b"DKS2", TOO_LATE], 6, bad);
+    let long = at(5, StateCause::Long);
+    refused(&rt, alloc, &[b"DKS2", TOO_LATE], 5, long);
+    let greatest = joined_text(&rt, alloc, &[b"DKS2", GREATEST, NOTHING]);
+    accepted(&rt, alloc, greatest.as_slice(), 36524);
+}
+
+/// A schedule without an end.
+const ENDLESS: &[u8] =
+    b"BSNC100012406109999991111100 POO1A10                                           P";
+
+/// What is told of Ashfield Central.
+const CENTRAL: &[u8] = b"         ASHFIELD CENTRAL                                      ";
+
+#[test]
+fn puts_that_end_before_the_horizon(rt: HostRuntime) {
+    let alloc = rt.alloc();
+    let bad = at(41, StateCause::Body);
+    let short = at(41, StateCause::Short);
+    accepted_under(&rt, alloc, LAST, SCHEDULE, 23541);
+    refused_under(&rt, alloc, AFTER, SCHEDULE, bad);
+    refused_under(&rt, alloc, GREATEST, SCHEDULE, bad);
+    refused_under(&rt, alloc, AFTER, &[HEAD, BS], bad);
+    let front = BS.get(..79).expect(&rt, "79 bytes");
+    refused_under(&rt, alloc, AFTER, &[HEAD, front], short);
+    accepted_under(&rt, alloc, LAST, ASSOCIATION, 23541);
+    refused_under(&rt, alloc, AFTER, ASSOCIATION, bad);
+    accepted_under(&rt, alloc, GREATEST, &[HEAD, ENDLESS, LO, LT], 36524);
+    accepted_under(&rt, alloc, GREATEST, &[ASHFELD_HEAD, PUT, CENTRAL], 36524);
+}
+
+/// That what has lapsed of an entry is accepted under a horizon, as a text of so many bytes.
+fn accepted_lapsed(
+    rt: &impl Abort,
+    alloc: Global,
+    horizon: &[u8],
+    number: u16,
+    entry: &[u8],
+    len: usize,
+) {
+    let text = under(rt, alloc, horizon, &[entry, LAPSED]);
+    same(rt, text.len(), len);
+    accepted(rt, alloc, text.as_slice(), number);
+}
+
+/// That it is so of each kind of entry.
+fn each_accepted_lapsed(rt: &impl Abort, alloc: Global, horizon: &[u8], number: u16) {
+    accepted_lapsed(rt, alloc, horizon, number, ASHFELD_HEAD, 65);
+    accepted_lapsed(rt, alloc, horizon, number, JOINS_HEAD, 81);
+    accepted_lapsed(rt, alloc, horizon, number, SCHEDULE_HEAD, 67);
 }
 
 #[test]
-fn horizons_of_no_day(rt: HostRuntime) -> Result<(), Fail> {
+fn what_has_lapsed_has_no_body(rt: HostRuntime) {
     let alloc = rt.alloc();
-    let schedule: &[&[u8]] = &[HEAD, BS, LO, LT];
-    refused_under(&rt, alloc, TOO_LATE, schedule, (4, StateCause::Horizon))?;
-    refused(
-        &rt,
-        alloc,
-        &[b"DKS2", TOO_LATE],
-        6,
-        (4, StateCause::Horizon),
-    )?;
-    refused(&rt, alloc, &[b"DKS2", TOO_LATE], 5, (5, StateCause::Long))?;
-    let greatest = joined_text(alloc, &[b"DKS2", GREATEST, NOTHING])?;
-    accepted(&rt, alloc, greatest.as_slice(), 36524)
-}
-
-#[test]
-fn puts_that_end_before_the_horizon(rt: HostRuntime) -> Result<(), Fail> {
-    let alloc = rt.alloc();
-    let bad = (41, StateCause::Body);
-    let schedule: &[&[u8]] = &[HEAD, BS, LO, LT];
-    accepted(&rt, alloc, under(alloc, LAST, schedule)?.as_slice(), 23541)?;
-    refused_under(&rt, alloc, AFTER, schedule, bad)?;
-    refused_under(&rt, alloc, GREATEST, schedule, bad)?;
-    refused_under(&rt, alloc, AFTER, &[HEAD, BS], bad)?;
-    let front = BS.get(..79).ok_or("short")?;
-    refused_under(&rt, alloc, AFTER, &[HEAD, front], (41, StateCause::Short))?;
-    let association: &[&[u8]] = &[JOINS_HEAD, PUT, AA];
-    accepted(
-        &rt,
-        alloc,
-        under(alloc, LAST, association)?.as_slice(),
-        23541,
-    )?;
-    refused_under(&rt, alloc, AFTER, association, bad)?;
-    let endless =
-        b"BSNC100012406109999991111100 POO1A10                                           P";
-    let without_end = under(alloc, GREATEST, &[HEAD, endless, LO, LT])?;
-    accepted(&rt, alloc, without_end.as_slice(), 36524)?;
-    let central = b"         ASHFIELD CENTRAL                                      ";
-    let tiploc = under(alloc, GREATEST, &[ASHFELD_HEAD, PUT, central])?;
-    accepted(&rt, alloc, tiploc.as_slice(), 36524)
-}
-
-#[test]
-fn what_has_lapsed_has_no_body(rt: HostRuntime) -> Result<(), Fail> {
-    let alloc = rt.alloc();
-    for (horizon, number) in [(b"\0\0".as_slice(), 0), (AFTER, 23542), (GREATEST, 36524)] {
-        for (entry, len) in [(ASHFELD_HEAD, 65), (JOINS_HEAD, 81), (SCHEDULE_HEAD, 67)] {
-            let text = under(alloc, horizon, &[entry, LAPSED])?;
-            assert_eq!(rt; text.len(), len);
-            accepted(&rt, alloc, text.as_slice(), number)?;
-        }
-    }
-    refused_under(
-        &rt,
-        alloc,
-        b"\0\0",
-        &[HEAD_LAPSED, BS, LO, LT],
-        (67, StateCause::Tail),
-    )?;
-    refused_under(
-        &rt,
-        alloc,
-        AFTER,
-        &[SCHEDULE_HEAD, b"\x03"],
-        (41, StateCause::Body),
-    )
+    each_accepted_lapsed(&rt, alloc, b"\0\0", 0);
+    each_accepted_lapsed(&rt, alloc, AFTER, 23542);
+    each_accepted_lapsed(&rt, alloc, GREATEST, 36524);
+    let tail = at(67, StateCause::Tail);
+    refused_under(&rt, alloc, b"\0\0", &[HEAD_LAPSED, BS, LO, LT], tail);
+    let bad = at(41, StateCause::Body);
+    refused_under(&rt, alloc, AFTER, &[SCHEDULE_HEAD, b"\x03"], bad);
 }
 
 /// The state of these records under the horizon of a day.
-fn lapsed(alloc: Global, records: &[&[u8]], day: &str) -> Result<State, Fail> {
-    let mut state = state(alloc, records)?;
-    state.set_horizon(Day::from_iso(day).ok_or("no day")?);
-    Ok(state)
+fn lapsed(rt: &impl Abort, alloc: Global, records: &[&[u8]], day: &str) -> State {
+    let mut state = state(rt, alloc, records);
+    state.set_horizon(Day::from_iso(day).expect(rt, "a day"));
+    state
+}
+
+/// That the state of the schedule under the horizon of a day has the text of so many bytes of one entry of these parts.
+fn has_under(
+    rt: &impl Abort,
+    alloc: Global,
+    day: &str,
+    horizon: &[u8],
+    parts: &[&[u8]],
+    len: usize,
+) {
+    let state = lapsed(rt, alloc, &[HD, BS, LO, LT, ZZ], day);
+    let wanted = under(rt, alloc, horizon, parts);
+    text_is(rt, alloc, &state, wanted.as_slice());
+    goes_round(rt, alloc, &state, len, 1);
 }
 
 #[test]
-fn a_state_with_a_horizon_goes_round(rt: HostRuntime) -> Result<(), Fail> {
+fn a_state_with_a_horizon_goes_round(rt: HostRuntime) {
     let alloc = rt.alloc();
-    let records: &[&[u8]] = &[HD, BS, LO, LT, ZZ];
-    let known = lapsed(alloc, records, "2024-06-14")?;
-    let wanted = under(alloc, LAST, &[HEAD, BS, LO, LT])?;
-    assert_eq!(rt; written(alloc, &known)?.as_slice(), wanted.as_slice());
-    goes_round(&rt, alloc, &known, 311, 1)?;
-    let gone = lapsed(alloc, records, "2024-06-15")?;
-    let wanted = under(alloc, AFTER, &[SCHEDULE_HEAD, LAPSED])?;
-    assert_eq!(rt; written(alloc, &gone)?.as_slice(), wanted.as_slice());
-    goes_round(&rt, alloc, &gone, 67, 1)?;
-    let tiploc = lapsed(alloc, &[HD, TI, ZZ], "2059-12-31")?;
-    goes_round(&rt, alloc, &tiploc, 128, 7)
+    has_under(&rt, alloc, "2024-06-14", LAST, SCHEDULE, 311);
+    let gone: &[&[u8]] = &[SCHEDULE_HEAD, LAPSED];
+    has_under(&rt, alloc, "2024-06-15", AFTER, gone, 67);
+    let tiploc = lapsed(&rt, alloc, &[HD, TI, ZZ], "2059-12-31");
+    goes_round(&rt, alloc, &tiploc, 128, 7);
 }

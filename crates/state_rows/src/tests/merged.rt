@@ -6,133 +6,173 @@ use super::records::{
     HEAD, HEAD_9C, HEAD_10B, HEAD_C10002, ITEM, ITEM_7B, ITEM_9C, ITEM_10B, LO, LO_0850, LO_0905,
     LO_1000, LO_1100, LT, LT_0935, LT_1030, LT_1130, MARK, ONE, TWO, ZZ,
 };
-use super::{goes_round, joined_text, state, written};
+use super::{goes_round, join, joined_text, same, same_in, state, text_is, written};
 use cif_line::Bytes;
 use docker_bytes::join_state;
-use docker_join::Merge;
 use docker_state::State;
 use std::alloc::Global;
 use std::process::Abort;
-use std::test::Fail;
 
 /// The join of the states of some files, one behind the other.
-fn merged(alloc: Global, files: &[&[&[u8]]]) -> Result<State, Fail> {
+fn merged(rt: &impl Abort, alloc: Global, files: &[&[&[u8]]]) -> State {
     let mut all = State::empty(alloc);
     for file in files {
-        match all.join(alloc, state(alloc, file)?) {
-            Ok(joined) => all = joined,
-            Err(_) => return Err("memory")?,
-        }
+        let other = state(rt, alloc, file);
+        all = join(rt, alloc, all, other);
     }
-    Ok(all)
+    all
+}
+
+/// Receives a text, so many bytes at a read.
+fn receive(rt: &impl Abort, alloc: Global, all: &mut State, text: &[u8], step: usize)
+    requires { 0 < step }
+{
+    let answer = join_state(alloc, all, &mut Bytes::new(text, step), 1000);
+    same(rt, answer, Ok(()));
+}
+
+/// Receives the text of the state of a file.
+fn receive_file(rt: &impl Abort, alloc: Global, all: &mut State, file: &[&[u8]], step: usize)
+    requires { 0 < step }
+{
+    let other = state(rt, alloc, file);
+    let text = written(rt, alloc, &other);
+    receive(rt, alloc, all, text.bytes(), step);
 }
 
 /// That a state which receives the texts of the states of these files, in this order and so many bytes at a read, has this text in the end, and receives it again
 /// with no change.
-fn receives(
-    rt: &impl Abort,
-    alloc: Global,
-    files: &[&[&[u8]]],
-    wanted: &[u8],
-    step: usize,
-) -> Result<(), Fail>
+fn receives(rt: &impl Abort, alloc: Global, files: &[&[&[u8]]], wanted: &[u8], step: usize)
     requires { 0 < step }
 {
     let mut all = State::empty(alloc);
     for file in files {
-        let text = written(alloc, &state(alloc, file)?)?;
-        join_state(
-            alloc,
-            &mut all,
-            &mut Bytes::new(text.as_slice(), step),
-            1000,
-        )?;
+        receive_file(rt, alloc, &mut all, file, step);
     }
-    assert_eq!(rt; written(alloc, &all)?.as_slice(), wanted);
-    join_state(alloc, &mut all, &mut Bytes::new(wanted, step), 1000)?;
-    assert_eq!(rt; written(alloc, &all)?.as_slice(), wanted);
-    Ok(())
+    text_is(rt, alloc, &all, wanted);
+    receive(rt, alloc, &mut all, wanted, step);
+    text_is(rt, alloc, &all, wanted);
 }
 
 /// That the states of these files, joined in this order, and a state that receives their texts, have this text.
-fn merges_to(
-    rt: &impl Abort,
-    alloc: Global,
-    files: &[&[&[u8]]],
-    pieces: &[&[u8]],
-    name: &str,
-) -> Result<(), Fail> {
-    let all = merged(alloc, files)?;
-    let wanted = joined_text(alloc, pieces)?;
-    let text = written(alloc, &all)?;
-    assert_eq!(rt; text.as_slice(), wanted.as_slice(), "{name}");
-    receives(rt, alloc, files, wanted.as_slice(), 1)?;
-    receives(rt, alloc, files, wanted.as_slice(), 4096)?;
-    goes_round(rt, alloc, &all, wanted.len(), 80)
+fn merges_to(rt: &impl Abort, alloc: Global, files: &[&[&[u8]]], pieces: &[&[u8]], name: &str) {
+    let all = merged(rt, alloc, files);
+    let wanted = joined_text(rt, alloc, pieces);
+    let text = written(rt, alloc, &all);
+    same_in(rt, name, text.bytes(), wanted.as_slice());
+    receives(rt, alloc, files, wanted.as_slice(), 1);
+    receives(rt, alloc, files, wanted.as_slice(), 4096);
+    goes_round(rt, alloc, &all, wanted.len(), 80);
 }
 
-#[test]
-fn a_revision(rt: HostRuntime) -> Result<(), Fail> {
-    let old: &[&[u8]] = &[HD, BS, LO, LT, ZZ];
-    let new: &[&[u8]] = &[HD_10B, BS_REVISED, LO_0905, LT_0935, ZZ];
-    let text: &[&[u8]] = &[
-        MARK, TWO, ITEM, ITEM_10B, ONE, HEAD_10B, BS, LO_0905, LT_0935,
-    ];
-    assert_eq!(rt; joined_text(rt.alloc(), text)?.len(), 330);
-    merges_to(&rt, rt.alloc(), &[old, new], text, "old and new")?;
-    merges_to(&rt, rt.alloc(), &[new, old, new], text, "new and old")
+/// That pieces are a text of so many bytes.
+fn len_is(rt: &impl Abort, alloc: Global, pieces: &[&[u8]], len: usize) {
+    let text = joined_text(rt, alloc, pieces);
+    same(rt, text.len(), len);
 }
 
-#[test]
-fn a_late_full_extract(rt: HostRuntime) -> Result<(), Fail> {
-    let u5: &[&[u8]] = &[HD_5A, BS_C10003, BS, LO, LT, ZZ];
-    let f7: &[&[u8]] = &[HD_7B, BS_C10002, LO_1000, LT_1030, ZZ];
-    let u9: &[&[u8]] = &[HD_9C, BS, LO_1100, LT_1130, ZZ];
-    let text: &[&[u8]] = &[
-        MARK,
-        TWO,
-        ITEM_7B,
-        ITEM_9C,
-        TWO,
-        HEAD_9C,
-        BS,
-        LO_1100,
-        LT_1130,
-        HEAD_C10002,
-        BS_C10002,
-        LO_1000,
-        LT_1030,
-    ];
-    assert_eq!(rt; joined_text(rt.alloc(), text)?.len(), 600);
-    merges_to(&rt, rt.alloc(), &[u5, f7, u9], text, "5, 7, 9")?;
-    merges_to(&rt, rt.alloc(), &[u5, u9, f7], text, "5, 9, 7")?;
-    merges_to(&rt, rt.alloc(), &[f7, u5, u9], text, "7, 5, 9")?;
-    merges_to(&rt, rt.alloc(), &[f7, u9, u5], text, "7, 9, 5")?;
-    merges_to(&rt, rt.alloc(), &[u9, u5, f7], text, "9, 5, 7")?;
-    merges_to(&rt, rt.alloc(), &[u9, f7, u5], text, "9, 7, 5")
-}
+/// The records of a file.
+type Records = &'static [&'static [u8]];
+
+/// The schedule.
+const PLAIN: Records = &[HD, BS, LO, LT, ZZ];
+
+/// Its text.
+const OF_PLAIN: Records = &[MARK, ONE, ITEM, ONE, HEAD, BS, LO, LT];
+
+/// Its revision, a day later.
+const REVISION: Records = &[HD_10B, BS_REVISED, LO_0905, LT_0935, ZZ];
+
+/// The text of both.
+const OF_REVISION: Records = &[
+    MARK, TWO, ITEM, ITEM_10B, ONE, HEAD_10B, BS, LO_0905, LT_0935,
+];
 
 #[test]
-fn equal_stamps(rt: HostRuntime) -> Result<(), Fail> {
-    let plain: &[&[u8]] = &[HD, BS, LO, LT, ZZ];
-    let longer: &[&[u8]] = &[HD, BS_LONGER, LO_0850, LT, ZZ];
-    let later: &[&[u8]] = &[HD, BS, LO_0905, LT, ZZ];
-    let deleted: &[&[u8]] = &[HD, BS_DELETED, ZZ];
-    let of_longer: &[&[u8]] = &[MARK, ONE, ITEM, ONE, HEAD, BS_LONGER, LO_0850, LT];
-    let of_later: &[&[u8]] = &[MARK, ONE, ITEM, ONE, HEAD, BS, LO_0905, LT];
-    let of_plain: &[&[u8]] = &[MARK, ONE, ITEM, ONE, HEAD, BS, LO, LT];
-    assert_eq!(rt; joined_text(rt.alloc(), of_longer)?.len(), 311);
-    merges_to(&rt, rt.alloc(), &[plain, plain], of_plain, "the same")?;
-    merges_to(&rt, rt.alloc(), &[plain, longer], of_longer, "longer")?;
-    merges_to(&rt, rt.alloc(), &[longer, plain], of_longer, "longer first")?;
-    merges_to(&rt, rt.alloc(), &[plain, later], of_later, "later")?;
-    merges_to(&rt, rt.alloc(), &[later, plain], of_later, "later first")?;
-    merges_to(&rt, rt.alloc(), &[plain, deleted], of_plain, "deleted")?;
-    merges_to(
-        &rt,
-        rt.alloc(),
-        &[deleted, plain],
-        of_plain,
-        "deleted first",
-    )
+fn a_revision(rt: HostRuntime) {
+    let alloc = rt.alloc();
+    len_is(&rt, alloc, OF_REVISION, 330);
+    let files = [PLAIN, REVISION];
+    merges_to(&rt, alloc, &files, OF_REVISION, "old and new");
+    let files = [REVISION, PLAIN, REVISION];
+    merges_to(&rt, alloc, &files, OF_REVISION, "new and old");
+}
+
+/// An update of 5 June.
+const FIFTH: Records = &[HD_5A, BS_C10003, BS, LO, LT, ZZ];
+
+/// A full extract of 7 June.
+const SEVENTH: Records = &[HD_7B, BS_C10002, LO_1000, LT_1030, ZZ];
+
+/// An update of 9 June.
+const NINTH: Records = &[HD_9C, BS, LO_1100, LT_1130, ZZ];
+
+/// The text of the three.
+const OF_LATE: Records = &[
+    MARK,
+    TWO,
+    ITEM_7B,
+    ITEM_9C,
+    TWO,
+    HEAD_9C,
+    BS,
+    LO_1100,
+    LT_1130,
+    HEAD_C10002,
+    BS_C10002,
+    LO_1000,
+    LT_1030,
+];
+
+/// The three in each order, and its name.
+const ORDERS: &[(&[Records], &str)] = &[
+    (&[FIFTH, SEVENTH, NINTH], "5, 7, 9"),
+    (&[FIFTH, NINTH, SEVENTH], "5, 9, 7"),
+    (&[SEVENTH, FIFTH, NINTH], "7, 5, 9"),
+    (&[SEVENTH, NINTH, FIFTH], "7, 9, 5"),
+    (&[NINTH, FIFTH, SEVENTH], "9, 5, 7"),
+    (&[NINTH, SEVENTH, FIFTH], "9, 7, 5"),
+];
+
+#[test]
+fn a_late_full_extract(rt: HostRuntime) {
+    let alloc = rt.alloc();
+    len_is(&rt, alloc, OF_LATE, 600);
+    for (files, name) in ORDERS {
+        merges_to(&rt, alloc, files, OF_LATE, name);
+    }
+}
+
+/// The schedule up to 21 June, ten minutes earlier.
+const LONGER: Records = &[HD, BS_LONGER, LO_0850, LT, ZZ];
+
+/// The schedule, five minutes later.
+const LATER: Records = &[HD, BS, LO_0905, LT, ZZ];
+
+/// Its deletion.
+const DELETION: Records = &[HD, BS_DELETED, ZZ];
+
+/// The texts of these.
+const OF_LONGER: Records = &[MARK, ONE, ITEM, ONE, HEAD, BS_LONGER, LO_0850, LT];
+
+const OF_LATER: Records = &[MARK, ONE, ITEM, ONE, HEAD, BS, LO_0905, LT];
+
+/// Files of one stamp in an order, the text of both, and the row's name.
+const TIES: &[(&[Records], Records, &str)] = &[
+    (&[PLAIN, PLAIN], OF_PLAIN, "the same"),
+    (&[PLAIN, LONGER], OF_LONGER, "longer"),
+    (&[LONGER, PLAIN], OF_LONGER, "longer first"),
+    (&[PLAIN, LATER], OF_LATER, "later"),
+    (&[LATER, PLAIN], OF_LATER, "later first"),
+    (&[PLAIN, DELETION], OF_PLAIN, "deleted"),
+    (&[DELETION, PLAIN], OF_PLAIN, "deleted first"),
+];
+
+#[test]
+fn equal_stamps(rt: HostRuntime) {
+    let alloc = rt.alloc();
+    len_is(&rt, alloc, OF_LONGER, 311);
+    for (files, text, name) in TIES {
+        merges_to(&rt, alloc, files, text, name);
+    }
 }

@@ -1,23 +1,37 @@
 //! Texts that tell no horizon.
+ghost use Rattle.std.specs.Prelude.{◌-◌, ◌^◌, ◌<◌};
 
 use super::records::{
     BS, BS_REVISED, HEAD, HEAD_LAPSED, HEAD_OF_NO_FILE, HEAD_OF_NO_TAG, ITEM, ITEM_5A, ITEM_7B,
     ITEM_LATE, LO, LT, MOST, OLD_MARK, ONE, TWO,
 };
-use super::{Row, joined_text, known_text, last_place, written};
-use cif_line::Bytes;
+use super::{Row, at, joined_text, known_text, last_place, same, text_is};
+use cif_line::{Bytes, Source};
 use docker_bytes::{ReadFault, StateCause, StateFault, migrate};
-use std::alloc::{AllocError, Global};
+use std::alloc::Global;
 use std::process::Abort;
-use std::test::Fail;
 
 /// The text of the file of 9 June with its schedule, without a horizon: 309 bytes.
-fn old_text(alloc: Global) -> Result<Vec<u8>, AllocError> {
-    joined_text(alloc, &[OLD_MARK, ONE, ITEM, ONE, HEAD, BS, LO, LT])
+fn old_text(rt: &impl Abort, alloc: Global) -> Vec<u8> {
+    joined_text(rt, alloc, &[OLD_MARK, ONE, ITEM, ONE, HEAD, BS, LO, LT])
 }
 
 /// Where the parts of that text begin that may be cut.
 const BEGINNINGS: [u64; 5] = [0, 4, 12, 31, 39];
+
+/// That what a source holds is refused for this fault.
+pub(super) fn refused_old_source<S: Source>(
+    rt: &impl Abort,
+    alloc: Global,
+    source: &mut S,
+    limit: u64,
+    fault: StateFault,
+)
+    requires { S.failures source.old < 2 ^ 64 - 1 }
+{
+    let read = migrate(alloc, source, limit).err();
+    same(rt, read, Some(ReadFault::State(fault)));
+}
 
 /// That a text of these pieces is refused there, by so many bytes at a read.
 pub(super) fn refused_old(
@@ -25,51 +39,53 @@ pub(super) fn refused_old(
     alloc: Global,
     pieces: &[&[u8]],
     limit: u64,
-    wanted: (u64, StateCause),
-) -> Result<(), Fail> {
-    let text = joined_text(alloc, pieces)?;
-    let (at, cause) = wanted;
-    let fault = ReadFault::State(StateFault { at, cause });
-    for step in [1, 7, 4096] {
-        let read = migrate(alloc, &mut Bytes::new(text.as_slice(), step), limit);
-        assert_eq!(rt; read.err(), Some(fault));
-    }
-    Ok(())
+    fault: StateFault,
+) {
+    let text = joined_text(rt, alloc, pieces);
+    let text = text.as_slice();
+    refused_old_source(rt, alloc, &mut Bytes::new(text, 1), limit, fault);
+    refused_old_source(rt, alloc, &mut Bytes::new(text, 7), limit, fault);
+    refused_old_source(rt, alloc, &mut Bytes::new(text, 4096), limit, fault);
+}
+
+/// That a text of the older format has the state of the text of today, by so many bytes at a read.
+fn gives(rt: &impl Abort, alloc: Global, old: &[u8], known: &[u8], step: usize)
+    requires { 0 < step }
+{
+    let mut source = Bytes::new(old, step);
+    let state = migrate(alloc, &mut source, 309).expect(rt, "a state");
+    same(rt, state.horizon(), 0);
+    text_is(rt, alloc, &state, known);
 }
 
 #[test]
-fn an_old_text_gives_its_state(rt: HostRuntime) -> Result<(), Fail> {
+fn an_old_text_gives_its_state(rt: HostRuntime) {
     let alloc = rt.alloc();
-    let old = old_text(alloc)?;
-    let known = known_text(alloc)?;
-    assert_eq!(rt; old.len(), 309);
-    for step in [1, 4096] {
-        let state = migrate(alloc, &mut Bytes::new(old.as_slice(), step), 309)?;
-        assert_eq!(rt; state.horizon(), 0);
-        let text = written(alloc, &state)?;
-        assert_eq!(rt; text.as_slice(), known.as_slice());
+    let old = old_text(&rt, alloc);
+    let known = known_text(&rt, alloc);
+    same(&rt, old.len(), 309);
+    gives(&rt, alloc, old.as_slice(), known.as_slice(), 1);
+    gives(&rt, alloc, old.as_slice(), known.as_slice(), 4096);
+}
+
+/// That each front of a text is too short.
+fn refused_fronts(rt: &impl Abort, alloc: Global, text: &[u8]) {
+    for (n, _) in text.iter().enumerate() {
+        let fault = at(last_place(&BEGINNINGS, n), StateCause::Short);
+        refused_old(rt, alloc, &[&text[..n]], 1000, fault);
     }
-    Ok(())
 }
 
 #[test]
-fn old_texts_of_a_wrong_length(rt: HostRuntime) -> Result<(), Fail> {
+fn old_texts_of_a_wrong_length(rt: HostRuntime) {
     let alloc = rt.alloc();
-    let old = old_text(alloc)?;
-    refused_old(
-        &rt,
-        alloc,
-        &[old.as_slice(), b"\0"],
-        1000,
-        (309, StateCause::Tail),
-    )?;
-    refused_old(&rt, alloc, &[old.as_slice()], 308, (308, StateCause::Long))?;
-    for (n, _) in old.as_slice().iter().enumerate() {
-        let at = last_place(&BEGINNINGS, n);
-        let front = &old.as_slice()[..n];
-        refused_old(&rt, alloc, &[front], 1000, (at, StateCause::Short))?;
-    }
-    Ok(())
+    let old = old_text(&rt, alloc);
+    let old = old.as_slice();
+    let tail = at(309, StateCause::Tail);
+    refused_old(&rt, alloc, &[old, b"\0"], 1000, tail);
+    let long = at(308, StateCause::Long);
+    refused_old(&rt, alloc, &[old], 308, long);
+    refused_fronts(&rt, alloc, old);
 }
 
 /// Faults of the mark and of the ledger.
@@ -93,14 +109,14 @@ const LEDGERS: &[Row] = &[
 ];
 
 #[test]
-fn old_texts_with_a_bad_ledger(rt: HostRuntime) -> Result<(), Fail> {
+fn old_texts_with_a_bad_ledger(rt: HostRuntime) {
     let alloc = rt.alloc();
-    let known = known_text(alloc)?;
-    refused_old(&rt, alloc, &[known.as_slice()], 1000, (0, StateCause::Mark))?;
-    for (pieces, at, cause) in LEDGERS {
-        refused_old(&rt, alloc, pieces, 1000, (*at, *cause))?;
+    let known = known_text(&rt, alloc);
+    let mark = at(0, StateCause::Mark);
+    refused_old(&rt, alloc, &[known.as_slice()], 1000, mark);
+    for (pieces, place, cause) in LEDGERS {
+        refused_old(&rt, alloc, pieces, 1000, at(*place, *cause));
     }
-    Ok(())
 }
 
 /// Faults of an entry.
@@ -138,10 +154,8 @@ const ENTRIES: &[Row] = &[
 ];
 
 #[test]
-fn old_texts_with_a_bad_entry(rt: HostRuntime) -> Result<(), Fail> {
-    let alloc = rt.alloc();
-    for (pieces, at, cause) in ENTRIES {
-        refused_old(&rt, alloc, pieces, 1000, (*at, *cause))?;
+fn old_texts_with_a_bad_entry(rt: HostRuntime) {
+    for (pieces, place, cause) in ENTRIES {
+        refused_old(&rt, rt.alloc(), pieces, 1000, at(*place, *cause));
     }
-    Ok(())
 }

@@ -4,173 +4,132 @@ use super::records::{
     AA, ASHFELD, BS, BS_DELETED, C10001, CENTRAL, DELETED, FILE, ITEM, JOINS, LO, LT, MARK, ONE,
     PUT, SECOND,
 };
-use super::{goes_round, joined_text, refused, written};
-use cif_line::Bytes;
-use docker_bytes::{StateCause, read_state};
+use super::{at, goes_round, joined_text, read, refused, text_is};
+use docker_bytes::StateCause;
 use std::alloc::Global;
 use std::process::Abort;
-use std::test::Fail;
 
 /// The parts of an entry behind a ledger of one file.
-fn with_entry(alloc: Global, parts: &[&[u8]]) -> Result<Vec<u8>, Fail> {
-    let entry = joined_text(alloc, parts)?;
-    Ok(joined_text(alloc, &[MARK, ONE, ITEM, ONE, entry.as_slice()])?)
+fn with_entry(rt: &impl Abort, alloc: Global, parts: &[&[u8]]) -> Vec<u8> {
+    let entry = joined_text(rt, alloc, parts);
+    joined_text(rt, alloc, &[MARK, ONE, ITEM, ONE, entry.as_slice()])
 }
 
 /// That the text of one entry of these parts is read, and written again.
-fn accepted(rt: &impl Abort, alloc: Global, parts: &[&[u8]], len: usize) -> Result<(), Fail> {
-    let text = with_entry(alloc, parts)?;
-    let state = read_state(alloc, &mut Bytes::new(text.as_slice(), 4096), 1000)?;
-    let again = written(alloc, &state)?;
-    assert_eq!(rt; again.as_slice(), text.as_slice());
-    goes_round(rt, alloc, &state, len, 1)
+fn accepted(rt: &impl Abort, alloc: Global, parts: &[&[u8]], len: usize) {
+    let text = with_entry(rt, alloc, parts);
+    let state = read(rt, alloc, text.as_slice(), 4096, 1000);
+    text_is(rt, alloc, &state, text.as_slice());
+    goes_round(rt, alloc, &state, len, 1);
 }
 
 /// That one entry of these parts, the first of the text's, is refused for this cause.
-fn refused_entry(
-    rt: &impl Abort,
-    alloc: Global,
-    parts: &[&[u8]],
-    cause: StateCause,
-) -> Result<(), Fail> {
-    let text = with_entry(alloc, parts)?;
-    refused(rt, alloc, &[text.as_slice()], 1000, (41, cause))
+fn refused_entry(rt: &impl Abort, alloc: Global, parts: &[&[u8]], cause: StateCause) {
+    let text = with_entry(rt, alloc, parts);
+    refused(rt, alloc, &[text.as_slice()], 1000, at(41, cause));
+}
+
+/// That a deletion of this key, by this record, is accepted.
+fn accepted_deletion(rt: &impl Abort, alloc: Global, key: &[u8], number: &[u8]) {
+    accepted(rt, alloc, &[key, FILE, number, DELETED], 67);
+}
+
+/// That it is refused for this cause.
+fn refused_deletion(rt: &impl Abort, alloc: Global, key: &[u8], number: &[u8], cause: StateCause) {
+    refused_entry(rt, alloc, &[key, FILE, number, DELETED], cause);
+}
+
+/// That a body which is put for a key is refused.
+fn refused_body(rt: &impl Abort, alloc: Global, key: &[u8], body: &[u8]) {
+    let parts = [key, FILE, SECOND, PUT, body];
+    refused_entry(rt, alloc, &parts, StateCause::Body);
 }
 
 #[test]
-fn entries_at_their_bounds(rt: HostRuntime) -> Result<(), Fail> {
+fn entries_at_their_bounds(rt: HostRuntime) {
     let alloc = rt.alloc();
-    let last = b"\xff\xff\xff\xfe";
-    accepted(&rt, alloc, &[C10001, FILE, SECOND, DELETED], 67)?;
-    accepted(&rt, alloc, &[C10001, FILE, last, DELETED], 67)?;
-    accepted(
-        &rt,
-        alloc,
-        &[b"\x03C10001\x8e\xacC", FILE, SECOND, DELETED],
-        67,
-    )?;
-    accepted(&rt, alloc, &[ASHFELD, FILE, SECOND, PUT, CENTRAL], 128)?;
-    accepted(&rt, alloc, &[JOINS, FILE, SECOND, PUT, AA], 161)?;
+    accepted_deletion(&rt, alloc, C10001, SECOND);
+    accepted_deletion(&rt, alloc, C10001, b"\xff\xff\xff\xfe");
+    accepted_deletion(&rt, alloc, b"\x03C10001\x8e\xacC", SECOND);
+    accepted(&rt, alloc, &[ASHFELD, FILE, SECOND, PUT, CENTRAL], 128);
+    accepted(&rt, alloc, &[JOINS, FILE, SECOND, PUT, AA], 161);
     let three = b"\x00\x00\x00\x03";
-    accepted(
-        &rt,
-        alloc,
-        &[C10001, FILE, SECOND, PUT, three, BS, LO, LT],
-        311,
-    )
+    let schedule: &[&[u8]] = &[C10001, FILE, SECOND, PUT, three, BS, LO, LT];
+    accepted(&rt, alloc, schedule, 311);
+}
+
+/// Keys that are none.
+const BAD_KEYS: &[&[u8]] = &[
+    b"\x01 SHFELD",
+    b"\x01ASHFEL\x7f",
+    b"\x01ASH\x1fELD",
+    b"\x02C1000\x1fC10002\x5b\xf1ASHFELD P",
+    b"\x02C10001C1000\x7f\x5b\xf1ASHFELD P",
+    b"\x02C10001C10002\x8e\xadASHFELD P",
+    b"\x02C10001C10002\x5b\xf1 SHFELD P",
+    b"\x02C10001C10002\x5b\xf1ASHFELD\x1fP",
+    b"\x02C10001C10002\x5b\xf1ASHFELD X",
+    b"\x03C1000\x7f\x5b\xf1P",
+    b"\x03C10001\x8e\xadP",
+    b"\x03C10001\x5b\xf1X",
+    b"\x03C10001\x5b\xf1\x00",
+];
+
+#[test]
+fn bad_keys(rt: HostRuntime) {
+    for key in BAD_KEYS {
+        refused_deletion(&rt, rt.alloc(), key, SECOND, StateCause::Body);
+    }
 }
 
 #[test]
-fn bad_keys(rt: HostRuntime) -> Result<(), Fail> {
+fn record_numbers_of_no_change(rt: HostRuntime) {
     let alloc = rt.alloc();
-    let rows: [&[u8]; 13] = [
-        b"\x01 SHFELD",
-        b"\x01ASHFEL\x7f",
-        b"\x01ASH\x1fELD",
-        b"\x02C1000\x1fC10002\x5b\xf1ASHFELD P",
-        b"\x02C10001C1000\x7f\x5b\xf1ASHFELD P",
-        b"\x02C10001C10002\x8e\xadASHFELD P",
-        b"\x02C10001C10002\x5b\xf1 SHFELD P",
-        b"\x02C10001C10002\x5b\xf1ASHFELD\x1fP",
-        b"\x02C10001C10002\x5b\xf1ASHFELD X",
-        b"\x03C1000\x7f\x5b\xf1P",
-        b"\x03C10001\x8e\xadP",
-        b"\x03C10001\x5b\xf1X",
-        b"\x03C10001\x5b\xf1\x00",
-    ];
-    for key in rows {
-        refused_entry(&rt, alloc, &[key, FILE, SECOND, DELETED], StateCause::Body)?;
+    let stamp = StateCause::Stamp;
+    refused_deletion(&rt, alloc, C10001, b"\x00\x00\x00\x00", stamp);
+    refused_deletion(&rt, alloc, C10001, b"\x00\x00\x00\x01", stamp);
+    refused_deletion(&rt, alloc, C10001, b"\xff\xff\xff\xff", stamp);
+}
+
+/// Descriptions of a timing point that are none.
+const BAD_DESCRIPTIONS: &[&[u8]] = &[
+    b"\x1f        ASHFIELD CENTRAL                                     ~",
+    b"         ASHFIELD CENTRAL                                     \x7f",
+];
+
+/// Lines of an association that are none.
+const BAD_LINES: &[&[u8]] = &[
+    b"AARC10001C100022406102406141111100JJSASHFELD  TP                               P",
+    b"AANC10003C100022406102406141111100JJSASHFELD  TP                               P",
+    b"AANC10001C100022406102406141111100JJSBRAYTON  TP                               P",
+    b"AANC10001C100022406102406141111102JJSASHFELD  TP                               P",
+    b"AANC10001C100022406102406141111100JJSASHFELD  TP                              \x7fP",
+    BS,
+];
+
+#[test]
+fn bad_bodies(rt: HostRuntime) {
+    for body in BAD_DESCRIPTIONS {
+        refused_body(&rt, rt.alloc(), ASHFELD, body);
     }
-    Ok(())
+    for line in BAD_LINES {
+        refused_body(&rt, rt.alloc(), JOINS, line);
+    }
+}
+
+/// That a schedule of so many lines, which are these, is refused.
+fn refused_schedule(rt: &impl Abort, alloc: Global, count: &[u8; 4], lines: &[&[u8]]) {
+    let lines = joined_text(rt, alloc, lines);
+    let parts = [C10001, FILE, SECOND, PUT, count, lines.as_slice()];
+    refused_entry(rt, alloc, &parts, StateCause::Body);
 }
 
 #[test]
-fn record_numbers_of_no_change(rt: HostRuntime) -> Result<(), Fail> {
+fn lines_that_are_no_schedule(rt: HostRuntime) {
     let alloc = rt.alloc();
-    let rows: [&[u8]; 3] = [
-        b"\x00\x00\x00\x00",
-        b"\x00\x00\x00\x01",
-        b"\xff\xff\xff\xff",
-    ];
-    for number in rows {
-        refused_entry(
-            &rt,
-            alloc,
-            &[C10001, FILE, number, DELETED],
-            StateCause::Stamp,
-        )?;
-    }
-    Ok(())
-}
-
-#[test]
-fn bad_bodies(rt: HostRuntime) -> Result<(), Fail> {
-    let alloc = rt.alloc();
-    let bodies: [&[u8]; 2] = [
-        b"\x1f        ASHFIELD CENTRAL                                     ~",
-        b"         ASHFIELD CENTRAL                                     \x7f",
-    ];
-    for body in bodies {
-        refused_entry(
-            &rt,
-            alloc,
-            &[ASHFELD, FILE, SECOND, PUT, body],
-            StateCause::Body,
-        )?;
-    }
-    let lines: [&[u8]; 6] = [
-        b"AARC10001C100022406102406141111100JJSASHFELD  TP                               P",
-        b"AANC10003C100022406102406141111100JJSASHFELD  TP                               P",
-        b"AANC10001C100022406102406141111100JJSBRAYTON  TP                               P",
-        b"AANC10001C100022406102406141111102JJSASHFELD  TP                               P",
-        b"AANC10001C100022406102406141111100JJSASHFELD  TP                              \x7fP",
-        BS,
-    ];
-    for line in lines {
-        refused_entry(
-            &rt,
-            alloc,
-            &[JOINS, FILE, SECOND, PUT, line],
-            StateCause::Body,
-        )?;
-    }
-    Ok(())
-}
-
-#[test]
-fn lines_that_are_no_schedule(rt: HostRuntime) -> Result<(), Fail> {
-    let alloc = rt.alloc();
-    refused_entry(
-        &rt,
-        alloc,
-        &[C10001, FILE, SECOND, PUT, b"\x00\x00\x00\x00"],
-        StateCause::Body,
-    )?;
-    let one = b"\x00\x00\x00\x01";
-    refused_entry(
-        &rt,
-        alloc,
-        &[C10001, FILE, SECOND, PUT, one, BS],
-        StateCause::Body,
-    )?;
-    refused_entry(
-        &rt,
-        alloc,
-        &[C10001, FILE, SECOND, PUT, one, BS_DELETED],
-        StateCause::Body,
-    )?;
-    let two = b"\x00\x00\x00\x02";
-    refused_entry(
-        &rt,
-        alloc,
-        &[C10001, FILE, SECOND, PUT, two, BS, LO],
-        StateCause::Body,
-    )?;
-    let four = b"\x00\x00\x00\x04";
-    refused_entry(
-        &rt,
-        alloc,
-        &[C10001, FILE, SECOND, PUT, four, BS, LO, LT, LT],
-        StateCause::Body,
-    )
+    refused_schedule(&rt, alloc, b"\x00\x00\x00\x00", &[]);
+    refused_schedule(&rt, alloc, b"\x00\x00\x00\x01", &[BS]);
+    refused_schedule(&rt, alloc, b"\x00\x00\x00\x01", &[BS_DELETED]);
+    refused_schedule(&rt, alloc, b"\x00\x00\x00\x02", &[BS, LO]);
+    refused_schedule(&rt, alloc, b"\x00\x00\x00\x04", &[BS, LO, LT, LT]);
 }

@@ -5,69 +5,66 @@ use super::records::{
     AA, AFTER, BS, HD, HEAD, HEAD_10B, ITEM, ITEM_10B, LAPSED, LO, LO_0905, LT, LT_0935, MARK, ONE,
     SCHEDULE_HEAD, TWO, ZZ,
 };
-use super::{joined_text, known_text, state, written};
+use super::{at, joined_text, known_state, known_text, same, state, text_is, written};
 use cif_line::{Bytes, Day, Failed, Source};
-use docker_bytes::{ReadFault, StateCause, join_state};
+use docker_bytes::{ReadFault, StateCause, StateFault, join_state};
 use docker_state::State;
 use std::alloc::Global;
 use std::process::Abort;
-use std::test::Fail;
+
+/// That a state which receives two texts has the second horizon and this text.
+fn receives(rt: &impl Abort, alloc: Global, first: &[u8], second: &[u8], wanted: &[u8]) {
+    let mut all = State::empty(alloc);
+    let answer = join_state(alloc, &mut all, &mut Bytes::new(first, 7), 1000);
+    same(rt, answer, Ok(()));
+    let answer = join_state(alloc, &mut all, &mut Bytes::new(second, 7), 1000);
+    same(rt, answer, Ok(()));
+    same(rt, all.horizon(), 23542);
+    text_is(rt, alloc, &all, wanted);
+}
 
 #[test]
-fn a_horizon_received(rt: HostRuntime) -> Result<(), Fail> {
+fn a_horizon_received(rt: HostRuntime) {
     let alloc = rt.alloc();
-    let mut later = state(alloc, &[HD, BS, LO, LT, ZZ])?;
-    let known = written(alloc, &later)?;
-    later.set_horizon(Day::from_iso("2024-06-15").ok_or("no day")?);
-    let lapsed = joined_text(
-        alloc,
-        &[b"DKS2", AFTER, ONE, ITEM, ONE, SCHEDULE_HEAD, LAPSED],
-    )?;
-    assert_eq!(rt; written(alloc, &later)?.as_slice(), lapsed.as_slice());
-    for (first, second) in [(&known, &lapsed), (&lapsed, &known)] {
-        let mut all = State::empty(alloc);
-        join_state(alloc, &mut all, &mut Bytes::new(first.as_slice(), 7), 1000)?;
-        join_state(alloc, &mut all, &mut Bytes::new(second.as_slice(), 7), 1000)?;
-        assert_eq!(rt; all.horizon(), 23542);
-        assert_eq!(rt; written(alloc, &all)?.as_slice(), lapsed.as_slice());
-    }
-    Ok(())
+    let mut later = known_state(&rt, alloc);
+    let known = written(&rt, alloc, &later);
+    later.set_horizon(Day::from_iso("2024-06-15").expect(&rt, "a day"));
+    let pieces: &[&[u8]] = &[b"DKS2", AFTER, ONE, ITEM, ONE, SCHEDULE_HEAD, LAPSED];
+    let lapsed = joined_text(&rt, alloc, pieces);
+    let (known, lapsed) = (known.bytes(), lapsed.as_slice());
+    text_is(&rt, alloc, &later, lapsed);
+    receives(&rt, alloc, known, lapsed, lapsed);
+    receives(&rt, alloc, lapsed, known, lapsed);
 }
 
 /// That a text of these pieces is refused, and received by no state.
-fn refused(
-    rt: &impl Abort,
-    alloc: Global,
-    pieces: &[&[u8]],
-    limit: u64,
-    wanted: (u64, StateCause),
-) -> Result<(), Fail> {
-    let text = joined_text(alloc, pieces)?;
-    refused_each_way(rt, alloc, text.as_slice(), limit, wanted)
+fn refused(rt: &impl Abort, alloc: Global, pieces: &[&[u8]], limit: u64, fault: StateFault) {
+    let text = joined_text(rt, alloc, pieces);
+    refused_each_way(rt, alloc, text.as_slice(), limit, fault);
+}
+
+/// That the front of a text, of so many bytes, is refused and received by no state.
+fn refused_front(rt: &impl Abort, alloc: Global, text: &[u8], n: usize) {
+    let front = text.get(..n).expect(rt, "a front");
+    refused(rt, alloc, &[front], 1000, at(60, StateCause::Short));
 }
 
 #[test]
-fn what_is_refused_changes_nothing(rt: HostRuntime) -> Result<(), Fail> {
+fn what_is_refused_changes_nothing(rt: HostRuntime) {
     let alloc = rt.alloc();
     let later: &[&[u8]] = &[
         MARK, TWO, ITEM, ITEM_10B, ONE, HEAD_10B, BS, LO_0905, LT_0935,
     ];
-    let text = joined_text(alloc, later)?;
+    let text = joined_text(&rt, alloc, later);
     let text = text.as_slice();
-    refused(&rt, alloc, &[text, b"\0"], 1000, (330, StateCause::Tail))?;
-    refused(&rt, alloc, &[text], 329, (329, StateCause::Long))?;
-    refused(&rt, alloc, &[MARK, ONE], 1000, (14, StateCause::Short))?;
-    for n in [60, 86, 329] {
-        let front = text.get(..n).ok_or("short")?;
-        refused(&rt, alloc, &[front], 1000, (60, StateCause::Short))?;
-    }
-    refused(
-        &rt,
-        alloc,
-        &[MARK, ONE, ITEM, TWO, HEAD, BS, LO, LT, HEAD, BS, LO, LT],
-        1000,
-        (311, StateCause::Order),
-    )
+    refused(&rt, alloc, &[text, b"\0"], 1000, at(330, StateCause::Tail));
+    refused(&rt, alloc, &[text], 329, at(329, StateCause::Long));
+    refused(&rt, alloc, &[MARK, ONE], 1000, at(14, StateCause::Short));
+    refused_front(&rt, alloc, text, 60);
+    refused_front(&rt, alloc, text, 86);
+    refused_front(&rt, alloc, text, 329);
+    let twice: &[&[u8]] = &[MARK, ONE, ITEM, TWO, HEAD, BS, LO, LT, HEAD, BS, LO, LT];
+    refused(&rt, alloc, twice, 1000, at(311, StateCause::Order));
 }
 
 /// A source that gives a front, and then fails.
@@ -101,33 +98,34 @@ impl Source for Broken<'_> {
 }
 
 #[test]
-fn a_source_that_fails_changes_nothing(rt: HostRuntime) -> Result<(), Fail> {
+fn a_source_that_fails_changes_nothing(rt: HostRuntime) {
     let alloc = rt.alloc();
-    let known = known_text(alloc)?;
-    let mut own = state(alloc, &[HD, AA, ZZ])?;
-    let before = written(alloc, &own)?;
+    let known = known_text(&rt, alloc);
+    let mut own = state(&rt, alloc, &[HD, AA, ZZ]);
+    let before = written(&rt, alloc, &own);
     let mut source = Broken {
         front: known.as_slice(),
         failures: 0,
     };
     let fault = join_state(alloc, &mut own, &mut source, 1000);
-    assert_eq!(rt; fault, Err(ReadFault::Source));
-    assert_eq!(rt; written(alloc, &own)?.as_slice(), before.as_slice());
-    Ok(())
+    same(&rt, fault, Err(ReadFault::Source));
+    text_is(&rt, alloc, &own, before.bytes());
+}
+
+/// That nothing was received for want of memory.
+fn is_empty(rt: &impl Abort, own: &State, fault: ReadFault) {
+    same(rt, fault, ReadFault::Memory);
+    same(rt, own.entries().len(), 0);
+    same(rt, own.ledger().len(), 0);
 }
 
 #[test]
-fn want_of_memory_changes_nothing(rt: HostRuntime) -> Result<(), Fail> {
+fn want_of_memory_changes_nothing(rt: HostRuntime) {
     let alloc = rt.alloc();
-    let known = known_text(alloc)?;
+    let known = known_text(&rt, alloc);
     let mut own = State::empty(alloc);
     match join_state(alloc, &mut own, &mut Bytes::new(known.as_slice(), 64), 311) {
-        Ok(()) => assert_eq!(rt; own.entries().len(), 1),
-        Err(fault) => {
-            assert_eq!(rt; fault, ReadFault::Memory);
-            assert_eq!(rt; own.entries().len(), 0);
-            assert_eq!(rt; own.ledger().len(), 0);
-        }
+        Ok(()) => same(&rt, own.entries().len(), 1),
+        Err(fault) => is_empty(&rt, &own, fault),
     }
-    Ok(())
 }
