@@ -1,27 +1,25 @@
 //! Commands, from their words and what their sources hold to what they write.
 
+use crate::compare::{same, same_in, same_of};
 use crate::dockers::ASHFELD_0900;
 use crate::files::*;
 use crate::offices::text_of;
 use crate::records::{HD, SHORT, ZZ};
 use crate::state_texts::*;
-use cif_file::{FileCause, FileFault};
 use cif_line::{Bytes, Kept};
-use docker_cmd::{Fault, JobFault, OfficeFault, emit, fault_text, job, job_line, prepare, status};
+use docker_cmd::{Fault, OfficeFault, emit, fault_text, job, job_line, prepare, status};
 use std::alloc::Global;
-use std::test::Fail;
+use std::process::Abort;
 
 /// What the job of these words writes of two sources.
-fn written(alloc: Global, words: &[&str], first: &[u8], second: &[u8]) -> Result<Kept, Fault> {
-    let Ok(mut sink) = Kept::new(alloc, 1000) else {
-        return Err(Fault::Office(OfficeFault::Memory));
-    };
-    let job = job(alloc, words)?;
+fn written(rt: &impl Abort, alloc: Global, words: &[&str], first: &[u8], second: &[u8]) -> Kept {
+    let job = job(alloc, words).expect(rt, "a job");
     let mut first = Bytes::new(first, 7);
     let mut second = Bytes::new(second, 7);
-    let prepared = prepare(alloc, &job, &mut first, &mut second)?;
-    emit(&prepared, &mut sink)?;
-    Ok(sink)
+    let prepared = prepare(alloc, &job, &mut first, &mut second).expect(rt, "an answer");
+    let mut sink = Kept::new(alloc, 1000).expect(rt, "room");
+    emit(&prepared, &mut sink).expect(rt, "all is written");
+    sink
 }
 
 /// Words of a command that reads a file alone, the file, and what is written.
@@ -41,15 +39,18 @@ const OF_FILES: &[(&[&str], File, &str)] = &[
     ),
 ];
 
+/// That the command of these words writes this of a file.
+fn writes_of_file(rt: &impl Abort, alloc: Global, words: &[&str], file: File, wanted: &str) {
+    let text = text_of(rt, alloc, file);
+    let sink = written(rt, alloc, words, text.as_slice(), b"");
+    same_of(rt, words, sink.bytes(), wanted.as_bytes());
+}
+
 #[test]
-fn commands_that_read_a_file(rt: HostRuntime) -> Result<(), Fail> {
-    let alloc = rt.alloc();
-    for (words, file, want) in OF_FILES {
-        let text = text_of(alloc, file)?;
-        let sink = written(alloc, words, text.as_slice(), b"")?;
-        assert_eq!(rt; sink.bytes(), want.as_bytes(), "{words:?}");
+fn commands_that_read_a_file(rt: HostRuntime) {
+    for (words, file, wanted) in OF_FILES {
+        writes_of_file(&rt, rt.alloc(), words, file, wanted);
     }
-    Ok(())
 }
 
 /// Words of a command that reads a state, the state, what the other source holds, and what is written.
@@ -94,79 +95,116 @@ const OF_STATES: &[(&[&str], Parts, Parts, Parts)] = &[
     (&["migrate", "S"], OLD_STATE, &[], MORNING_STATE),
 ];
 
-#[test]
-fn commands_that_read_a_state(rt: HostRuntime) -> Result<(), Fail> {
-    let alloc = rt.alloc();
-    for (words, first, second, want) in OF_STATES {
-        let first = text_of_parts(alloc, first)?;
-        let second = text_of_parts(alloc, second)?;
-        let want = text_of_parts(alloc, want)?;
-        let sink = written(alloc, words, first.as_slice(), second.as_slice())?;
-        assert_eq!(rt; sink.bytes(), want.as_slice(), "{words:?}");
-    }
-    Ok(())
+/// That the command of these words writes this of a state and what the other source holds.
+fn writes_of_state(
+    rt: &impl Abort,
+    alloc: Global,
+    words: &[&str],
+    first: Parts,
+    second: Parts,
+    wanted: Parts,
+) {
+    let first = text_of_parts(rt, alloc, first);
+    let second = text_of_parts(rt, alloc, second);
+    let wanted = text_of_parts(rt, alloc, wanted);
+    let sink = written(rt, alloc, words, first.as_slice(), second.as_slice());
+    same_of(rt, words, sink.bytes(), wanted.as_slice());
 }
 
 #[test]
-fn a_file_taken_into_a_state(rt: HostRuntime) -> Result<(), Fail> {
+fn commands_that_read_a_state(rt: HostRuntime) {
+    for (words, first, second, wanted) in OF_STATES {
+        writes_of_state(&rt, rt.alloc(), words, first, second, wanted);
+    }
+}
+
+#[test]
+fn a_file_taken_into_a_state(rt: HostRuntime) {
     let alloc = rt.alloc();
-    let empty = text_of_parts(alloc, EMPTY_STATE)?;
-    let file = text_of(alloc, MORNING)?;
-    let sink = written(
-        alloc,
-        &["take", "S", "F"],
-        empty.as_slice(),
-        file.as_slice(),
-    )?;
-    let want = text_of_parts(alloc, MORNING_STATE)?;
-    assert_eq!(rt; sink.bytes(), want.as_slice());
+    let empty = text_of_parts(&rt, alloc, EMPTY_STATE);
+    let file = text_of(&rt, alloc, MORNING);
+    let words = ["take", "S", "F"];
+    let sink = written(&rt, alloc, &words, empty.as_slice(), file.as_slice());
+    let wanted = text_of_parts(&rt, alloc, MORNING_STATE);
+    same(&rt, sink.bytes(), wanted.as_slice());
     let words = ["print", "S", "ASHFELD", "2024-06-10"];
-    let docker = written(alloc, &words, sink.bytes(), b"")?;
-    assert_eq!(rt; docker.bytes(), ASHFELD_0900.as_bytes());
-    Ok(())
+    let docker = written(&rt, alloc, &words, sink.bytes(), b"");
+    same(&rt, docker.bytes(), ASHFELD_0900.as_bytes());
 }
 
-/// Whether a command is refused with this status and this line.
-fn is_refused(answer: Result<Kept, Fault>, number: u8, line: &str) -> bool {
-    match answer {
-        Ok(_) => false,
-        Err(fault) => status(&fault) == number && fault_text(&fault).as_slice() == line.as_bytes(),
+/// Why the job of these words isn't done with this source.
+fn fault_of(rt: &impl Abort, alloc: Global, words: &[&str], first: &[u8]) -> Option<OfficeFault> {
+    let job = job(alloc, words).expect(rt, "a job");
+    let mut first = Bytes::new(first, 7);
+    let mut second = Bytes::new(b"", 7);
+    match prepare(alloc, &job, &mut first, &mut second) {
+        Ok(prepared) => {
+            let mut sink = Kept::new(alloc, 1000).expect(rt, "room");
+            emit(&prepared, &mut sink).err()
+        }
+        Err(fault) => Some(fault),
     }
 }
 
-#[test]
-fn commands_that_are_refused(rt: HostRuntime) -> Result<(), Fail> {
-    let alloc = rt.alloc();
-    let short = text_of(alloc, &[HD, SHORT, ZZ])?;
-    let answer = written(alloc, &["check", "F"], short.as_slice(), b"");
-    let line = "docker: file refused: record 2: Length\n";
-    assert!(rt; is_refused(answer, 1, line), "a line of 79 characters");
-    let lapsed = text_of_parts(alloc, LAPSED_STATE)?;
-    let words = ["print", "S", "ASHFELD", "2024-06-17"];
-    let answer = written(alloc, &words, lapsed.as_slice(), b"");
-    let line = "docker: day refused: before horizon plus three days\n";
-    assert!(rt;
-        is_refused(answer, 1, line),
-        "a day before the horizon plus three"
-    );
-    let answer = written(alloc, &["migrate", "S"], lapsed.as_slice(), b"");
-    let line = "docker: state refused: offset 0: Mark\n";
-    assert!(rt; is_refused(answer, 1, line), "a state of the newer format");
-    Ok(())
+/// That a command is refused with the status 1 and this line.
+fn is_refused(
+    rt: &impl Abort,
+    alloc: Global,
+    words: &[&str],
+    first: &[u8],
+    line: &str,
+    name: &str,
+) {
+    let fault = fault_of(rt, alloc, words, first).expect(rt, name);
+    let fault = Fault::Office(fault);
+    same_in(rt, name, status(&fault), 1);
+    same_in(rt, name, fault_text(&fault).as_slice(), line.as_bytes());
 }
 
 #[test]
-fn a_job_line_before_the_file_that_it_names(rt: HostRuntime) -> Result<(), Fail> {
+fn commands_that_are_refused(rt: HostRuntime) {
+    let alloc = rt.alloc();
+    let short = text_of(&rt, alloc, &[HD, SHORT, ZZ]);
+    is_refused(
+        &rt,
+        alloc,
+        &["check", "F"],
+        short.as_slice(),
+        "docker: file refused: record 2: Length\n",
+        "a line of 79 characters",
+    );
+    let lapsed = text_of_parts(&rt, alloc, LAPSED_STATE);
+    is_refused(
+        &rt,
+        alloc,
+        &["print", "S", "ASHFELD", "2024-06-17"],
+        lapsed.as_slice(),
+        "docker: day refused: before horizon plus three days\n",
+        "a day before the horizon plus three",
+    );
+    is_refused(
+        &rt,
+        alloc,
+        &["migrate", "S"],
+        lapsed.as_slice(),
+        "docker: state refused: offset 0: Mark\n",
+        "a state of the newer format",
+    );
+}
+
+#[test]
+fn a_job_line_before_the_file_that_it_names(rt: HostRuntime) {
     let alloc = rt.alloc();
     let mut text = Vec::new(alloc);
-    text.extend_from_slice(b"day stdin ASHFELD 2024-06-10\n")?;
-    text.extend_from_slice(text_of(alloc, MORNING)?.as_slice())?;
+    text.extend_from_slice(b"day stdin ASHFELD 2024-06-10\n")
+        .expect(&rt, "room");
+    let file = text_of(&rt, alloc, MORNING);
+    text.extend_from_slice(file.as_slice()).expect(&rt, "room");
     let mut source = Bytes::new(text.as_slice(), 7);
-    let job = job_line(alloc, &mut source)?;
+    let job = job_line(alloc, &mut source).expect(&rt, "a job");
     let mut second = Bytes::new(b"", 7);
-    let prepared = prepare(alloc, &job, &mut source, &mut second)?;
-    let mut sink = Kept::new(alloc, 171)?;
-    emit(&prepared, &mut sink)?;
-    assert_eq!(rt; sink.bytes(), ASHFELD_0900.as_bytes());
-    Ok(())
+    let prepared = prepare(alloc, &job, &mut source, &mut second).expect(&rt, "an answer");
+    let mut sink = Kept::new(alloc, 171).expect(&rt, "room");
+    emit(&prepared, &mut sink).expect(&rt, "all is written");
+    same(&rt, sink.bytes(), ASHFELD_0900.as_bytes());
 }

@@ -1,43 +1,47 @@
 //! Devices that fail in mid-stream, that are full, and that never end.
 ghost use Rattle.std.specs.Prelude.{◌<◌};
 
+use crate::compare::same;
 use crate::files::*;
-use crate::offices::{has, office_of, text_of};
+use crate::offices::{day_of, has, office_of, place_of, text_of};
 use crate::state_texts::{MORNING_STATE, REVISED_STATE, REVISION_STATE, text_of_parts};
 use cif_file::{FileCause, FileFault};
-use cif_line::{Bytes, Day, Endless, Fuse, Kept, Tiploc};
+use cif_line::{Bytes, Endless, Fuse, Kept};
 use docker_office::{Office, OfficeFault, StateCause, StateFault};
 use std::alloc::Global;
-use std::test::Fail;
+use std::process::Abort;
 
-/// Whether an office that sends to a sink of one byte a write, which fails at this write alone, has this answer, and the sink these bytes.
+/// That an office which sends to a sink of one byte a write, which fails at this write alone, has this answer, and the sink these bytes.
 fn sends(
+    rt: &impl Abort,
     alloc: Global,
     office: &Office,
     write: u64,
     answer: Result<(), OfficeFault>,
     bytes: &[u8],
-) -> Option<bool>
+)
     requires { 0 < write }
 {
-    let mut sink = Fuse::new(Kept::new(alloc, 311).ok()?, write);
-    let got = office.send(&mut sink);
-    Some(got == answer && sink.device().bytes() == bytes)
+    let kept = Kept::new(alloc, 311).expect(rt, "room");
+    let mut sink = Fuse::new(kept, write);
+    same(rt, office.send(&mut sink), answer);
+    same(rt, sink.device().bytes(), bytes);
+}
+
+/// The first twenty bytes of a text.
+fn front_of<'a>(rt: &impl Abort, text: &'a [u8]) -> &'a [u8] {
+    text.get(..20).expect(rt, "20 bytes")
 }
 
 #[test]
-fn a_sink_that_fails_once(rt: HostRuntime) -> Result<(), Fail> {
+fn a_sink_that_fails_once(rt: HostRuntime) {
     let alloc = rt.alloc();
-    let office = office_of(alloc, &[MORNING])?;
-    let text = text_of_parts(alloc, MORNING_STATE)?;
-    let front = text.as_slice().get(..20).ok_or("20 bytes")?;
+    let office = office_of(&rt, alloc, &[MORNING]);
+    let text = text_of_parts(&rt, alloc, MORNING_STATE);
+    let front = front_of(&rt, text.as_slice());
     let failed = Err(OfficeFault::Sink);
-    assert_eq!(rt; sends(alloc, &office, 21, failed, front), Some(true));
-    assert_eq!(rt;
-        sends(alloc, &office, 312, Ok(()), text.as_slice()),
-        Some(true)
-    );
-    Ok(())
+    sends(&rt, alloc, &office, 21, failed, front);
+    sends(&rt, alloc, &office, 312, Ok(()), text.as_slice());
 }
 
 /// What an office answers where it takes a file from a source of one byte a read, which fails at this read alone.
@@ -62,41 +66,54 @@ fn reloaded(office: &mut Office, text: &[u8], read: u64) -> Result<(), OfficeFau
 }
 
 #[test]
-fn a_source_that_fails_once(rt: HostRuntime) -> Result<(), Fail> {
+fn a_source_that_fails_once(rt: HostRuntime) {
     let alloc = rt.alloc();
-    let mut office = office_of(alloc, &[REVISION])?;
-    let text = text_of(alloc, MORNING)?;
-    let known = text_of_parts(alloc, MORNING_STATE)?;
+    let mut office = office_of(&rt, alloc, &[REVISION]);
+    let text = text_of(&rt, alloc, MORNING);
+    let known = text_of_parts(&rt, alloc, MORNING_STATE);
     let failed = Err(OfficeFault::Source);
-    assert_eq!(rt; taken(&mut office, text.as_slice(), 101), failed);
-    assert_eq!(rt; received(&mut office, known.as_slice(), 101), failed);
-    assert_eq!(rt; reloaded(&mut office, known.as_slice(), 312), failed);
-    has(&rt, alloc, &office, REVISION_STATE)?;
-    assert_eq!(rt; taken(&mut office, text.as_slice(), 407), Ok(()));
-    has(&rt, alloc, &office, REVISED_STATE)?;
-    assert_eq!(rt; reloaded(&mut office, known.as_slice(), 313), Ok(()));
-    has(&rt, alloc, &office, MORNING_STATE)
+    same(&rt, taken(&mut office, text.as_slice(), 101), failed);
+    same(&rt, received(&mut office, known.as_slice(), 101), failed);
+    same(&rt, reloaded(&mut office, known.as_slice(), 312), failed);
+    has(&rt, alloc, &office, REVISION_STATE);
+    same(&rt, taken(&mut office, text.as_slice(), 407), Ok(()));
+    has(&rt, alloc, &office, REVISED_STATE);
+    same(&rt, reloaded(&mut office, known.as_slice(), 313), Ok(()));
+    has(&rt, alloc, &office, MORNING_STATE);
+}
+
+/// That an office which sends to a sink with room for twenty bytes fills it.
+fn fills_by_send(rt: &impl Abort, alloc: Global, office: &Office) {
+    let text = text_of_parts(rt, alloc, MORNING_STATE);
+    let mut kept = Kept::new(alloc, 20).expect(rt, "room");
+    same(rt, office.send(&mut kept), Err(OfficeFault::Sink));
+    same(rt, kept.bytes(), front_of(rt, text.as_slice()));
+}
+
+/// That one which prints to a sink with room for seventy fills it.
+fn fills_by_print(rt: &impl Abort, alloc: Global, office: &Office) {
+    let place = place_of(rt, "ASHFELD");
+    let day = day_of(rt, "2024-06-10");
+    let mut kept = Kept::new(alloc, 70).expect(rt, "room");
+    let answer = office.print(&place, day, &mut kept);
+    same(rt, answer, Err(OfficeFault::Sink));
+    let front = b"DOCKER ASHFELD 2024-06-10                               \n0900  D 1A10 ";
+    same(rt, kept.bytes(), front.as_slice());
+}
+
+/// That one which lists its files to a sink with room for ten fills it.
+fn fills_by_files(rt: &impl Abort, alloc: Global, office: &Office) {
+    let mut kept = Kept::new(alloc, 10).expect(rt, "room");
+    same(rt, office.files(&mut kept), Err(OfficeFault::Sink));
+    same(rt, kept.bytes(), b"2024-06-09".as_slice());
 }
 
 #[test]
-fn a_sink_that_is_full(rt: HostRuntime) -> Result<(), Fail> {
-    let alloc = rt.alloc();
-    let office = office_of(alloc, &[MORNING])?;
-    let text = text_of_parts(alloc, MORNING_STATE)?;
-    let mut kept = Kept::new(alloc, 20)?;
-    assert_eq!(rt; office.send(&mut kept), Err(OfficeFault::Sink));
-    assert_eq!(rt; kept.bytes(), text.as_slice().get(..20).ok_or("20 bytes")?);
-    let place = Tiploc::from_text("ASHFELD").ok_or("a TIPLOC")?;
-    let day = Day::from_iso("2024-06-10").ok_or("a day")?;
-    let mut kept = Kept::new(alloc, 70)?;
-    let answer = office.print(&place, day, &mut kept);
-    assert_eq!(rt; answer, Err(OfficeFault::Sink));
-    let front = b"DOCKER ASHFELD 2024-06-10                               \n0900  D 1A10 ";
-    assert_eq!(rt; kept.bytes(), front.as_slice());
-    let mut kept = Kept::new(alloc, 10)?;
-    assert_eq!(rt; office.files(&mut kept), Err(OfficeFault::Sink));
-    assert_eq!(rt; kept.bytes(), b"2024-06-09".as_slice());
-    Ok(())
+fn a_sink_that_is_full(rt: HostRuntime) {
+    let office = office_of(&rt, rt.alloc(), &[MORNING]);
+    fills_by_send(&rt, rt.alloc(), &office);
+    fills_by_print(&rt, rt.alloc(), &office);
+    fills_by_files(&rt, rt.alloc(), &office);
 }
 
 #[test]
@@ -107,11 +124,11 @@ fn a_source_without_end(rt: HostRuntime) {
         cause: FileCause::Length,
     };
     let answer = office.take(&mut Endless::new(b"", b"H", 4096), 1000);
-    assert_eq!(rt; answer, Err(OfficeFault::File(length)));
+    same(&rt, answer, Err(OfficeFault::File(length)));
     let tail = StateFault {
         at: 22,
         cause: StateCause::Tail,
     };
     let answer = office.receive(&mut Endless::new(b"DKS2", b"\0", 4096), 1000);
-    assert_eq!(rt; answer, Err(OfficeFault::State(tail)));
+    same(&rt, answer, Err(OfficeFault::State(tail)));
 }

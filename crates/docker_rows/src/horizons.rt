@@ -1,21 +1,29 @@
 //! Offices with a horizon.
 
+use crate::compare::same_in;
 use crate::dockers::NONE_ON_18_JUNE;
 use crate::files::*;
-use crate::offices::{office_of, prints, sent, take};
-use crate::state_texts::{LAPSED_STATE, text_of_parts};
-use cif_line::Day;
+use crate::offices::{day_of, has, has_text, office_of, prints, refuses_day, sent, take};
+use crate::state_texts::LAPSED_STATE;
 use docker_office::Office;
-use std::test::Fail;
+use std::alloc::Global;
+use std::process::Abort;
 
 /// Sets a horizon.
-fn set(office: &mut Office, day: &str) -> Result<(), Fail> {
-    office.set_horizon(Day::from_iso(day).ok_or("a day")?);
-    Ok(())
+fn set(rt: &impl Abort, office: &mut Office, date: &str) {
+    office.set_horizon(day_of(rt, date));
 }
 
 /// A horizon to be set, the live schedules behind it by the size of the state, a day that is refused, and the next, with its docker, which has no line.
-const ROWS: &[(&str, usize, &str, &str, &str)] = &[
+type Row = (
+    &'static str,
+    usize,
+    &'static str,
+    &'static str,
+    &'static str,
+);
+
+const ROWS: &[Row] = &[
     (
         "2024-06-14",
         311,
@@ -48,40 +56,46 @@ DOCKER ASHFELD 2024-06-24
 END                                                     
 ";
 
+/// That an office is so behind a horizon.
+fn is_behind(rt: &impl Abort, alloc: Global, office: &mut Office, row: &Row) {
+    let (horizon, bytes, refused, printed, docker) = *row;
+    set(rt, office, horizon);
+    let text = sent(rt, alloc, office);
+    same_in(rt, horizon, text.bytes().len(), bytes);
+    refuses_day(rt, alloc, office, refused);
+    prints(rt, alloc, office, "ASHFELD", printed, docker);
+}
+
 #[test]
-fn a_horizon_that_rises(rt: HostRuntime) -> Result<(), Fail> {
-    let alloc = rt.alloc();
-    let mut office = office_of(alloc, &[MORNING])?;
-    for (horizon, bytes, refused, printed, docker) in ROWS {
-        set(&mut office, horizon)?;
-        assert_eq!(rt; sent(alloc, &office)?.bytes().len(), *bytes);
-        assert!(rt; prints(alloc, &office, refused, None)?, "{refused}");
-        let empty = prints(alloc, &office, printed, Some(docker))?;
-        assert!(rt; empty, "{printed}");
+fn a_horizon_that_rises(rt: HostRuntime) {
+    let mut office = office_of(&rt, rt.alloc(), &[MORNING]);
+    for row in ROWS {
+        is_behind(&rt, rt.alloc(), &mut office, row);
     }
-    Ok(())
 }
 
 #[test]
-fn a_lapsed_state(rt: HostRuntime) -> Result<(), Fail> {
-    let alloc = rt.alloc();
-    let mut office = office_of(alloc, &[MORNING])?;
-    set(&mut office, "2024-06-15")?;
-    let want = text_of_parts(alloc, LAPSED_STATE)?;
-    assert_eq!(rt; sent(alloc, &office)?.bytes(), want.as_slice());
-    Ok(())
+fn a_lapsed_state(rt: HostRuntime) {
+    let mut office = office_of(&rt, rt.alloc(), &[MORNING]);
+    set(&rt, &mut office, "2024-06-15");
+    has(&rt, rt.alloc(), &office, LAPSED_STATE);
+}
+
+/// That an office prints that nothing happens at Ashfeld on 24 June.
+fn prints_none(rt: &impl Abort, alloc: Global, office: &Office) {
+    prints(rt, alloc, office, "ASHFELD", "2024-06-24", NONE_ON_24_JUNE);
 }
 
 #[test]
-fn a_file_behind_a_horizon(rt: HostRuntime) -> Result<(), Fail> {
+fn a_file_behind_a_horizon(rt: HostRuntime) {
     let alloc = rt.alloc();
-    let mut office = office_of(alloc, &[REVISION])?;
-    set(&mut office, "2024-06-15")?;
-    take(alloc, &mut office, JULY)?;
-    assert!(rt; prints(alloc, &office, "2024-06-24", Some(NONE_ON_24_JUNE))?);
-    let mut other = office_of(alloc, &[JULY, REVISION])?;
-    assert!(rt; prints(alloc, &other, "2024-06-24", Some(NONE_ON_24_JUNE))?);
-    set(&mut other, "2024-06-15")?;
-    assert_eq!(rt; sent(alloc, &office)?.bytes(), sent(alloc, &other)?.bytes());
-    Ok(())
+    let mut office = office_of(&rt, alloc, &[REVISION]);
+    set(&rt, &mut office, "2024-06-15");
+    take(&rt, alloc, &mut office, JULY);
+    prints_none(&rt, alloc, &office);
+    let mut other = office_of(&rt, alloc, &[JULY, REVISION]);
+    prints_none(&rt, alloc, &other);
+    set(&rt, &mut other, "2024-06-15");
+    let text = sent(&rt, alloc, &other);
+    has_text(&rt, alloc, &office, text.bytes());
 }

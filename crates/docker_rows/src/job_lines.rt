@@ -1,66 +1,83 @@
 //! The jobs that the first line of a source names.
 ghost use Rattle.std.specs.Prelude.{None};
 
+use crate::compare::{same, same_in};
 use cif_line::{Bytes, Failed, Source};
-use docker_cmd::{JobFault, Subcommand, Task, job_line};
+use docker_cmd::{Job, JobFault, Subcommand, Task, job_line};
 use std::alloc::Global;
-use std::test::Fail;
+use std::process::Abort;
 
-#[test]
-fn a_job_line_before_a_file(rt: HostRuntime) -> Result<(), Fail> {
-    let mut source = Bytes::new(b"day stdin ASHFELD 2024-06-10\nHD", 1);
-    let job = job_line(rt.alloc(), &mut source)?;
-    assert_eq!(rt; source.left(), b"HD".as_slice());
-    let [name, tiploc, date] = job.words() else {
-        return Err("three words")?;
-    };
-    assert_eq!(rt; name.as_str(), "stdin");
-    assert_eq!(rt; tiploc.as_str(), "ASHFELD");
-    assert_eq!(rt; date.as_str(), "2024-06-10");
-    let Task::Day { place, day } = job.task() else {
-        return Err("the subcommand")?;
-    };
-    assert_eq!(rt; place.bytes(), b"ASHFELD");
-    assert_eq!(rt; day.number(), 23537);
-    Ok(())
-}
-
-#[test]
-fn spaces_around_words(rt: HostRuntime) -> Result<(), Fail> {
-    let mut source = Bytes::new(b"  take  state   stdin \n\n", 5);
-    let job = job_line(rt.alloc(), &mut source)?;
-    assert_eq!(rt; source.left(), b"\n".as_slice());
-    assert_eq!(rt; job.subcommand(), Subcommand::Take);
-    let [state, file] = job.words() else {
-        return Err("two words")?;
-    };
-    assert_eq!(rt; state.as_str(), "state");
-    assert_eq!(rt; file.as_str(), "stdin");
-    Ok(())
-}
-
-/// Why a line of `day` with so many spaces in it names no job, if it names none.
-fn fault_of_line(alloc: Global, spaces: usize, end: &[u8]) -> Result<Option<JobFault>, Fail> {
-    let mut line = Vec::new(alloc);
-    line.extend_from_slice(b"day")?;
-    for _ in 0..spaces {
-        line.push(b' ')?;
+/// That the words of a job behind its subcommand are these.
+fn words_are(rt: &impl Abort, job: &Job, wanted: &[&str]) {
+    same(rt, job.words().len(), wanted.len());
+    for (word, wanted) in job.words().iter().zip(wanted) {
+        same(rt, word.as_str(), *wanted);
     }
-    line.extend_from_slice(b"F ASHFELD 2024-06-10")?;
-    line.extend_from_slice(end)?;
-    let mut source = Bytes::new(line.as_slice(), 9);
-    Ok(job_line(alloc, &mut source).err())
+}
+
+/// That a job asks for the docker of this timing point on the day of this number.
+fn asks_for(rt: &impl Abort, job: &Job, tiploc: &[u8; 7], number: u16) {
+    match job.task() {
+        Task::Day { place, day } => {
+            same(rt, place.bytes(), tiploc);
+            same(rt, day.number(), number);
+        }
+        _ => panic!(rt; "the subcommand"),
+    }
 }
 
 #[test]
-fn lengths_of_a_job_line(rt: HostRuntime) -> Result<(), Fail> {
-    let longest = fault_of_line(rt.alloc(), 232, b"\n")?;
-    assert_eq!(rt; longest, None, "255 bytes");
-    let longer = fault_of_line(rt.alloc(), 233, b"\n")?;
-    assert_eq!(rt; longer, Some(JobFault::Usage), "256 bytes");
-    let open = fault_of_line(rt.alloc(), 1, b"")?;
-    assert_eq!(rt; open, Some(JobFault::Usage), "no line feed");
-    Ok(())
+fn a_job_line_before_a_file(rt: HostRuntime) {
+    let mut source = Bytes::new(b"day stdin ASHFELD 2024-06-10\nHD", 1);
+    let job = job_line(rt.alloc(), &mut source).expect(&rt, "a job");
+    same(&rt, source.left(), b"HD".as_slice());
+    words_are(&rt, &job, &["stdin", "ASHFELD", "2024-06-10"]);
+    asks_for(&rt, &job, b"ASHFELD", 23537);
+}
+
+#[test]
+fn spaces_around_words(rt: HostRuntime) {
+    let mut source = Bytes::new(b"  take  state   stdin \n\n", 5);
+    let job = job_line(rt.alloc(), &mut source).expect(&rt, "a job");
+    same(&rt, source.left(), b"\n".as_slice());
+    same(&rt, job.subcommand(), Subcommand::Take);
+    words_are(&rt, &job, &["state", "stdin"]);
+}
+
+/// A line of `day` with so many spaces in it, and this end.
+fn line_of(rt: &impl Abort, alloc: Global, spaces: usize, end: &[u8]) -> Vec<u8> {
+    let mut line = Vec::new(alloc);
+    line.extend_from_slice(b"day").expect(rt, "room");
+    for _ in 0..spaces {
+        line.push(b' ').expect(rt, "room");
+    }
+    line.extend_from_slice(b"F ASHFELD 2024-06-10")
+        .expect(rt, "room");
+    line.extend_from_slice(end).expect(rt, "room");
+    line
+}
+
+/// That such a line names no job for this fault, or names one.
+fn fault_is(
+    rt: &impl Abort,
+    alloc: Global,
+    spaces: usize,
+    end: &[u8],
+    wanted: Option<JobFault>,
+    name: &str,
+) {
+    let line = line_of(rt, alloc, spaces, end);
+    let mut source = Bytes::new(line.as_slice(), 9);
+    let fault = job_line(alloc, &mut source).err();
+    same_in(rt, name, fault, wanted);
+}
+
+#[test]
+fn lengths_of_a_job_line(rt: HostRuntime) {
+    let usage = Some(JobFault::Usage);
+    fault_is(&rt, rt.alloc(), 232, b"\n", None, "255 bytes");
+    fault_is(&rt, rt.alloc(), 233, b"\n", usage, "256 bytes");
+    fault_is(&rt, rt.alloc(), 1, b"", usage, "no line feed");
 }
 
 // A source without end, which can't tell its bytes. It gives the letter a at each read.
@@ -92,6 +109,6 @@ impl Source for Endless {
 fn a_source_without_end(rt: HostRuntime) {
     let mut source = Endless { reads: 0 };
     let fault = job_line(rt.alloc(), &mut source).err();
-    assert_eq!(rt; fault, Some(JobFault::Usage));
-    assert_eq!(rt; source.reads, 256);
+    same(&rt, fault, Some(JobFault::Usage));
+    same(&rt, source.reads, 256);
 }

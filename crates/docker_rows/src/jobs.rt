@@ -1,13 +1,16 @@
 //! The jobs that words name.
 
+use crate::compare::same_of;
+use cif_line::{Day, Tiploc};
 use docker_cmd::{JobFault, Subcommand, job};
-use std::test::Fail;
+use std::alloc::Global;
+use std::process::Abort;
 
 /// Words, and the job that they name: its subcommand, its timing point and the number of its day.
 type Row = (
     &'static [&'static str],
     Subcommand,
-    Option<&'static [u8; 7]>,
+    Option<[u8; 7]>,
     Option<u16>,
 );
 
@@ -18,13 +21,13 @@ const JOBS: &[Row] = &[
     (
         &["day", "F", "ASHFELD", "2024-06-10"],
         Subcommand::Day,
-        Some(b"ASHFELD"),
+        Some(*b"ASHFELD"),
         Some(23537),
     ),
     (
         &["day", "stdin", "ELM", "2059-12-31"],
         Subcommand::Day,
-        Some(b"ELM    "),
+        Some(*b"ELM    "),
         Some(36524),
     ),
     (&["take", "S", "F"], Subcommand::Take, None, None),
@@ -34,7 +37,7 @@ const JOBS: &[Row] = &[
     (
         &["print", "stdin", "ASHFELD", "2024-06-14"],
         Subcommand::Print,
-        Some(b"ASHFELD"),
+        Some(*b"ASHFELD"),
         Some(23541),
     ),
     (&["files", "stdin"], Subcommand::Files, None, None),
@@ -47,16 +50,37 @@ const JOBS: &[Row] = &[
     (&["migrate", "S"], Subcommand::Migrate, None, None),
 ];
 
-#[test]
-fn words_that_name_a_job(rt: HostRuntime) -> Result<(), Fail> {
-    for (words, subcommand, tiploc, day) in JOBS {
-        let job = job(rt.alloc(), words)?;
-        assert_eq!(rt; job.subcommand(), *subcommand);
-        assert_eq!(rt; job.words().len() + 1, words.len());
-        assert_eq!(rt; job.tiploc().map(|tiploc| *tiploc.bytes()), tiploc.copied());
-        assert_eq!(rt; job.day().map(|day| day.number()), *day);
+/// The code of a timing point.
+fn code_of(tiploc: Option<Tiploc>) -> Option<[u8; 7]> {
+    match tiploc {
+        Some(tiploc) => Some(*tiploc.bytes()),
+        None => None,
     }
-    Ok(())
+}
+
+/// The number of a day.
+fn number_of(day: Option<Day>) -> Option<u16> {
+    match day {
+        Some(day) => Some(day.number()),
+        None => None,
+    }
+}
+
+/// That words name such a job.
+fn is_job(rt: &impl Abort, alloc: Global, row: &Row) {
+    let (words, subcommand, tiploc, day) = *row;
+    let job = job(alloc, words).expect(rt, "a job");
+    same_of(rt, words, job.subcommand(), subcommand);
+    same_of(rt, words, job.words().len() + 1, words.len());
+    same_of(rt, words, code_of(job.tiploc()), tiploc);
+    same_of(rt, words, number_of(job.day()), day);
+}
+
+#[test]
+fn words_that_name_a_job(rt: HostRuntime) {
+    for row in JOBS {
+        is_job(&rt, rt.alloc(), row);
+    }
 }
 
 /// Words that name no job.
@@ -103,6 +127,6 @@ const NONE: &[&[&str]] = &[
 fn words_that_name_no_job(rt: HostRuntime) {
     for words in NONE {
         let fault = job(rt.alloc(), words).err();
-        assert_eq!(rt; fault, Some(JobFault::Usage), "{words:?}");
+        same_of(&rt, words, fault, Some(JobFault::Usage));
     }
 }

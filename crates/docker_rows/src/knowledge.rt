@@ -8,7 +8,8 @@ use docker_encode::{encoded_len, write_state};
 use docker_join::Merge;
 use docker_office::{OfficeFault, Reply, RunFault};
 use docker_state::State;
-use std::alloc::{AllocError, Global};
+use std::alloc::Global;
+use std::process::Abort;
 
 /// How many offices there are.
 pub(crate) const OFFICES: usize = 3;
@@ -48,12 +49,13 @@ const REFUSED: [FileFault; 2] = [
 ];
 
 /// The texts of the files.
-pub(crate) fn texts_of_files(alloc: Global) -> Result<Vec<Vec<u8>>, AllocError> {
+pub(crate) fn texts_of_files(rt: &impl Abort, alloc: Global) -> Vec<Vec<u8>> {
     let mut texts = Vec::new(alloc);
     for file in FILES {
-        texts.push(text_of(alloc, file)?)?;
+        let text = text_of(rt, alloc, file);
+        texts.push(text).expect(rt, "room");
     }
-    Ok(texts)
+    texts
 }
 
 /// What happens at an office. A file is told by its place.
@@ -162,30 +164,35 @@ impl Known {
     }
 
     /// The state of the files under the horizon.
-    fn state(&self, alloc: Global, texts: &[Vec<u8>]) -> Option<State> {
+    fn state(&self, rt: &impl Abort, alloc: Global, texts: &[Vec<u8>]) -> State {
         let mut state = State::empty(alloc);
         for (text, known) in texts.iter().zip(self.files.iter()) {
             if *known {
-                let mut source = Bytes::new(text.as_slice(), 4096);
-                let file = read_file(alloc, &mut source, MOST_RECORDS).ok()?;
-                let other = State::of_file(alloc, file).ok()?;
-                state = state.join(alloc, other).ok()?;
+                let other = state_of(rt, alloc, text.as_slice());
+                state = state.join(alloc, other).expect(rt, "room");
             }
         }
         if let Some(day) = self.horizon {
             state.set_horizon(day);
         }
-        Some(state)
+        state
     }
 
     /// The text of that state.
-    pub(crate) fn text(&self, alloc: Global, texts: &[Vec<u8>]) -> Option<Kept> {
-        let state = self.state(alloc, texts)?;
-        let room = usize::try_from(encoded_len(&state)).ok()?;
-        let mut kept = Kept::new(alloc, room).ok()?;
-        write_state(&state, &mut kept).ok()?;
-        Some(kept)
+    pub(crate) fn text(&self, rt: &impl Abort, alloc: Global, texts: &[Vec<u8>]) -> Kept {
+        let state = self.state(rt, alloc, texts);
+        let room = usize::try_from(encoded_len(&state)).expect(rt, "a length");
+        let mut kept = Kept::new(alloc, room).expect(rt, "room");
+        write_state(&state, &mut kept).expect(rt, "all is written");
+        kept
     }
+}
+
+/// The state of a file.
+fn state_of(rt: &impl Abort, alloc: Global, text: &[u8]) -> State {
+    let mut source = Bytes::new(text, 4096);
+    let file = read_file(alloc, &mut source, MOST_RECORDS).expect(rt, "a file");
+    State::of_file(alloc, file).expect(rt, "room")
 }
 
 /// What each office knows, and each message tells.
@@ -221,18 +228,25 @@ impl Knowledge {
     }
 
     /// What is known after a step, by its reply. A step that is refused changes nothing.
-    pub(crate) fn follow(&mut self, step: &Step, reply: Reply) -> Option<()> {
-        if reply != Reply::Done {
-            return Some(());
+    pub(crate) fn follow(&mut self, rt: &impl Abort, step: &Step, reply: Reply) {
+        if reply == Reply::Done {
+            self.follow_done(rt, step);
         }
-        let known = self.offices.get_mut(step.office())?;
+    }
+
+    /// What is known after a step that is done.
+    fn follow_done(&mut self, rt: &impl Abort, step: &Step) {
+        let known = self.offices.get_mut(step.office()).expect(rt, "an office");
         match step {
             Step::Take { file, .. } => known.take(*file),
-            Step::Send { .. } => self.messages.push(*known).ok()?,
-            Step::Deliver { message, .. } => known.join(self.messages.get(*message)?),
-            Step::Reload { message, .. } => *known = *self.messages.get(*message)?,
+            Step::Send { .. } => self.messages.push(*known).expect(rt, "room"),
+            Step::Deliver { message, .. } => {
+                known.join(self.messages.get(*message).expect(rt, "a message"));
+            }
+            Step::Reload { message, .. } => {
+                *known = *self.messages.get(*message).expect(rt, "a message");
+            }
             Step::Horizon { day, .. } => known.raise(Some(*day)),
         }
-        Some(())
     }
 }

@@ -1,100 +1,112 @@
 //! Offices over devices in memory.
 
+use crate::compare::{same, same_in};
 use crate::files::File;
 use crate::state_texts::{Parts, text_of_parts};
 use cif_line::{Bytes, Day, Kept, Tiploc};
 use docker_office::{Office, OfficeFault};
-use std::alloc::{AllocError, Global};
+use std::alloc::Global;
 use std::process::Abort;
-use std::test::Fail;
 
 /// The most bytes that a text of these rows has.
 const ROOM: usize = 1000;
 
 /// Lines as one text, a line feed behind each.
-pub(crate) fn text_of(alloc: Global, lines: &[&str]) -> Result<Vec<u8>, AllocError> {
+pub(crate) fn text_of(rt: &impl Abort, alloc: Global, lines: &[&str]) -> Vec<u8> {
     let mut text = Vec::new(alloc);
     for line in lines {
-        text.extend_from_slice(line.as_bytes())?;
-        text.push(b'\n')?;
+        text.extend_from_slice(line.as_bytes()).expect(rt, "room");
+        text.push(b'\n').expect(rt, "room");
     }
-    Ok(text)
+    text
 }
 
 /// Takes a file.
-pub(crate) fn take(alloc: Global, office: &mut Office, file: File) -> Result<(), Fail> {
-    let text = text_of(alloc, file)?;
-    office.take(&mut Bytes::new(text.as_slice(), 100), 1000)?;
-    Ok(())
+pub(crate) fn take(rt: &impl Abort, alloc: Global, office: &mut Office, file: File) {
+    let text = text_of(rt, alloc, file);
+    let mut source = Bytes::new(text.as_slice(), 100);
+    office.take(&mut source, 1000).expect(rt, "a file");
 }
 
 /// An office that took these files in turn.
-pub(crate) fn office_of(alloc: Global, files: &[File]) -> Result<Office, Fail> {
+pub(crate) fn office_of(rt: &impl Abort, alloc: Global, files: &[File]) -> Office {
     let mut office = Office::new(alloc);
     for file in files {
-        take(alloc, &mut office, file)?;
+        take(rt, alloc, &mut office, file);
     }
-    Ok(office)
+    office
+}
+
+/// Receives the state of another office, which took this file.
+fn receive_of(rt: &impl Abort, alloc: Global, office: &mut Office, file: File) {
+    let mut other = Office::new(alloc);
+    take(rt, alloc, &mut other, file);
+    let text = sent(rt, alloc, &other);
+    let mut source = Bytes::new(text.bytes(), 7);
+    office.receive(&mut source, 1000).expect(rt, "a state");
 }
 
 /// An office that received in turn the states of others, each of which took one of these files.
-pub(crate) fn merged(alloc: Global, files: &[File]) -> Result<Office, Fail> {
+pub(crate) fn merged(rt: &impl Abort, alloc: Global, files: &[File]) -> Office {
     let mut office = Office::new(alloc);
     for file in files {
-        let other = office_of(alloc, &[*file])?;
-        let text = sent(alloc, &other)?;
-        office.receive(&mut Bytes::new(text.bytes(), 7), 1000)?;
+        receive_of(rt, alloc, &mut office, file);
     }
-    Ok(office)
+    office
 }
 
 /// What an office sends.
-pub(crate) fn sent(alloc: Global, office: &Office) -> Result<Kept, Fail> {
-    let mut kept = Kept::new(alloc, ROOM)?;
-    office.send(&mut kept)?;
-    Ok(kept)
+pub(crate) fn sent(rt: &impl Abort, alloc: Global, office: &Office) -> Kept {
+    let mut kept = Kept::new(alloc, ROOM).expect(rt, "room");
+    office.send(&mut kept).expect(rt, "the state");
+    kept
 }
 
-/// That an office has this text.
-pub(crate) fn has(
+/// That an office has the state of this text.
+pub(crate) fn has_text(rt: &impl Abort, alloc: Global, office: &Office, text: &[u8]) {
+    let own = sent(rt, alloc, office);
+    same(rt, own.bytes(), text);
+}
+
+/// That an office has the state of this text, told by its parts.
+pub(crate) fn has(rt: &impl Abort, alloc: Global, office: &Office, parts: Parts) {
+    let text = text_of_parts(rt, alloc, parts);
+    has_text(rt, alloc, office, text.as_slice());
+}
+
+/// The timing point of this code.
+pub(crate) fn place_of(rt: &impl Abort, code: &str) -> Tiploc {
+    Tiploc::from_text(code).expect(rt, "a TIPLOC")
+}
+
+/// The day of this date.
+pub(crate) fn day_of(rt: &impl Abort, date: &str) -> Day {
+    Day::from_iso(date).expect(rt, "a day")
+}
+
+/// That an office prints this docker of a place on a day.
+pub(crate) fn prints(
     rt: &impl Abort,
     alloc: Global,
     office: &Office,
-    parts: Parts,
-) -> Result<(), Fail> {
-    let text = sent(alloc, office)?;
-    let want = text_of_parts(alloc, parts)?;
-    assert_eq!(rt; text.bytes(), want.as_slice());
-    Ok(())
-}
-
-/// What an office prints of a place on a day.
-pub(crate) fn printed(
-    alloc: Global,
-    office: &Office,
     place: &str,
-    day: &str,
-) -> Result<Kept, Fail> {
-    let place = Tiploc::from_text(place).ok_or("a TIPLOC")?;
-    let day = Day::from_iso(day).ok_or("a day")?;
-    let mut kept = Kept::new(alloc, ROOM)?;
-    office.print(&place, day, &mut kept)?;
-    Ok(kept)
+    date: &str,
+    docker: &str,
+) {
+    let place = place_of(rt, place);
+    let day = day_of(rt, date);
+    let mut kept = Kept::new(alloc, ROOM).expect(rt, "room");
+    let answer = office.print(&place, day, &mut kept);
+    same_in(rt, date, answer, Ok(()));
+    same_in(rt, date, kept.bytes(), docker.as_bytes());
 }
 
-/// Whether this is the docker of Ashfeld on a day, or it is refused where there is none.
-pub(crate) fn prints(
-    alloc: Global,
-    office: &Office,
-    day: &str,
-    docker: Option<&str>,
-) -> Result<bool, Fail> {
-    let place = Tiploc::from_text("ASHFELD").ok_or("a TIPLOC")?;
-    let day = Day::from_iso(day).ok_or("a day")?;
-    let mut kept = Kept::new(alloc, ROOM)?;
+/// That an office refuses to print a docker of Ashfeld on a day.
+pub(crate) fn refuses_day(rt: &impl Abort, alloc: Global, office: &Office, date: &str) {
+    let place = place_of(rt, "ASHFELD");
+    let day = day_of(rt, date);
+    let mut kept = Kept::new(alloc, ROOM).expect(rt, "room");
     let answer = office.print(&place, day, &mut kept);
-    match docker {
-        Some(docker) => Ok(answer == Ok(()) && kept.bytes() == docker.as_bytes()),
-        None => Ok(answer == Err(OfficeFault::Lapsed) && kept.bytes().is_empty()),
-    }
+    same_in(rt, date, answer, Err(OfficeFault::Lapsed));
+    same_in(rt, date, kept.bytes().is_empty(), true);
 }

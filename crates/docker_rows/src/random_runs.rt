@@ -2,15 +2,15 @@
 ghost use Rattle.docker_office.specs.RunEnds.{HasGoodLimit};
 ghost use Rattle.docker_office.specs.RunMeaning.{event_meant};
 
+use crate::compare::same;
 use crate::dice::Dice;
-use crate::knowledge::{FILES, Knowledge, OFFICES, Step, texts_of_files};
+use crate::knowledge::{FILES, Knowledge, Known, OFFICES, Step, texts_of_files};
 use cif_file::MOST_RECORDS;
 use cif_line::{Day, Kept};
 use docker_encode::encoded_len;
 use docker_office::{Event, Exchange, Office, Reply, RunFault, run};
 use std::alloc::Global;
 use std::process::Abort;
-use std::test::Fail;
 
 /// How many events a run has.
 const STEPS: usize = 16;
@@ -21,41 +21,47 @@ const FIRST_HORIZON: usize = 23537;
 const HORIZONS: usize = 16;
 
 /// One step, at one of the offices or at one that is not there, with a message that was sent, or with the one behind those.
-fn random_step(dice: &mut Dice, sent: usize) -> Option<Step> {
+fn random_step(rt: &impl Abort, dice: &mut Dice, sent: u16) -> Step {
     let office = if dice.roll(12) == 0 {
         OFFICES
     } else {
         dice.roll(OFFICES)
     };
-    let message = dice.roll(sent.checked_add(1)?);
+    let message = dice.roll(usize::from(sent) + 1);
     match dice.roll(16) {
         0..=4 => {
             let file = dice.roll(FILES.len());
-            Some(Step::Take { office, file })
+            Step::Take { office, file }
         }
-        5..=8 => Some(Step::Send { office }),
-        9..=12 => Some(Step::Deliver { office, message }),
-        13..=14 => Some(Step::Reload { office, message }),
+        5..=8 => Step::Send { office },
+        9..=12 => Step::Deliver { office, message },
+        13..=14 => Step::Reload { office, message },
         _ => {
-            let number = FIRST_HORIZON + dice.roll(HORIZONS);
-            let day = Day::from_number(u16::try_from(number).ok()?)?;
-            Some(Step::Horizon { office, day })
+            let day = random_day(rt, dice);
+            Step::Horizon { office, day }
         }
     }
 }
 
+/// A day that may be a horizon.
+fn random_day(rt: &impl Abort, dice: &mut Dice) -> Day {
+    let number = FIRST_HORIZON + dice.roll(HORIZONS);
+    let number = u16::try_from(number).expect(rt, "a number");
+    Day::from_number(number).expect(rt, "a day")
+}
+
 /// The steps of a run.
-fn random_steps(alloc: Global, dice: &mut Dice) -> Option<Vec<Step>> {
+fn random_steps(rt: &impl Abort, alloc: Global, dice: &mut Dice) -> Vec<Step> {
     let mut steps = Vec::new(alloc);
-    let mut sent = 0_usize;
+    let mut sent: u16 = 0;
     for _ in 0..STEPS {
-        let step = random_step(dice, sent)?;
+        let step = random_step(rt, dice, sent);
         if let Step::Send { .. } = step {
-            sent = sent.checked_add(1)?;
+            sent = sent.saturating_add(1);
         }
-        steps.push(step).ok()?;
+        steps.push(step).expect(rt, "room");
     }
-    Some(steps)
+    steps
 }
 
 /// The event at a place, with the text of its file; none of the offices sends where there is no such step.
@@ -94,7 +100,7 @@ fn text_at(texts: &[Vec<u8>], file: usize) -> &[u8] {
 }
 
 /// What a run of these steps leaves.
-fn left_by(alloc: Global, steps: &[Step], texts: &[Vec<u8>]) -> Option<Exchange> {
+fn left_by(rt: &impl Abort, alloc: Global, steps: &[Step], texts: &[Vec<u8>]) -> Exchange {
     let events = [
         event_at(steps, 0, texts),
         event_at(steps, 1, texts),
@@ -113,7 +119,7 @@ fn left_by(alloc: Global, steps: &[Step], texts: &[Vec<u8>]) -> Option<Exchange>
         event_at(steps, 14, texts),
         event_at(steps, 15, texts),
     ];
-    run(alloc, OFFICES, &events).ok()
+    run(alloc, OFFICES, &events).expect(rt, "memory")
 }
 
 /// How often events of one kind had each reply.
@@ -202,49 +208,67 @@ fn known_at_end(
     steps: &[Step],
     replies: &[Reply],
     tally: &mut Tally,
-) -> Option<Knowledge> {
+) -> Knowledge {
     let mut known = Knowledge::new(alloc);
-    assert_eq!(rt; replies.len(), steps.len());
+    same(rt, replies.len(), steps.len());
     for (step, reply) in steps.iter().zip(replies.iter()) {
-        assert_eq!(rt; *reply, known.due(step), "run {number}");
-        known.follow(step, *reply)?;
+        same(rt, (number, *reply), (number, known.due(step)));
+        known.follow(rt, step, *reply);
         tally.add(step, *reply);
     }
-    Some(known)
+    known
+}
+
+/// That a text is that of the state made of what is known.
+fn is_of_known(
+    rt: &impl Abort,
+    alloc: Global,
+    number: u32,
+    texts: &[Vec<u8>],
+    text: &[u8],
+    known: &Known,
+) {
+    let wanted = known.text(rt, alloc, texts);
+    same(rt, (number, text), (number, wanted.bytes()));
 }
 
 /// The text that an office sends.
-fn text_of_office(alloc: Global, office: &Office) -> Option<Kept> {
-    let room = usize::try_from(encoded_len(office.state())).ok()?;
-    let mut kept = Kept::new(alloc, room).ok()?;
-    office.send(&mut kept).ok()?;
-    Some(kept)
+fn text_of_office(rt: &impl Abort, alloc: Global, office: &Office) -> Kept {
+    let room = usize::try_from(encoded_len(office.state())).expect(rt, "a length");
+    let mut kept = Kept::new(alloc, room).expect(rt, "room");
+    office.send(&mut kept).expect(rt, "all is written");
+    kept
 }
 
-/// That each office and each message has the text of the state made of what it knows.
-fn are_of_known(
+/// That each office has the text of the state made of what it knows.
+fn offices_are_of_known(
     rt: &impl Abort,
     alloc: Global,
     number: u32,
     texts: &[Vec<u8>],
     left: &Exchange,
     known: &Knowledge,
-) -> Option<()> {
-    assert_eq!(rt; left.offices().len(), OFFICES);
+) {
+    same(rt, left.offices().len(), OFFICES);
     for (office, known) in left.offices().iter().zip(known.offices.iter()) {
-        let text = known.text(alloc, texts)?;
-        assert_eq!(rt;
-            text_of_office(alloc, office)?.bytes(),
-            text.bytes(),
-            "run {number}"
-        );
+        let text = text_of_office(rt, alloc, office);
+        is_of_known(rt, alloc, number, texts, text.bytes(), known);
     }
-    assert_eq!(rt; left.messages().len(), known.messages.len());
+}
+
+/// That each message has the text of the state made of what it tells.
+fn messages_are_of_known(
+    rt: &impl Abort,
+    alloc: Global,
+    number: u32,
+    texts: &[Vec<u8>],
+    left: &Exchange,
+    known: &Knowledge,
+) {
+    same(rt, left.messages().len(), known.messages.len());
     for (message, known) in left.messages().iter().zip(known.messages.iter()) {
-        let text = known.text(alloc, texts)?;
-        assert_eq!(rt; message.bytes(), text.bytes(), "run {number}");
+        is_of_known(rt, alloc, number, texts, message.bytes(), known);
     }
-    Some(())
 }
 
 /// Meets random events, and looks at what they leave.
@@ -255,23 +279,22 @@ fn random_run(
     texts: &[Vec<u8>],
     dice: &mut Dice,
     tally: &mut Tally,
-) -> Option<()> {
-    let steps = random_steps(alloc, dice)?;
-    let left = left_by(alloc, steps.as_slice(), texts)?;
-    let known = known_at_end(rt, alloc, number, steps.as_slice(), left.replies(), tally)?;
-    are_of_known(rt, alloc, number, texts, &left, &known)
+) {
+    let steps = random_steps(rt, alloc, dice);
+    let left = left_by(rt, alloc, steps.as_slice(), texts);
+    let known = known_at_end(rt, alloc, number, steps.as_slice(), left.replies(), tally);
+    offices_are_of_known(rt, alloc, number, texts, &left, &known);
+    messages_are_of_known(rt, alloc, number, texts, &left, &known);
 }
 
 #[test]
-fn a_thousand_random_runs(rt: HostRuntime) -> Result<(), Fail> {
+fn a_thousand_random_runs(rt: HostRuntime) {
     let alloc = rt.alloc();
-    let texts = texts_of_files(alloc)?;
+    let texts = texts_of_files(&rt, alloc);
     let mut dice = Dice::new(20_240_610);
     let mut tally = Tally::NONE;
     for number in 0..1000 {
-        let held = random_run(&rt, alloc, number, texts.as_slice(), &mut dice, &mut tally);
-        assert_eq!(rt; held, Some(()), "run {number}");
+        random_run(&rt, alloc, number, texts.as_slice(), &mut dice, &mut tally);
     }
-    assert!(rt; tally.is_full());
-    Ok(())
+    same(&rt, tally.is_full(), true);
 }

@@ -1,5 +1,6 @@
 //! Texts of files that are refused, and what they leave of the office.
 
+use crate::compare::same;
 use crate::files::*;
 use crate::offices::{has, office_of, text_of};
 use crate::records::*;
@@ -7,10 +8,13 @@ use crate::state_texts::REVISION_STATE;
 use cif_file::{FileCause, FileFault};
 use cif_line::Bytes;
 use docker_office::{Office, OfficeFault};
-use std::test::Fail;
+use std::alloc::Global;
+use std::process::Abort;
 
 /// Files that are refused, each under a limit of records, by the number of the record and the cause.
-const REFUSED: &[(File, u16, u32, FileCause)] = &[
+type Row = (File, u16, u32, FileCause);
+
+const REFUSED: &[Row] = &[
     (&[], 1000, 1, FileCause::NoEnd),
     (&[BS, LO, LT, ZZ], 1000, 1, FileCause::Place),
     (&[HD_X, ZZ], 1000, 1, FileCause::Field(47)),
@@ -30,24 +34,25 @@ const REFUSED: &[(File, u16, u32, FileCause)] = &[
     (&[], 0, 1, FileCause::NoEnd),
 ];
 
-#[test]
-fn refused_files_leave_the_office(rt: HostRuntime) -> Result<(), Fail> {
-    let alloc = rt.alloc();
-    let mut office = office_of(alloc, &[REVISION])?;
-    for (file, limit, number, cause) in REFUSED {
-        let text = text_of(alloc, file)?;
-        let answer = taken(&mut office, text.as_slice(), *limit);
-        let fault = FileFault {
-            number: *number,
-            cause: *cause,
-        };
-        assert_eq!(rt; answer, Err(OfficeFault::File(fault)), "{fault:?}");
-        has(&rt, alloc, &office, REVISION_STATE)?;
-    }
-    Ok(())
-}
-
 /// What an office answers where it takes a text, of at most so many records.
 fn taken(office: &mut Office, text: &[u8], limit: u16) -> Result<(), OfficeFault> {
     office.take(&mut Bytes::new(text, 9), u32::from(limit))
+}
+
+/// That an office which knows the revision refuses such a file, and is as it was.
+fn is_refused(rt: &impl Abort, alloc: Global, office: &mut Office, row: &Row) {
+    let (file, limit, number, cause) = *row;
+    let text = text_of(rt, alloc, file);
+    let answer = taken(office, text.as_slice(), limit);
+    let fault = FileFault { number, cause };
+    same(rt, answer, Err(OfficeFault::File(fault)));
+    has(rt, alloc, office, REVISION_STATE);
+}
+
+#[test]
+fn refused_files_leave_the_office(rt: HostRuntime) {
+    let mut office = office_of(&rt, rt.alloc(), &[REVISION]);
+    for row in REFUSED {
+        is_refused(&rt, rt.alloc(), &mut office, row);
+    }
 }

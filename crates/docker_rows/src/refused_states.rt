@@ -1,16 +1,16 @@
 //! Texts of states that are refused, and what they leave of the office.
 
+use crate::compare::same;
 use crate::files::*;
-use crate::offices::{has, office_of, sent};
+use crate::offices::{has, has_text, office_of};
 use crate::state_texts::*;
 use cif_line::Bytes;
 use docker_office::{Office, OfficeFault, StateCause, StateFault};
 use std::alloc::Global;
 use std::process::Abort;
-use std::test::Fail;
 
 /// How an office reads a state.
-#[derive(Clone, Copy, Debug)]
+#[derive(Clone, Copy, PartialEq, Eq, Debug)]
 enum Ask {
     Receive,
     Reload,
@@ -34,18 +34,25 @@ fn read_in(how: Ask, office: &mut Office, text: &[u8], limit: u64) -> Result<(),
 }
 
 /// That an office which knows the revision refuses a text for this cause there, and is as it was.
-fn refuses(
+fn refuses(rt: &impl Abort, alloc: Global, how: Ask, text: &[u8], limit: u64, fault: StateFault) {
+    let mut office = office_of(rt, alloc, &[REVISION]);
+    let answer = read_in(how, &mut office, text, limit);
+    same(rt, (how, answer), (how, Err(OfficeFault::State(fault))));
+    has(rt, alloc, &office, REVISION_STATE);
+}
+
+/// That it does so in each of these ways.
+fn refuses_by(
     rt: &impl Abort,
     alloc: Global,
-    how: Ask,
+    ways: &[Ask],
     text: &[u8],
     limit: u64,
     fault: StateFault,
-) -> Result<(), Fail> {
-    let mut office = office_of(alloc, &[REVISION])?;
-    let answer = read_in(how, &mut office, text, limit);
-    assert_eq!(rt; answer, Err(OfficeFault::State(fault)), "{how:?} {fault:?}");
-    has(rt, alloc, &office, REVISION_STATE)
+) {
+    for how in ways {
+        refuses(rt, alloc, *how, text, limit, fault);
+    }
 }
 
 /// A fault.
@@ -54,12 +61,15 @@ fn fault(at: u64, cause: StateCause) -> StateFault {
 }
 
 /// A text in which these bytes stand at an offset.
-fn changed(alloc: Global, text: &[u8], at: usize, bytes: &[u8]) -> Result<Vec<u8>, Fail> {
+fn changed(rt: &impl Abort, alloc: Global, text: &[u8], at: usize, bytes: &[u8]) -> Vec<u8> {
+    let front = text.get(..at).expect(rt, "an offset");
+    let behind = at.saturating_add(bytes.len());
+    let rest = text.get(behind..).expect(rt, "an offset");
     let mut other = Vec::new(alloc);
-    other.extend_from_slice(text.get(..at).ok_or("an offset")?)?;
-    other.extend_from_slice(bytes)?;
-    other.extend_from_slice(text.get(at + bytes.len()..).ok_or("an offset")?)?;
-    Ok(other)
+    other.extend_from_slice(front).expect(rt, "room");
+    other.extend_from_slice(bytes).expect(rt, "room");
+    other.extend_from_slice(rest).expect(rt, "room");
+    other
 }
 
 /// The bytes that stand at an offset, and the fault.
@@ -85,27 +95,25 @@ const CHANGED: &[Change] = &[
     ),
 ];
 
-/// That a text is refused in these ways with each of these changes.
-fn refuses_changed(
-    rt: &impl Abort,
-    alloc: Global,
-    ways: &[Ask],
-    parts: Parts,
-    changes: &[Change],
-) -> Result<(), Fail> {
-    let text = text_of_parts(alloc, parts)?;
-    for (offset, bytes, at, cause) in changes {
-        let other = changed(alloc, text.as_slice(), *offset, bytes)?;
-        for how in ways {
-            refuses(rt, alloc, *how, other.as_slice(), 1000, fault(*at, *cause))?;
-        }
+/// That a text is refused in these ways with this change.
+fn refuses_change(rt: &impl Abort, alloc: Global, ways: &[Ask], text: &[u8], change: &Change) {
+    let (offset, bytes, at, cause) = *change;
+    let other = changed(rt, alloc, text, offset, bytes);
+    let found = fault(at, cause);
+    refuses_by(rt, alloc, ways, other.as_slice(), 1000, found);
+}
+
+/// That it is so with each of these changes.
+fn refuses_changed(rt: &impl Abort, alloc: Global, ways: &[Ask], parts: Parts, changes: &[Change]) {
+    let text = text_of_parts(rt, alloc, parts);
+    for change in changes {
+        refuses_change(rt, alloc, ways, text.as_slice(), change);
     }
-    Ok(())
 }
 
 #[test]
-fn changed_states(rt: HostRuntime) -> Result<(), Fail> {
-    refuses_changed(&rt, rt.alloc(), NEWER, MORNING_STATE, CHANGED)
+fn changed_states(rt: HostRuntime) {
+    refuses_changed(&rt, rt.alloc(), NEWER, MORNING_STATE, CHANGED);
 }
 
 /// The same of the older format.
@@ -125,13 +133,15 @@ const OLD_CHANGED: &[Change] = &[
 ];
 
 #[test]
-fn changed_older_states(rt: HostRuntime) -> Result<(), Fail> {
-    refuses_changed(&rt, rt.alloc(), OLDER, OLD_STATE, OLD_CHANGED)
+fn changed_older_states(rt: HostRuntime) {
+    refuses_changed(&rt, rt.alloc(), OLDER, OLD_STATE, OLD_CHANGED);
 }
 
 /// What stands behind the mark, the limit behind it, and the fault in the older format: an item twice, a full extract above the first item, an entry twice, a
 /// byte behind the state, and a limit that is too low.
-const OTHERS: &[(Parts, u64, u64, StateCause)] = &[
+type Other = (Parts, u64, u64, StateCause);
+
+const OTHERS: &[Other] = &[
     (
         train_behind!(TWO, ITEM, ITEM, ONE),
         1000,
@@ -179,26 +189,36 @@ const OTHERS: &[(Parts, u64, u64, StateCause)] = &[
 ];
 
 /// These parts behind a mark.
-fn marked(alloc: Global, mark: &str, parts: Parts) -> Result<Vec<u8>, Fail> {
-    let mut text = text_of_parts(alloc, &[mark])?;
-    text.extend_from_slice(text_of_parts(alloc, parts)?.as_slice())?;
-    Ok(text)
+fn marked(rt: &impl Abort, alloc: Global, mark: &str, parts: Parts) -> Vec<u8> {
+    let mut text = text_of_parts(rt, alloc, &[mark]);
+    let rest = text_of_parts(rt, alloc, parts);
+    text.extend_from_slice(rest.as_slice()).expect(rt, "room");
+    text
+}
+
+/// That such a text is refused in the older format.
+fn refuses_older(rt: &impl Abort, alloc: Global, row: &Other) {
+    let (parts, limit, at, cause) = *row;
+    let text = marked(rt, alloc, OLD_MARK, parts);
+    let found = fault(at, cause);
+    refuses_by(rt, alloc, OLDER, text.as_slice(), limit, found);
+}
+
+/// That it is refused in the format of today, whose mark has two bytes more.
+fn refuses_newer(rt: &impl Abort, alloc: Global, row: &Other) {
+    let (parts, limit, at, cause) = *row;
+    let text = marked(rt, alloc, MARK, parts);
+    let found = fault(at.saturating_add(2), cause);
+    let limit = limit.saturating_add(2);
+    refuses_by(rt, alloc, NEWER, text.as_slice(), limit, found);
 }
 
 #[test]
-fn items_and_entries_out_of_place(rt: HostRuntime) -> Result<(), Fail> {
-    let alloc = rt.alloc();
-    for (parts, limit, at, cause) in OTHERS {
-        let old = marked(alloc, OLD_MARK, parts)?;
-        let found = fault(*at, *cause);
-        refuses(&rt, alloc, Ask::Migrate, old.as_slice(), *limit, found)?;
-        let new = marked(alloc, MARK, parts)?;
-        let found = fault(at + 2, *cause);
-        for how in NEWER {
-            refuses(&rt, alloc, *how, new.as_slice(), limit + 2, found)?;
-        }
+fn items_and_entries_out_of_place(rt: HostRuntime) {
+    for row in OTHERS {
+        refuses_older(&rt, rt.alloc(), row);
+        refuses_newer(&rt, rt.alloc(), row);
     }
-    Ok(())
 }
 
 /// How much of the text there is, and where it is too short.
@@ -231,37 +251,34 @@ const OLD_CUT: &[(usize, u64)] = &[
     (308, 39),
 ];
 
+/// That the front of a text, of so many bytes, is refused in these ways as too short there.
+fn refuses_front(rt: &impl Abort, alloc: Global, ways: &[Ask], text: &[u8], bytes: usize, at: u64) {
+    let front = text.get(..bytes).expect(rt, "a length");
+    let found = fault(at, StateCause::Short);
+    refuses_by(rt, alloc, ways, front, 1000, found);
+}
+
 /// That a text is refused in these ways where it is cut.
-fn refuses_cut(
-    rt: &impl Abort,
-    alloc: Global,
-    ways: &[Ask],
-    parts: Parts,
-    cuts: &[(usize, u64)],
-) -> Result<(), Fail> {
-    let text = text_of_parts(alloc, parts)?;
+fn refuses_cut(rt: &impl Abort, alloc: Global, ways: &[Ask], parts: Parts, cuts: &[(usize, u64)]) {
+    let text = text_of_parts(rt, alloc, parts);
     for (bytes, at) in cuts {
-        let front = text.as_slice().get(..*bytes).ok_or("a length")?;
-        for how in ways {
-            refuses(rt, alloc, *how, front, 1000, fault(*at, StateCause::Short))?;
-        }
+        refuses_front(rt, alloc, ways, text.as_slice(), *bytes, *at);
     }
-    Ok(())
 }
 
 #[test]
-fn states_that_are_cut(rt: HostRuntime) -> Result<(), Fail> {
-    refuses_cut(&rt, rt.alloc(), NEWER, MORNING_STATE, CUT)?;
-    refuses_cut(&rt, rt.alloc(), OLDER, OLD_STATE, OLD_CUT)
+fn states_that_are_cut(rt: HostRuntime) {
+    refuses_cut(&rt, rt.alloc(), NEWER, MORNING_STATE, CUT);
+    refuses_cut(&rt, rt.alloc(), OLDER, OLD_STATE, OLD_CUT);
 }
 
 #[test]
-fn a_horizon_on_the_last_day(rt: HostRuntime) -> Result<(), Fail> {
+fn a_horizon_on_the_last_day(rt: HostRuntime) {
     let alloc = rt.alloc();
-    let text = text_of_parts(alloc, MORNING_STATE)?;
-    let raised = changed(alloc, text.as_slice(), 4, b"\x5b\xf5")?;
+    let text = text_of_parts(&rt, alloc, MORNING_STATE);
+    let raised = changed(&rt, alloc, text.as_slice(), 4, b"\x5b\xf5");
     let mut office = Office::new(alloc);
-    office.receive(&mut Bytes::new(raised.as_slice(), 9), 311)?;
-    assert_eq!(rt; sent(alloc, &office)?.bytes(), raised.as_slice());
-    Ok(())
+    let answer = office.receive(&mut Bytes::new(raised.as_slice(), 9), 311);
+    same(&rt, answer, Ok(()));
+    has_text(&rt, alloc, &office, raised.as_slice());
 }

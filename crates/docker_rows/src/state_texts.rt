@@ -1,7 +1,8 @@
 //! The texts of states, worked out by hand, part by part. Each character of a part stands for the byte of its number.
 
 use crate::records::*;
-use std::alloc::{AllocError, Global};
+use std::alloc::Global;
+use std::process::Abort;
 
 /// The parts of a text, in turn.
 pub(crate) type Parts = &'static [&'static str];
@@ -215,15 +216,20 @@ pub(crate) const LATER_STATE: Parts = &[
 /// An update and a full extract of one stamp: 330 bytes.
 pub(crate) const BOTH_STATE: Parts = train_behind!(MARK, TWO, ITEM_FULL, ITEM, ONE);
 
-/// Parts joined, a byte for each character.
-pub(crate) fn text_of_parts(alloc: Global, parts: &[&str]) -> Result<Vec<u8>, AllocError> {
-    let mut text = Vec::new(alloc);
-    for part in parts {
-        for character in part.chars() {
-            if let Ok(byte) = u8::try_from(u32::from(character)) {
-                text.push(byte)?;
-            }
+/// Adds a part to a text, a byte for each character.
+fn add_part(rt: &impl Abort, text: &mut Vec<u8>, part: &str) {
+    for character in part.chars() {
+        if let Ok(byte) = u8::try_from(u32::from(character)) {
+            text.push(byte).expect(rt, "room");
         }
     }
-    Ok(text)
+}
+
+/// Parts joined, a byte for each character.
+pub(crate) fn text_of_parts(rt: &impl Abort, alloc: Global, parts: &[&str]) -> Vec<u8> {
+    let mut text = Vec::new(alloc);
+    for part in parts {
+        add_part(rt, &mut text, part);
+    }
+    text
 }

@@ -1,14 +1,14 @@
 //! The texts of states that offices send.
 ghost use Rattle.std.specs.Prelude.{◌<◌};
 
+use crate::compare::same;
 use crate::files::*;
-use crate::offices::{has, merged, office_of, text_of};
+use crate::offices::{day_of, has, merged, office_of, text_of};
 use crate::state_texts::*;
-use cif_line::{Bytes, Day, Kept};
+use cif_line::{Bytes, Kept};
 use docker_office::Office;
 use std::alloc::Global;
 use std::process::Abort;
-use std::test::Fail;
 
 /// Files in an order, the same in another, how many bytes the state has in both, and which.
 type Row = (&'static [File], &'static [File], usize, Parts);
@@ -51,20 +51,24 @@ const ROWS: &[Row] = &[
 ];
 
 /// That an office which takes these files in turn has this text, and so has one that receives the states of others, of which each took one of them.
-fn have(rt: &impl Abort, alloc: Global, files: &[File], parts: Parts) -> Result<(), Fail> {
-    has(rt, alloc, &office_of(alloc, files)?, parts)?;
-    has(rt, alloc, &merged(alloc, files)?, parts)
+fn have(rt: &impl Abort, alloc: Global, files: &[File], parts: Parts) {
+    has(rt, alloc, &office_of(rt, alloc, files), parts);
+    has(rt, alloc, &merged(rt, alloc, files), parts);
+}
+
+/// That both orders of a row have its state, and that this has so many bytes.
+fn is_state(rt: &impl Abort, alloc: Global, row: &Row) {
+    let (files, others, bytes, parts) = *row;
+    same(rt, text_of_parts(rt, alloc, parts).len(), bytes);
+    have(rt, alloc, files, parts);
+    have(rt, alloc, others, parts);
 }
 
 #[test]
-fn states_in_any_order(rt: HostRuntime) -> Result<(), Fail> {
-    let alloc = rt.alloc();
-    for (files, others, bytes, parts) in ROWS {
-        assert_eq!(rt; text_of_parts(alloc, parts)?.len(), *bytes);
-        have(&rt, alloc, files, parts)?;
-        have(&rt, alloc, others, parts)?;
+fn states_in_any_order(rt: HostRuntime) {
+    for row in ROWS {
+        is_state(&rt, rt.alloc(), row);
     }
-    Ok(())
 }
 
 /// The files that states list.
@@ -85,59 +89,74 @@ const LISTS: &[(&[File], &str)] = &[
     (&[EARLY], "2000-01-01 0307 DFROC1A U DFROC1Z\n"),
 ];
 
+/// That an office which took these files in turn lists so.
+fn lists(rt: &impl Abort, alloc: Global, files: &[File], wanted: &str) {
+    let office = office_of(rt, alloc, files);
+    let mut text = Kept::new(alloc, 100).expect(rt, "room");
+    same(rt, office.files(&mut text), Ok(()));
+    same(rt, text.bytes(), wanted.as_bytes());
+}
+
 #[test]
-fn files_of_states(rt: HostRuntime) -> Result<(), Fail> {
-    let alloc = rt.alloc();
-    for (files, want) in LISTS {
-        let office = office_of(alloc, files)?;
-        let mut text = Kept::new(alloc, 100)?;
-        office.files(&mut text)?;
-        assert_eq!(rt; text.bytes(), want.as_bytes());
+fn files_of_states(rt: HostRuntime) {
+    for (files, wanted) in LISTS {
+        lists(&rt, rt.alloc(), files, wanted);
     }
-    Ok(())
 }
 
 /// That an office has the state of the train of the morning where it takes this text in pieces of so many bytes.
-fn is_taken(rt: &impl Abort, alloc: Global, text: &[u8], step: usize) -> Result<(), Fail>
+fn is_taken(rt: &impl Abort, alloc: Global, text: &[u8], step: usize)
     requires { 0 < step }
 {
     let mut office = Office::new(alloc);
-    office.take(&mut Bytes::new(text, step), 5)?;
-    has(rt, alloc, &office, MORNING_STATE)
+    let answer = office.take(&mut Bytes::new(text, step), 5);
+    same(rt, answer, Ok(()));
+    has(rt, alloc, &office, MORNING_STATE);
 }
 
-#[test]
-fn a_file_in_pieces_and_with_other_line_ends(rt: HostRuntime) -> Result<(), Fail> {
-    let alloc = rt.alloc();
-    let text = text_of(alloc, MORNING)?;
+/// The train of the morning with other line ends.
+fn text_of_returns(rt: &impl Abort, alloc: Global) -> Vec<u8> {
     let mut returns = Vec::new(alloc);
     for record in MORNING {
-        returns.extend_from_slice(record.as_bytes())?;
-        returns.extend_from_slice(b"\r\n")?;
+        returns
+            .extend_from_slice(record.as_bytes())
+            .expect(rt, "room");
+        returns.extend_from_slice(b"\r\n").expect(rt, "room");
     }
-    is_taken(&rt, alloc, text.as_slice(), 1)?;
-    is_taken(&rt, alloc, returns.as_slice(), 64)?;
-    let open = text.as_slice().get(..404).ok_or("a text")?;
-    is_taken(&rt, alloc, open, 100)
+    returns
 }
 
 #[test]
-fn a_state_received_and_reloaded(rt: HostRuntime) -> Result<(), Fail> {
+fn a_file_in_pieces_and_with_other_line_ends(rt: HostRuntime) {
     let alloc = rt.alloc();
-    let mut office = office_of(alloc, &[REVISION])?;
-    let known = text_of_parts(alloc, MORNING_STATE)?;
-    office.receive(&mut Bytes::new(known.as_slice(), 4096), 311)?;
-    has(&rt, alloc, &office, REVISED_STATE)?;
-    office.reload(&mut Bytes::new(known.as_slice(), 4096), 311)?;
-    has(&rt, alloc, &office, MORNING_STATE)
+    let text = text_of(&rt, alloc, MORNING);
+    let returns = text_of_returns(&rt, alloc);
+    is_taken(&rt, alloc, text.as_slice(), 1);
+    is_taken(&rt, alloc, returns.as_slice(), 64);
+    let open = text.as_slice().get(..404).expect(&rt, "a text");
+    is_taken(&rt, alloc, open, 100);
 }
 
 #[test]
-fn a_state_of_the_older_format(rt: HostRuntime) -> Result<(), Fail> {
+fn a_state_received_and_reloaded(rt: HostRuntime) {
     let alloc = rt.alloc();
-    let mut office = office_of(alloc, &[REVISION])?;
-    office.set_horizon(Day::from_iso("2024-06-15").ok_or("a day")?);
-    let old = text_of_parts(alloc, OLD_STATE)?;
-    office.migrate(&mut Bytes::new(old.as_slice(), 4096), 309)?;
-    has(&rt, alloc, &office, MORNING_STATE)
+    let mut office = office_of(&rt, alloc, &[REVISION]);
+    let known = text_of_parts(&rt, alloc, MORNING_STATE);
+    let received = office.receive(&mut Bytes::new(known.as_slice(), 4096), 311);
+    same(&rt, received, Ok(()));
+    has(&rt, alloc, &office, REVISED_STATE);
+    let reloaded = office.reload(&mut Bytes::new(known.as_slice(), 4096), 311);
+    same(&rt, reloaded, Ok(()));
+    has(&rt, alloc, &office, MORNING_STATE);
+}
+
+#[test]
+fn a_state_of_the_older_format(rt: HostRuntime) {
+    let alloc = rt.alloc();
+    let mut office = office_of(&rt, alloc, &[REVISION]);
+    office.set_horizon(day_of(&rt, "2024-06-15"));
+    let old = text_of_parts(&rt, alloc, OLD_STATE);
+    let answer = office.migrate(&mut Bytes::new(old.as_slice(), 4096), 309);
+    same(&rt, answer, Ok(()));
+    has(&rt, alloc, &office, MORNING_STATE);
 }
