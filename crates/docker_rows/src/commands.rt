@@ -12,7 +12,13 @@ use std::alloc::Global;
 use std::process::Abort;
 
 /// What the job of these words writes of two sources.
-fn written(rt: &impl Abort, alloc: Global, words: &[&str], first: &[u8], second: &[u8]) -> Kept {
+pub(crate) fn written(
+    rt: &impl Abort,
+    alloc: Global,
+    words: &[&str],
+    first: &[u8],
+    second: &[u8],
+) -> Kept {
     let job = job(alloc, words).expect(rt, "a job");
     let mut first = Bytes::new(first, 7);
     let mut second = Bytes::new(second, 7);

@@ -12,6 +12,8 @@ mod dice;
 #[cfg(test)]
 mod dockers;
 #[cfg(test)]
+mod fault_lines;
+#[cfg(test)]
 mod files;
 #[cfg(test)]
 mod horizons;
@@ -37,3 +39,5 @@ mod runs;
 mod state_texts;
 #[cfg(test)]
 mod states;
+#[cfg(test)]
+mod subcommands;
