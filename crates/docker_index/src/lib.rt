@@ -25,6 +25,3 @@ pub use noted_rows::{note_row, notes_of_rows};
 pub use room::Room;
 pub use slots::Slots;
 pub use standing::{Numbered, Standing};
-
-#[cfg(test)]
-mod tests;

@@ -9,6 +9,7 @@ use std::process::Abort;
 mod entries;
 mod files;
 mod horizons;
+mod indexes;
 mod parts;
 mod places;
 mod records;
