@@ -34,7 +34,6 @@ pub fn header(line: &Line) -> Result<Header<'_>, FieldFault>
 }
 
 /// The first column of a header's leftmost bad field, none where all are good.
-#[tactic(auto, using(crate::proofs::Leftmost::header_faults))]
 fn header_fault(line: &Line) -> Option<u8>
     requires kind { HasKind header line.now }
     ensures { result ≡ leftmost_bad_field line.now }
@@ -65,7 +64,6 @@ pub fn tiploc(line: &Line) -> Result<TiplocRecord<'_>, FieldFault>
 }
 
 /// The first column of a TIPLOC record's leftmost bad field, none where all are good.
-#[tactic(auto, using(crate::proofs::Leftmost::tiploc_faults))]
 fn tiploc_fault(line: &Line) -> Option<u8>
     requires kind { IsTiplocRecord line.now }
     ensures { result ≡ leftmost_bad_field line.now }
@@ -92,7 +90,6 @@ pub fn assoc(line: &Line) -> Result<Assoc<'_>, FieldFault>
 }
 
 /// The first column of an association's leftmost bad field, none where all are good. Of a deletion the end date and the days do not count.
-#[tactic(auto, using(crate::proofs::Leftmost::assoc_faults))]
 fn assoc_fault(line: &Line) -> Option<u8>
     requires kind { HasKind association line.now }
     ensures { result ≡ leftmost_bad_field line.now }
@@ -133,7 +130,6 @@ pub fn basic(line: &Line) -> Result<Basic<'_>, FieldFault>
 }
 
 /// The first column of a basic schedule's leftmost bad field, none where all are good. Of a deletion the end date and the days do not count.
-#[tactic(auto, using(crate::proofs::Leftmost::basic_faults))]
 fn basic_fault(line: &Line) -> Option<u8>
     requires kind { HasKind basic_schedule line.now }
     ensures { result ≡ leftmost_bad_field line.now }

@@ -1,5 +1,5 @@
 -- Each piece is taken behind those before it.
-use Rattle.std.proofs.Common.{Ok, Err, ◌≡◌, ◌+◌, ◌<◌, ◌++◌, length, take, refl, ap, arith, ◌∙◌, subst}
+use Rattle.std.proofs.Common.{rules, Ok, Err, ◌≡◌, ◌+◌, ◌<◌, ◌++◌, length, take, refl, ap, arith, ◌∙◌, subst}
 use Rattle.std.proofs.lemmas.List.{length-take-le}
 use Rattle.cif_device.specs.Device.{IsEnd}
 use Rattle.cif_device.proofs.FeedLemmas.{at_once, at_start, count_told, end_stays, fed_where_failed, fits_still, next_turn, no_more, none_failed, nothing_more, nothing_read, one_more, refusal_told, refused_as, refused_behind, same_front}
@@ -118,3 +118,16 @@ pieces-preserved g c =
       no_failure = c.in-Ok-read.ensures.no_failure ∙ c.pieces.invariant.no_failure;
       room = c.pieces.invariant.room;
     }
+
+-- `auto` proves these too: they are written so that a wrong body is refused without a long search.
+pub returns-in_default-read-clause-fed : goal.returns-in_default-read-clause-fed
+returns-in_default-read-clause-fed g c = search rules
+
+pub returns-in_default-read-clause-end : goal.returns-in_default-read-clause-end
+returns-in_default-read-clause-end g c = search rules
+
+pub returns-in_default-read-clause-no_failure : goal.returns-in_default-read-clause-no_failure
+returns-in_default-read-clause-no_failure g c = search rules
+
+pub returns-in-Err-clause-memory : goal.returns-in-Err-clause-memory
+returns-in-Err-clause-memory g c = search rules

@@ -1,5 +1,5 @@
 -- What was fed to the reading is what the source lost.
-use Rattle.std.proofs.Common.{[], ap, refl, Err}
+use Rattle.std.proofs.Common.{rules, [], ap, refl, Err}
 use Rattle.cif_file.proofs.ReadLemmas.{at_start, file_read, refused_at_end, refused_before, wants_at_end, wants_before, no_further}
 use Rattle.cif_file.proofs.read.read_source.Goals as goal
 
@@ -69,3 +69,13 @@ returns-clause-no_further g c =
     let start = at_start g.K.Keeper.keeps c.args.limit c.new-reading.result c.new-reading.ensures c.requires.limit in
     no_further g.K.Keeper.keeps c.args.limit (g.S.Source.left c.args.source.now) (g.S.Source.left c.feed_all.new.source)
     (c.in-Err-Refused.ensures.no_further c.args.limit [] start)
+
+-- `auto` proves these too: they are written so that a wrong body is refused without a long search.
+pub returns-in-Err-Source-clause-memory : goal.returns-in-Err-Source-clause-memory
+returns-in-Err-Source-clause-memory g c = search rules
+
+pub returns-in-Err-Source-clause-source : goal.returns-in-Err-Source-clause-source
+returns-in-Err-Source-clause-source g c = search rules
+
+pub returns-in-Err-Source-clause-no_failure : goal.returns-in-Err-Source-clause-no_failure
+returns-in-Err-Source-clause-no_failure g c = search rules

@@ -1,4 +1,4 @@
-use Rattle.std.proofs.Common.{◌≡◌, ◌++◌, subst, arith, take}
+use Rattle.std.proofs.Common.{rules, ◌≡◌, ◌++◌, subst, arith, take}
 use Rattle.std.proofs.lemmas.List.{take_all}
 use Rattle.docker_bytes.specs.ParserRead.{HasRead}
 use Rattle.docker_bytes.specs.SourceRead.{IsFaultOf}
@@ -27,3 +27,7 @@ returns-in-Err-clause-state c = λ format limit text has told is rest.
 pub returns-in-Err-clause-memory : goal.returns-in-Err-clause-memory
 returns-in-Err-clause-memory c = λ format limit text has is.
     told_as_memory format limit text c.args.piece.now c.in-Err.fault c.fault_of.result (c.in-Err.ensures.err format limit text has) c.fault_of.ensures.state is
+
+-- `auto` proves these too: they are written so that a wrong body is refused without a long search.
+pub returns-then-used-piece-clause-memory : goal.returns-then-used-piece-clause-memory
+returns-then-used-piece-clause-memory c = search rules

@@ -1,4 +1,4 @@
-use Rattle.std.proofs.Common.{◌≡◌, sym, ap, true, false}
+use Rattle.std.proofs.Common.{rules, ◌≡◌, sym, ap, true, false}
 use Rattle.docker_bytes.specs.ParserRead.{ParserState}
 use Rattle.docker_bytes.proofs.TextEnd.{not_whole_yet}
 use Rattle.docker_bytes.proofs.parser.Parser.feed.Goals as goal
@@ -12,3 +12,16 @@ pub returns-in-Err-clause-done : goal.returns-in-Err-clause-done
 returns-in-Err-clause-done c = λ format limit text has whole.
     absurd (not_whole_yet c.args.self.now c.self.inside.reading format limit text (ap (λ (p : ParserState). p.reading) (sym c.self.view_is)) has
     (λ none. let is : c.is_done.result ≡ true = c.is_done.ensures.1 none in let other : c.is_done.result ≡ false = c.if-is_done.false in cc) whole)
+
+-- `auto` proves these too: they are written so that a wrong body is refused without a long search.
+pub invariant_of-self-in-Err : goal.invariant_of-self-in-Err
+invariant_of-self-in-Err c = search rules
+
+pub returns-in-Err-clause-failed : goal.returns-in-Err-clause-failed
+returns-in-Err-clause-failed c = search rules
+
+pub returns-then-is_done-clause-read : goal.returns-then-is_done-clause-read
+returns-then-is_done-clause-read c = search rules
+
+pub returns-then-is_done-clause-done : goal.returns-then-is_done-clause-done
+returns-then-is_done-clause-done c = search rules

@@ -1,4 +1,4 @@
-use Rattle.std.proofs.Common.{List, map, ap, ◌∙◌, subst}
+use Rattle.std.proofs.Common.{rules, List, map, ap, ◌∙◌, subst}
 use Rattle.docker_model.specs.state.State.{State, IsJoin}
 use Rattle.docker_model.specs.state.Staging.{staged_state}
 use Rattle.docker_laws.proofs.joins.StagedState.{join_with_staged}
@@ -46,3 +46,7 @@ of_rows-received-requires-clause-room c =
 pub of_rows-received-requires-clause-noted : goal.of_rows-received-requires-clause-noted
 of_rows-received-requires-clause-noted c =
     (subst (λ (rows : List (Key × Entry)). HasNoted (items_of (map row_meant rows)) c.in_ok-notes.notes) c.as_slice.ensures.value c.in_ok-notes.ensures).are
+
+-- `auto` proves these too: they are written so that a wrong body is refused without a long search.
+pub returns-clause-err : goal.returns-clause-err
+returns-clause-err c = search rules

@@ -1,0 +1,6 @@
+-- `auto` proves these too: they are written so that a wrong body is refused without a long search.
+use Rattle.std.proofs.Common.{rules}
+use Rattle.cif_device.proofs.fuse.FuseBytesSource.read.Goals as goal
+
+pub returns-clause-count : goal.returns-clause-count
+returns-clause-count c = search rules

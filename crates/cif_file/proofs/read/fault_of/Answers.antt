@@ -1,0 +1,9 @@
+-- `auto` proves these too: they are written so that a wrong body is refused without a long search.
+use Rattle.std.proofs.Common.{rules}
+use Rattle.cif_file.proofs.read.fault_of.Goals as goal
+
+pub returns-in-Memory-clause-memory : goal.returns-in-Memory-clause-memory
+returns-in-Memory-clause-memory c = search rules
+
+pub returns-in_default : goal.returns-in_default
+returns-in_default c = search rules

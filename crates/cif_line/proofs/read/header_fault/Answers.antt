@@ -1,0 +1,16 @@
+-- `auto` proves these too: they are written so that a wrong body is refused without a long search.
+use Rattle.std.proofs.Common.{rules}
+use Rattle.cif_line.proofs.Leftmost.{header_faults}
+use Rattle.cif_line.proofs.read.header_fault.Goals as goal
+
+pub returns-then-not-is_date_day_first : goal.returns-then-not-is_date_day_first
+returns-then-not-is_date_day_first c = search (rules, header_faults)
+
+pub returns-then-not-is_clock : goal.returns-then-not-is_clock
+returns-then-not-is_clock c = search (rules, header_faults)
+
+pub returns-then-not-is_update_indicator : goal.returns-then-not-is_update_indicator
+returns-then-not-is_update_indicator c = search (rules, header_faults)
+
+pub returns : goal.returns
+returns c = search (rules, header_faults)

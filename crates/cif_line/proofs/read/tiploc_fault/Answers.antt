@@ -1,0 +1,13 @@
+-- `auto` proves these too: they are written so that a wrong body is refused without a long search.
+use Rattle.std.proofs.Common.{rules}
+use Rattle.cif_line.proofs.Leftmost.{tiploc_faults}
+use Rattle.cif_line.proofs.read.tiploc_fault.Goals as goal
+
+pub returns-then-not-is_tiploc : goal.returns-then-not-is_tiploc
+returns-then-not-is_tiploc c = search (rules, tiploc_faults)
+
+pub returns-then-not-is_new_tiploc : goal.returns-then-not-is_new_tiploc
+returns-then-not-is_new_tiploc c = search (rules, tiploc_faults)
+
+pub returns : goal.returns
+returns c = search (rules, tiploc_faults)

@@ -1,0 +1,9 @@
+-- `auto` proves these too: they are written so that a wrong body is refused without a long search.
+use Rattle.std.proofs.Common.{rules}
+use Rattle.docker_parts.proofs.steps.after_horizon.Goals as goal
+
+pub returns-in-None-clause-judges : goal.returns-in-None-clause-judges
+returns-in-None-clause-judges g c = search rules
+
+pub returns-in-Some-clause-judges : goal.returns-in-Some-clause-judges
+returns-in-Some-clause-judges g c = search rules

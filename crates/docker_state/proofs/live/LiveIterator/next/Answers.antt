@@ -1,0 +1,6 @@
+-- `auto` proves these too: they are written so that a wrong body is refused without a long search.
+use Rattle.std.proofs.Common.{rules}
+use Rattle.docker_state.proofs.live.LiveIterator.next.Goals as goal
+
+pub returns-in-Put-clause-steps : goal.returns-in-Put-clause-steps
+returns-in-Put-clause-steps c = search rules
