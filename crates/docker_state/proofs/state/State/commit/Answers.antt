@@ -50,3 +50,6 @@ of_rows-received-requires-clause-noted c =
 -- `auto` proves these too: they are written so that a wrong body is refused without a long search.
 pub returns-clause-err : goal.returns-clause-err
 returns-clause-err c = search rules
+
+pub returns-in-Ok-clause-join : goal.returns-in-Ok-clause-join
+returns-in-Ok-clause-join c = search rules

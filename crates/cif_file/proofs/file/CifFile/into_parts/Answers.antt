@@ -1,0 +1,9 @@
+-- `auto` proves these too: they are written so that a wrong body is refused without a long search.
+use Rattle.std.proofs.Common.{rules}
+use Rattle.cif_file.proofs.file.CifFile.into_parts.Goals as goal
+
+pub returns-clause-file : goal.returns-clause-file
+returns-clause-file c = search rules
+
+pub returns-clause-parts : goal.returns-clause-parts
+returns-clause-parts c = search rules
