@@ -1,5 +1,5 @@
 //! A schedule whose lines are being read.
-ghost use Rattle.std.specs.Prelude.{◌≡◌, [], ◌∷◌, true, false, IsOk, IfOk, IfErr, OnOk, MatchOption, if◌then◌else◌};
+ghost use Rattle.std.specs.Prelude.{◌≡◌, [], ◌∷◌, true, false, IsOk, IsErr, IfOk, IfErr, OnOk, MatchOption, if◌then◌else◌};
 ghost use Rattle.docker_model.specs.records.Record.{HasKind, IsRecord};
 ghost use Rattle.docker_laws.specs.ScheduleStage.{is_first_line};
 ghost use Rattle.docker_model.specs.file.Change.{schedule_named, schedule_body, delete, put};
@@ -30,6 +30,7 @@ impl Opened {
         ensures err { IfErr result (FaultsLine (progress_meant self.old.progress) line.now) }
         ensures number { self.new.number ≡ self.old.number }
         ensures key { self.new.key ≡ self.old.key }
+        ensures unchanged { IsErr result → self.new ≡ self.old }
     {
         self.progress.advance(kind, line)
     }
