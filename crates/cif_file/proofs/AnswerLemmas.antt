@@ -1,5 +1,4 @@
 -- Answers of calls that are not known to be Ok or Err.
-use Rattle.std.proofs.Common.{◌≡◌, ℕ, List, true, refl}
 use Rattle.std.specs.Prelude.{Result, Ok, Err, IsOk, OnOk, IfErr}
 
 -- what an Ok answer tells, where it is Ok

@@ -1,6 +1,6 @@
 -- The lines that a parser has taken, and the faults that it tells.
 use Rattle.std.proofs.Common.{◌≡◌, ℕ, ◌+◌, ◌-◌, ◌≤◌, ◌<◌, inl, inr, Bool, true, false, cond, List, [], ◌∷◌, ◌++◌, length, subst, refl, ap, sym, ◌∙◌, Some, None, arith, append_assoc, length-append, eqb-true, take, drop, get_or, suc, drop-cons}
-use Rattle.std.specs.Prelude.{⊤, Option, ◌↔◌, ◌==◌, ◌&&◌, IfOk, IfErr, Result, Ok, Err, nat_le}
+use Rattle.std.specs.Prelude.{⊤, Option, ◌↔◌, ◌==◌, ◌&&◌, nat_le}
 use Rattle.std.specs.Str.Lines.{strip_carriage_return}
 use Rattle.std.specs.Prelude.{position}
 use Rattle.std.proofs.Math.Seq.{take-append_seam}

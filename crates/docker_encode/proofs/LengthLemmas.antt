@@ -1,5 +1,5 @@
 -- How long the text of a valid state is.
-use Rattle.std.proofs.Common.{◌≡◌, ℕ, ◌+◌, ◌*◌, ◌-◌, ◌^◌, ◌<◌, List, [], ◌∷◌, ◌++◌, length, map, get_or, take, refl, ap, sym, ◌∙◌, subst, arith, length-append, All}
+use Rattle.std.proofs.Common.{◌≡◌, ℕ, ◌+◌, ◌*◌, List, [], ◌∷◌, ◌++◌, length, map, refl, ap, sym, ◌∙◌, subst, arith, length-append, All}
 use Rattle.std.specs.List.{concat, flat_map, AllByRecursion}
 use Rattle.std.specs.Int.{w32, w64, to_be_bytes}
 use Rattle.std.proofs.lemmas.List.Elements.{All-from_recursion, recursion_from_All}
@@ -12,7 +12,6 @@ use Rattle.docker_model.specs.state.StateText.{dks_2, head_text, item_bytes, sta
 use Rattle.docker_model.specs.state.StatePart.{key_text}
 use Rattle.docker_laws.proofs.texts.StateReadBack.{item_width, stamp_width}
 use Rattle.docker_encode.specs.Entries.{IsOfWidth}
-use Rattle.docker_encode.proofs.BufferLemmas.{one_more, mapped_join}
 use Rattle.std.proofs.lemmas.List.{length-map}
 
 lines_length : (lines : List (List ℕ)) → AllByRecursion IsRecord lines → length (concat lines) ≡ 80 * length lines

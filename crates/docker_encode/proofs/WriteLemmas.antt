@@ -1,17 +1,16 @@
 -- The text of a state, in the pieces that are written.
-use Rattle.std.proofs.Common.{◌≡◌, ℕ, ◌+◌, ◌<◌, ◌^◌, List, [], ◌∷◌, ◌++◌, length, map, get_or, ap, sym, ◌∙◌, subst, arith, append_assoc, append-nil, All, lit<, Ok, Err, Result}
+use Rattle.std.proofs.Common.{◌≡◌, ℕ, ◌+◌, ◌<◌, List, [], ◌∷◌, ◌++◌, length, map, get_or, ap, sym, ◌∙◌, subst, arith, append_assoc, append-nil, All, Ok, Err, Result}
 use Rattle.std.specs.Prelude.{Option, IsErrAnd}
-use Rattle.std.specs.List.{concat, flat_map, AllByRecursion}
+use Rattle.std.specs.List.{concat, flat_map}
 use Rattle.std.specs.Int.{w32, w64, to_be_bytes}
 use Rattle.std.proofs.lemmas.List.{length-map}
 use Rattle.std.proofs.Math.ListN.{get_or-map}
-use Rattle.std.proofs.lemmas.List.Elements.{All-from_recursion, recursion_from_All}
-use Rattle.docker_model.specs.file.Change.{Key, tiploc_key, association_key, schedule_key, tiploc_body, association_body, schedule_body}
+use Rattle.docker_model.specs.file.Change.{Key, tiploc_body, association_body, schedule_body}
 use Rattle.docker_model.specs.state.Op.{Op, deleted, lapsed, put_with, Entry, key_tag}
 use Rattle.docker_model.specs.state.Stamp.{LedgerItem}
-use Rattle.docker_model.specs.state.State.{State, IsOpOf, IsGoodEntry, IsValid}
+use Rattle.docker_model.specs.state.State.{State}
 use Rattle.docker_model.specs.state.StateText.{dks_2, head_text, item_bytes, key_bytes, stamp_bytes, entry_bytes, state_text}
-use Rattle.docker_encode.specs.Entries.{entry_head, op_lines, HasFewLines}
+use Rattle.docker_encode.specs.Entries.{entry_head, op_lines}
 use Rattle.cif_line.specs.Device.{TakesPart}
 use Rattle.docker_encode.specs.Written.{body_text, Gathers, Gives}
 use Rattle.docker_encode.proofs.BufferLemmas.{gathers_then, then_gives, fails_first}

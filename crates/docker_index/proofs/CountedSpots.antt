@@ -1,11 +1,9 @@
 -- How many spots rows have, and that they are no more than what made them has.
-use Rattle.std.proofs.Common.{◌≡◌, ℕ, suc, Bool, true, false, cond, filter, ◌+◌, ◌≤◌, List, [], ◌∷◌, ◌++◌, map, length, refl, ap, sym, ◌∙◌, subst, inl, inr, ◌⊎◌, Contains, arith}
-use Rattle.std.specs.List.{sum_by}
+use Rattle.std.proofs.Common.{◌≡◌, ℕ, ◌+◌, ◌≤◌, List, [], ◌∷◌, ◌++◌, map, length, refl, ap, sym, ◌∙◌, subst, inl, inr, ◌⊎◌, Contains, arith}
 use Rattle.std.specs.declared.cmp.Ordering.TheVariants.{Less, Equal}
 use Rattle.std.specs.Ordering.{on}
 use Rattle.std.specs.Cmp.{tied_itself}
 use Rattle.std.proofs.lemmas.List.{length-append, length-map}
-use Rattle.std.proofs.lemmas.List.Sums.{sum_by-cons}
 use Rattle.std.proofs.lemmas.List.Elements.{Contains-append_left, Contains-append_right, Contains-append_cases}
 use Rattle.docker_model.specs.file.Change as model
 use Rattle.docker_model.specs.file.Change.{Key, tiploc_key, association_key, schedule_key, tiploc_body, association_body, schedule_body}
@@ -14,8 +12,7 @@ use Rattle.docker_model.specs.state.Order.{IsBelow}
 use Rattle.docker_model.specs.state.State.{AreAscending}
 use Rattle.docker_laws.proofs.lists.Membership.{Contains-cons, cons-Contains, cons-Contains-first, nil-Contains, below_by_recursion}
 use Rattle.docker_laws.proofs.orders.Orders.{key_total}
-use Rattle.docker_model.specs.records.Record.{kind_of, columns, is_location}
-use Rattle.docker_index.specs.Spots.{Places, call_places, link_places, location_lines, spot_at, spots_from, spots_of}
+use Rattle.docker_index.specs.Spots.{Places, call_places, link_places, spot_at, spots_from, spots_of}
 use Rattle.docker_index.specs.Rooms.{AreMadeBy}
 use Rattle.docker_index.proofs.Positions.{Keyed}
 

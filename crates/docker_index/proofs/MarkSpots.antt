@@ -1,7 +1,7 @@
 -- Marks, and the spots that they stand for.
-use Rattle.std.proofs.Common.{◌≡◌, ℕ, List, [], ◌∷◌, ◌++◌, map, refl, ap, sym, ◌∙◌, subst, Some, None, Contains, Bool, true, false, cond, append-nil}
+use Rattle.std.proofs.Common.{◌≡◌, ℕ, List, [], ◌∷◌, ◌++◌, refl, ap, sym, ◌∙◌, subst, Some, None, Contains, Bool, true, false, cond, append-nil}
 use Rattle.std.specs.Prelude.{Option, ◌↔◌, filter, slice_get, option_map, option_and_then}
-use Rattle.std.specs.List.{filter_map, cons_option}
+use Rattle.std.specs.List.{cons_option}
 use Rattle.std.specs.Option.{is_some}
 use Rattle.std.specs.declared.cmp.Ordering.{Ordering}
 use Rattle.std.specs.declared.cmp.Ordering.TheVariants.{Less, Equal, Greater}
@@ -11,16 +11,13 @@ use Rattle.std.specs.Cmp.Lexicographic.{nat_list_cmp_total}
 use Rattle.std.proofs.lemmas.Cmp.{ranked}
 use Rattle.std.proofs.lemmas.List.Elements.{filter_map-append}
 use Rattle.std.proofs.lemmas.Map.Lookups.{exact_unsigned}
-use Rattle.docker_model.specs.file.Change.{Key}
-use Rattle.docker_model.specs.state.Op.{Entry}
 use Rattle.docker_model.specs.state.Order.{bytes_cmp, IsStrictlyAscending}
 use Rattle.docker_laws.proofs.lists.Membership.{nil-Contains, cons-Contains, cons-Contains-first}
 use Rattle.docker_index.specs.SpotOrder.{Spot, spot_cmp}
 use Rattle.docker_index.specs.declared.mark.Mark.{Mark}
 use Rattle.docker_index.specs.MarkOrder.{mark_cmp}
-use Rattle.docker_index.specs.Spots.{Places, spot_at, spots_of, mark_spot, spots_in, AreSpotsOf, AreMarksOf}
-use Rattle.docker_index.specs.StandingRows.{live_row, live_at, live_at_mark, standing_rows, standing_marks, is_put_at, is_put_at_mark, IsPieceAt, IsPieceOf}
-use Rattle.docker_index.specs.Joined.{moved_spot, moved_spots, moved_mark, moved_marks, AreRanks, AreRising}
+use Rattle.docker_index.specs.Spots.{Places, spot_at, spots_of, mark_spot, spots_in, AreMarksOf}
+use Rattle.docker_index.specs.StandingRows.{live_row, standing_rows, standing_marks, is_put_at, is_put_at_mark, IsPieceAt, IsPieceOf}
 use Rattle.docker_index.proofs.Positions.{Keyed, some_is, at_member, at_ascends, chosen_from, chosen_to, chosen_ascends}
 
 none_some : {A : Type 0} (a : A) → None ≡ Some a → ⊥

@@ -1,5 +1,5 @@
 -- Marks where their places and their rows go in a join.
-use Rattle.std.proofs.Common.{◌≡◌, ℕ, suc, ◌≤◌, List, [], ◌∷◌, length, map, refl, ap, sym, ◌∙◌, subst, inl, inr, ◌⊎◌, Some, None, Contains, arith}
+use Rattle.std.proofs.Common.{◌≡◌, ℕ, suc, ◌≤◌, List, [], ◌∷◌, length, refl, ap, sym, ◌∙◌, subst, inl, inr, ◌⊎◌, Some, None, Contains, arith}
 use Rattle.std.specs.Prelude.{Option, ◌↔◌, slice_get, option_map, option_and_then}
 use Rattle.std.specs.List.{filter_map, cons_option}
 use Rattle.std.specs.declared.cmp.Ordering.{Ordering}
@@ -9,10 +9,10 @@ use Rattle.std.specs.Cmp.{nat_cmp_is}
 use Rattle.std.proofs.lemmas.Cmp.{ranked}
 use Rattle.std.proofs.lemmas.Option.{slice_get-map}
 use Rattle.docker_model.specs.state.Order.{bytes_cmp, IsStrictlyAscending}
-use Rattle.docker_index.specs.SpotOrder.{Spot, spot_cmp}
+use Rattle.docker_index.specs.SpotOrder.{Spot}
 use Rattle.docker_index.specs.declared.mark.Mark.{Mark}
 use Rattle.docker_index.specs.MarkOrder.{mark_cmp}
-use Rattle.docker_index.specs.Spots.{Places, spot_at, spots_of, mark_spot, spots_in, AreSpotsOf, AreMarksOf}
+use Rattle.docker_index.specs.Spots.{Places, spot_at, spots_of, mark_spot, spots_in, AreMarksOf}
 use Rattle.docker_index.specs.Joined.{moved_spot, moved_spots, moved_mark, moved_marks, AreRanks, AreRising}
 use Rattle.docker_index.proofs.Positions.{Keyed, some_is, chosen_from, chosen_to, chosen_ascends}
 use Rattle.docker_index.proofs.MarkSpots.{place_order, spots_ascend}

@@ -1,5 +1,5 @@
 -- What is found of associations and of the first lines of schedules.
-use Rattle.std.proofs.Common.{◌≡◌, ℕ, ◌-◌, ◌≤◌, List, sym, subst, Bool, true, false, ◌∙◌}
+use Rattle.std.proofs.Common.{◌≡◌, ℕ, List, sym, subst, Bool, true, false, ◌∙◌}
 use Rattle.std.specs.Prelude.{IsTrue, ◌↔◌}
 use Rattle.docker_model.specs.records.Record.{IsRecord, HasKind, association, basic_schedule, columns}
 use Rattle.docker_model.specs.records.Date.{is_date}

@@ -1,19 +1,15 @@
 -- What is staged of the entries that were given, and the join that a commit of it is.
-use Rattle.std.proofs.Common.{◌≡◌, ℕ, ◌+◌, ◌-◌, List, [], ◌∷◌, ◌++◌, length, map, refl, ap, sym, ◌∙◌, subst, inl, inr, ◌⊎◌, arith, length-append, All, Contains, Some, None}
+use Rattle.std.proofs.Common.{◌≡◌, ℕ, ◌-◌, List, [], ◌∷◌, ◌++◌, length, refl, ap, sym, ◌∙◌, subst, inl, inr, arith, length-append, All, Some, None}
 use Rattle.std.specs.Prelude.{Option, slice_get}
-use Rattle.std.specs.Option.{option_map}
-use Rattle.std.specs.declared.cmp.Ordering.TheVariants.{Less}
 use Rattle.docker_model.specs.file.Change.{Key}
 use Rattle.docker_model.specs.state.Op.{Entry, key_cmp}
 use Rattle.docker_model.specs.state.Order.{IsBelow}
 use Rattle.docker_model.specs.state.Stamp.{FileStamp, IsFloor}
-use Rattle.docker_model.specs.state.Stamp as stamps
 use Rattle.docker_model.specs.state.State.{State, IsValid, IsJoin}
 use Rattle.docker_model.specs.state.Staging.{IsStaged, IsCommit}
 use Rattle.docker_laws.proofs.lists.Membership.{member_of}
 use Rattle.docker_laws.proofs.joins.StagedEntry.{nothing_staged, one_staged_more, one_left_out, staging_joins_before}
 use Rattle.docker_state.specs.declared.item.LedgerItem.{LedgerItem}
-use Rattle.docker_state.specs.Meaning.{item_meant}
 use Rattle.docker_state.specs.Parts.{last_key}
 use Rattle.docker_state.specs.Staging.{Staging, IsOffered, IsAboveStaged}
 use Rattle.docker_parts.specs.Receiving.{told_state, told_of, items_of, IsStagedOf}

@@ -2,14 +2,12 @@
 use Rattle.std.proofs.Common.{◌≡◌, ℕ, List, [], ◌∷◌, ◌++◌, length, refl, ap, sym, subst, inl, inr, ◌⊎◌, Some, None, ◌+◌, ◌<◌, ◌≤◌, Bool, true, false, arith, length-append}
 use Rattle.std.specs.Prelude.{Option, IsTrue, ◌↔◌}
 use Rattle.std.proofs.lemmas.Bool.{cases_lt}
-use Rattle.std.proofs.lemmas.List.Elements.{recursion_from_All}
-use Rattle.docker_model.specs.records.Record.{IsRecord, HasKind, basic_schedule}
+use Rattle.docker_model.specs.records.Record.{HasKind, basic_schedule}
 use Rattle.docker_model.specs.records.Field.{HasGoodFields}
 use Rattle.docker_model.specs.file.Change.{ScheduleKey}
 use Rattle.docker_model.specs.state.State.{State}
 use Rattle.docker_model.specs.file.File.{first_record, IsSchedule, BeginsSchedule}
 use Rattle.docker_model.specs.state.StateFault.{StateCause, bad_mark, bad_item, bad_order, bad_floor, bad_tag, bad_stamp, bad_body, too_short, has_tail, too_long, bad_horizon}
-use Rattle.docker_laws.proofs.lists.AllOf.{all_front, all_behind}
 use Rattle.docker_parts.specs.Judged.{IsOfKey, IsFirstOf}
 use Rattle.docker_parts.specs.Lines.{BeginUpTo, AreLinesIn, AreLinesUpToIn, IsLineRefusal, IsUpToRefusal}
 

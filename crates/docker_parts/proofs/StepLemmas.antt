@@ -1,28 +1,21 @@
 -- From a part to the next: ledger items and lines.
-use Rattle.std.proofs.Common.{◌≡◌, ℕ, ◌+◌, ◌-◌, ◌<◌, ◌≤◌, ◌^◌, List, [], ◌∷◌, ◌++◌, length, ap, sym, ◌∙◌, subst, arith, length-append, Ok, Err, refl, false, Some, None}
-use Rattle.std.specs.Prelude.{Result, IfOk, IfErr, Option}
+use Rattle.std.proofs.Common.{◌≡◌, ℕ, ◌+◌, ◌-◌, ◌<◌, ◌≤◌, ◌^◌, List, [], ◌∷◌, ◌++◌, length, ap, sym, ◌∙◌, subst, arith, length-append, Ok, Err}
+use Rattle.std.specs.Prelude.{Result, IfOk, IfErr}
 use Rattle.docker_model.specs.file.Change.{ScheduleKey, schedule_key, schedule_body}
 use Rattle.docker_model.specs.state.Stamp.{LedgerItem, Stamp}
 use Rattle.docker_model.specs.state.Op.{put_with}
 use Rattle.docker_model.specs.state.State.{State, IsLedger, IsScheduleOf}
 use Rattle.docker_model.specs.state.StateText.{Format}
-use Rattle.docker_model.specs.state.StatePart.{Before, in_entry, before_line, width, AreLinesUpTo, IsPartHere, AreGood}
-use Rattle.docker_model.specs.state.StateFault.{bad_mark, bad_item, bad_order, bad_floor, bad_tag, bad_stamp, bad_body, too_short, has_tail, too_long, bad_horizon}
-use Rattle.docker_model.specs.state.StateFault as model
+use Rattle.docker_model.specs.state.StatePart.{Before, in_entry, before_line, AreLinesUpTo, IsPartHere}
 use Rattle.docker_laws.specs.TextStage.{advance, after_lines, after_entries, with_entry}
-use Rattle.docker_laws.proofs.texts.TextsBefore.{more_lines, all_lines}
+use Rattle.docker_laws.proofs.texts.TextsBefore.{all_lines}
 use Rattle.docker_laws.proofs.texts.LedgerGrown.{one_item_more}
 use Rattle.docker_parts.specs.declared.cause.StateCause.{StateCause}
 use Rattle.docker_parts.specs.declared.cause.StateCause.TheVariants as cause
 use Rattle.docker_parts.specs.FaultMeaning.{cause_meant, IsWantingHere, IsBadHere}
 use Rattle.docker_parts.specs.Judged.{MayFollow, Judges}
-use Rattle.docker_join.specs.Meaning.{stamp_meant}
-use Rattle.docker_join.specs.declared.stamp.Stamp as stamps
-use Rattle.cif_change.specs.declared.key.ScheduleKey as code
 use Rattle.docker_parts.specs.declared.stage.Stage.{Stage}
-use Rattle.docker_parts.specs.declared.stage.Stage.TheVariants as stage
-use Rattle.docker_parts.specs.Lines.{AreLinesUpToIn, IsUpToRefusal}
-use Rattle.docker_parts.specs.Stage.{schedule_meant, stage_meant, begins_item, LeadsTo, IsFresh}
+use Rattle.docker_parts.specs.Stage.{stage_meant, IsFresh}
 
 -- an item that may follow makes a ledger again
 pub item_follows : (ledger told : List LedgerItem) (item meant : LedgerItem) → told ≡ ledger → IsLedger ledger → meant ≡ item → MayFollow told item

@@ -1,5 +1,5 @@
 -- What a state has received of a text.
-use Rattle.std.specs.Prelude.{◌≡◌, ℕ, List, ◌++◌, [], length, map, Option, Some, None}
+use Rattle.std.specs.Prelude.{◌≡◌, List, ◌++◌, [], length, map, Option, Some, None}
 use Rattle.std.specs.Option.{option_map}
 use Rattle.docker_model.specs.file.Change as model
 use Rattle.docker_model.specs.state.Op as ops

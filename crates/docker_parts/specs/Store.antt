@@ -1,5 +1,5 @@
 -- Where the parts of a text go.
-use Rattle.std.specs.Prelude.{◌≡◌, ℕ, Option, Some, None}
+use Rattle.std.specs.Prelude.{◌≡◌, Option, Some, None}
 use Rattle.docker_model.specs.state.State.{State}
 use Rattle.docker_parts.specs.declared.receiving.Receiving.{Receiving}
 use Rattle.docker_parts.specs.declared.store.Store.{Store}

@@ -1,5 +1,5 @@
 -- Behind a record the first line feed is that of the rest.
-use Rattle.std.proofs.Common.{◌≡◌, ℕ, ◌+◌, ◌-◌, ◌≤◌, List, length, take, drop, Some, sym, ap, ◌∙◌, arith, length-drop}
+use Rattle.std.proofs.Common.{◌≡◌, ℕ, ◌+◌, ◌-◌, ◌≤◌, List, length, take, drop, sym, ap, ◌∙◌, arith, length-drop}
 use Rattle.std.specs.Prelude.{position, option_map, ◌==◌}
 use Rattle.std.proofs.lemmas.List.{take_all}
 use Rattle.docker_model.specs.records.Record.{IsRecord}

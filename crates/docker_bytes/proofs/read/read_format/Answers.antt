@@ -1,4 +1,4 @@
-use Rattle.std.proofs.Common.{◌≡◌, ◌∙◌, refl, inr, [], Err}
+use Rattle.std.proofs.Common.{◌∙◌, refl, []}
 use Rattle.std.proofs.lemmas.Result.{err_from_is_err_and}
 use Rattle.docker_parts.specs.FormatMeaning.{format_meant}
 use Rattle.docker_bytes.specs.SourceRead.{ReadsAll, RefusesState, ReadsOnePieceMore, WantsSoFar}

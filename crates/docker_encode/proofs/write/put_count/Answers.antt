@@ -1,6 +1,5 @@
 use Rattle.std.proofs.Common.{[]}
-use Rattle.std.specs.Int.{w64, to_be_bytes}
-use Rattle.docker_encode.proofs.BufferLemmas.{fails_first, room_then_add}
+use Rattle.docker_encode.proofs.BufferLemmas.{fails_first}
 use Rattle.docker_encode.proofs.write.put_count.Goals as goal
 
 pub returns-in_err-make_room : goal.returns-in_err-make_room

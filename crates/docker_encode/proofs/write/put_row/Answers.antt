@@ -1,4 +1,4 @@
-use Rattle.std.proofs.Common.{◌++◌, subst, [], sym}
+use Rattle.std.proofs.Common.{subst, []}
 use Rattle.std.specs.List.{concat}
 use Rattle.docker_state.specs.Meaning.{row_meant}
 use Rattle.docker_encode.specs.Entries.{entry_head, op_lines}

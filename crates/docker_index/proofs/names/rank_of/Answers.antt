@@ -1,4 +1,4 @@
-use Rattle.std.proofs.Common.{◌≡◌, ℕ, List, map, Some, Err, sym, ap, ◌∙◌, subst, refl, false, true, Contains, []}
+use Rattle.std.proofs.Common.{ℕ, List, Some, Err, sym, ap, ◌∙◌, subst, refl, false, Contains, []}
 use Rattle.std.proofs.lemmas.List.{map-id}
 use Rattle.std.proofs.lemmas.Option.{slice_get-get_or}
 use Rattle.std.proofs.lemmas.Map.Lookups.{exact_bytes}

@@ -1,5 +1,5 @@
 -- The line stands behind those before it, and where it ends the journey the schedule makes its change.
-use Rattle.std.proofs.Common.{subst, sym, ◌≡◌, refl, ◌++◌, ◌∷◌, []}
+use Rattle.std.proofs.Common.{subst, refl, ◌++◌, ◌∷◌, []}
 use Rattle.cif_file.specs.KeeperRead.{Closes}
 use Rattle.cif_file.proofs.FrontLemmas.{line_added, line_closed, on_ok}
 use Rattle.cif_file.proofs.front.Front.add_line.Goals as goal

@@ -1,10 +1,10 @@
 -- The schedule's cause is the file's.
-use Rattle.std.proofs.Common.{ap, ◌∙◌, refl, sym}
+use Rattle.std.proofs.Common.{ap, ◌∙◌, refl}
 use Rattle.std.specs.Prelude.{is_ok}
 use Rattle.docker_model.specs.file.File.{follows_basic}
 use Rattle.cif_journey.specs.Cause.{cause_meant}
 use Rattle.cif_file.proofs.AnswerLemmas.{at_ok}
-use Rattle.cif_file.proofs.FrontLemmas.{IsFollowed, followed, bad_line, stands_before, line_goes_on}
+use Rattle.cif_file.proofs.FrontLemmas.{followed, bad_line, stands_before, line_goes_on}
 use Rattle.cif_file.proofs.front.Front.follow.Goals as goal
 
 pub returns-in-Err-clause-err : goal.returns-in-Err-clause-err

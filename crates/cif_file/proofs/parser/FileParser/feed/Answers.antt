@@ -1,5 +1,5 @@
 -- A fault stays, and else the piece is read.
-use Rattle.std.proofs.Common.{◌++◌, sym, ap, subst, ◌∙◌, refl}
+use Rattle.std.proofs.Common.{◌++◌, sym, ap, subst, ◌∙◌}
 use Rattle.cif_file.specs.KeeperRead.{KeepsAll}
 use Rattle.cif_file.specs.ParserRead.{ParserState, IsReading}
 use Rattle.cif_file.proofs.ParserLemmas.{told_stays, reading_tells_none, read_at_fault, fault_at_read, reading_at_none, none_at_reading, had_failed, names_later}

@@ -1,5 +1,5 @@
 -- The last line, if one is open, and then the end.
-use Rattle.std.proofs.Common.{◌++◌, ◌∷◌, [], refl, ap, subst, ◌∙◌}
+use Rattle.std.proofs.Common.{ap, subst, ◌∙◌}
 use Rattle.std.proofs.lemmas.Result.{IfOk-weaker}
 use Rattle.std.specs.Str.Lines.{strip_carriage_return}
 use Rattle.docker_laws.specs.LinesTold.{told_lines}

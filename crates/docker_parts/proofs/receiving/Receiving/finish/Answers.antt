@@ -1,5 +1,4 @@
-use Rattle.std.proofs.Common.{◌≡◌, refl, sym, ap, ◌∙◌, subst, map}
-use Rattle.docker_state.specs.Meaning.{item_meant}
+use Rattle.std.proofs.Common.{sym, ap, ◌∙◌, subst}
 use Rattle.docker_state.specs.Staging.{Staging}
 use Rattle.docker_parts.specs.Receiving.{items_of, IsStagedOf}
 use Rattle.docker_parts.proofs.ReceivingLemmas.{commit_joins, none_staged}

@@ -1,4 +1,4 @@
-use Rattle.std.proofs.Common.{◌≡◌, length, map, sym, ap, subst}
+use Rattle.std.proofs.Common.{length, map, sym, ap, subst}
 use Rattle.docker_model.specs.state.State.{IsLedger}
 use Rattle.docker_laws.proofs.texts.LedgerGrown.{no_items}
 use Rattle.docker_state.specs.Meaning.{item_meant}

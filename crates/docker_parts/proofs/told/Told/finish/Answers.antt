@@ -1,4 +1,4 @@
-use Rattle.std.proofs.Common.{◌≡◌, sym, ap, ◌∙◌}
+use Rattle.std.proofs.Common.{sym, ap, ◌∙◌}
 use Rattle.docker_parts.specs.Told.{horizon_meant, under, Told}
 use Rattle.docker_parts.specs.Store.{told_in}
 use Rattle.docker_parts.proofs.ToldLemmas.{under_none, set_behind}
