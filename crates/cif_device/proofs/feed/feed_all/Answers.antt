@@ -119,15 +119,15 @@ pieces-preserved g c =
       room = c.pieces.invariant.room;
     }
 
--- `auto` proves these too: they are written so that a wrong body is refused without a long search.
+-- `auto` proves these too: they are written out so that a wrong body is refused without a long search.
 pub returns-in_default-read-clause-fed : goal.returns-in_default-read-clause-fed
-returns-in_default-read-clause-fed g c = search rules
+returns-in_default-read-clause-fed g c = tt
 
 pub returns-in_default-read-clause-end : goal.returns-in_default-read-clause-end
 returns-in_default-read-clause-end g c = search rules
 
 pub returns-in_default-read-clause-no_failure : goal.returns-in_default-read-clause-no_failure
-returns-in_default-read-clause-no_failure g c = search rules
+returns-in_default-read-clause-no_failure g c = λ other. absurd (other refl)
 
 pub returns-in-Err-clause-memory : goal.returns-in-Err-clause-memory
 returns-in-Err-clause-memory g c = search rules
