@@ -1,5 +1,5 @@
 -- What the program is given, and what it leaves of it.
-use Rattle.std.specs.Prelude.{◌≡◌, ℕ, ◌+◌, Bool, false, ⊤, ◌⊎◌, ◌↔◌, ◌≢◌}
+use Rattle.std.specs.Prelude.{◌≡◌, ℕ, ◌+◌, Bool, true, false, ⊤, ◌⊎◌, ◌↔◌, ◌≢◌}
 use Rattle.docker_job.specs.Words.{Text}
 use Rattle.docker_cmd.specs.Prepared.{DeviceBytes}
 use Rattle.docker_program.specs.Names.{Names, no_source, standard_input, one_file, file_and_input, two_files}
@@ -49,6 +49,10 @@ IsUnwritten written = (written.output_now ≡ written.output) × (written.files_
 -- of the files of these names, before and now, that of another name is as it was
 abbrev pub LeavesOtherFiles : Text → (Text → DeviceBytes) → (Text → DeviceBytes) → Type 0
 LeavesOtherFiles name files files_now = (other : Text) → other ≢ name → files_now other ≡ files other
+
+-- no draft of a file is left, if none was before: whether there was one, and whether there is
+abbrev pub LeavesNoDraft : Bool → Bool → Type 0
+LeavesNoDraft before now = now ≡ true → before ≡ true
 
 -- a file holds what it did, or what was to be put in its place
 abbrev pub IsEither : DeviceBytes → DeviceBytes → DeviceBytes → Type 0

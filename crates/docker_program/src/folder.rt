@@ -1,6 +1,6 @@
 //! The real files that are written anew. A regular file is written beside its place, and then renamed over it: whenever that ends, the file is whole, as it was
 //! or as it is to be. A pipe or a device is written where it stands.
-ghost use Rattle.std.specs.Prelude.{◌≡◌, ◌≢◌, ◌↔◌, ◌<◌, ◌^◌, ◌-◌, ◌+◌, None, Some, Err, IfOk, OnOk, option_map, string_bytes};
+ghost use Rattle.std.specs.Prelude.{◌≡◌, ◌≢◌, ◌↔◌, ◌<◌, ◌^◌, ◌-◌, ◌+◌, None, Some, Err, IfOk, OnOk, OnErr, is_some, option_map, string_bytes};
 
 use crate::beside::Beside;
 use crate::devices::write_some;
@@ -154,21 +154,6 @@ impl Folder {
         }
         Ok((made, Some(beside)))
     }
-
-    /// Puts a draft that lies beside its file in the file's place.
-    fn replace(&self, draft: &File) -> io::Result<()> {
-        match &self.beside {
-            Some(beside) => beside.replace(&self.rt, draft),
-            None => Ok(()),
-        }
-    }
-
-    /// Takes a draft that lies beside its file away, as far as that can be done.
-    fn remove_draft(&self) {
-        if let Some(beside) = &self.beside {
-            beside.remove(&self.rt);
-        }
-    }
 }
 
 impl Stores for Folder {
@@ -179,6 +164,8 @@ impl Stores for Folder {
     ghost held = { λ _ _. None };
 
     ghost target = { λ folder. option_map (λ name. string_bytes name) folder.target };
+
+    ghost has_draft = { λ folder. is_some folder.beside };
 
     ghost failures = { λ folder. folder.failures };
 
@@ -193,6 +180,7 @@ impl Stores for Folder {
         requires { self.old.failures < 2 ^ 64 - 1 }
         ensures target { OnOk result
             (option_map (λ name. string_bytes name) self.new.target ≡ Some looked.entry.name.now) }
+        ensures no_draft { OnErr result (is_some self.new.beside ≡ is_some self.old.beside) }
         ensures sound { IfOk result (λ draft. draft.failures ≡ 0) }
         ensures counted { (result ≡ Err OpenFault.Failed)
             ↔ (self.new.failures ≡ self.old.failures + 1) }
@@ -221,8 +209,11 @@ impl Stores for Folder {
 
     fn complete(&mut self, draft: Draft) -> Result<(), Failed> {
         self.failures += draft.failures;
-        if self.replace(&draft.file).is_err() {
-            self.remove_draft();
+        let Some(beside) = self.beside.take() else {
+            return Ok(());
+        };
+        if beside.replace(&self.rt, &draft.file).is_err() {
+            beside.remove(&self.rt);
             self.failures += 1;
             return Err(Failed);
         }
@@ -231,7 +222,9 @@ impl Stores for Folder {
 
     fn discard(&mut self, draft: Draft) {
         self.failures += draft.failures;
-        self.remove_draft();
+        if let Some(beside) = self.beside.take() {
+            beside.remove(&self.rt);
+        }
     }
 
     fn failures(&self) -> u64 {

@@ -1,7 +1,7 @@
 //! Where a job writes.
 ghost use Rattle.std.specs.Prelude.{◌≡◌, ◌≢◌, ◌+◌, ◌-◌, ◌^◌, ◌<◌, ◌↔◌, Some, OnOk, OnErr, Err, option_map};
 ghost use Rattle.docker_cmd.specs.Prepared.{output_of, state_written};
-ghost use Rattle.docker_program.specs.Devices.{IsCounted, written};
+ghost use Rattle.docker_program.specs.Devices.{IsCounted, LeavesNoDraft, written};
 ghost use Rattle.docker_program.specs.Names.{stored_by};
 ghost use Rattle.docker_program.specs.Program.{EndsWriting, result_status};
 
@@ -23,6 +23,7 @@ pub(crate) fn write_output<W: Stores, K: Sink>(
     ensures ends { EndsWriting
         (written (K.taken output.old) (K.taken output.new) (W.held store.old) (W.held store.new))
         prepared.now result }
+    ensures drafts { LeavesNoDraft (W.has_draft store.old) (W.has_draft store.new) }
     ensures counted { IsCounted (result_status result)
         (W.failures store.old + K.failures output.old)
         (W.failures store.new + K.failures output.new) }
@@ -43,6 +44,7 @@ fn write_file<W: Stores>(
     requires store { W.failures store.old < 2 ^ 64 - 1 }
     ensures ends { (output : _) → EndsWriting
         (written output output (W.held store.old) (W.held store.new)) prepared.now result }
+    ensures drafts { LeavesNoDraft (W.has_draft store.old) (W.has_draft store.new) }
     ensures counted { IsCounted (result_status result)
         (W.failures store.old) (W.failures store.new) }
 {

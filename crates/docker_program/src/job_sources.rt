@@ -1,13 +1,14 @@
 //! The sources that a job reads.
-ghost use Rattle.std.specs.Prelude.{◌≡◌, ◌≢◌, ◌+◌, ◌-◌, ◌^◌, ◌<◌, ◌↔◌, OnOk, OnErr, Err};
+ghost use Rattle.std.specs.Prelude.{◌≡◌, ◌≢◌, ◌+◌, ◌-◌, ◌^◌, ◌<◌, ◌↔◌, OnOk, OnErr, Err, option_map};
 ghost use Rattle.docker_cmd.specs.Prepared.{DeviceBytes};
 ghost use Rattle.docker_program.specs.Devices.{AreOpened, FailsToOpen, IsCounted, device_of, given};
-ghost use Rattle.docker_program.specs.Names.{names_meant};
+ghost use Rattle.docker_program.specs.Names.{names_meant, stored_by};
 ghost use Rattle.docker_program.specs.Program.{ReadsInOrder, ReadsNamed, result_status};
 
 use crate::files::{Files, OpenFault};
 use crate::job_names::names;
 use crate::names::Names;
+use crate::stores::Looked;
 use cif_line::Source;
 use docker_cmd::{Job, OfficeFault, Prepared, prepare};
 use std::alloc::Global;
@@ -60,14 +61,17 @@ fn read_in_order<'a, S: Source, T: Source>(
     prepare(alloc, job, first, second)
 }
 
-/// Opens the files that a job reads, in the order of its words, and then reads its sources. One of them may be what is left of standard input.
-pub(crate) fn read_sources<'a, S: Source, F: Files>(
+/// Opens the files that a job reads, in the order of its words, and then reads its sources. One of them may be what is left of standard input. What was seen of
+/// the file that the job writes is asked for, so that none is read for a job whose file wasn't looked at before.
+pub(crate) fn read_sources<'a, T, S: Source, F: Files>(
     alloc: Global,
     job: &'a Job,
+    _looked: &Option<Looked<'_, T>>,
     stdin: &mut S,
     first: &mut F,
     second: &mut F,
 ) -> Result<Prepared<'a>, OfficeFault>
+    requires looked { option_map (λ it. it.name.now) _looked.now ≡ stored_by job.now }
     requires stdin { S.failures stdin.old < 2 ^ 64 - 1 }
     requires first { F.failures first.old < 2 ^ 64 - 1 }
     requires second { F.failures second.old < 2 ^ 64 - 1 }

@@ -1,7 +1,7 @@
 //! The order of the program's work.
 ghost use Rattle.std.specs.Prelude.{◌≡◌, ◌≢◌, ◌+◌, ◌-◌, ◌^◌, ◌<◌, ◌↔◌, None, Some, option_map};
 ghost use Rattle.docker_job.specs.Words.{texts};
-ghost use Rattle.docker_program.specs.Devices.{IsCounted, device_of, given, written};
+ghost use Rattle.docker_program.specs.Devices.{IsCounted, LeavesNoDraft, device_of, given, written};
 ghost use Rattle.docker_program.specs.Names.{stored_by};
 ghost use Rattle.docker_program.specs.Program.{EndsBy, Performs, ending_status, fault_in, fault_sink};
 
@@ -45,6 +45,7 @@ fn do_job<S: Source, F: Files, W: Stores, K: Sink>(
         (device_of F.left F.held F.is_missing second.old second.new))
         (written (K.taken output.old) (K.taken output.new) (W.held store.old) (W.held store.new))
         (fault_in result) }
+    ensures drafts { LeavesNoDraft (W.has_draft store.old) (W.has_draft store.new) }
     ensures counted { IsCounted (ending_status (fault_in result))
         (S.failures stdin.old + F.failures first.old + F.failures second.old
         + W.failures store.old + K.failures output.old)
@@ -53,7 +54,7 @@ fn do_job<S: Source, F: Files, W: Stores, K: Sink>(
 {
     let job = requested_job(alloc, words, stdin)?;
     let looked = look_at_stored(&job, store);
-    let prepared = read_sources(alloc, &job, stdin, first, second)?;
+    let prepared = read_sources(alloc, &job, &looked, stdin, first, second)?;
     let done = write_output(looked, &prepared, store, output);
     // The program ends here: what it has read is left to the system, not freed piece by piece.
     mem::forget(prepared);
@@ -61,8 +62,8 @@ fn do_job<S: Source, F: Files, W: Stores, K: Sink>(
 }
 
 /// Does what the words ask for, and answers the exit status. With no words at all the job is on the first line of standard input. All files that the job
-/// reads are opened first, in the order of the words, and nothing is written, or made to be written, before all is read; a fault is one line on the
-/// sink of faults.
+/// reads are opened first, in the order of the words, and nothing is written, or made to be written, before all is read; no draft is left; a fault is one
+/// line on the sink of faults.
 pub fn perform<S: Source, F: Files, W: Stores, K: Sink, L: Sink>(
     alloc: Global,
     words: &[&str],
@@ -86,6 +87,7 @@ pub fn perform<S: Source, F: Files, W: Stores, K: Sink, L: Sink>(
         (written (K.taken output.old) (K.taken output.new) (W.held store.old) (W.held store.new))
         (fault_sink (L.taken faults.old) (L.taken faults.new)
         (L.failures faults.old) (L.failures faults.new)) result }
+    ensures drafts { LeavesNoDraft (W.has_draft store.old) (W.has_draft store.new) }
     ensures counted { IsCounted result
         (S.failures stdin.old + F.failures first.old + F.failures second.old
         + W.failures store.old + K.failures output.old)

@@ -1,5 +1,5 @@
 //! Files that are written anew by their names.
-ghost use Rattle.std.specs.Prelude.{◌≡◌, ℕ, ◌+◌, ◌-◌, ◌^◌, ◌<◌, ◌↔◌, ◌≢◌, [], Some, List, Option, IfOk, IsErr, OnOk, OnErr, Err};
+ghost use Rattle.std.specs.Prelude.{◌≡◌, ℕ, ◌+◌, ◌-◌, ◌^◌, ◌<◌, ◌↔◌, ◌≢◌, [], Some, List, Option, Bool, false, IfOk, IsErr, OnOk, OnErr, Err};
 ghost use Rattle.cif_file.specs.SourceRead.{Held};
 ghost use Rattle.docker_program.specs.Devices.{IsEither, LeavesOtherFiles};
 
@@ -30,6 +30,9 @@ pub trait Stores {
     // The name of the file that a draft was made for.
     ghost target: { Self → Option (List ℕ) };
 
+    // Whether there is a draft that was neither put in the place of its file nor taken back.
+    ghost has_draft: { Self → Bool };
+
     // How often it has failed so far, together with the drafts that it took back.
     ghost failures: { Self → ℕ };
 
@@ -46,12 +49,14 @@ pub trait Stores {
         ensures empty { IfOk result (λ draft. Held (Self.Draft.taken draft) []) }
         ensures sound { IfOk result (λ draft. Self.Draft.failures draft ≡ 0) }
         ensures kept { held self.new ≡ held self.old }
+        ensures no_draft { OnErr result (has_draft self.new ≡ has_draft self.old) }
         ensures counted { (result ≡ Err OpenFault.Failed)
             ↔ (failures self.new ≡ failures self.old + 1) }
         ensures no_failure { result ≢ Err OpenFault.Failed
             → failures self.new ≡ failures self.old };
 
-    /// Puts a draft in the place of its file, which then holds what the draft took. Where that fails, the file holds that too, or what it held before.
+    /// Puts a draft in the place of its file, which then holds what the draft took. Where that fails, the file holds that too, or what it held before, and
+    /// the draft is taken back.
     fn complete(&mut self, draft: Self::Draft) -> Result<(), Failed>
         requires { failures self.old + Self.Draft.failures draft < 2 ^ 64 - 1 }
         ensures held { OnOk result ((name : List ℕ) → target self.old ≡ Some name
@@ -60,6 +65,7 @@ pub trait Stores {
             → IsEither (held self.old name) (Self.Draft.taken draft) (held self.new name)) }
         ensures others { (name : List ℕ) → target self.old ≡ Some name
             → LeavesOtherFiles name (held self.old) (held self.new) }
+        ensures no_draft { has_draft self.new ≡ false }
         ensures no_failure { OnOk result
             (failures self.new ≡ failures self.old + Self.Draft.failures draft) }
         ensures counted { OnErr result
@@ -69,6 +75,7 @@ pub trait Stores {
     fn discard(&mut self, draft: Self::Draft)
         requires { failures self.old + Self.Draft.failures draft < 2 ^ 64 }
         ensures kept { held self.new ≡ held self.old }
+        ensures no_draft { has_draft self.new ≡ false }
         ensures counted { failures self.new ≡ failures self.old + Self.Draft.failures draft };
 
     /// How often it has failed so far.
