@@ -6,6 +6,9 @@ use Rattle.docker_program.specs.Names.{stored_by}
 use Rattle.docker_program.proofs.ProgramLemmas.{ends_done, ends_unread, ends_unwritten}
 use Rattle.docker_program.proofs.program.do_job.Goals as goal
 
+pub read_sources-requires-clause-looked : goal.read_sources-requires-clause-looked
+read_sources-requires-clause-looked g c = c.look_at_stored-looked.ensures
+
 pub returns-in_err-prepared-clause-ends : goal.returns-in_err-prepared-clause-ends
 returns-in_err-prepared-clause-ends g c =
     let same = err_from_is_err_and c.from_residual-in_err-prepared.result c.from_residual-in_err-prepared.ensures.1 in
