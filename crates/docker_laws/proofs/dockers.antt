@@ -20,3 +20,4 @@ pub mod LapsedChoice
 pub mod LapsedDocker
 pub mod StateChoice
 pub mod PrintedDocker
+pub mod ExcerptDocker

@@ -11,3 +11,5 @@ pub mod LiveRows
 pub mod Best
 pub mod ChoiceWalk
 pub mod Gathering
+pub mod Excerpt
+pub mod ExcerptWalk

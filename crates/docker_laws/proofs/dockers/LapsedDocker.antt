@@ -20,7 +20,7 @@ use Rattle.docker_laws.proofs.dockers.LapsedChoice.{train_iff, association_iff}
 use Rattle.docker_laws.proofs.dockers.FewMidnights.{HasFewMidnights, starts_near}
 
 -- a docker text whose heading has this description
-abbrev text_with : List ℕ → ℕ → List DockerLine → List ℕ → List ℕ
+abbrev pub text_with : List ℕ → ℕ → List DockerLine → List ℕ → List ℕ
 text_with place day lines description =
     ended (codes "DOCKER " ++ place ++ spaces 1 ++ day_text day ++ spaces 1 ++ description ++ spaces 4) ++ flat_map
     (λ line. ended (line_text line)) lines ++ ended last_line

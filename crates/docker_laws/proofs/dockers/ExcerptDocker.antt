@@ -1,0 +1,203 @@
+-- A table has one docker for a place with each excerpt of it for that place.
+use Rattle.std.proofs.Common.{◌≡◌, ℕ, List, subst, inl, inr, ◌⊎◌, refl, ap, sym, ◌∙◌, Some, None}
+use Rattle.std.specs.Prelude.{Option, ◌↔◌}
+use Rattle.docker_model.specs.records.Record.{column}
+use Rattle.docker_model.specs.file.Journey.{CallsAt}
+use Rattle.docker_model.specs.file.Change.{Key, tiploc_key, schedule_key, association_key, ScheduleKey, AssociationKey, Body, schedule_body, association_body}
+use Rattle.docker_model.specs.state.Table.{Table}
+use Rattle.docker_model.specs.docker.Choice.{IsRunning, TrainRuns, Group, group_of, IsAssociated, IsChosenAssociation}
+use Rattle.docker_model.specs.docker.DockerLine.{DockerLine}
+use Rattle.docker_model.specs.docker.Association.{partner_start, IsIdentityOn, IsPartnerIdentity, IsAssociationLine}
+use Rattle.docker_model.specs.docker.DockerList.{IsEventLine, IsDockerList}
+use Rattle.docker_model.specs.docker.DockerText.{description_in, docker_text, IsDockerText}
+use Rattle.docker_model.specs.docker.Excerpt.{IsConcerned, IsNeeded, IsExcerpt}
+use Rattle.docker_laws.proofs.lists.BoolsAndOptions.{none_some}
+use Rattle.docker_laws.proofs.dockers.Events.{event_calls}
+use Rattle.docker_laws.proofs.dockers.OneDockerLine.{first_event_is}
+use Rattle.docker_laws.proofs.dockers.LapsedDocker.{text_with}
+
+-- ---- two tables with the same schedules of a UID
+
+abbrev HaveSameSchedules : Table → Table → List ℕ → Type 0
+HaveSameSchedules one other uid = (key : ScheduleKey) → key.uid ≡ uid → one (schedule_key key) ≡ other (schedule_key key)
+
+turned : (one other : Table) (uid : List ℕ) → HaveSameSchedules one other uid → HaveSameSchedules other one uid
+turned one other uid same key is = sym (same key is)
+
+running_over : (one other : Table) (uid : List ℕ) (day : ℕ) (key : ScheduleKey) (lines : List (List ℕ)) → HaveSameSchedules one other uid
+    → IsRunning one uid day key lines → IsRunning other uid day key lines
+running_over one other uid day key lines same is =
+    record { uid_is = is.uid_is; is_live = sym (same key is.uid_is) ∙ is.is_live; runs_then = is.runs_then }
+
+train_over : (one other : Table) (uid : List ℕ) (day : ℕ) (key : ScheduleKey) (lines : List (List ℕ)) → HaveSameSchedules one other uid
+    → TrainRuns one uid day key lines → TrainRuns other uid day key lines
+train_over one other uid day key lines same is = record {
+  chosen = record {
+    running = running_over one other uid day key lines same is.chosen.running;
+    first = λ another others runs. is.chosen.first another others (running_over other one uid day another others (turned one other uid same) runs);
+  };
+  no_cancellation = is.no_cancellation;
+}
+
+identity_over : (one other : Table) (uid identity : List ℕ) (day : ℕ) → HaveSameSchedules one other uid → IsIdentityOn one uid identity day
+    → IsIdentityOn other uid identity day
+identity_over one other uid identity day same (inl runs) = inl (runs.0, runs.1, train_over one other uid day runs.0 runs.1 same runs.2, runs.3)
+identity_over one other uid identity day same (inr none) =
+    inr (λ key lines runs. none.0 key lines (train_over other one uid day key lines (turned one other uid same) runs), none.1)
+
+partner_over : (one other : Table) (uid : List ℕ) (day : Option ℕ) (identity : List ℕ) → HaveSameSchedules one other uid
+    → IsPartnerIdentity one uid day identity → IsPartnerIdentity other uid day identity
+partner_over one other uid None identity same is = is
+partner_over one other uid (Some day) identity same is = identity_over one other uid identity day same is
+
+-- ---- and with the same associations of a group
+
+abbrev HaveSameAssociations : Table → Table → Group → Type 0
+HaveSameAssociations one other group = (key : AssociationKey) → group_of key ≡ group → one (association_key key) ≡ other (association_key key)
+
+associated_over : (one other : Table) (group : Group) (day : ℕ) (key : AssociationKey) (line : List ℕ) → HaveSameAssociations one other group
+    → IsAssociated one group day key line → IsAssociated other group day key line
+associated_over one other group day key line same is =
+    record { group_is = is.group_is; is_live = sym (same key is.group_is) ∙ is.is_live; runs_then = is.runs_then }
+
+association_over : (one other : Table) (group : Group) (day : ℕ) (key : AssociationKey) (line : List ℕ) → HaveSameAssociations one other group
+    → IsChosenAssociation one group day key line → IsChosenAssociation other group day key line
+association_over one other group day key line same is = record {
+  associated = associated_over one other group day key line same is.associated;
+  first = λ another others runs. is.first another others
+      (associated_over other one group day another others (λ link of. sym (same link of)) runs);
+}
+
+-- ---- lines of one table in another
+
+-- the other table has each schedule of a UID that calls at the place or that an association there names, and each association of a group there
+record Covers (one other : Table) (place : List ℕ) : Type 0 where
+  calls : (key : ScheduleKey) (lines : List (List ℕ)) → one (schedule_key key) ≡ Some (schedule_body lines) → CallsAt place lines
+      → HaveSameSchedules one other key.uid
+  names : (key : AssociationKey) (line : List ℕ) → one (association_key key) ≡ Some (association_body line) → key.location ≡ place
+      → HaveSameSchedules one other key.associated
+  links : (group : Group) → group.location ≡ place → HaveSameAssociations one other group
+
+event_line_over : (one other : Table) (place : List ℕ) (day : ℕ) → Covers one other place → (line : DockerLine) → IsEventLine one place day line
+    → IsEventLine other place day line
+event_line_over one other place day covers line is = record {
+  start = is.start;
+  key = is.key;
+  schedule = is.schedule;
+  train_runs = train_over one other is.key.uid is.start is.key is.schedule
+      (covers.calls is.key is.schedule is.train_runs.chosen.running.is_live (event_calls is.schedule is.event place is.among is.here)) is.train_runs;
+  event = is.event;
+  among = is.among;
+  here = is.here;
+  today = is.today;
+  is = is.is;
+}
+
+association_line_over : (one other : Table) (place : List ℕ) (day : ℕ) → Covers one other place → (line : DockerLine)
+    → IsAssociationLine one place day line → IsAssociationLine other place day line
+association_line_over one other place day covers line is =
+    let first = first_event_is is.base is.key.location is.key.suffix is.event is.first_there in
+    let calls = event_calls is.base is.event place first.0 (first.2 ∙ is.here) in
+    let of_base = covers.calls is.base_key is.base is.base_runs.chosen.running.is_live calls in
+    record {
+      start = is.start;
+      key = is.key;
+      association = is.association;
+      chosen = association_over one other (group_of is.key) is.start is.key is.association (covers.links (group_of is.key) is.here) is.chosen;
+      no_cancellation = is.no_cancellation;
+      occasion = is.occasion;
+      category = is.category;
+      date_indicator = is.date_indicator;
+      base_key = is.base_key;
+      base = is.base;
+      base_runs = train_over one other is.key.base is.start is.base_key is.base
+          (subst (HaveSameSchedules one other) is.base_runs.chosen.running.uid_is of_base) is.base_runs;
+      event = is.event;
+      first_there = is.first_there;
+      identity = is.identity;
+      partner = partner_over one other is.key.associated (partner_start (column 37 is.association) is.start) is.identity
+          (covers.names is.key is.association is.chosen.associated.is_live is.here) is.partner;
+      here = is.here;
+      today = is.today;
+      is = is.is;
+    }
+
+line_over : (one other : Table) (place : List ℕ) (day : ℕ) → Covers one other place → (line : DockerLine)
+    → IsEventLine one place day line ⊎ IsAssociationLine one place day line → IsEventLine other place day line ⊎ IsAssociationLine other place day line
+line_over one other place day covers line (inl event) = inl (event_line_over one other place day covers line event)
+line_over one other place day covers line (inr association) = inr (association_line_over one other place day covers line association)
+
+list_over : (one other : Table) (place : List ℕ) (day : ℕ) → Covers one other place → Covers other one place → (lines : List DockerLine)
+    → IsDockerList one place day lines → IsDockerList other place day lines
+list_over one other place day forth back lines is = record {
+  ascending = is.ascending;
+  members = λ line. (
+    λ among. line_over one other place day forth line ((is.members line).0 among),
+    λ told. (is.members line).1 (line_over other one place day back line told),
+  );
+}
+
+-- ---- a table and its excerpt
+
+module _ (place : List ℕ) (live part : Table) (is : IsExcerpt place live part) where
+  -- what is needed is the same in both
+  pub same_where_needed : (key : Key) → IsNeeded live place key → part key ≡ live key
+  same_where_needed key needed = by (is key)
+    where
+      by : (part key ≡ live key) ⊎ ((part key ≡ None) × ¬ IsNeeded live place key) → part key ≡ live key
+      by (inl same) = same
+      by (inr none) = absurd (none.1 needed)
+
+  -- what the excerpt has, the table has
+  pub was_there : (key : Key) (body : Body) → part key ≡ Some body → live key ≡ Some body
+  was_there key body there = by (is key)
+    where
+      by : (part key ≡ live key) ⊎ ((part key ≡ None) × ¬ IsNeeded live place key) → live key ≡ Some body
+      by (inl same) = sym same ∙ there
+      by (inr none) = none_some body (sym none.0 ∙ there)
+
+  same_of_uid : (uid : List ℕ) → IsConcerned live place uid → HaveSameSchedules live part uid
+  same_of_uid uid concerned key uid_is = sym (same_where_needed (schedule_key key) (subst (IsConcerned live place) (sym uid_is) concerned))
+
+  same_links : (group : Group) → group.location ≡ place → HaveSameAssociations live part group
+  same_links group here key group_is = sym (same_where_needed (association_key key) (ap (λ (g : Group). g.location) group_is ∙ here))
+
+  calls_concern : (key : ScheduleKey) (lines : List (List ℕ)) → live (schedule_key key) ≡ Some (schedule_body lines) → CallsAt place lines
+      → IsConcerned live place key.uid
+  calls_concern key lines is_live calls =
+      inl (record { key = key; lines = lines; uid_is = refl; calling = record { is_live = is_live; calls = calls } })
+
+  names_concern : (key : AssociationKey) (line : List ℕ) → live (association_key key) ≡ Some (association_body line) → key.location ≡ place
+      → IsConcerned live place key.associated
+  names_concern key line is_live here =
+      inr (record { key = key; line = line; associated_is = refl; linked = record { is_live = is_live; here = here } })
+
+  forth : Covers live part place
+  forth = record {
+    calls = λ key lines is_live calls. same_of_uid key.uid (calls_concern key lines is_live calls);
+    names = λ key line is_live here. same_of_uid key.associated (names_concern key line is_live here);
+    links = same_links;
+  }
+
+  back : Covers part live place
+  back = record {
+    calls = λ key lines is_live calls. turned live part key.uid
+        (same_of_uid key.uid (calls_concern key lines (was_there (schedule_key key) (schedule_body lines) is_live) calls));
+    names = λ key line is_live here. turned live part key.associated
+        (same_of_uid key.associated (names_concern key line (was_there (association_key key) (association_body line) is_live) here));
+    links = λ group here key of. sym (same_links group here key of);
+  }
+
+  -- they have one docker list at the place
+  pub excerpt_list_iff : (day : ℕ) (lines : List DockerLine) → IsDockerList live place day lines ↔ IsDockerList part place day lines
+  excerpt_list_iff day lines = (list_over live part place day forth back lines, list_over part live place day back forth lines)
+
+  text_same : (day : ℕ) (lines : List DockerLine) → docker_text part place day lines ≡ docker_text live place day lines
+  text_same day lines = ap (text_with place day lines) (ap description_in (same_where_needed (tiploc_key place) refl))
+
+  -- and one docker text
+  pub excerpt_text_iff : (day : ℕ) (text : List ℕ) → IsDockerText live place day text ↔ IsDockerText part place day text
+  excerpt_text_iff day text = (
+    λ told. (told.0, (excerpt_list_iff day told.0).0 told.1, told.2 ∙ sym (text_same day told.0)),
+    λ told. (told.0, (excerpt_list_iff day told.0).1 told.1, told.2 ∙ text_same day told.0),
+  )
