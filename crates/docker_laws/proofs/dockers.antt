@@ -21,3 +21,5 @@ pub mod LapsedDocker
 pub mod StateChoice
 pub mod PrintedDocker
 pub mod ExcerptDocker
+pub mod ExcerptState
+pub mod ExcerptWalk

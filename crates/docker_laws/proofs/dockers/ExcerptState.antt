@@ -1,0 +1,168 @@
+-- An excerpt of a valid state for a place is valid, and refuses and prints the same there. What has all that is needed at the place is one.
+use Rattle.std.proofs.Common.{◌≡◌, ℕ, List, [], ◌∷◌, All, subst, inl, inr, ◌⊎◌, refl, ap, sym, ◌∙◌, Bool, true, false, cond, Some, None}
+use Rattle.std.specs.Prelude.{Option, ◌↔◌, ◌&&◌, ◌||◌, filter, find, option_and_then}
+use Rattle.std.specs.List.{list_any}
+use Rattle.std.specs.Str.{bytes_eq}
+use Rattle.std.specs.declared.cmp.Ordering.{Ordering}
+use Rattle.std.specs.Ordering.{is_eq, on}
+use Rattle.std.proofs.lemmas.Slice.Eq.{bytes_eq-Decides}
+use Rattle.docker_model.specs.records.Date.{IsDay}
+use Rattle.docker_model.specs.file.Change.{Key, tiploc_key, association_key, schedule_key, association_body, schedule_body}
+use Rattle.docker_model.specs.state.Order.{IsBelow}
+use Rattle.docker_model.specs.state.Op.{Entry, body_of, key_cmp}
+use Rattle.docker_model.specs.state.Lapse.{HasNotToLapse, IsDayRefused}
+use Rattle.docker_model.specs.state.State.{State, IsValid, IsLedger, IsGoodEntry, AreEntries, AreAscending, HaveLapsed, live_table}
+use Rattle.docker_model.specs.docker.Excerpt.{HasCall, IsNamed, IsNeeded, IsExcerptState}
+use Rattle.docker_model.specs.docker.ExcerptWalk.{is_here, has_uid, name_in, is_call}
+use Rattle.docker_laws.proofs.orders.Orders.{same_key}
+use Rattle.docker_laws.proofs.orders.Ascending.{later_of, ascending_of}
+use Rattle.docker_laws.proofs.lists.Sublists.{sublist_all, sublist_later, sublist_filter}
+use Rattle.docker_laws.proofs.lists.BoolsAndOptions.{and_true}
+use Rattle.docker_laws.proofs.lists.FilteredMembers.{find_some, filter_back}
+use Rattle.docker_laws.proofs.states.PlainTable.{Keyed, live_none}
+use Rattle.docker_laws.proofs.dockers.GoodBodies.{live_entry}
+use Rattle.docker_laws.proofs.indexes.CallsTest.{any_forth, calls_test}
+
+-- ---- of an excerpt
+
+-- an excerpt of a valid state is valid
+pub excerpt_valid : (place : List ℕ) (state part : State) → IsValid state → IsExcerptState place state part → IsValid part
+excerpt_valid place state part valid is = record {
+  horizon = subst IsDay (sym is.horizon) valid.horizon;
+  ledger = subst IsLedger (sym is.ledger) valid.ledger;
+  entries = subst (λ ledger. AreEntries ledger part.entries) (sym is.ledger) (good, ascending);
+  have_lapsed = subst (λ horizon. HaveLapsed horizon part.entries) (sym is.horizon)
+      (sublist_all (λ (entry : Keyed). HasNotToLapse state.horizon entry.1.op) part.entries state.entries is.entries valid.have_lapsed);
+}
+  where
+    good : All (IsGoodEntry state.ledger) part.entries
+    good = sublist_all (IsGoodEntry state.ledger) part.entries state.entries is.entries valid.entries.0
+
+    by_key : Keyed → Keyed → Ordering
+    by_key = on (λ (entry : Keyed). entry.0) key_cmp
+
+    ascending : AreAscending part.entries
+    ascending =
+        ascending_of by_key part.entries
+        (sublist_later (IsBelow by_key) part.entries state.entries is.entries (later_of by_key state.entries valid.entries.1))
+
+-- it refuses the same days
+pub excerpt_refuses : (place : List ℕ) (state part : State) (day : ℕ) → IsExcerptState place state part
+    → IsDayRefused state.horizon day ↔ IsDayRefused part.horizon day
+excerpt_refuses place state part day is =
+    (subst (λ horizon. IsDayRefused horizon day) (sym is.horizon), subst (λ horizon. IsDayRefused horizon day) is.horizon)
+
+-- ---- of the entries whose keys pass a test
+
+module _ (test : Key → Bool) where
+  -- a key that passes is found as before
+  find_kept : (key : Key) → test key ≡ true → (xs : List Keyed) → find (λ entry. is_eq (key_cmp entry.0 key)) (filter (λ entry. test entry.0) xs)
+      ≡ find (λ entry. is_eq (key_cmp entry.0 key)) xs
+  find_kept key passes [] = refl
+  find_kept key passes (x ∷ xs) = by (test x.0) (is_eq (key_cmp x.0 key)) refl refl (find_kept key passes xs)
+    where
+      by : (b c : Bool) → test x.0 ≡ b → is_eq (key_cmp x.0 key) ≡ c
+          → find (λ (entry : Keyed). is_eq (key_cmp entry.0 key)) (filter (λ (entry : Keyed). test entry.0) xs)
+          ≡ find (λ (entry : Keyed). is_eq (key_cmp entry.0 key)) xs
+          → find (λ (entry : Keyed). is_eq (key_cmp entry.0 key))
+          (cond b (x ∷ filter (λ (entry : Keyed). test entry.0) xs) (filter (λ (entry : Keyed). test entry.0) xs))
+          ≡ cond c (Some x) (find (λ (entry : Keyed). is_eq (key_cmp entry.0 key)) xs)
+      by true c h g rest = λ i. cond (g i) (Some x) (rest i)
+      by false true h g rest = absurd (let bad : false ≡ true = sym h ∙ ap test (same_key x.0 key g) ∙ passes in cc)
+      by false false h g rest = rest
+
+  -- one that does not is not found
+  find_dropped : (key : Key) → test key ≡ false → (xs : List Keyed)
+      → find (λ entry. is_eq (key_cmp entry.0 key)) (filter (λ entry. test entry.0) xs) ≡ None
+  find_dropped key fails xs = by (find (λ entry. is_eq (key_cmp entry.0 key)) (filter (λ entry. test entry.0) xs)) refl
+    where
+      by : (found : Option Keyed) → find (λ (entry : Keyed). is_eq (key_cmp entry.0 key)) (filter (λ (entry : Keyed). test entry.0) xs) ≡ found
+          → found ≡ None
+      by None h = refl
+      by (Some pair) h =
+          let told = find_some (λ (entry : Keyed). is_eq (key_cmp entry.0 key)) (filter (λ (entry : Keyed). test entry.0) xs) pair h in
+          let passed = filter_back (λ (entry : Keyed). test entry.0) xs pair told.0 in
+          absurd (let bad : false ≡ true = sym fails ∙ sym (ap test (same_key pair.0 key told.1)) ∙ passed.1 in cc)
+
+  -- the state with these entries alone
+  abbrev pub with_passing : State → State
+  with_passing state = record { horizon = state.horizon; ledger = state.ledger; entries = filter (λ (entry : Keyed). test entry.0) state.entries }
+
+  pub live_kept : (state : State) (key : Key) → test key ≡ true → live_table (with_passing state) key ≡ live_table state key
+  live_kept state key passes =
+      ap (λ (found : Option Keyed).
+      option_and_then (λ (entry : Entry). body_of entry.op) (option_and_then (λ (pair : Keyed). Some pair.1) found)) (find_kept key passes state.entries)
+
+  pub live_dropped : (state : State) (key : Key) → test key ≡ false → live_table (with_passing state) key ≡ None
+  live_dropped state key fails = live_none (with_passing state) key (find_dropped key fails state.entries)
+
+-- ---- what is needed, as a test of entries
+
+-- the entry is of a live schedule of the UID that calls at the place
+abbrev pub calls_as : List ℕ → List ℕ → Keyed → Bool
+calls_as place uid entry = has_uid uid entry.0 && is_call place entry.1.op
+
+abbrev pub is_name : List ℕ → Option (List ℕ) → Bool
+is_name uid None = false
+is_name uid (Some name) = bytes_eq name uid
+
+-- the entry is of a live association at the place that names the UID
+abbrev pub names_as : List ℕ → List ℕ → Keyed → Bool
+names_as place uid entry = is_here place entry.0 && is_name uid (name_in entry.0 entry.1.op)
+
+-- the UID is concerned, as the entries tell
+abbrev pub is_concerned : List ℕ → List Keyed → List ℕ → Bool
+is_concerned place entries uid = list_any (names_as place uid) entries || list_any (calls_as place uid) entries
+
+-- the key is needed, as the entries tell
+abbrev pub is_needed : List ℕ → List Keyed → Key → Bool
+is_needed place entries (tiploc_key code) = bytes_eq code place
+is_needed place entries (association_key key) = bytes_eq key.location place
+is_needed place entries (schedule_key key) = is_concerned place entries key.uid
+
+or_right : (a b : Bool) → b ≡ true → (a || b) ≡ true
+or_right true b h = refl
+or_right false b h = h
+
+or_left : (a b : Bool) → a ≡ true → (a || b) ≡ true
+or_left true b h = refl
+or_left false b h = absurd (let bad : false ≡ true = h in cc)
+
+-- a key that is needed passes
+pub needed_passes : (place : List ℕ) (state : State) (key : Key) → IsNeeded (live_table state) place key → is_needed place state.entries key ≡ true
+needed_passes place state (tiploc_key code) here = (bytes_eq-Decides code place).1 here
+needed_passes place state (association_key key) here = (bytes_eq-Decides key.location place).1 here
+needed_passes place state (schedule_key key) concerned = by concerned
+  where
+    by : HasCall (live_table state) place key.uid ⊎ IsNamed (live_table state) place key.uid → is_concerned place state.entries key.uid ≡ true
+    by (inl call) =
+        let found = live_entry state (schedule_key call.key) (schedule_body call.lines) call.calling.is_live in
+        let calls : is_call place found.0.op ≡ true = ap (is_call place) found.2 ∙ (calls_test place call.lines).1 call.calling.calls in
+        let passes = and_true (bytes_eq call.key.uid key.uid) (is_call place found.0.op) ((bytes_eq-Decides call.key.uid key.uid).1 call.uid_is) calls in
+        or_right (list_any (names_as place key.uid) state.entries) (list_any (calls_as place key.uid) state.entries)
+        (any_forth (calls_as place key.uid) state.entries (schedule_key call.key, found.0) found.1 passes)
+    by (inr named) =
+        let found = live_entry state (association_key named.key) (association_body named.line) named.linked.is_live in
+        let names : is_name key.uid (name_in (association_key named.key) found.0.op) ≡ true =
+        ap (λ op. is_name key.uid (name_in (association_key named.key) op)) found.2 ∙ (bytes_eq-Decides named.key.associated key.uid).1 named.associated_is in
+        let passes =
+        and_true (bytes_eq named.key.location place) (is_name key.uid (name_in (association_key named.key) found.0.op))
+        ((bytes_eq-Decides named.key.location place).1 named.linked.here) names in
+        or_left (list_any (names_as place key.uid) state.entries) (list_any (calls_as place key.uid) state.entries)
+        (any_forth (names_as place key.uid) state.entries (association_key named.key, found.0) found.1 passes)
+
+-- the entries whose keys pass are an excerpt
+pub passing_is_excerpt : (place : List ℕ) (state : State) → IsExcerptState place state (with_passing (is_needed place state.entries) state)
+passing_is_excerpt place state = record {
+  horizon = refl;
+  ledger = refl;
+  entries = sublist_filter (λ (entry : Keyed). is_needed place state.entries entry.0) state.entries;
+  live = λ key. by key (is_needed place state.entries key) refl;
+}
+  where
+    by : (key : Key) (b : Bool) → is_needed place state.entries key ≡ b
+        → (live_table (with_passing (is_needed place state.entries) state) key ≡ live_table state key)
+        ⊎ ((live_table (with_passing (is_needed place state.entries) state) key ≡ None) × ¬ IsNeeded (live_table state) place key)
+    by key true h = inl (live_kept (is_needed place state.entries) state key h)
+    by key false h =
+        inr (live_dropped (is_needed place state.entries) state key h, λ needed. (let bad : false ≡ true = sym h ∙ needed_passes place state key needed in cc))

@@ -1,0 +1,475 @@
+-- A walk over entries in key order keeps those whose keys are needed, as the entries tell, and no others.
+use Rattle.std.proofs.Common.{◌≡◌, ℕ, List, [], ◌∷◌, ◌++◌, subst, inl, inr, ◌⊎◌, refl, ap, sym, ◌∙◌, Bool, true, false, cond, Some, None, Contains, append-nil, append_assoc}
+use Rattle.std.specs.Prelude.{Option, ◌||◌, filter}
+use Rattle.std.specs.List.{list_any}
+use Rattle.std.specs.declared.cmp.Ordering.{Ordering}
+use Rattle.std.specs.declared.cmp.Ordering.TheVariants.{Less, Equal, Greater}
+use Rattle.std.specs.Ordering.{ordering_then, nat_cmp, on}
+use Rattle.std.specs.Cmp.Lexicographic.{nat_list_cmp_total}
+use Rattle.std.proofs.lemmas.Map.Lookups.{exact_bytes}
+use Rattle.std.proofs.lemmas.Slice.Eq.{bytes_eq-Decides}
+use Rattle.std.proofs.lemmas.List.Elements.{filter-append, Contains-append_cases, Contains-append_left, Contains-append_right}
+use Rattle.docker_model.specs.file.Change.{Key, tiploc_key, association_key, schedule_key, AssociationKey, ScheduleKey}
+use Rattle.docker_model.specs.state.Order.{bytes_cmp, IsBelow, IsAtMost}
+use Rattle.docker_model.specs.state.Op.{Op, Entry, key_cmp, schedule_key_cmp}
+use Rattle.docker_model.specs.state.State.{State, AreAscending}
+use Rattle.docker_model.specs.docker.Excerpt.{IsExcerptState}
+use Rattle.docker_model.specs.docker.ExcerptWalk.{ExcerptSoFar, nothing_kept, is_here, has_uid, name_in, names_in, is_call, is_run_calling, is_run_needed, kept_after_run, goes_on, with_entry_of, next_kept, kept_from, kept_so_far, excerpt_for}
+use Rattle.docker_laws.proofs.orders.Ascending.{later_of}
+use Rattle.docker_laws.proofs.orders.AtMost.{level}
+use Rattle.docker_laws.proofs.lists.Later.{AllLater}
+use Rattle.docker_laws.proofs.lists.Membership.{Contains-cons, cons-Contains, cons-Contains-first, nil-Contains, Contains-single, below_by_recursion}
+use Rattle.docker_laws.proofs.lists.BoolsAndOptions.{both, and_true}
+use Rattle.docker_laws.proofs.lists.FilteredMembers.{filter_back, filter_forth, part_back, part_forth}
+use Rattle.docker_laws.proofs.states.PlainTable.{Keyed}
+use Rattle.docker_laws.proofs.dockers.ExcerptState.{calls_as, names_as, is_name, is_concerned, is_needed, passing_is_excerpt}
+use Rattle.docker_laws.proofs.indexes.CallsTest.{any_back, any_forth}
+
+-- ---- keys of one UID
+
+false_true : {A : Type 0} → false ≡ true → A
+false_true h = absurd (let bad : false ≡ true = h in cc)
+
+-- a key has one UID
+uid_once : (one other : List ℕ) (key : Key) → has_uid one key ≡ true → has_uid other key ≡ true → one ≡ other
+uid_once one other (schedule_key key) h g = sym ((bytes_eq-Decides key.uid one).0 h) ∙ (bytes_eq-Decides key.uid other).0 g
+uid_once one other (tiploc_key code) h g = false_true h
+uid_once one other (association_key key) h g = false_true h
+
+-- what stands behind a schedule's key is a schedule's
+above_uid : (a b : Key) (uid : List ℕ) → key_cmp a b ≡ Less → has_uid uid a ≡ true → (other : List ℕ) × (has_uid other b ≡ true)
+above_uid (schedule_key a) (schedule_key b) uid below h = (b.uid, (bytes_eq-Decides b.uid b.uid).1 refl)
+above_uid (schedule_key a) (tiploc_key b) uid below h = absurd (let bad : Greater ≡ Less = below in cc)
+above_uid (schedule_key a) (association_key b) uid below h = absurd (let bad : Greater ≡ Less = below in cc)
+above_uid (tiploc_key a) b uid below h = false_true h
+above_uid (association_key a) b uid below h = false_true h
+
+-- a key of a place is no schedule's
+here_no_uid : (place uid : List ℕ) (key : Key) → is_here place key ≡ true → has_uid uid key ≡ true → ⊥
+here_no_uid place uid (schedule_key key) h g = false_true h
+here_no_uid place uid (tiploc_key code) h g = false_true g
+here_no_uid place uid (association_key key) h g = false_true g
+
+first_decides : (a b : Ordering) → ordering_then a b ≡ Less → ¬ (a ≡ Greater)
+first_decides Less b less greater = cc
+first_decides Equal b less greater = cc
+first_decides Greater b less greater = let bad : Greater ≡ Less = less in cc
+
+-- the schedules of one UID stand one behind the other
+uid_between : (a b c : ScheduleKey) → schedule_key_cmp a b ≡ Less → schedule_key_cmp b c ≡ Less → a.uid ≡ c.uid → b.uid ≡ a.uid
+uid_between a b c up further same =
+    let low = first_decides (bytes_cmp a.uid b.uid) (ordering_then (nat_cmp a.runs_from b.runs_from) (nat_cmp a.indicator b.indicator)) up in
+    let high = first_decides (bytes_cmp b.uid c.uid) (ordering_then (nat_cmp b.runs_from c.runs_from) (nat_cmp b.indicator c.indicator)) further in
+    sym (exact_bytes a.uid b.uid (level nat_list_cmp_total a.uid b.uid low (subst (λ uid. IsAtMost bytes_cmp b.uid uid) (sym same) high)))
+
+between_uid : (a b c : Key) (uid : List ℕ) → key_cmp a b ≡ Less → key_cmp b c ≡ Less → has_uid uid a ≡ true → has_uid uid c ≡ true → has_uid uid b ≡ true
+between_uid (schedule_key a) (schedule_key b) (schedule_key c) uid up further h g =
+    let first = (bytes_eq-Decides a.uid uid).0 h in
+    let last = (bytes_eq-Decides c.uid uid).0 g in
+    (bytes_eq-Decides b.uid uid).1 (uid_between a b c up further (first ∙ sym last) ∙ first)
+between_uid (schedule_key a) (schedule_key b) (tiploc_key c) uid up further h g = false_true g
+between_uid (schedule_key a) (schedule_key b) (association_key c) uid up further h g = false_true g
+between_uid (schedule_key a) (tiploc_key b) c uid up further h g = absurd (let bad : Greater ≡ Less = up in cc)
+between_uid (schedule_key a) (association_key b) c uid up further h g = absurd (let bad : Greater ≡ Less = up in cc)
+between_uid (tiploc_key a) b c uid up further h g = false_true h
+between_uid (association_key a) b c uid up further h g = false_true h
+
+-- ---- lists
+
+abbrev Below : Keyed → Keyed → Type 0
+Below a b = IsBelow (on (λ (entry : Keyed). entry.0) key_cmp) a b
+
+later_across : (xs ys : List Keyed) (x y : Keyed) → AllLater Below (xs ++ ys) → Contains xs x → Contains ys y → Below x y
+later_across [] ys x y later in_x in_y = absurd (nil-Contains x in_x)
+later_across (z ∷ xs) ys x y later in_x in_y = by (λ inside. later_across xs ys x y later.1 inside in_y) (Contains-cons z xs x in_x)
+  where
+    by : (Contains xs x → Below x y) → (z ≡ x) ⊎ Contains xs x → Below x y
+    by rest (inl same) = subst (λ v. Below v y) same (below_by_recursion (Below z) (xs ++ ys) y later.0 (Contains-append_right xs ys y in_y))
+    by rest (inr inside) = rest inside
+
+later_right : (xs ys : List Keyed) → AllLater Below (xs ++ ys) → AllLater Below ys
+later_right [] ys later = later
+later_right (x ∷ xs) ys later = later_right xs ys later.1
+
+filter_alike : (test : Keyed → Bool) (b : Bool) (xs : List Keyed) → ((x : Keyed) → Contains xs x → test x ≡ b) → filter test xs ≡ cond b xs []
+filter_alike test true [] each = refl
+filter_alike test false [] each = refl
+filter_alike test true (x ∷ xs) each =
+    let rest = filter_alike test true xs (λ y among. each y (cons-Contains x xs y among)) in
+    λ i. cond (each x (cons-Contains-first x xs) i) (x ∷ rest i) (rest i)
+filter_alike test false (x ∷ xs) each =
+    let rest = filter_alike test false xs (λ y among. each y (cons-Contains x xs y among)) in
+    λ i. cond (each x (cons-Contains-first x xs) i) (x ∷ rest i) (rest i)
+
+with_alike : (b : Bool) (xs ys : List Keyed) → cond b (xs ++ ys) xs ≡ xs ++ cond b ys []
+with_alike true xs ys = refl
+with_alike false xs ys = sym (append-nil xs)
+
+same_tests : (a b : Bool) → (a ≡ true → b ≡ true) → (b ≡ true → a ≡ true) → a ≡ b
+same_tests true b to back = sym (to refl)
+same_tests false true to back = back refl
+same_tests false false to back = refl
+
+-- ---- where a walk is
+
+-- the walk has come behind the entries done and its run, and these are still to come: what is kept is what is needed of those done, the run is of one UID, and
+-- none of those done is of a UID of the others
+record IsAt (place : List ℕ) (all done : List Keyed) (so_far : ExcerptSoFar) (rest : List Keyed) : Type 0 where
+  whole : all ≡ (done ++ so_far.run) ++ rest
+  kept : so_far.kept ≡ filter (λ (entry : Keyed). is_needed place all entry.0) done
+  uid : List ℕ
+  of_uid : (r : Keyed) → Contains so_far.run r → has_uid uid r.0 ≡ true
+  apart : (z y : Keyed) (other : List ℕ) → Contains done z → Contains (so_far.run ++ rest) y → has_uid other z.0 ≡ true → has_uid other y.0 ≡ true → ⊥
+
+-- none of the run is of a UID of those to come
+abbrev IsEnded : List Keyed → List Keyed → Type 0
+IsEnded run rest = (r y : Keyed) (other : List ℕ) → Contains run r → Contains rest y → has_uid other r.0 ≡ true → has_uid other y.0 ≡ true → ⊥
+
+name_of : (uid : List ℕ) (found : Option (List ℕ)) → is_name uid found ≡ true → (name : List ℕ) × (found ≡ Some name) × (name ≡ uid)
+name_of uid None h = false_true h
+name_of uid (Some name) h = (name, refl, (bytes_eq-Decides name uid).0 h)
+
+module _ (place : List ℕ) (all : List Keyed) (order : AllLater Below all) where
+  passes : Keyed → Bool
+  passes entry = is_needed place all entry.0
+
+  needed_here : (key : Key) → is_here place key ≡ true → is_needed place all key ≡ true
+  needed_here (schedule_key key) h = false_true h
+  needed_here (tiploc_key code) h = h
+  needed_here (association_key key) h = h
+
+  here_of_name : (key : Key) (op : Op) (name : List ℕ) → name_in key op ≡ Some name → is_needed place all key ≡ true → is_here place key ≡ true
+  here_of_name (association_key key) op name is needed = needed
+  here_of_name (tiploc_key code) op name is needed = needed
+  here_of_name (schedule_key key) op name is needed = absurd (let bad : None ≡ Some name = is in cc)
+
+  needed_of_uid : (uid : List ℕ) (key : Key) → has_uid uid key ≡ true → is_needed place all key ≡ is_concerned place all uid
+  needed_of_uid uid (schedule_key key) h = ap (is_concerned place all) ((bytes_eq-Decides key.uid uid).0 h)
+  needed_of_uid uid (tiploc_key code) h = false_true h
+  needed_of_uid uid (association_key key) h = false_true h
+
+  -- ---- the run's end
+  module _ (done kept : List Keyed) (first : Keyed) (others rest : List Keyed)
+      (at : IsAt place all done (record { kept = kept; run = first ∷ others }) rest) (ended : IsEnded (first ∷ others) rest) where
+    of_first : has_uid at.uid first.0 ≡ true
+    of_first = at.of_uid first (cons-Contains-first first others)
+
+    -- an entry is one of those done, of the run or of those to come
+    place_of : (x : Keyed) → Contains all x → Contains done x ⊎ (Contains (first ∷ others) x ⊎ Contains rest x)
+    place_of x among = outer (Contains-append_cases (done ++ first ∷ others) rest x (subst (λ xs. Contains xs x) at.whole among))
+      where
+        inner : Contains done x ⊎ Contains (first ∷ others) x → Contains done x ⊎ (Contains (first ∷ others) x ⊎ Contains rest x)
+        inner (inl here) = inl here
+        inner (inr here) = inr (inl here)
+
+        outer : Contains (done ++ first ∷ others) x ⊎ Contains rest x → Contains done x ⊎ (Contains (first ∷ others) x ⊎ Contains rest x)
+        outer (inl here) = inner (Contains-append_cases done (first ∷ others) x here)
+        outer (inr here) = inr (inr here)
+
+    done_in : (x : Keyed) → Contains done x → Contains all x
+    done_in x among =
+        subst (λ xs. Contains xs x) (sym at.whole)
+        (Contains-append_left (done ++ first ∷ others) rest x (Contains-append_left done (first ∷ others) x among))
+
+    run_in : (x : Keyed) → Contains (first ∷ others) x → Contains all x
+    run_in x among =
+        subst (λ xs. Contains xs x) (sym at.whole)
+        (Contains-append_left (done ++ first ∷ others) rest x (Contains-append_right done (first ∷ others) x among))
+
+    named_forth : list_any (λ name. has_uid name first.0) (names_in kept) ≡ true → list_any (names_as place at.uid) all ≡ true
+    named_forth h =
+        let found = any_back (λ name. has_uid name first.0) (names_in kept) h in
+        let same : found.0 ≡ at.uid = uid_once found.0 at.uid first.0 found.2 of_first in
+        let by_entry = part_back (λ (entry : Keyed). name_in entry.0 entry.1.op) kept found.0 found.1 in
+        let x = by_entry.0 in
+        let told = filter_back (λ (entry : Keyed). is_needed place all entry.0) done x (subst (λ xs. Contains xs x) at.kept by_entry.1) in
+        let names : is_name at.uid (name_in x.0 x.1.op) ≡ true = ap (is_name at.uid) by_entry.2 ∙ (bytes_eq-Decides found.0 at.uid).1 same in
+        any_forth (names_as place at.uid) all x (done_in x told.0)
+        (and_true (is_here place x.0) (is_name at.uid (name_in x.0 x.1.op)) (here_of_name x.0 x.1.op found.0 by_entry.2 told.1) names)
+
+    named_back : list_any (names_as place at.uid) all ≡ true → list_any (λ name. has_uid name first.0) (names_in kept) ≡ true
+    named_back h = by (place_of x found.1)
+      where
+        found : (x : Keyed) × Contains all x × (names_as place at.uid x ≡ true)
+        found = any_back (names_as place at.uid) all h
+
+        x : Keyed
+        x = found.0
+
+        parts : (is_here place x.0 ≡ true) × (is_name at.uid (name_in x.0 x.1.op) ≡ true)
+        parts = both (is_here place x.0) (is_name at.uid (name_in x.0 x.1.op)) found.2
+
+        by : Contains done x ⊎ (Contains (first ∷ others) x ⊎ Contains rest x) → list_any (λ name. has_uid name first.0) (names_in kept) ≡ true
+        by (inl here) =
+            let name = name_of at.uid (name_in x.0 x.1.op) parts.1 in
+            let keeps : Contains kept x =
+            subst (λ xs. Contains xs x) (sym at.kept)
+            (filter_forth (λ (entry : Keyed). is_needed place all entry.0) done x here (needed_here x.0 parts.0)) in
+            any_forth (λ other. has_uid other first.0) (names_in kept) name.0
+            (part_forth (λ (entry : Keyed). name_in entry.0 entry.1.op) kept x name.0 keeps name.1)
+            (subst (λ other. has_uid other first.0 ≡ true) (sym name.2) of_first)
+        by (inr (inl here)) = absurd (here_no_uid place at.uid x.0 parts.0 (at.of_uid x here))
+        by (inr (inr there)) =
+            let up = later_across (done ++ first ∷ others) rest first x (subst (AllLater Below) at.whole order)
+            (Contains-append_right done (first ∷ others) first (cons-Contains-first first others)) there in
+            let is = above_uid first.0 x.0 at.uid up of_first in
+            absurd (here_no_uid place is.0 x.0 parts.0 is.1)
+
+    calls_forth : is_run_calling place (first ∷ others) ≡ true → list_any (calls_as place at.uid) all ≡ true
+    calls_forth h =
+        let found = any_back (λ (entry : Keyed). is_call place entry.1.op) (first ∷ others) h in
+        any_forth (calls_as place at.uid) all found.0 (run_in found.0 found.1)
+        (and_true (has_uid at.uid found.0.0) (is_call place found.0.1.op) (at.of_uid found.0 found.1) found.2)
+
+    calls_back : list_any (calls_as place at.uid) all ≡ true → is_run_calling place (first ∷ others) ≡ true
+    calls_back h = by (place_of x found.1)
+      where
+        found : (x : Keyed) × Contains all x × (calls_as place at.uid x ≡ true)
+        found = any_back (calls_as place at.uid) all h
+
+        x : Keyed
+        x = found.0
+
+        parts : (has_uid at.uid x.0 ≡ true) × (is_call place x.1.op ≡ true)
+        parts = both (has_uid at.uid x.0) (is_call place x.1.op) found.2
+
+        by : Contains done x ⊎ (Contains (first ∷ others) x ⊎ Contains rest x) → is_run_calling place (first ∷ others) ≡ true
+        by (inl here) =
+            absurd (at.apart x first at.uid here (Contains-append_left (first ∷ others) rest first (cons-Contains-first first others)) parts.0 of_first)
+        by (inr (inl here)) = any_forth (λ (entry : Keyed). is_call place entry.1.op) (first ∷ others) x here parts.1
+        by (inr (inr there)) = absurd (ended first x at.uid (cons-Contains-first first others) there of_first parts.0)
+
+    test_same : is_run_needed place (record { kept = kept; run = first ∷ others }) ≡ is_concerned place all at.uid
+    test_same =
+        let names = same_tests (list_any (λ name. has_uid name first.0) (names_in kept)) (list_any (names_as place at.uid) all) named_forth named_back in
+        let calls = same_tests (is_run_calling place (first ∷ others)) (list_any (calls_as place at.uid) all) calls_forth calls_back in
+        λ i. names i || calls i
+
+    ended_run : kept_after_run place (record { kept = kept; run = first ∷ others })
+        ≡ filter (λ (entry : Keyed). is_needed place all entry.0) (done ++ first ∷ others)
+    ended_run =
+        let b = is_concerned place all at.uid in
+        let test = λ (entry : Keyed). is_needed place all entry.0 in
+        let of_run : filter test (first ∷ others) ≡ cond b (first ∷ others) [] =
+        filter_alike test b (first ∷ others) (λ r among. needed_of_uid at.uid r.0 (at.of_uid r among)) in
+        (λ i. cond (test_same i) (kept ++ first ∷ others) kept)
+        ∙ with_alike b kept (first ∷ others)
+        ∙ ap (λ (xs : List Keyed). xs ++ cond b (first ∷ others) []) at.kept
+        ∙ ap (λ (ys : List Keyed). filter (λ (entry : Keyed). is_needed place all entry.0) done ++ ys) (sym of_run)
+        ∙ sym (filter-append test done (first ∷ others))
+
+  -- where the run has ended, what is kept is what is needed of those done and of the run
+  run_end : (done kept run rest : List Keyed) → IsAt place all done (record { kept = kept; run = run }) rest → IsEnded run rest
+      → kept_after_run place (record { kept = kept; run = run }) ≡ filter (λ (entry : Keyed). is_needed place all entry.0) (done ++ run)
+  run_end done kept [] rest at ended = at.kept ∙ ap (filter (λ (entry : Keyed). is_needed place all entry.0)) (sym (append-nil done))
+  run_end done kept (first ∷ others) rest at ended = ended_run done kept first others rest at ended
+
+  -- ---- one entry more
+
+  -- each of the run is below the next entry
+  run_below : (done : List Keyed) (so_far : ExcerptSoFar) (x : Keyed) (rest : List Keyed) → IsAt place all done so_far (x ∷ rest) → (r : Keyed)
+      → Contains so_far.run r → key_cmp r.0 x.0 ≡ Less
+  run_below done so_far x rest at r among =
+      later_across (done ++ so_far.run) (x ∷ rest) r x (subst (AllLater Below) at.whole order) (Contains-append_right done so_far.run r among)
+      (cons-Contains-first x rest)
+
+  -- and that below those behind it
+  next_below : (done : List Keyed) (so_far : ExcerptSoFar) (x : Keyed) (rest : List Keyed) → IsAt place all done so_far (x ∷ rest) → (y : Keyed)
+      → Contains rest y → key_cmp x.0 y.0 ≡ Less
+  next_below done so_far x rest at y among =
+      let later : AllLater Below (x ∷ rest) = later_right (done ++ so_far.run) (x ∷ rest) (subst (AllLater Below) at.whole order) in
+      below_by_recursion (Below x) rest y later.0 among
+
+  goes_member : (run : List Keyed) (uid : List ℕ) → goes_on run uid ≡ true → (first : Keyed) × Contains run first × (has_uid uid first.0 ≡ true)
+  goes_member [] uid h = false_true h
+  goes_member (first ∷ run) uid h = (first, cons-Contains-first first run, h)
+
+  goes_on_by : (run : List Keyed) (uid : List ℕ) (r : Keyed) → Contains run r → ((z : Keyed) → Contains run z → has_uid uid z.0 ≡ true) → goes_on run uid ≡ true
+  goes_on_by [] uid r among each = absurd (nil-Contains r among)
+  goes_on_by (first ∷ run) uid r among each = each first (cons-Contains-first first run)
+
+  regrouped : (done run rest : List Keyed) (x : Keyed) → (done ++ run) ++ x ∷ rest ≡ (done ++ (run ++ x ∷ [])) ++ rest
+  regrouped done run rest x =
+      sym (append_assoc (done ++ run) (x ∷ []) rest) ∙ ap (λ (xs : List Keyed). xs ++ rest) (append_assoc done run (x ∷ []))
+
+  -- a schedule of the run's UID joins it
+  joins : (done : List Keyed) (so_far : ExcerptSoFar) (key : ScheduleKey) (entry : Entry) (rest : List Keyed)
+      → IsAt place all done so_far ((schedule_key key, entry) ∷ rest) → goes_on so_far.run key.uid ≡ true
+      → IsAt place all done (record { kept = so_far.kept; run = so_far.run ++ (schedule_key key, entry) ∷ [] }) rest
+  joins done so_far key entry rest at goes = record {
+    whole = at.whole ∙ regrouped done so_far.run rest (schedule_key key, entry);
+    kept = at.kept;
+    uid = at.uid;
+    of_uid = λ r among. of r (Contains-append_cases so_far.run ((schedule_key key, entry) ∷ []) r among);
+    apart = λ z y other in_done behind.
+        at.apart z y other in_done (subst (λ xs. Contains xs y) (append_assoc so_far.run ((schedule_key key, entry) ∷ []) rest) behind);
+  }
+    where
+      uid_is : key.uid ≡ at.uid
+      uid_is =
+          let first = goes_member so_far.run key.uid goes in
+          uid_once key.uid at.uid first.0.0 first.2 (at.of_uid first.0 first.1)
+
+      of : (r : Keyed) → Contains so_far.run r ⊎ Contains {X = Keyed} ((schedule_key key, entry) ∷ []) r → has_uid at.uid r.0 ≡ true
+      of r (inl here) = at.of_uid r here
+      of r (inr last) =
+          subst (λ (e : Keyed). has_uid at.uid e.0 ≡ true) (Contains-single {A = Keyed} (schedule_key key, entry) r last)
+          ((bytes_eq-Decides key.uid at.uid).1 uid_is)
+
+  -- one of another UID ends it
+  ends : (done : List Keyed) (so_far : ExcerptSoFar) (key : ScheduleKey) (entry : Entry) (rest : List Keyed)
+      → IsAt place all done so_far ((schedule_key key, entry) ∷ rest) → goes_on so_far.run key.uid ≡ false
+      → IsEnded so_far.run ((schedule_key key, entry) ∷ rest)
+  ends done so_far key entry rest at stops r y other in_run behind of_r of_y =
+      by (Contains-cons {A = Keyed} (schedule_key key, entry) rest y behind)
+    where
+      -- the next entry is not of the run's UID
+      hit : has_uid other (schedule_key key) ≡ true → ⊥
+      hit h =
+          let same : at.uid ≡ key.uid = uid_once at.uid other r.0 (at.of_uid r in_run) of_r ∙ sym ((bytes_eq-Decides key.uid other).0 h) in
+          false_true (sym stops ∙ goes_on_by so_far.run key.uid r in_run (λ z among. subst (λ uid. has_uid uid z.0 ≡ true) same (at.of_uid z among)))
+
+      by : ((schedule_key key, entry) ≡ y) ⊎ Contains rest y → ⊥
+      by (inl same) = hit (subst (λ (e : Keyed). has_uid other e.0 ≡ true) (sym same) of_y)
+      by (inr there) =
+          hit (between_uid r.0 (schedule_key key) y.0 other (run_below done so_far (schedule_key key, entry) rest at r in_run)
+          (next_below done so_far (schedule_key key, entry) rest at y there) of_r of_y)
+
+  -- and begins a run
+  begins : (done : List Keyed) (so_far : ExcerptSoFar) (key : ScheduleKey) (entry : Entry) (rest : List Keyed)
+      → IsAt place all done so_far ((schedule_key key, entry) ∷ rest) → goes_on so_far.run key.uid ≡ false
+      → IsAt place all (done ++ so_far.run) (record { kept = kept_after_run place so_far; run = (schedule_key key, entry) ∷ [] }) rest
+  begins done so_far key entry rest at stops = record {
+    whole = at.whole ∙ sym (append_assoc (done ++ so_far.run) ((schedule_key key, entry) ∷ []) rest);
+    kept = run_end done so_far.kept so_far.run ((schedule_key key, entry) ∷ rest) at ended;
+    uid = key.uid;
+    of_uid = λ r among.
+        subst (λ (e : Keyed). has_uid key.uid e.0 ≡ true) (Contains-single {A = Keyed} (schedule_key key, entry) r among)
+        ((bytes_eq-Decides key.uid key.uid).1 refl);
+    apart = λ z y other in_done behind of_z of_y. by z y other (Contains-append_cases done so_far.run z in_done) behind of_z of_y;
+  }
+    where
+      ended : IsEnded so_far.run ((schedule_key key, entry) ∷ rest)
+      ended = ends done so_far key entry rest at stops
+
+      by : (z y : Keyed) (other : List ℕ) → Contains done z ⊎ Contains so_far.run z → Contains {X = Keyed} ((schedule_key key, entry) ∷ rest) y
+          → has_uid other z.0 ≡ true → has_uid other y.0 ≡ true → ⊥
+      by z y other (inl here) behind of_z of_y =
+          at.apart z y other here (Contains-append_right so_far.run ((schedule_key key, entry) ∷ rest) y behind) of_z of_y
+      by z y other (inr here) behind of_z of_y = ended z y other here behind of_z of_y
+
+  -- what a walk has come to with an entry more
+  abbrev Goes : ExcerptSoFar → List Keyed → Type 0
+  Goes so_far rest = (now : List Keyed) × IsAt place all now so_far rest
+
+  schedule_more : (done : List Keyed) (so_far : ExcerptSoFar) (key : ScheduleKey) (entry : Entry) (rest : List Keyed)
+      → IsAt place all done so_far ((schedule_key key, entry) ∷ rest) → Goes (with_entry_of place so_far (schedule_key key) entry) rest
+  schedule_more done so_far key entry rest at = by (goes_on so_far.run key.uid) refl
+    where
+      by : (b : Bool) → goes_on so_far.run key.uid ≡ b
+          → Goes (cond b (record { kept = so_far.kept; run = so_far.run ++ (schedule_key key, entry) ∷ [] })
+          (record { kept = kept_after_run place so_far; run = (schedule_key key, entry) ∷ [] })) rest
+      by true goes = (done, joins done so_far key entry rest at goes)
+      by false stops = (done ++ so_far.run, begins done so_far key entry rest at stops)
+
+  -- before the schedules there is no run
+  no_run : (done : List Keyed) (so_far : ExcerptSoFar) (key : Key) (entry : Entry) (rest : List Keyed) → ((uid : List ℕ) → ¬ (has_uid uid key ≡ true))
+      → IsAt place all done so_far ((key, entry) ∷ rest) → (r : Keyed) → ¬ Contains so_far.run r
+  no_run done so_far key entry rest never at r among =
+      let is = above_uid r.0 key at.uid (run_below done so_far (key, entry) rest at r among) (at.of_uid r among) in
+      never is.0 is.1
+
+  other_more : (done : List Keyed) (so_far : ExcerptSoFar) (key : Key) (entry : Entry) (rest : List Keyed) → ((uid : List ℕ) → ¬ (has_uid uid key ≡ true))
+      → is_needed place all key ≡ is_here place key → IsAt place all done so_far ((key, entry) ∷ rest)
+      → Goes (cond (is_here place key) (record { kept = kept_after_run place so_far ++ (key, entry) ∷ []; run = [] })
+      (record { kept = kept_after_run place so_far; run = [] })) rest
+  other_more done so_far key entry rest never same at = by (is_here place key) refl
+    where
+      now : List Keyed
+      now = (done ++ so_far.run) ++ (key, entry) ∷ []
+
+      none : (r : Keyed) → ¬ Contains so_far.run r
+      none = no_run done so_far key entry rest never at
+
+      before : kept_after_run place so_far ≡ filter (λ (e : Keyed). is_needed place all e.0) (done ++ so_far.run)
+      before = run_end done so_far.kept so_far.run ((key, entry) ∷ rest) at (λ r y other in_run behind of_r of_y. none r in_run)
+
+      with_last : (b : Bool) → is_here place key ≡ b → filter (λ (e : Keyed). is_needed place all e.0) ((done ++ so_far.run) ++ (key, entry) ∷ [])
+          ≡ kept_after_run place so_far ++ cond b ((key, entry) ∷ []) []
+      with_last b h =
+          filter-append (λ (e : Keyed). is_needed place all e.0) (done ++ so_far.run) ((key, entry) ∷ [])
+          ∙ (λ i. filter (λ (e : Keyed). is_needed place all e.0) (done ++ so_far.run) ++ cond ((same ∙ h) i) ((key, entry) ∷ []) [])
+          ∙ ap (λ (xs : List Keyed). xs ++ cond b ((key, entry) ∷ []) []) (sym before)
+
+      apart_now : (z y : Keyed) (other : List ℕ) → Contains (done ++ so_far.run) z ⊎ Contains {X = Keyed} ((key, entry) ∷ []) z → Contains rest y
+          → has_uid other z.0 ≡ true → has_uid other y.0 ≡ true → ⊥
+      apart_now z y other (inr last) behind of_z of_y =
+          never other (subst (λ (e : Keyed). has_uid other e.0 ≡ true) (sym (Contains-single {A = Keyed} (key, entry) z last)) of_z)
+      apart_now z y other (inl before_it) behind of_z of_y = inner (Contains-append_cases done so_far.run z before_it)
+        where
+          inner : Contains done z ⊎ Contains so_far.run z → ⊥
+          inner (inl here) =
+              at.apart z y other here (Contains-append_right so_far.run ((key, entry) ∷ rest) y (cons-Contains {A = Keyed} (key, entry) rest y behind)) of_z of_y
+          inner (inr here) = none z here
+
+      there : (kept : List Keyed) → kept ≡ filter (λ (e : Keyed). is_needed place all e.0) ((done ++ so_far.run) ++ (key, entry) ∷ [])
+          → IsAt place all ((done ++ so_far.run) ++ (key, entry) ∷ []) (record { kept = kept; run = [] }) rest
+      there kept is = record {
+        whole = at.whole
+            ∙ sym (append_assoc (done ++ so_far.run) ((key, entry) ∷ []) rest)
+            ∙ ap (λ (xs : List Keyed). xs ++ rest) (sym (append-nil ((done ++ so_far.run) ++ (key, entry) ∷ [])));
+        kept = is;
+        uid = [];
+        of_uid = λ r among. absurd (nil-Contains r among);
+        apart = λ z y other in_now behind of_z of_y.
+            apart_now z y other (Contains-append_cases (done ++ so_far.run) ((key, entry) ∷ []) z in_now) behind of_z of_y;
+      }
+
+      by : (b : Bool) → is_here place key ≡ b
+          → Goes (cond b (record { kept = kept_after_run place so_far ++ (key, entry) ∷ []; run = [] })
+          (record { kept = kept_after_run place so_far; run = [] })) rest
+      by true h = (now, there (kept_after_run place so_far ++ (key, entry) ∷ []) (sym (with_last true h)))
+      by false h = (now, there (kept_after_run place so_far) (sym (with_last false h ∙ append-nil (kept_after_run place so_far))))
+
+  tiploc_never : (code uid : List ℕ) → ¬ (has_uid uid (tiploc_key code) ≡ true)
+  tiploc_never code uid h = false_true h
+
+  association_never : (key : AssociationKey) (uid : List ℕ) → ¬ (has_uid uid (association_key key) ≡ true)
+  association_never key uid h = false_true h
+
+  one_more : (done : List Keyed) (so_far : ExcerptSoFar) (key : Key) (entry : Entry) (rest : List Keyed)
+      → IsAt place all done so_far ((key, entry) ∷ rest) → Goes (with_entry_of place so_far key entry) rest
+  one_more done so_far (schedule_key key) entry rest at = schedule_more done so_far key entry rest at
+  one_more done so_far (tiploc_key code) entry rest at = other_more done so_far (tiploc_key code) entry rest (tiploc_never code) refl at
+  one_more done so_far (association_key key) entry rest at = other_more done so_far (association_key key) entry rest (association_never key) refl at
+
+  -- ---- to the end
+
+  from_here : (rest done : List Keyed) (so_far : ExcerptSoFar) → IsAt place all done so_far rest
+      → kept_from place so_far rest ≡ filter (λ (entry : Keyed). is_needed place all entry.0) all
+  from_here [] done so_far at =
+      run_end done so_far.kept so_far.run [] at (λ r y other in_run behind of_r of_y. nil-Contains y behind)
+      ∙ ap (filter (λ (entry : Keyed). is_needed place all entry.0)) (sym (at.whole ∙ append-nil (done ++ so_far.run)))
+  from_here (x ∷ rest) done so_far at =
+      let next = one_more done so_far x.0 x.1 rest at in
+      from_here rest next.0 (next_kept place so_far x) next.1
+
+  at_first : IsAt place all [] nothing_kept all
+  at_first = record {
+    whole = refl;
+    kept = refl;
+    uid = [];
+    of_uid = λ r among. absurd (nil-Contains r among);
+    apart = λ z y other in_done behind of_z of_y. nil-Contains z in_done;
+  }
+
+  -- what a walk over all of them keeps is what is needed
+  pub walk_keeps : kept_after_run place (kept_so_far place all) ≡ filter (λ (entry : Keyed). is_needed place all entry.0) all
+  walk_keeps = from_here all [] nothing_kept at_first
+
+-- the excerpt that a walk makes of entries in key order is an excerpt
+pub walk_is_excerpt : (place : List ℕ) (state : State) → AreAscending state.entries → IsExcerptState place state (excerpt_for place state)
+walk_is_excerpt place state up =
+    subst (λ (entries : List Keyed). IsExcerptState place state (record { horizon = state.horizon; ledger = state.ledger; entries = entries }))
+    (sym (walk_keeps place state.entries (later_of (on (λ (entry : Keyed). entry.0) key_cmp) state.entries up)))
+    (passing_is_excerpt place state)
