@@ -23,3 +23,4 @@ pub mod PrintedDocker
 pub mod ExcerptDocker
 pub mod ExcerptState
 pub mod ExcerptWalk
+pub mod ExcerptSteps

@@ -5,6 +5,7 @@ use Rattle.docker_model.specs.records.Record.{column}
 use Rattle.docker_model.specs.file.Journey.{CallsAt}
 use Rattle.docker_model.specs.file.Change.{Key, tiploc_key, schedule_key, association_key, ScheduleKey, AssociationKey, Body, schedule_body, association_body}
 use Rattle.docker_model.specs.state.Table.{Table}
+use Rattle.docker_model.specs.state.State.{HasGoodBodies}
 use Rattle.docker_model.specs.docker.Choice.{IsRunning, TrainRuns, Group, group_of, IsAssociated, IsChosenAssociation}
 use Rattle.docker_model.specs.docker.DockerLine.{DockerLine}
 use Rattle.docker_model.specs.docker.Association.{partner_start, IsIdentityOn, IsPartnerIdentity, IsAssociationLine}
@@ -201,3 +202,7 @@ module _ (place : List ℕ) (live part : Table) (is : IsExcerpt place live part)
     λ told. (told.0, (excerpt_list_iff day told.0).0 told.1, told.2 ∙ sym (text_same day told.0)),
     λ told. (told.0, (excerpt_list_iff day told.0).1 told.1, told.2 ∙ text_same day told.0),
   )
+
+  -- and good bodies where the table has
+  pub excerpt_good : HasGoodBodies live → HasGoodBodies part
+  excerpt_good good key body there = good key body (was_there key body there)

@@ -1,5 +1,5 @@
 -- An excerpt of a valid state for a place is valid, and refuses and prints the same there. What has all that is needed at the place is one.
-use Rattle.std.proofs.Common.{◌≡◌, ℕ, List, [], ◌∷◌, All, subst, inl, inr, ◌⊎◌, refl, ap, sym, ◌∙◌, Bool, true, false, cond, Some, None}
+use Rattle.std.proofs.Common.{◌≡◌, ℕ, List, [], ◌∷◌, subst, inl, inr, ◌⊎◌, refl, ap, sym, ◌∙◌, Bool, true, false, cond, Some, None}
 use Rattle.std.specs.Prelude.{Option, ◌↔◌, ◌&&◌, ◌||◌, filter, find, option_and_then}
 use Rattle.std.specs.List.{list_any}
 use Rattle.std.specs.Str.{bytes_eq}
@@ -9,42 +9,96 @@ use Rattle.std.proofs.lemmas.Slice.Eq.{bytes_eq-Decides}
 use Rattle.docker_model.specs.records.Date.{IsDay}
 use Rattle.docker_model.specs.file.Change.{Key, tiploc_key, association_key, schedule_key, association_body, schedule_body}
 use Rattle.docker_model.specs.state.Order.{IsBelow}
+use Rattle.docker_model.specs.state.Stamp.{LedgerItem}
 use Rattle.docker_model.specs.state.Op.{Entry, body_of, key_cmp}
 use Rattle.docker_model.specs.state.Lapse.{HasNotToLapse, IsDayRefused}
-use Rattle.docker_model.specs.state.State.{State, IsValid, IsLedger, IsGoodEntry, AreEntries, AreAscending, HaveLapsed, live_table}
-use Rattle.docker_model.specs.docker.Excerpt.{HasCall, IsNamed, IsNeeded, IsExcerptState}
+use Rattle.docker_model.specs.state.State.{State, IsValid, IsLedger, IsGoodEntry, AreEntries, HaveLapsed, live_table}
+use Rattle.docker_model.specs.docker.Excerpt.{IsSublist, HasCall, IsNamed, IsNeeded, IsExcerptState}
 use Rattle.docker_model.specs.docker.ExcerptWalk.{is_here, has_uid, name_in, is_call}
 use Rattle.docker_laws.proofs.orders.Orders.{same_key}
 use Rattle.docker_laws.proofs.orders.Ascending.{later_of, ascending_of}
-use Rattle.docker_laws.proofs.lists.Sublists.{sublist_all, sublist_later, sublist_filter}
+use Rattle.docker_laws.proofs.lists.Sublists.{sublist_all, sublist_later, sublist_filter, sublist_itself, sublist_onward}
 use Rattle.docker_laws.proofs.lists.BoolsAndOptions.{and_true}
 use Rattle.docker_laws.proofs.lists.FilteredMembers.{find_some, filter_back}
 use Rattle.docker_laws.proofs.states.PlainTable.{Keyed, live_none}
 use Rattle.docker_laws.proofs.dockers.GoodBodies.{live_entry}
+use Rattle.docker_laws.proofs.dockers.ExcerptDocker.{same_where_needed}
 use Rattle.docker_laws.proofs.indexes.CallsTest.{any_forth, calls_test}
 
 -- ---- of an excerpt
 
--- an excerpt of a valid state is valid
-pub excerpt_valid : (place : List ℕ) (state part : State) → IsValid state → IsExcerptState place state part → IsValid part
-excerpt_valid place state part valid is = record {
-  horizon = subst IsDay (sym is.horizon) valid.horizon;
-  ledger = subst IsLedger (sym is.ledger) valid.ledger;
-  entries = subst (λ ledger. AreEntries ledger part.entries) (sym is.ledger) (good, ascending);
-  have_lapsed = subst (λ horizon. HaveLapsed horizon part.entries) (sym is.horizon)
-      (sublist_all (λ (entry : Keyed). HasNotToLapse state.horizon entry.1.op) part.entries state.entries is.entries valid.have_lapsed);
-}
+-- some of the entries of a state over a ledger are entries of a state over it
+pub some_entries : (ledger : List LedgerItem) (some all : List Keyed) → AreEntries ledger all → IsSublist some all → AreEntries ledger some
+some_entries ledger some all are is = (
+  sublist_all (IsGoodEntry ledger) some all is are.0,
+  ascending_of by_key some (sublist_later (IsBelow by_key) some all is (later_of by_key all are.1)),
+)
   where
-    good : All (IsGoodEntry state.ledger) part.entries
-    good = sublist_all (IsGoodEntry state.ledger) part.entries state.entries is.entries valid.entries.0
-
     by_key : Keyed → Keyed → Ordering
     by_key = on (λ (entry : Keyed). entry.0) key_cmp
 
-    ascending : AreAscending part.entries
-    ascending =
-        ascending_of by_key part.entries
-        (sublist_later (IsBelow by_key) part.entries state.entries is.entries (later_of by_key state.entries valid.entries.1))
+-- a valid state with some of its entries is valid
+pub some_valid : (state part : State) → IsValid state → part.horizon ≡ state.horizon → part.ledger ≡ state.ledger → IsSublist part.entries state.entries
+    → IsValid part
+some_valid state part valid same_horizon same_ledger is = record {
+  horizon = subst IsDay (sym same_horizon) valid.horizon;
+  ledger = subst IsLedger (sym same_ledger) valid.ledger;
+  entries = subst (λ ledger. AreEntries ledger part.entries) (sym same_ledger) (some_entries state.ledger part.entries state.entries valid.entries is);
+  have_lapsed = subst (λ horizon. HaveLapsed horizon part.entries) (sym same_horizon)
+      (sublist_all (λ (entry : Keyed). HasNotToLapse state.horizon entry.1.op) part.entries state.entries is valid.have_lapsed);
+}
+
+-- an excerpt of a valid state is valid
+pub excerpt_valid : (place : List ℕ) (state part : State) → IsValid state → IsExcerptState place state part → IsValid part
+excerpt_valid place state part valid is = some_valid state part valid is.horizon is.ledger is.entries
+
+-- a state is an excerpt of itself
+pub excerpt_itself : (place : List ℕ) (state : State) → IsExcerptState place state state
+excerpt_itself place state = record { horizon = refl; ledger = refl; entries = sublist_itself state.entries; live = λ key. inl refl }
+
+-- and an excerpt of an excerpt is one
+pub excerpt_again : (place : List ℕ) (state part smaller : State) → IsExcerptState place state part → IsExcerptState place part smaller
+    → IsExcerptState place state smaller
+excerpt_again place state part smaller is further = record {
+  horizon = further.horizon ∙ is.horizon;
+  ledger = further.ledger ∙ is.ledger;
+  entries = sublist_onward smaller.entries part.entries state.entries further.entries is.entries;
+  live = λ key. by key (further.live key);
+}
+  where
+    needed_still : (key : Key) → IsNeeded (live_table state) place key → IsNeeded (live_table part) place key
+    needed_still (tiploc_key code) here = here
+    needed_still (association_key key) here = here
+    needed_still (schedule_key key) (inl call) = inl (record {
+      key = call.key;
+      lines = call.lines;
+      uid_is = call.uid_is;
+      calling = record {
+        is_live = same_where_needed place (live_table state) (live_table part) is.live (schedule_key call.key)
+            (inl (record { key = call.key; lines = call.lines; uid_is = refl; calling = call.calling })) ∙ call.calling.is_live;
+        calls = call.calling.calls;
+      };
+    })
+    needed_still (schedule_key key) (inr named) = inr (record {
+      key = named.key;
+      line = named.line;
+      associated_is = named.associated_is;
+      linked = record {
+        is_live = same_where_needed place (live_table state) (live_table part) is.live (association_key named.key) named.linked.here ∙ named.linked.is_live;
+        here = named.linked.here;
+      };
+    })
+
+    inner : (key : Key) → live_table smaller key ≡ live_table part key
+        → (live_table part key ≡ live_table state key) ⊎ ((live_table part key ≡ None) × ¬ IsNeeded (live_table state) place key)
+        → (live_table smaller key ≡ live_table state key) ⊎ ((live_table smaller key ≡ None) × ¬ IsNeeded (live_table state) place key)
+    inner key same (inl as_state) = inl (same ∙ as_state)
+    inner key same (inr none) = inr (same ∙ none.0, none.1)
+
+    by : (key : Key) → (live_table smaller key ≡ live_table part key) ⊎ ((live_table smaller key ≡ None) × ¬ IsNeeded (live_table part) place key)
+        → (live_table smaller key ≡ live_table state key) ⊎ ((live_table smaller key ≡ None) × ¬ IsNeeded (live_table state) place key)
+    by key (inl same) = inner key same (is.live key)
+    by key (inr none) = inr (none.0, λ needed. none.1 (needed_still key needed))
 
 -- it refuses the same days
 pub excerpt_refuses : (place : List ℕ) (state part : State) (day : ℕ) → IsExcerptState place state part
@@ -120,11 +174,13 @@ is_needed place entries (tiploc_key code) = bytes_eq code place
 is_needed place entries (association_key key) = bytes_eq key.location place
 is_needed place entries (schedule_key key) = is_concerned place entries key.uid
 
-or_right : (a b : Bool) → b ≡ true → (a || b) ≡ true
+-- one of two tests that is passed
+pub or_right : (a b : Bool) → b ≡ true → (a || b) ≡ true
 or_right true b h = refl
 or_right false b h = h
 
-or_left : (a b : Bool) → a ≡ true → (a || b) ≡ true
+-- the first of them
+pub or_left : (a b : Bool) → a ≡ true → (a || b) ≡ true
 or_left true b h = refl
 or_left false b h = absurd (let bad : false ≡ true = h in cc)
 

@@ -27,17 +27,17 @@ use Rattle.docker_laws.proofs.indexes.CallsTest.{any_back, any_forth}
 
 -- ---- keys of one UID
 
-false_true : {A : Type 0} → false ≡ true → A
+pub false_true : {A : Type 0} → false ≡ true → A
 false_true h = absurd (let bad : false ≡ true = h in cc)
 
 -- a key has one UID
-uid_once : (one other : List ℕ) (key : Key) → has_uid one key ≡ true → has_uid other key ≡ true → one ≡ other
+pub uid_once : (one other : List ℕ) (key : Key) → has_uid one key ≡ true → has_uid other key ≡ true → one ≡ other
 uid_once one other (schedule_key key) h g = sym ((bytes_eq-Decides key.uid one).0 h) ∙ (bytes_eq-Decides key.uid other).0 g
 uid_once one other (tiploc_key code) h g = false_true h
 uid_once one other (association_key key) h g = false_true h
 
 -- what stands behind a schedule's key is a schedule's
-above_uid : (a b : Key) (uid : List ℕ) → key_cmp a b ≡ Less → has_uid uid a ≡ true → (other : List ℕ) × (has_uid other b ≡ true)
+pub above_uid : (a b : Key) (uid : List ℕ) → key_cmp a b ≡ Less → has_uid uid a ≡ true → (other : List ℕ) × (has_uid other b ≡ true)
 above_uid (schedule_key a) (schedule_key b) uid below h = (b.uid, (bytes_eq-Decides b.uid b.uid).1 refl)
 above_uid (schedule_key a) (tiploc_key b) uid below h = absurd (let bad : Greater ≡ Less = below in cc)
 above_uid (schedule_key a) (association_key b) uid below h = absurd (let bad : Greater ≡ Less = below in cc)
@@ -76,10 +76,10 @@ between_uid (association_key a) b c uid up further h g = false_true h
 
 -- ---- lists
 
-abbrev Below : Keyed → Keyed → Type 0
+abbrev pub Below : Keyed → Keyed → Type 0
 Below a b = IsBelow (on (λ (entry : Keyed). entry.0) key_cmp) a b
 
-later_across : (xs ys : List Keyed) (x y : Keyed) → AllLater Below (xs ++ ys) → Contains xs x → Contains ys y → Below x y
+pub later_across : (xs ys : List Keyed) (x y : Keyed) → AllLater Below (xs ++ ys) → Contains xs x → Contains ys y → Below x y
 later_across [] ys x y later in_x in_y = absurd (nil-Contains x in_x)
 later_across (z ∷ xs) ys x y later in_x in_y = by (λ inside. later_across xs ys x y later.1 inside in_y) (Contains-cons z xs x in_x)
   where
@@ -125,7 +125,7 @@ record IsAt (place : List ℕ) (all done : List Keyed) (so_far : ExcerptSoFar) (
 abbrev IsEnded : List Keyed → List Keyed → Type 0
 IsEnded run rest = (r y : Keyed) (other : List ℕ) → Contains run r → Contains rest y → has_uid other r.0 ≡ true → has_uid other y.0 ≡ true → ⊥
 
-name_of : (uid : List ℕ) (found : Option (List ℕ)) → is_name uid found ≡ true → (name : List ℕ) × (found ≡ Some name) × (name ≡ uid)
+pub name_of : (uid : List ℕ) (found : Option (List ℕ)) → is_name uid found ≡ true → (name : List ℕ) × (found ≡ Some name) × (name ≡ uid)
 name_of uid None h = false_true h
 name_of uid (Some name) h = (name, refl, (bytes_eq-Decides name uid).0 h)
 

@@ -85,7 +85,7 @@ calls_test place lines = (
 )
 
 -- a list without a member
-no_member : {A : Type 0} (xs : List A) → ((x : A) → ¬ Contains xs x) → xs ≡ []
+pub no_member : {A : Type 0} (xs : List A) → ((x : A) → ¬ Contains xs x) → xs ≡ []
 no_member [] none = refl
 no_member (x ∷ xs) none = absurd (none x (cons-Contains-first x xs))
 

@@ -1,5 +1,5 @@
 -- Lists that have some elements of another list, in their order.
-use Rattle.std.proofs.Common.{List, [], ◌∷◌, ◌≡◌, refl, sym, subst, inl, inr, ◌⊎◌, Contains, Bool, true, false, cond, All}
+use Rattle.std.proofs.Common.{List, [], ◌∷◌, ◌++◌, ◌≡◌, ◌∙◌, refl, sym, subst, inl, inr, ◌⊎◌, Contains, Bool, true, false, cond, All}
 use Rattle.std.specs.Prelude.{filter}
 use Rattle.docker_model.specs.docker.Excerpt.{IsSublist}
 use Rattle.docker_laws.proofs.lists.Membership.{Contains-cons, cons-Contains, cons-Contains-first, nil-Contains, below_by_recursion, each_member, member_of, all_members}
@@ -56,3 +56,37 @@ sublist_later {A} R (x ∷ xs) (y ∷ ys) is later =
       inner first.1,
     )
     by inner outer (inr rest) = outer rest
+
+-- some of some elements of a list are some of it
+pub sublist_onward : {A : Type 0} (xs ys zs : List A) → IsSublist xs ys → IsSublist ys zs → IsSublist xs zs
+sublist_onward [] ys zs first second = tt
+sublist_onward (x ∷ xs) [] zs first second = absurd first
+sublist_onward (x ∷ xs) (y ∷ ys) [] first second = absurd second
+sublist_onward {A} (x ∷ xs) (y ∷ ys) (z ∷ zs) first second =
+    by (λ inside behind. sublist_onward xs ys zs inside behind) (λ inside behind. sublist_onward (x ∷ xs) ys zs inside behind)
+    (λ behind. sublist_onward (x ∷ xs) (y ∷ ys) zs first behind) first second
+  where
+    by : (IsSublist xs ys → IsSublist ys zs → IsSublist xs zs) → (IsSublist (x ∷ xs) ys → IsSublist ys zs → IsSublist (x ∷ xs) zs)
+        → (IsSublist (y ∷ ys) zs → IsSublist (x ∷ xs) zs) → ((x ≡ y) × IsSublist xs ys) ⊎ IsSublist (x ∷ xs) ys
+        → ((y ≡ z) × IsSublist ys zs) ⊎ IsSublist (y ∷ ys) zs → IsSublist (x ∷ xs) (z ∷ zs)
+    by both_step first_step skip (inl here) (inl there) = inl (here.0 ∙ there.0, both_step here.1 there.1)
+    by both_step first_step skip (inr later) (inl there) = inr (first_step later there.1)
+    by both_step first_step skip here (inr behind) = inr (skip behind)
+
+-- some elements of two lists, joined, are some of the joined list
+pub sublist_append : {A : Type 0} (us xs vs ys : List A) → IsSublist us xs → IsSublist vs ys → IsSublist (us ++ vs) (xs ++ ys)
+sublist_append [] [] vs ys first second = second
+sublist_append [] (x ∷ xs) vs ys first second = sublist_behind vs (xs ++ ys) x (sublist_append [] xs vs ys tt second)
+sublist_append (u ∷ us) [] vs ys first second = absurd first
+sublist_append {A} (u ∷ us) (x ∷ xs) vs ys first second =
+    by (λ inside. sublist_append us xs vs ys inside second) (λ inside. sublist_append (u ∷ us) xs vs ys inside second) first
+  where
+    by : (IsSublist us xs → IsSublist (us ++ vs) (xs ++ ys)) → (IsSublist (u ∷ us) xs → IsSublist (u ∷ us ++ vs) (xs ++ ys))
+        → ((u ≡ x) × IsSublist us xs) ⊎ IsSublist (u ∷ us) xs → IsSublist (u ∷ us ++ vs) (x ∷ xs ++ ys)
+    by both_step skip (inl here) = inl (here.0, both_step here.1)
+    by both_step skip (inr later) = inr (skip later)
+
+-- the front of a list is some of it
+pub sublist_front : {A : Type 0} (xs ys : List A) → IsSublist xs (xs ++ ys)
+sublist_front [] ys = tt
+sublist_front (x ∷ xs) ys = inl (refl, sublist_front xs ys)

@@ -1,0 +1,449 @@
+-- The walk that makes an excerpt, entry by entry: where it is, and what it keeps in the end.
+use Rattle.std.proofs.Common.{◌≡◌, ℕ, List, [], ◌∷◌, ◌++◌, subst, inl, inr, ◌⊎◌, refl, ap, sym, ◌∙◌, Bool, true, false, cond, Some, Contains, append-nil, append_assoc}
+use Rattle.std.specs.Prelude.{Option, ◌||◌, ◌↔◌, filter, fold, option_and_then}
+use Rattle.std.specs.List.{list_any}
+use Rattle.std.specs.Str.{bytes_eq}
+use Rattle.std.specs.Ordering.{on}
+use Rattle.std.proofs.lemmas.Slice.Eq.{bytes_eq-Decides}
+use Rattle.std.proofs.lemmas.List.Elements.{filter-append, filter_map-append, Contains-append_cases, Contains-append_right}
+use Rattle.std.proofs.lemmas.List.Folds.{list_any-append}
+use Rattle.docker_model.specs.file.Change.{Key, tiploc_key, association_key, schedule_key, AssociationKey, ScheduleKey, tiploc_body, association_body, schedule_body}
+use Rattle.docker_model.specs.file.Journey.{CallsAt}
+use Rattle.docker_model.specs.state.Op.{Op, deleted, lapsed, put_with, Entry, body_of, key_cmp}
+use Rattle.docker_model.specs.state.Stamp.{LedgerItem}
+use Rattle.docker_model.specs.state.State.{State, AreAscending, AreEntries, live_table}
+use Rattle.docker_model.specs.docker.Excerpt.{IsNeeded, IsConcerned, IsSublist}
+use Rattle.docker_model.specs.docker.ExcerptWalk.{ExcerptSoFar, nothing_kept, is_here, has_uid, name_in, names_in, is_call, is_run_named, is_run_calling, is_run_needed, kept_after_run, goes_on, with_entry_of, next_kept, kept_from, kept_so_far, excerpt_for}
+use Rattle.docker_laws.proofs.orders.Ascending.{later_of}
+use Rattle.docker_laws.proofs.lists.Membership.{cons-Contains-first, nil-Contains, Contains-single}
+use Rattle.docker_laws.proofs.lists.Sublists.{sublist_itself, sublist_append, sublist_onward, sublist_member, sublist_front}
+use Rattle.docker_laws.proofs.lists.BoolsAndOptions.{both, either, none_some}
+use Rattle.docker_laws.proofs.lists.FilteredMembers.{filter_back, filter_forth}
+use Rattle.docker_laws.proofs.states.PlainTable.{Keyed}
+use Rattle.docker_laws.proofs.joins.StagedEntry.{entry_at_iff}
+use Rattle.docker_laws.proofs.indexes.CallsTest.{any_back, any_forth, calls_test, no_member}
+use Rattle.docker_laws.proofs.dockers.ExcerptState.{calls_as, names_as, is_name, is_needed, needed_passes, some_entries, or_left, or_right}
+use Rattle.docker_laws.proofs.dockers.ExcerptWalk.{false_true, uid_once, above_uid, later_across, name_of, walk_keeps}
+
+-- ---- along a walk
+
+fold_more : {A B : Type 0} (f : B → A → B) (first : B) (xs ys : List A) → fold f first (xs ++ ys) ≡ fold f (fold f first xs) ys
+fold_more f first [] ys = refl
+fold_more f first (x ∷ xs) ys = fold_more f (f first x) xs ys
+
+-- with one more entry
+pub so_far_more : (place : List ℕ) (entries : List Keyed) (entry : Keyed)
+    → kept_so_far place (entries ++ entry ∷ []) ≡ next_kept place (kept_so_far place entries) entry
+so_far_more place entries entry = fold_more (next_kept place) nothing_kept entries (entry ∷ [])
+
+-- what is kept in the end, from any entry on
+pub kept_from_there : (place : List ℕ) (front rest : List Keyed)
+    → kept_from place (kept_so_far place front) rest ≡ kept_after_run place (kept_so_far place (front ++ rest))
+kept_from_there place front rest = ap (kept_after_run place) (sym (fold_more (next_kept place) nothing_kept front rest))
+
+-- what holds at first and stays with each entry holds all along
+module _ (place : List ℕ) (P : List Keyed → ExcerptSoFar → Type 0)
+    (step : (done : List Keyed) (so_far : ExcerptSoFar) (x : Keyed) → P done so_far → P (done ++ x ∷ []) (next_kept place so_far x)) where
+  onward : (rest done : List Keyed) (so_far : ExcerptSoFar) → P done so_far → P (done ++ rest) (fold (next_kept place) so_far rest)
+  onward [] done so_far here = subst (λ xs. P xs so_far) (sym (append-nil done)) here
+  onward (x ∷ rest) done so_far here =
+      subst (λ xs. P xs (fold (next_kept place) (next_kept place so_far x) rest)) (append_assoc done (x ∷ []) rest)
+      (onward rest (done ++ x ∷ []) (next_kept place so_far x) (step done so_far x here))
+
+  all_along : P [] nothing_kept → (entries : List Keyed) → P entries (kept_so_far place entries)
+  all_along first entries = onward entries [] nothing_kept first
+
+-- ---- what is kept and the run are some of the entries so far
+
+after_run_within : (place : List ℕ) (so_far : ExcerptSoFar) → IsSublist (kept_after_run place so_far) (so_far.kept ++ so_far.run)
+after_run_within place so_far = by (is_run_needed place so_far)
+  where
+    by : (b : Bool) → IsSublist (cond b (so_far.kept ++ so_far.run) so_far.kept) (so_far.kept ++ so_far.run)
+    by true = sublist_itself (so_far.kept ++ so_far.run)
+    by false = sublist_front so_far.kept so_far.run
+
+module _ (place : List ℕ) where
+  abbrev Within : List Keyed → ExcerptSoFar → Type 0
+  Within done so_far = IsSublist (so_far.kept ++ so_far.run) done
+
+  closed_within : (done : List Keyed) (so_far : ExcerptSoFar) (x : Keyed) → Within done so_far → IsSublist (kept_after_run place so_far) done
+  closed_within done so_far x here =
+      sublist_onward (kept_after_run place so_far) (so_far.kept ++ so_far.run) done (after_run_within place so_far) here
+
+  with_last : (done : List Keyed) (so_far : ExcerptSoFar) (x : Keyed) → Within done so_far
+      → IsSublist (kept_after_run place so_far ++ x ∷ []) (done ++ x ∷ [])
+  with_last done so_far x here =
+      sublist_append (kept_after_run place so_far) done (x ∷ []) (x ∷ []) (closed_within done so_far x here) (sublist_itself (x ∷ []))
+
+  without_last : (done : List Keyed) (so_far : ExcerptSoFar) (x : Keyed) → Within done so_far
+      → IsSublist (kept_after_run place so_far) (done ++ x ∷ [])
+  without_last done so_far x here =
+      sublist_onward (kept_after_run place so_far) done (done ++ x ∷ []) (closed_within done so_far x here) (sublist_front done (x ∷ []))
+
+  within_schedule : (done : List Keyed) (so_far : ExcerptSoFar) (key : ScheduleKey) (entry : Entry) → Within done so_far
+      → Within (done ++ (schedule_key key, entry) ∷ []) (with_entry_of place so_far (schedule_key key) entry)
+  within_schedule done so_far key entry here = by (goes_on so_far.run key.uid)
+    where
+      x : Keyed
+      x = (schedule_key key, entry)
+
+      by : (b : Bool) → Within (done ++ (schedule_key key, entry) ∷ [])
+          (cond b (record { kept = so_far.kept; run = so_far.run ++ (schedule_key key, entry) ∷ [] })
+          (record { kept = kept_after_run place so_far; run = (schedule_key key, entry) ∷ [] }))
+      by true =
+          subst (λ xs. IsSublist xs (done ++ x ∷ [])) (append_assoc so_far.kept so_far.run (x ∷ []))
+          (sublist_append (so_far.kept ++ so_far.run) done (x ∷ []) (x ∷ []) here (sublist_itself (x ∷ [])))
+      by false = with_last done so_far x here
+
+  within_other : (done : List Keyed) (so_far : ExcerptSoFar) (x : Keyed) (b : Bool) → Within done so_far
+      → Within (done ++ x ∷ []) (cond b (record { kept = kept_after_run place so_far ++ x ∷ []; run = [] }) (record { kept = kept_after_run place so_far; run = [] }))
+  within_other done so_far x true here =
+      subst (λ xs. IsSublist xs (done ++ x ∷ [])) (sym (append-nil (kept_after_run place so_far ++ x ∷ []))) (with_last done so_far x here)
+  within_other done so_far x false here =
+      subst (λ xs. IsSublist xs (done ++ x ∷ [])) (sym (append-nil (kept_after_run place so_far))) (without_last done so_far x here)
+
+  within_more : (done : List Keyed) (so_far : ExcerptSoFar) (key : Key) (entry : Entry) → Within done so_far
+      → Within (done ++ (key, entry) ∷ []) (with_entry_of place so_far key entry)
+  within_more done so_far (schedule_key key) entry here = within_schedule done so_far key entry here
+  within_more done so_far (tiploc_key code) entry here = within_other done so_far (tiploc_key code, entry) (is_here place (tiploc_key code)) here
+  within_more done so_far (association_key key) entry here = within_other done so_far (association_key key, entry) (is_here place (association_key key)) here
+
+  -- what is kept and the run are some of the entries so far, in their order
+  pub so_far_within : (entries : List Keyed) → IsSublist ((kept_so_far place entries).kept ++ (kept_so_far place entries).run) entries
+  so_far_within = all_along place Within (λ done so_far x here. within_more done so_far x.0 x.1 here) tt
+
+  -- and good entries where those are
+  pub so_far_good : (ledger : List LedgerItem) (entries : List Keyed) → AreEntries ledger entries
+      → AreEntries ledger ((kept_so_far place entries).kept ++ (kept_so_far place entries).run)
+  so_far_good ledger entries are =
+      some_entries ledger ((kept_so_far place entries).kept ++ (kept_so_far place entries).run) entries are (so_far_within entries)
+
+  -- ---- the run is of one UID
+
+  abbrev OfOneUid : List Keyed → ExcerptSoFar → Type 0
+  OfOneUid done so_far = (uid : List ℕ) × ((r : Keyed) → Contains so_far.run r → has_uid uid r.0 ≡ true)
+
+  goes_first : (run : List Keyed) (uid : List ℕ) → goes_on run uid ≡ true → (first : Keyed) × Contains run first × (has_uid uid first.0 ≡ true)
+  goes_first [] uid h = false_true h
+  goes_first (first ∷ run) uid h = (first, cons-Contains-first first run, h)
+
+  one_uid_schedule : (done : List Keyed) (so_far : ExcerptSoFar) (key : ScheduleKey) (entry : Entry) → OfOneUid done so_far
+      → OfOneUid (done ++ (schedule_key key, entry) ∷ []) (with_entry_of place so_far (schedule_key key) entry)
+  one_uid_schedule done so_far key entry here = by (goes_on so_far.run key.uid) refl
+    where
+      own : has_uid key.uid (schedule_key key) ≡ true
+      own = (bytes_eq-Decides key.uid key.uid).1 refl
+
+      by : (b : Bool) → goes_on so_far.run key.uid ≡ b → OfOneUid (done ++ (schedule_key key, entry) ∷ [])
+          (cond b (record { kept = so_far.kept; run = so_far.run ++ (schedule_key key, entry) ∷ [] })
+          (record { kept = kept_after_run place so_far; run = (schedule_key key, entry) ∷ [] }))
+      by true goes = (key.uid, λ r among. of r (Contains-append_cases so_far.run ((schedule_key key, entry) ∷ []) r among))
+        where
+          same : here.0 ≡ key.uid
+          same = let first = goes_first so_far.run key.uid goes in uid_once here.0 key.uid first.0.0 (here.1 first.0 first.1) first.2
+
+          of : (r : Keyed) → Contains so_far.run r ⊎ Contains {X = Keyed} ((schedule_key key, entry) ∷ []) r → has_uid key.uid r.0 ≡ true
+          of r (inl inside) = subst (λ uid. has_uid uid r.0 ≡ true) same (here.1 r inside)
+          of r (inr last) = subst (λ (e : Keyed). has_uid key.uid e.0 ≡ true) (Contains-single {A = Keyed} (schedule_key key, entry) r last) own
+      by false stops =
+          (key.uid, λ r among. subst (λ (e : Keyed). has_uid key.uid e.0 ≡ true) (Contains-single {A = Keyed} (schedule_key key, entry) r among) own)
+
+  one_uid_other : (done : List Keyed) (so_far : ExcerptSoFar) (x : Keyed) (b : Bool)
+      → OfOneUid done (cond b (record { kept = kept_after_run place so_far ++ x ∷ []; run = [] }) (record { kept = kept_after_run place so_far; run = [] }))
+  one_uid_other done so_far x true = ([], λ r among. absurd (nil-Contains r among))
+  one_uid_other done so_far x false = ([], λ r among. absurd (nil-Contains r among))
+
+  one_uid_more : (done : List Keyed) (so_far : ExcerptSoFar) (key : Key) (entry : Entry) → OfOneUid done so_far
+      → OfOneUid (done ++ (key, entry) ∷ []) (with_entry_of place so_far key entry)
+  one_uid_more done so_far (schedule_key key) entry here = one_uid_schedule done so_far key entry here
+  one_uid_more done so_far (tiploc_key code) entry here = one_uid_other done so_far (tiploc_key code, entry) (is_here place (tiploc_key code))
+  one_uid_more done so_far (association_key key) entry here = one_uid_other done so_far (association_key key, entry) (is_here place (association_key key))
+
+  run_of_one_uid : (entries : List Keyed) → OfOneUid entries (kept_so_far place entries)
+  run_of_one_uid = all_along place OfOneUid (λ done so_far x here. one_uid_more done so_far x.0 x.1 here) ([], λ r among. absurd (nil-Contains r among))
+
+  -- each entry of the run is of the UID by which a schedule goes on with it
+  pub run_uid : (entries : List Keyed) (uid : List ℕ) (r : Keyed) → goes_on (kept_so_far place entries).run uid ≡ true
+      → Contains (kept_so_far place entries).run r → has_uid uid r.0 ≡ true
+  run_uid entries uid r goes among =
+      let of = run_of_one_uid entries in
+      let first = goes_first (kept_so_far place entries).run uid goes in
+      subst (λ other. has_uid other r.0 ≡ true) (uid_once of.0 uid first.0.0 (of.1 first.0 first.1) first.2) (of.1 r among)
+
+  -- where what follows in key order is no schedule, there is no run
+  pub no_run_before : (entries : List Keyed) (key : Key) (entry : Entry) → AreAscending (entries ++ (key, entry) ∷ [])
+      → ((uid : List ℕ) → has_uid uid key ≡ false) → (kept_so_far place entries).run ≡ []
+  no_run_before entries key entry up never =
+      no_member (kept_so_far place entries).run (λ r among.
+      let of = run_of_one_uid entries in
+      let inside = sublist_member ((kept_so_far place entries).kept ++ (kept_so_far place entries).run) entries r (so_far_within entries)
+      (Contains-append_right (kept_so_far place entries).kept (kept_so_far place entries).run r among) in
+      let below = later_across entries ((key, entry) ∷ []) r (key, entry) (later_of (on (λ (e : Keyed). e.0) key_cmp) (entries ++ (key, entry) ∷ []) up) inside
+      (cons-Contains-first {A = Keyed} (key, entry) []) in
+      let is = above_uid r.0 key of.0 below (of.1 r among) in
+      false_true (sym (never is.0) ∙ is.1))
+
+  -- ---- the names
+
+  abbrev at_place : List Keyed → List Keyed
+  at_place entries = filter (λ (entry : Keyed). is_here place entry.0) entries
+
+  names_more : (xs ys : List Keyed) → names_in (xs ++ ys) ≡ names_in xs ++ names_in ys
+  names_more xs ys = filter_map-append (λ (entry : Keyed). name_in entry.0 entry.1.op) xs ys
+
+  abbrev AreNamed : List Keyed → ExcerptSoFar → Type 0
+  AreNamed done so_far = (names_in so_far.kept ≡ names_in (at_place done)) × (names_in so_far.run ≡ [])
+
+  names_after_run : (done : List Keyed) (so_far : ExcerptSoFar) → AreNamed done so_far → names_in (kept_after_run place so_far) ≡ names_in (at_place done)
+  names_after_run done so_far here = by (is_run_needed place so_far)
+    where
+      by : (b : Bool) → names_in (cond b (so_far.kept ++ so_far.run) so_far.kept) ≡ names_in (at_place done)
+      by true =
+          names_more so_far.kept so_far.run
+          ∙ ap (λ (names : List (List ℕ)). names_in so_far.kept ++ names) here.1
+          ∙ append-nil (names_in so_far.kept)
+          ∙ here.0
+      by false = here.0
+
+  named_schedule : (done : List Keyed) (so_far : ExcerptSoFar) (key : ScheduleKey) (entry : Entry) → AreNamed done so_far
+      → AreNamed (done ++ (schedule_key key, entry) ∷ []) (with_entry_of place so_far (schedule_key key) entry)
+  named_schedule done so_far key entry here = by (goes_on so_far.run key.uid)
+    where
+      same : at_place (done ++ (schedule_key key, entry) ∷ []) ≡ at_place done
+      same = filter-append (λ (e : Keyed). is_here place e.0) done ((schedule_key key, entry) ∷ []) ∙ append-nil (at_place done)
+
+      by : (b : Bool) → AreNamed (done ++ (schedule_key key, entry) ∷ [])
+          (cond b (record { kept = so_far.kept; run = so_far.run ++ (schedule_key key, entry) ∷ [] })
+          (record { kept = kept_after_run place so_far; run = (schedule_key key, entry) ∷ [] }))
+      by true = (
+        here.0 ∙ ap names_in (sym same),
+        names_more so_far.run ((schedule_key key, entry) ∷ []) ∙ append-nil (names_in so_far.run) ∙ here.1,
+      )
+      by false = (names_after_run done so_far here ∙ ap names_in (sym same), refl)
+
+  named_other : (done : List Keyed) (so_far : ExcerptSoFar) (x : Keyed) (b : Bool) → is_here place x.0 ≡ b → AreNamed done so_far
+      → AreNamed (done ++ x ∷ []) (cond b (record { kept = kept_after_run place so_far ++ x ∷ []; run = [] }) (record { kept = kept_after_run place so_far; run = [] }))
+  named_other done so_far x b h here = by b same
+    where
+      same : at_place (done ++ x ∷ []) ≡ at_place done ++ cond b (x ∷ []) []
+      same =
+          filter-append (λ (e : Keyed). is_here place e.0) done (x ∷ []) ∙ (λ i. at_place done ++ cond (h i) (x ∷ []) [])
+
+      by : (c : Bool) → at_place (done ++ x ∷ []) ≡ at_place done ++ cond c (x ∷ []) []
+          → AreNamed (done ++ x ∷ []) (cond c (record { kept = kept_after_run place so_far ++ x ∷ []; run = [] })
+          (record { kept = kept_after_run place so_far; run = [] }))
+      by true is = (
+        names_more (kept_after_run place so_far) (x ∷ [])
+        ∙ ap (λ (names : List (List ℕ)). names ++ names_in (x ∷ [])) (names_after_run done so_far here)
+        ∙ sym (ap names_in is ∙ names_more (at_place done) (x ∷ [])),
+        refl,
+      )
+      by false is = (names_after_run done so_far here ∙ sym (ap names_in (is ∙ append-nil (at_place done))), refl)
+
+  named_more : (done : List Keyed) (so_far : ExcerptSoFar) (key : Key) (entry : Entry) → AreNamed done so_far
+      → AreNamed (done ++ (key, entry) ∷ []) (with_entry_of place so_far key entry)
+  named_more done so_far (schedule_key key) entry here = named_schedule done so_far key entry here
+  named_more done so_far (tiploc_key code) entry here = named_other done so_far (tiploc_key code, entry) (is_here place (tiploc_key code)) refl here
+  named_more done so_far (association_key key) entry here = named_other done so_far (association_key key, entry) (is_here place (association_key key)) refl here
+
+  -- the names in what is kept are those of the live associations at the place so far
+  pub names_so_far : (entries : List Keyed)
+      → names_in (kept_so_far place entries).kept ≡ names_in (filter (λ (entry : Keyed). is_here place entry.0) entries)
+  names_so_far entries = (all_along place AreNamed (λ done so_far x here. named_more done so_far x.0 x.1 here) (refl, refl) entries).0
+
+-- ---- one step
+
+module _ (place : List ℕ) (so_far : ExcerptSoFar) where
+  -- a schedule of the run's UID joins the run
+  pub joins_run : (key : ScheduleKey) (entry : Entry) → goes_on so_far.run key.uid ≡ true
+      → next_kept place so_far (schedule_key key, entry) ≡ record { kept = so_far.kept; run = so_far.run ++ (schedule_key key, entry) ∷ [] }
+  joins_run key entry goes = λ i.
+      cond (goes i) (record { kept = so_far.kept; run = so_far.run ++ (schedule_key key, entry) ∷ [] })
+      (record { kept = kept_after_run place so_far; run = (schedule_key key, entry) ∷ [] })
+
+  -- one of another UID ends it and begins the next
+  pub begins_run : (key : ScheduleKey) (entry : Entry) → goes_on so_far.run key.uid ≡ false
+      → next_kept place so_far (schedule_key key, entry) ≡ record { kept = kept_after_run place so_far; run = (schedule_key key, entry) ∷ [] }
+  begins_run key entry stops = λ i.
+      cond (stops i) (record { kept = so_far.kept; run = so_far.run ++ (schedule_key key, entry) ∷ [] })
+      (record { kept = kept_after_run place so_far; run = (schedule_key key, entry) ∷ [] })
+
+  -- a run that is needed is kept
+  pub keeps_run : is_run_needed place so_far ≡ true → kept_after_run place so_far ≡ so_far.kept ++ so_far.run
+  keeps_run needed = λ i. cond (needed i) (so_far.kept ++ so_far.run) so_far.kept
+
+  -- one that is not is dropped
+  pub drops_run : is_run_needed place so_far ≡ false → kept_after_run place so_far ≡ so_far.kept
+  drops_run unneeded = λ i. cond (unneeded i) (so_far.kept ++ so_far.run) so_far.kept
+
+  -- where there is none, nothing comes of it
+  pub ends_none : so_far.run ≡ [] → kept_after_run place so_far ≡ so_far.kept
+  ends_none none = subst (λ (run : List Keyed). kept_after_run place (record { kept = so_far.kept; run = run }) ≡ so_far.kept) (sym none) refl
+
+  here_then : (x : Keyed) (b : Bool) → b ≡ true → so_far.run ≡ []
+      → ◌≡◌ {A = ExcerptSoFar} (cond b (record { kept = kept_after_run place so_far ++ x ∷ []; run = [] }) (record { kept = kept_after_run place so_far; run = [] }))
+      (record { kept = so_far.kept ++ x ∷ []; run = [] })
+  here_then x true h none = λ i. record { kept = ends_none none i ++ x ∷ []; run = [] }
+  here_then x false h none = false_true h
+
+  -- a TIPLOC or an association at the place is kept
+  pub keeps_here : (key : Key) (entry : Entry) → is_here place key ≡ true → so_far.run ≡ []
+      → next_kept place so_far (key, entry) ≡ record { kept = so_far.kept ++ (key, entry) ∷ []; run = [] }
+  keeps_here (schedule_key key) entry here none = false_true here
+  keeps_here (tiploc_key code) entry here none = here_then (tiploc_key code, entry) (is_here place (tiploc_key code)) here none
+  keeps_here (association_key key) entry here none = here_then (association_key key, entry) (is_here place (association_key key)) here none
+
+  elsewhere_then : (x : Keyed) (b : Bool) → b ≡ false → so_far.run ≡ []
+      → cond b (record { kept = kept_after_run place so_far ++ x ∷ []; run = [] }) (record { kept = kept_after_run place so_far; run = [] }) ≡ so_far
+  elsewhere_then x true h none = absurd (let bad : true ≡ false = h in cc)
+  elsewhere_then x false h none = let back : [] ≡ so_far.run = sym none in λ i. record { kept = ends_none none i; run = back i }
+
+  -- one elsewhere changes nothing
+  pub drops_elsewhere : (key : Key) (entry : Entry) → ((uid : List ℕ) → has_uid uid key ≡ false) → is_here place key ≡ false → so_far.run ≡ []
+      → next_kept place so_far (key, entry) ≡ so_far
+  drops_elsewhere (schedule_key key) entry never elsewhere none = false_true (sym (never key.uid) ∙ (bytes_eq-Decides key.uid key.uid).1 refl)
+  drops_elsewhere (tiploc_key code) entry never elsewhere none = elsewhere_then (tiploc_key code, entry) (is_here place (tiploc_key code)) elsewhere none
+  drops_elsewhere (association_key key) entry never elsewhere none =
+      elsewhere_then (association_key key, entry) (is_here place (association_key key)) elsewhere none
+
+-- whether a run is named, by its first schedule
+named_iff : (names : List (List ℕ)) (key : ScheduleKey) (entry : Entry) (others : List Keyed)
+    → (is_run_named names ((schedule_key key, entry) ∷ others) ≡ true) ↔ Contains names key.uid
+named_iff names key entry others = (
+  λ h.
+      let found = any_back (λ name. bytes_eq key.uid name) names h in
+      subst (Contains names) (sym ((bytes_eq-Decides key.uid found.0).0 found.2)) found.1,
+  λ among. any_forth (λ name. bytes_eq key.uid name) names key.uid among ((bytes_eq-Decides key.uid key.uid).1 refl),
+)
+
+-- what is known of a run as the walk has it: it is needed where what is kept names its UID, or a live schedule of it calls at the place
+pub run_needed_iff : (place : List ℕ) (so_far : ExcerptSoFar) (key : ScheduleKey) (entry : Entry) (others : List Keyed)
+    → so_far.run ≡ (schedule_key key, entry) ∷ others
+    → (is_run_needed place so_far ≡ true)
+    ↔ (Contains (names_in so_far.kept) key.uid ⊎ ((r : Keyed) × Contains so_far.run r × (is_call place r.1.op ≡ true)))
+run_needed_iff place so_far key entry others is = (λ h. forth (either (is_run_named (names_in so_far.kept) so_far.run) (is_run_calling place so_far.run) h), back)
+  where
+    named : (is_run_named (names_in so_far.kept) so_far.run ≡ true) ↔ Contains (names_in so_far.kept) key.uid
+    named =
+        subst (λ (run : List Keyed). (is_run_named (names_in so_far.kept) run ≡ true) ↔ Contains (names_in so_far.kept) key.uid) (sym is)
+        (named_iff (names_in so_far.kept) key entry others)
+
+    forth : (is_run_named (names_in so_far.kept) so_far.run ≡ true) ⊎ (is_run_calling place so_far.run ≡ true)
+        → Contains (names_in so_far.kept) key.uid ⊎ ((r : Keyed) × Contains so_far.run r × (is_call place r.1.op ≡ true))
+    forth (inl h) = inl (named.0 h)
+    forth (inr h) = inr (any_back (λ (e : Keyed). is_call place e.1.op) so_far.run h)
+
+    back : Contains (names_in so_far.kept) key.uid ⊎ ((r : Keyed) × Contains so_far.run r × (is_call place r.1.op ≡ true))
+        → is_run_needed place so_far ≡ true
+    back (inl among) = or_left (is_run_named (names_in so_far.kept) so_far.run) (is_run_calling place so_far.run) (named.1 among)
+    back (inr call) =
+        or_right (is_run_named (names_in so_far.kept) so_far.run) (is_run_calling place so_far.run)
+        (any_forth (λ (e : Keyed). is_call place e.1.op) so_far.run call.0 call.1 call.2)
+
+or_false : (b : Bool) → (b || false) ≡ b
+or_false true = refl
+or_false false = refl
+
+-- a run calls with an entry more where it did before, or the entry calls
+pub calls_more : (place : List ℕ) (run : List Keyed) (entry : Keyed)
+    → is_run_calling place (run ++ entry ∷ []) ≡ (is_run_calling place run || is_call place entry.1.op)
+calls_more place run entry =
+    list_any-append (λ (e : Keyed). is_call place e.1.op) run (entry ∷ [])
+    ∙ ap (λ b. is_run_calling place run || b) (or_false (is_call place entry.1.op))
+
+-- what is kept names those that it named, and what an entry more does
+pub names_with : (xs : List Keyed) (entry : Keyed) → names_in (xs ++ entry ∷ []) ≡ names_in xs ++ names_in (entry ∷ [])
+names_with xs entry = filter_map-append (λ (e : Keyed). name_in e.0 e.1.op) xs (entry ∷ [])
+
+-- ---- what is kept in the end
+
+-- an entry that is live is live with its body
+live_of : (state : State) → AreAscending state.entries → (key : Key) (entry : Entry) → Contains state.entries (key, entry)
+    → live_table state key ≡ body_of entry.op
+live_of state up key entry among = ap (λ (found : Option Entry). option_and_then (λ (e : Entry). body_of e.op) found) ((entry_at_iff state up key entry).1 among)
+
+call_back : (place : List ℕ) (op : Op) → is_call place op ≡ true → (lines : List (List ℕ)) × (op ≡ put_with (schedule_body lines)) × CallsAt place lines
+call_back place deleted h = false_true h
+call_back place lapsed h = false_true h
+call_back place (put_with (tiploc_body bytes)) h = false_true h
+call_back place (put_with (association_body line)) h = false_true h
+call_back place (put_with (schedule_body lines)) h = (lines, refl, (calls_test place lines).0 h)
+
+-- what a name in an entry comes from
+record NamesIt (key : Key) (op : Op) (name : List ℕ) : Type 0 where
+  association : AssociationKey
+  line : List ℕ
+  key_is : key ≡ association_key association
+  op_is : op ≡ put_with (association_body line)
+  name_is : association.associated ≡ name
+
+name_back : (key : Key) (op : Op) (name : List ℕ) → name_in key op ≡ Some name → NamesIt key op name
+name_back (association_key key) (put_with (association_body line)) name h =
+    let same : key.associated ≡ name = cc in record { association = key; line = line; key_is = refl; op_is = refl; name_is = same }
+name_back (association_key key) (put_with (tiploc_body bytes)) name h = none_some name h
+name_back (association_key key) (put_with (schedule_body lines)) name h = none_some name h
+name_back (association_key key) deleted name h = none_some name h
+name_back (association_key key) lapsed name h = none_some name h
+name_back (tiploc_key code) op name h = none_some name h
+name_back (schedule_key key) op name h = none_some name h
+
+uid_back : (uid : List ℕ) (key : Key) → has_uid uid key ≡ true → (schedule : ScheduleKey) × (key ≡ schedule_key schedule) × (schedule.uid ≡ uid)
+uid_back uid (schedule_key key) h = (key, refl, (bytes_eq-Decides key.uid uid).0 h)
+uid_back uid (tiploc_key code) h = false_true h
+uid_back uid (association_key key) h = false_true h
+
+at_location : (place : List ℕ) (key : Key) (association : AssociationKey) → key ≡ association_key association → is_here place key ≡ true
+    → association.location ≡ place
+at_location place key association is here =
+    (bytes_eq-Decides association.location place).0 (subst (λ k. is_here place k ≡ true) is here)
+
+module _ (place : List ℕ) (state : State) (up : AreAscending state.entries) where
+  concerned_back : (uid : List ℕ) → (list_any (names_as place uid) state.entries ≡ true) ⊎ (list_any (calls_as place uid) state.entries ≡ true)
+      → IsConcerned (live_table state) place uid
+  concerned_back uid (inr calls) =
+      let found = any_back (calls_as place uid) state.entries calls in
+      let parts = both (has_uid uid found.0.0) (is_call place found.0.1.op) found.2 in
+      let schedule = uid_back uid found.0.0 parts.0 in
+      let call = call_back place found.0.1.op parts.1 in
+      inl (record {
+        key = schedule.0;
+        lines = call.0;
+        uid_is = schedule.2;
+        calling = record {
+          is_live = ap (live_table state) (sym schedule.1) ∙ live_of state up found.0.0 found.0.1 found.1 ∙ ap body_of call.1;
+          calls = call.2;
+        };
+      })
+  concerned_back uid (inl names) =
+      let found = any_back (names_as place uid) state.entries names in
+      let parts = both (is_here place found.0.0) (is_name uid (name_in found.0.0 found.0.1.op)) found.2 in
+      let name = name_of uid (name_in found.0.0 found.0.1.op) parts.1 in
+      let from = name_back found.0.0 found.0.1.op name.0 name.1 in
+      inr (record {
+        key = from.association;
+        line = from.line;
+        associated_is = from.name_is ∙ name.2;
+        linked = record {
+          is_live = ap (live_table state) (sym from.key_is) ∙ live_of state up found.0.0 found.0.1 found.1 ∙ ap body_of from.op_is;
+          here = at_location place found.0.0 from.association from.key_is parts.0;
+        };
+      })
+
+  passes_needed : (key : Key) → is_needed place state.entries key ≡ true → IsNeeded (live_table state) place key
+  passes_needed (tiploc_key code) h = (bytes_eq-Decides code place).0 h
+  passes_needed (association_key key) h = (bytes_eq-Decides key.location place).0 h
+  passes_needed (schedule_key key) h =
+      concerned_back key.uid (either (list_any (names_as place key.uid) state.entries) (list_any (calls_as place key.uid) state.entries) h)
+
+  -- the walk leaves the entries whose keys are needed, and no others
+  pub excerpt_members : (key : Key) (entry : Entry)
+      → Contains (excerpt_for place state).entries (key, entry) ↔ (Contains state.entries (key, entry) × IsNeeded (live_table state) place key)
+  excerpt_members key entry =
+      subst (λ (kept : List Keyed). Contains kept (key, entry) ↔ (Contains state.entries (key, entry) × IsNeeded (live_table state) place key))
+      (sym (walk_keeps place state.entries (later_of (on (λ (e : Keyed). e.0) key_cmp) state.entries up)))
+      (
+        λ among.
+            let told = filter_back (λ (e : Keyed). is_needed place state.entries e.0) state.entries (key, entry) among in
+            (told.0, passes_needed key told.1),
+        λ told. filter_forth (λ (e : Keyed). is_needed place state.entries e.0) state.entries (key, entry) told.0 (needed_passes place state key told.1),
+      )
