@@ -1,10 +1,16 @@
 //! Laws of excerpts: what is left out of a table or a state for one place changes no docker of that place. Each is the contract of a function with no body: it holds of all that it names.
-ghost use Rattle.std.specs.Prelude.{ℕ, List, ◌↔◌};
+ghost use Rattle.std.specs.Prelude.{◌≡◌, ℕ, List, [], ◌∷◌, ◌++◌, ◌↔◌, ◌||◌, ◌⊎◌, Contains, filter, true, false};
+ghost use Rattle.docker_model.specs.file.Change.{Key, schedule_key, ScheduleKey};
+ghost use Rattle.docker_model.specs.state.Stamp.{LedgerItem};
+ghost use Rattle.docker_model.specs.state.Op.{Entry};
 ghost use Rattle.docker_model.specs.state.Table.{Table};
+ghost use Rattle.docker_model.specs.state.Lapse.{IsDayRefused};
+ghost use Rattle.docker_model.specs.state.State.{State, IsValid, AreAscending, AreEntries, live_table, HasGoodBodies};
 ghost use Rattle.docker_model.specs.docker.DockerLine.{DockerLine};
 ghost use Rattle.docker_model.specs.docker.DockerList.{IsDockerList};
 ghost use Rattle.docker_model.specs.docker.DockerText.{IsDockerText};
-ghost use Rattle.docker_model.specs.docker.Excerpt.{IsExcerpt};
+ghost use Rattle.docker_model.specs.docker.Excerpt.{IsNeeded, IsExcerpt, IsSublist, IsExcerptState};
+ghost use Rattle.docker_model.specs.docker.ExcerptWalk.{ExcerptSoFar, nothing_kept, is_here, has_uid, names_in, is_call, is_run_calling, is_run_needed, kept_after_run, goes_on, next_kept, kept_from, kept_so_far, excerpt_for};
 
 /// A table and each excerpt of it for a place have on each day one docker there.
 pub fn excerpt_has_one_docker()
@@ -14,4 +20,106 @@ pub fn excerpt_has_one_docker()
     ensures text { (place : List ℕ) (live part : Table) (day : ℕ) (text : List ℕ)
         → IsExcerpt place live part
         → IsDockerText live place day text ↔ IsDockerText part place day text }
+    ensures good { (place : List ℕ) (live part : Table)
+        → IsExcerpt place live part → HasGoodBodies live → HasGoodBodies part }
+{}
+
+/// An excerpt of a valid state for a place is valid, refuses the same days and prints the same dockers there. An excerpt of an excerpt is one, and a state is one of itself.
+pub fn excerpt_of_state()
+    ensures valid { (place : List ℕ) (state part : State)
+        → IsValid state → IsExcerptState place state part → IsValid part }
+    ensures refused { (place : List ℕ) (state part : State) (day : ℕ)
+        → IsExcerptState place state part
+        → IsDayRefused state.horizon day ↔ IsDayRefused part.horizon day }
+    ensures list { (place : List ℕ) (state part : State) (day : ℕ) (lines : List DockerLine)
+        → IsExcerptState place state part
+        → IsDockerList (live_table state) place day lines
+        ↔ IsDockerList (live_table part) place day lines }
+    ensures text { (place : List ℕ) (state part : State) (day : ℕ) (text : List ℕ)
+        → IsExcerptState place state part
+        → IsDockerText (live_table state) place day text
+        ↔ IsDockerText (live_table part) place day text }
+    ensures itself { (place : List ℕ) (state : State) → IsExcerptState place state state }
+    ensures again { (place : List ℕ) (state part smaller : State)
+        → IsExcerptState place state part → IsExcerptState place part smaller
+        → IsExcerptState place state smaller }
+    ensures some { (ledger : List LedgerItem) (some all : List (Key × Entry))
+        → AreEntries ledger all → IsSublist some all → AreEntries ledger some }
+{}
+
+/// What the walk over a state's entries in key order leaves is an excerpt: the entries whose keys are needed at the place, and no others.
+pub fn walk_leaves_excerpt()
+    ensures is { (place : List ℕ) (state : State)
+        → AreAscending state.entries → IsExcerptState place state (excerpt_for place state) }
+    ensures members { (place : List ℕ) (state : State) (key : Key) (entry : Entry)
+        → AreAscending state.entries → Contains (excerpt_for place state).entries (key, entry)
+        ↔ (Contains state.entries (key, entry) × IsNeeded (live_table state) place key) }
+{}
+
+/// That walk, entry by entry: from its beginning on, and from any entry to its end. What it has kept and its run are some of the entries so far.
+pub fn excerpt_in_a_walk()
+    ensures none { (place : List ℕ) → kept_so_far place [] ≡ nothing_kept }
+    ensures more { (place : List ℕ) (entries : List (Key × Entry)) (entry : Key × Entry)
+        → kept_so_far place (entries ++ entry ∷ [])
+        ≡ next_kept place (kept_so_far place entries) entry }
+    ensures end { (place : List ℕ) (state : State) → (excerpt_for place state).entries
+        ≡ kept_after_run place (kept_so_far place state.entries) }
+    ensures from { (place : List ℕ) (front rest : List (Key × Entry))
+        → kept_from place (kept_so_far place front) rest
+        ≡ kept_after_run place (kept_so_far place (front ++ rest)) }
+    ensures from_more { (place : List ℕ) (so_far : ExcerptSoFar) (entry : Key × Entry)
+        (rest : List (Key × Entry)) → kept_from place so_far (entry ∷ rest)
+        ≡ kept_from place (next_kept place so_far entry) rest }
+    ensures from_end { (place : List ℕ) (so_far : ExcerptSoFar)
+        → kept_from place so_far [] ≡ kept_after_run place so_far }
+    ensures within { (place : List ℕ) (entries : List (Key × Entry))
+        → IsSublist ((kept_so_far place entries).kept ++ (kept_so_far place entries).run) entries }
+    ensures good { (place : List ℕ) (ledger : List LedgerItem) (entries : List (Key × Entry))
+        → AreEntries ledger entries → AreEntries ledger ((kept_so_far place entries).kept
+        ++ (kept_so_far place entries).run) }
+{}
+
+/// One step of that walk. In key order no run is pending where a TIPLOC or an association comes: it is kept where it is at the place. A schedule joins the run of its UID, or ends the run and begins the next.
+pub fn excerpt_by_entry()
+    ensures no_run { (place : List ℕ) (entries : List (Key × Entry)) (key : Key) (entry : Entry)
+        → AreAscending (entries ++ (key, entry) ∷ [])
+        → ((uid : List ℕ) → has_uid uid key ≡ false) → (kept_so_far place entries).run ≡ [] }
+    ensures here { (place : List ℕ) (so_far : ExcerptSoFar) (key : Key) (entry : Entry)
+        → is_here place key ≡ true → so_far.run ≡ [] → next_kept place so_far (key, entry)
+        ≡ record { kept = so_far.kept ++ (key, entry) ∷ []; run = [] } }
+    ensures elsewhere { (place : List ℕ) (so_far : ExcerptSoFar) (key : Key) (entry : Entry)
+        → ((uid : List ℕ) → has_uid uid key ≡ false) → is_here place key ≡ false
+        → so_far.run ≡ [] → next_kept place so_far (key, entry) ≡ so_far }
+    ensures joins { (place : List ℕ) (so_far : ExcerptSoFar) (key : ScheduleKey) (entry : Entry)
+        → goes_on so_far.run key.uid ≡ true → next_kept place so_far (schedule_key key, entry)
+        ≡ record { kept = so_far.kept; run = so_far.run ++ (schedule_key key, entry) ∷ [] } }
+    ensures begins { (place : List ℕ) (so_far : ExcerptSoFar) (key : ScheduleKey) (entry : Entry)
+        → goes_on so_far.run key.uid ≡ false → next_kept place so_far (schedule_key key, entry)
+        ≡ record { kept = kept_after_run place so_far; run = (schedule_key key, entry) ∷ [] } }
+{}
+
+/// The end of a run: it is kept as a whole where it is needed, and else dropped as a whole. It is needed where a live association at the place names its UID, or a live schedule of it calls there.
+pub fn run_of_one_uid()
+    ensures keeps { (place : List ℕ) (so_far : ExcerptSoFar)
+        → is_run_needed place so_far ≡ true
+        → kept_after_run place so_far ≡ so_far.kept ++ so_far.run }
+    ensures drops { (place : List ℕ) (so_far : ExcerptSoFar)
+        → is_run_needed place so_far ≡ false → kept_after_run place so_far ≡ so_far.kept }
+    ensures none { (place : List ℕ) (so_far : ExcerptSoFar) → so_far.run ≡ []
+        → kept_after_run place so_far ≡ so_far.kept }
+    ensures needed { (place : List ℕ) (so_far : ExcerptSoFar) (key : ScheduleKey) (entry : Entry)
+        (others : List (Key × Entry)) → so_far.run ≡ (schedule_key key, entry) ∷ others
+        → (is_run_needed place so_far ≡ true) ↔ (Contains (names_in so_far.kept) key.uid
+        ⊎ ((one : Key × Entry) × Contains so_far.run one × (is_call place one.1.op ≡ true))) }
+    ensures calls { (place : List ℕ) (run : List (Key × Entry)) (entry : Key × Entry)
+        → is_run_calling place (run ++ entry ∷ [])
+        ≡ (is_run_calling place run || is_call place entry.1.op) }
+    ensures names { (place : List ℕ) (entries : List (Key × Entry))
+        → names_in (kept_so_far place entries).kept
+        ≡ names_in (filter (λ (entry : Key × Entry). is_here place entry.0) entries) }
+    ensures more_names { (entries : List (Key × Entry)) (entry : Key × Entry)
+        → names_in (entries ++ entry ∷ []) ≡ names_in entries ++ names_in (entry ∷ []) }
+    ensures one_uid { (place : List ℕ) (entries : List (Key × Entry)) (uid : List ℕ)
+        (one : Key × Entry) → goes_on (kept_so_far place entries).run uid ≡ true
+        → Contains (kept_so_far place entries).run one → has_uid uid one.0 ≡ true }
 {}

@@ -234,8 +234,8 @@ module _ (place : List ℕ) where
           (record { kept = kept_after_run place so_far; run = [] }))
       by true is = (
         names_more (kept_after_run place so_far) (x ∷ [])
-        ∙ ap (λ (names : List (List ℕ)). names ++ names_in (x ∷ [])) (names_after_run done so_far here)
-        ∙ sym (ap names_in is ∙ names_more (at_place done) (x ∷ [])),
+            ∙ ap (λ (names : List (List ℕ)). names ++ names_in (x ∷ [])) (names_after_run done so_far here)
+            ∙ sym (ap names_in is ∙ names_more (at_place done) (x ∷ [])),
         refl,
       )
       by false is = (names_after_run done so_far here ∙ sym (ap names_in (is ∙ append-nil (at_place done))), refl)
@@ -440,8 +440,7 @@ module _ (place : List ℕ) (state : State) (up : AreAscending state.entries) wh
       → Contains (excerpt_for place state).entries (key, entry) ↔ (Contains state.entries (key, entry) × IsNeeded (live_table state) place key)
   excerpt_members key entry =
       subst (λ (kept : List Keyed). Contains kept (key, entry) ↔ (Contains state.entries (key, entry) × IsNeeded (live_table state) place key))
-      (sym (walk_keeps place state.entries (later_of (on (λ (e : Keyed). e.0) key_cmp) state.entries up)))
-      (
+      (sym (walk_keeps place state.entries (later_of (on (λ (e : Keyed). e.0) key_cmp) state.entries up))) (
         λ among.
             let told = filter_back (λ (e : Keyed). is_needed place state.entries e.0) state.entries (key, entry) among in
             (told.0, passes_needed key told.1),

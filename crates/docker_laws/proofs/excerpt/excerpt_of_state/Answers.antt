@@ -1,0 +1,25 @@
+use Rattle.docker_model.specs.state.State.{live_table}
+use Rattle.docker_laws.proofs.dockers.ExcerptDocker.{excerpt_list_iff, excerpt_text_iff}
+use Rattle.docker_laws.proofs.dockers.ExcerptState.{excerpt_valid, excerpt_refuses, excerpt_itself, excerpt_again, some_entries}
+use Rattle.docker_laws.proofs.excerpt.excerpt_of_state.Goals as goal
+
+pub returns-clause-valid : goal.returns-clause-valid
+returns-clause-valid c = excerpt_valid
+
+pub returns-clause-refused : goal.returns-clause-refused
+returns-clause-refused c = excerpt_refuses
+
+pub returns-clause-list : goal.returns-clause-list
+returns-clause-list c = λ place state part day lines is. excerpt_list_iff place (live_table state) (live_table part) is.live day lines
+
+pub returns-clause-text : goal.returns-clause-text
+returns-clause-text c = λ place state part day text is. excerpt_text_iff place (live_table state) (live_table part) is.live day text
+
+pub returns-clause-itself : goal.returns-clause-itself
+returns-clause-itself c = excerpt_itself
+
+pub returns-clause-again : goal.returns-clause-again
+returns-clause-again c = excerpt_again
+
+pub returns-clause-some : goal.returns-clause-some
+returns-clause-some c = some_entries
