@@ -13,3 +13,4 @@ pub mod HorizonExamples
 pub mod StagingExamples
 pub mod RunExamples
 pub mod GatherExamples
+pub mod ExcerptExamples

@@ -45,6 +45,8 @@ pub fn excerpt_of_state()
         → IsExcerptState place state smaller }
     ensures some { (ledger : List LedgerItem) (some all : List (Key × Entry))
         → AreEntries ledger all → IsSublist some all → AreEntries ledger some }
+    ensures some_valid { (state part : State) → IsValid state → part.horizon ≡ state.horizon
+        → part.ledger ≡ state.ledger → IsSublist part.entries state.entries → IsValid part }
 {}
 
 /// What the walk over a state's entries in key order leaves is an excerpt: the entries whose keys are needed at the place, and no others.
@@ -74,6 +76,8 @@ pub fn excerpt_in_a_walk()
         → kept_from place so_far [] ≡ kept_after_run place so_far }
     ensures within { (place : List ℕ) (entries : List (Key × Entry))
         → IsSublist ((kept_so_far place entries).kept ++ (kept_so_far place entries).run) entries }
+    ensures after_run { (place : List ℕ) (so_far : ExcerptSoFar)
+        → IsSublist (kept_after_run place so_far) (so_far.kept ++ so_far.run) }
     ensures good { (place : List ℕ) (ledger : List LedgerItem) (entries : List (Key × Entry))
         → AreEntries ledger entries → AreEntries ledger ((kept_so_far place entries).kept
         ++ (kept_so_far place entries).run) }

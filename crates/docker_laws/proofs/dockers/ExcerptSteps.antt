@@ -55,7 +55,8 @@ module _ (place : List ℕ) (P : List Keyed → ExcerptSoFar → Type 0)
 
 -- ---- what is kept and the run are some of the entries so far
 
-after_run_within : (place : List ℕ) (so_far : ExcerptSoFar) → IsSublist (kept_after_run place so_far) (so_far.kept ++ so_far.run)
+-- what is kept where the run ends is some of what was kept and of the run
+pub after_run_within : (place : List ℕ) (so_far : ExcerptSoFar) → IsSublist (kept_after_run place so_far) (so_far.kept ++ so_far.run)
 after_run_within place so_far = by (is_run_needed place so_far)
   where
     by : (b : Bool) → IsSublist (cond b (so_far.kept ++ so_far.run) so_far.kept) (so_far.kept ++ so_far.run)

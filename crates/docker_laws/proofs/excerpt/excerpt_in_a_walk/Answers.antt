@@ -1,5 +1,5 @@
 use Rattle.std.proofs.Common.{refl}
-use Rattle.docker_laws.proofs.dockers.ExcerptSteps.{so_far_more, kept_from_there, so_far_within, so_far_good}
+use Rattle.docker_laws.proofs.dockers.ExcerptSteps.{so_far_more, kept_from_there, so_far_within, so_far_good, after_run_within}
 use Rattle.docker_laws.proofs.excerpt.excerpt_in_a_walk.Goals as goal
 
 pub returns-clause-none : goal.returns-clause-none
@@ -25,3 +25,6 @@ returns-clause-within c = so_far_within
 
 pub returns-clause-good : goal.returns-clause-good
 returns-clause-good c = so_far_good
+
+pub returns-clause-after_run : goal.returns-clause-after_run
+returns-clause-after_run c = after_run_within

@@ -1,0 +1,285 @@
+-- Worked excerpts for COLWELL: what is needed there, what the walk leaves, and what a docker would lose without it.
+use Rattle.std.proofs.Common.{◌≡◌, ℕ, List, [], ◌∷◌, refl, inl, inr, Some, None, arith, ap, ◌∙◌, subst, Contains, ◌⊎◌}
+use Rattle.std.specs.Prelude.{codes, slice_index}
+use Rattle.jiff_core.specs.Calendar.{days_from_civil, day_count, days_of_years, days_of_months}
+use Rattle.docker_model.specs.records.PrintedTime.{spaces}
+use Rattle.docker_model.specs.file.Change.{Key, tiploc_key, schedule_key, association_key, ScheduleKey, AssociationKey, Body, tiploc_body, schedule_body, association_body}
+use Rattle.docker_model.specs.state.Op.{Entry, Op, deleted, lapsed, put_with, body_of}
+use Rattle.docker_model.specs.state.State.{State, AreAscending, live_table}
+use Rattle.docker_model.specs.docker.Choice.{TrainRuns, schedule_choice_cmp}
+use Rattle.docker_model.specs.docker.Association.{IsPartnerIdentity}
+use Rattle.docker_model.specs.docker.Excerpt.{IsNeeded, IsExcerpt, IsExcerptState}
+use Rattle.docker_model.specs.docker.ExcerptWalk.{excerpt_for}
+use Rattle.docker_model.specs.state.Order.{IsAtMost}
+use Rattle.docker_laws.proofs.records.Builders.{no_text, bs, lo, lt, aa}
+use Rattle.docker_laws.proofs.lists.Membership.{Contains-cons, Contains-single}
+use Rattle.docker_laws.proofs.states.PlainTable.{Keyed}
+use Rattle.docker_laws.proofs.examples.ChoiceExamples.{in_state, some_stamp}
+use Rattle.docker_laws.proofs.indexes.CallsTest.{calls_test}
+use Rattle.docker_laws.proofs.dockers.ExcerptWalk.{walk_is_excerpt}
+
+abbrev place : List ℕ
+place = codes "COLWELL"
+
+abbrev with_op : Key → Op → Keyed
+with_op key op = (key, record { stamp = some_stamp; op = op })
+
+abbrev put_in : Key → Body → Keyed
+put_in key body = with_op key (put_with body)
+
+abbrev state_of : List Keyed → State
+state_of entries = record { horizon = 0; ledger = []; entries = entries }
+
+-- a schedule of a week, from one TIPLOC to another
+abbrev week : List ℕ → List ℕ → List ℕ → List ℕ → List (List ℕ)
+week uid identity origin terminus =
+    bs (codes "N") uid (codes "240610") (codes "240616") (codes "1111111") identity (codes "P")
+    ∷ lo origin no_text (codes "2300") no_text (codes "1") no_text
+    ∷ lt terminus no_text (codes "2350") no_text (codes "1") no_text ∷ []
+
+-- an overlay of one day
+abbrev one_day : List ℕ → List ℕ → List ℕ → List ℕ → List (List ℕ)
+one_day uid identity origin terminus =
+    bs (codes "N") uid (codes "240611") (codes "240611") (codes "0100000") identity (codes "O")
+    ∷ lo origin no_text (codes "2300") no_text (codes "1") no_text
+    ∷ lt terminus no_text (codes "2350") no_text (codes "1") no_text ∷ []
+
+abbrev key_of : List ℕ → ℕ → ℕ → ScheduleKey
+key_of uid day letter = record { uid = uid; runs_from = day; indicator = letter }
+
+-- ---- an overlay that does not call there, of a UID that does on other days
+
+abbrev stops : List (List ℕ)
+stops = week (codes "C40001") (codes "4D40") (codes "ASHFELD") (codes "COLWELL")
+
+abbrev short : List (List ℕ)
+short = one_day (codes "C40001") (codes "4D40") (codes "ASHFELD") (codes "BRAYTON")
+
+abbrev stops_key : ScheduleKey
+stops_key = key_of (codes "C40001") 23537 80
+
+abbrev short_key : ScheduleKey
+short_key = key_of (codes "C40001") 23538 79
+
+abbrev overlaid : State
+overlaid = state_of (put_in (schedule_key stops_key) (schedule_body stops) ∷ put_in (schedule_key short_key) (schedule_body short) ∷ [])
+
+-- without the overlay
+abbrev alone : State
+alone = state_of (put_in (schedule_key stops_key) (schedule_body stops) ∷ [])
+
+schedule_in : Key → ScheduleKey
+schedule_in (schedule_key key) = key
+schedule_in _ = stops_key
+
+only_stops : (other : ScheduleKey) (others : List (List ℕ)) → live_table alone (schedule_key other) ≡ Some (schedule_body others) → stops_key ≡ other
+unfolding schedule_in
+only_stops other others h =
+    let found = in_state alone (schedule_key other) (schedule_body others) h in
+    ap (λ (pair : Keyed). schedule_in pair.0)
+    (Contains-single {A = Keyed} (put_in (schedule_key stops_key) (schedule_body stops)) (schedule_key other, found.0) found.1)
+
+-- it does not run by the permanent schedule on the day of the overlay
+runs_by_overlay : ¬ TrainRuns (live_table overlaid) (codes "C40001") 23538 stops_key stops
+unfolding days_from_civil day_count days_of_years days_of_months
+runs_by_overlay runs = runs.chosen.first short_key short (record { uid_is = refl; is_live = refl; runs_then = refl }) refl
+
+-- and would without the overlay
+would_stop : TrainRuns (live_table alone) (codes "C40001") 23538 stops_key stops
+unfolding days_from_civil day_count days_of_years days_of_months
+would_stop = record {
+  chosen = record {
+    running = record { uid_is = refl; is_live = refl; runs_then = refl };
+    first = λ other others running.
+        subst (λ (k : ScheduleKey). IsAtMost schedule_choice_cmp stops_key k) (only_stops other others running.is_live) (λ greater. cc);
+  };
+  no_cancellation = λ cancelled. omega arith;
+}
+
+-- so the overlay is needed
+overlay_is_needed : IsNeeded (live_table overlaid) place (schedule_key short_key)
+overlay_is_needed = inl (record {
+  key = stops_key;
+  lines = stops;
+  uid_is = refl;
+  calling = record { is_live = refl; calls = (calls_test place stops).0 refl };
+})
+
+alone_is_no_excerpt : ¬ IsExcerpt place (live_table overlaid) (live_table alone)
+alone_is_no_excerpt is = by (is (schedule_key short_key))
+  where
+    by : (live_table alone (schedule_key short_key) ≡ live_table overlaid (schedule_key short_key))
+        ⊎ ((live_table alone (schedule_key short_key) ≡ None) × ¬ IsNeeded (live_table overlaid) place (schedule_key short_key)) → ⊥
+    by (inl same) = let bad : None ≡ Some (schedule_body short) = same in cc
+    by (inr none) = none.1 overlay_is_needed
+
+overlay_is_kept : (excerpt_for place overlaid).entries ≡ overlaid.entries
+overlay_is_kept = refl
+
+-- ---- a partner that does not call there
+
+abbrev partner : List (List ℕ)
+partner = week (codes "C40002") (codes "4D42") (codes "BRAYTON") (codes "ASHFELD")
+
+abbrev partner_key : ScheduleKey
+partner_key = key_of (codes "C40002") 23537 80
+
+abbrev link : List ℕ
+link =
+    aa (codes "N") (codes "C40001") (codes "C40002") (codes "240610") (codes "240616") (codes "1111111") (codes "NP") (codes "S")
+    (codes "COLWELL") no_text no_text (codes "P")
+
+abbrev link_key : AssociationKey
+link_key = record { base = codes "C40001"; associated = codes "C40002"; start = 23537; location = codes "COLWELL"; suffix = 32; indicator = 80 }
+
+abbrev joined : State
+joined = state_of (
+    put_in (association_key link_key) (association_body link) ∷ put_in (schedule_key stops_key) (schedule_body stops)
+    ∷ put_in (schedule_key partner_key) (schedule_body partner) ∷ []
+    )
+
+-- without the partner
+abbrev parted : State
+parted = state_of (put_in (association_key link_key) (association_body link) ∷ put_in (schedule_key stops_key) (schedule_body stops) ∷ [])
+
+-- the UIDs differ in their last digit
+uids_differ : codes "C40001" ≡ codes "C40002" → ⊥
+uids_differ same = let last : ◌≡◌ {A = ℕ} 49 50 = ap (λ bytes. slice_index bytes 5) same in omega arith
+
+not_first : (other : ScheduleKey) (entry : Entry) → other.uid ≡ codes "C40002" → ¬ (put_in (association_key link_key) (association_body link) ≡ (schedule_key other, entry))
+not_first other entry uid same = let bad : association_key link_key ≡ schedule_key other = ap (λ (pair : Keyed). pair.0) same in cc
+
+not_second : (other : ScheduleKey) (entry : Entry) → other.uid ≡ codes "C40002"
+    → ¬ (put_in (schedule_key stops_key) (schedule_body stops) ≡ (schedule_key other, entry))
+unfolding schedule_in
+not_second other entry uid same = uids_differ (ap (λ (pair : Keyed). (schedule_in pair.0).uid) same ∙ uid)
+
+-- the partner's schedule is the only one of its UID
+only_partner : (other : ScheduleKey) (others : List (List ℕ)) → other.uid ≡ codes "C40002"
+    → live_table joined (schedule_key other) ≡ Some (schedule_body others) → partner_key ≡ other
+unfolding schedule_in
+only_partner other others uid h = first (Contains-cons {A = Keyed} (put_in (association_key link_key) (association_body link)) (stops_entry ∷ partner_entry ∷ []) (schedule_key other, found.0) found.1)
+  where
+    stops_entry : Keyed
+    stops_entry = put_in (schedule_key stops_key) (schedule_body stops)
+
+    partner_entry : Keyed
+    partner_entry = put_in (schedule_key partner_key) (schedule_body partner)
+
+    found : (entry : Entry) × Contains joined.entries (schedule_key other, entry) × (body_of entry.op ≡ Some (schedule_body others))
+    found = in_state joined (schedule_key other) (schedule_body others) h
+
+    second : (stops_entry ≡ (schedule_key other, found.0)) ⊎ Contains (partner_entry ∷ []) (schedule_key other, found.0) → partner_key ≡ other
+    second (inl same) = absurd (not_second other found.0 uid same)
+    second (inr rest) = ap (λ (pair : Keyed). schedule_in pair.0) (Contains-single {A = Keyed} partner_entry (schedule_key other, found.0) rest)
+
+    first : (put_in (association_key link_key) (association_body link) ≡ (schedule_key other, found.0))
+        ⊎ Contains (stops_entry ∷ partner_entry ∷ []) (schedule_key other, found.0) → partner_key ≡ other
+    first (inl same) = absurd (not_first other found.0 uid same)
+    first (inr rest) = second (Contains-cons {A = Keyed} stops_entry (partner_entry ∷ []) (schedule_key other, found.0) rest)
+
+no_partner : (other : ScheduleKey) (others : List (List ℕ)) → other.uid ≡ codes "C40002"
+    → ¬ (live_table parted (schedule_key other) ≡ Some (schedule_body others))
+no_partner other others uid h = first (Contains-cons {A = Keyed} (put_in (association_key link_key) (association_body link)) (stops_entry ∷ []) (schedule_key other, found.0) found.1)
+  where
+    stops_entry : Keyed
+    stops_entry = put_in (schedule_key stops_key) (schedule_body stops)
+
+    found : (entry : Entry) × Contains parted.entries (schedule_key other, entry) × (body_of entry.op ≡ Some (schedule_body others))
+    found = in_state parted (schedule_key other) (schedule_body others) h
+
+    first : (put_in (association_key link_key) (association_body link) ≡ (schedule_key other, found.0))
+        ⊎ Contains (stops_entry ∷ []) (schedule_key other, found.0) → ⊥
+    first (inl same) = not_first other found.0 uid same
+    first (inr rest) = not_second other found.0 uid (Contains-single {A = Keyed} stops_entry (schedule_key other, found.0) rest)
+
+-- the docker has the partner's identity
+identity_there : IsPartnerIdentity (live_table joined) (codes "C40002") (Some 23537) (codes "4D42")
+unfolding days_from_civil day_count days_of_years days_of_months
+identity_there =
+    inl (
+      partner_key,
+      partner,
+      record {
+        chosen = record {
+          running = record { uid_is = refl; is_live = refl; runs_then = refl };
+          first = λ other others running.
+              subst (λ (k : ScheduleKey). IsAtMost schedule_choice_cmp partner_key k) (only_partner other others running.uid_is running.is_live) (λ greater. cc);
+        };
+        no_cancellation = λ cancelled. omega arith;
+      },
+      refl,
+    )
+
+-- and would not without it
+identity_lost : ¬ IsPartnerIdentity (live_table parted) (codes "C40002") (Some 23537) (codes "4D42")
+identity_lost (inl runs) = no_partner runs.0 runs.1 runs.2.chosen.running.uid_is runs.2.chosen.running.is_live
+identity_lost (inr none) = let first : ◌≡◌ {A = ℕ} 52 63 = ap (λ bytes. slice_index bytes 0) none.1 in omega arith
+
+-- so the partner is needed
+partner_is_needed : IsNeeded (live_table joined) place (schedule_key partner_key)
+partner_is_needed = inr (record { key = link_key; line = link; associated_is = refl; linked = record { is_live = refl; here = refl } })
+
+parted_is_no_excerpt : ¬ IsExcerpt place (live_table joined) (live_table parted)
+parted_is_no_excerpt is = by (is (schedule_key partner_key))
+  where
+    by : (live_table parted (schedule_key partner_key) ≡ live_table joined (schedule_key partner_key))
+        ⊎ ((live_table parted (schedule_key partner_key) ≡ None) × ¬ IsNeeded (live_table joined) place (schedule_key partner_key)) → ⊥
+    by (inl same) = let bad : None ≡ Some (schedule_body partner) = same in cc
+    by (inr none) = none.1 partner_is_needed
+
+partner_is_kept : (excerpt_for place joined).entries ≡ joined.entries
+partner_is_kept = refl
+
+-- ---- a walk
+
+abbrev other : List (List ℕ)
+other = week (codes "C40003") (codes "4D43") (codes "ASHFELD") (codes "BRAYTON")
+
+abbrev far : List (List ℕ)
+far = week (codes "C40004") (codes "4D44") (codes "BRAYTON") (codes "ASHFELD")
+
+abbrev late : List (List ℕ)
+late = week (codes "C40005") (codes "4D45") (codes "COLWELL") (codes "ASHFELD")
+
+-- at the place, and deleted
+abbrev gone_key : AssociationKey
+gone_key = record { base = codes "C40001"; associated = codes "C40003"; start = 23537; location = codes "COLWELL"; suffix = 32; indicator = 80 }
+
+-- elsewhere
+abbrev far_link_key : AssociationKey
+far_link_key = record { base = codes "C40003"; associated = codes "C40004"; start = 23537; location = codes "ASHFELD"; suffix = 32; indicator = 80 }
+
+abbrev far_link : List ℕ
+far_link =
+    aa (codes "N") (codes "C40003") (codes "C40004") (codes "240610") (codes "240616") (codes "1111111") (codes "NP") (codes "S")
+    (codes "ASHFELD") no_text no_text (codes "P")
+
+-- of two TIPLOCs, three associations and five UIDs
+abbrev whole : State
+whole = state_of (
+    put_in (tiploc_key (codes "ASHFELD")) (tiploc_body (spaces 63)) ∷ put_in (tiploc_key (codes "COLWELL")) (tiploc_body (spaces 63))
+    ∷ put_in (association_key link_key) (association_body link) ∷ with_op (association_key gone_key) deleted
+    ∷ put_in (association_key far_link_key) (association_body far_link) ∷ put_in (schedule_key stops_key) (schedule_body stops)
+    ∷ put_in (schedule_key short_key) (schedule_body short) ∷ put_in (schedule_key partner_key) (schedule_body partner)
+    ∷ put_in (schedule_key (key_of (codes "C40003") 23537 80)) (schedule_body other)
+    ∷ put_in (schedule_key (key_of (codes "C40004") 23537 80)) (schedule_body far)
+    ∷ with_op (schedule_key (key_of (codes "C40005") 23500 80)) lapsed
+    ∷ put_in (schedule_key (key_of (codes "C40005") 23537 80)) (schedule_body late) ∷ []
+    )
+
+-- the walk leaves the TIPLOC, both associations there, the base with its overlay, the partner, and the last, which calls there
+walk_leaves : (excerpt_for place whole).entries
+    ≡ put_in (tiploc_key (codes "COLWELL")) (tiploc_body (spaces 63)) ∷ put_in (association_key link_key) (association_body link)
+    ∷ with_op (association_key gone_key) deleted ∷ put_in (schedule_key stops_key) (schedule_body stops)
+    ∷ put_in (schedule_key short_key) (schedule_body short) ∷ put_in (schedule_key partner_key) (schedule_body partner)
+    ∷ with_op (schedule_key (key_of (codes "C40005") 23500 80)) lapsed
+    ∷ put_in (schedule_key (key_of (codes "C40005") 23537 80)) (schedule_body late) ∷ []
+walk_leaves = refl
+
+whole_ascends : AreAscending whole.entries
+whole_ascends = ((refl, (refl, (refl, (refl, (refl, (refl, (refl, (refl, (refl, (refl, (refl, tt))))))))))), ((refl, (refl, (refl, (refl, (refl, (refl, (refl, (refl, (refl, (refl, tt)))))))))), ((refl, (refl, (refl, (refl, (refl, (refl, (refl, (refl, (refl, tt))))))))), ((refl, (refl, (refl, (refl, (refl, (refl, (refl, (refl, tt)))))))), ((refl, (refl, (refl, (refl, (refl, (refl, (refl, tt))))))), ((refl, (refl, (refl, (refl, (refl, (refl, tt)))))), ((refl, (refl, (refl, (refl, (refl, tt))))), ((refl, (refl, (refl, (refl, tt)))), ((refl, (refl, (refl, tt))), ((refl, (refl, tt)), ((refl, tt), (tt, tt))))))))))))
+
+-- and that is an excerpt
+walk_leaves_excerpt : IsExcerptState place whole (excerpt_for place whole)
+walk_leaves_excerpt = walk_is_excerpt place whole whole_ascends
