@@ -1,11 +1,12 @@
 //! Laws of excerpts: what is left out of a table or a state for one place changes no docker of that place. Each is the contract of a function with no body: it holds of all that it names.
 ghost use Rattle.std.specs.Prelude.{◌≡◌, ℕ, List, [], ◌∷◌, ◌++◌, ◌↔◌, ◌||◌, ◌⊎◌, Contains, filter, true, false};
 ghost use Rattle.docker_model.specs.file.Change.{Key, schedule_key, ScheduleKey};
-ghost use Rattle.docker_model.specs.state.Stamp.{LedgerItem};
+ghost use Rattle.docker_model.specs.state.Stamp.{LedgerItem, Stamp};
 ghost use Rattle.docker_model.specs.state.Op.{Entry};
 ghost use Rattle.docker_model.specs.state.Table.{Table};
 ghost use Rattle.docker_model.specs.state.Lapse.{IsDayRefused};
-ghost use Rattle.docker_model.specs.state.State.{State, IsValid, AreAscending, AreEntries, live_table, HasGoodBodies};
+ghost use Rattle.docker_model.specs.state.State.{State, IsValid, IsOpOf, AreAscending, AreEntries, live_table, HasGoodBodies};
+ghost use Rattle.docker_model.specs.state.StatePart.{IsAboveEntries, IsStampHere};
 ghost use Rattle.docker_model.specs.docker.DockerLine.{DockerLine};
 ghost use Rattle.docker_model.specs.docker.DockerList.{IsDockerList};
 ghost use Rattle.docker_model.specs.docker.DockerText.{IsDockerText};
@@ -43,10 +44,6 @@ pub fn excerpt_of_state()
     ensures again { (place : List ℕ) (state part smaller : State)
         → IsExcerptState place state part → IsExcerptState place part smaller
         → IsExcerptState place state smaller }
-    ensures some { (ledger : List LedgerItem) (some all : List (Key × Entry))
-        → AreEntries ledger all → IsSublist some all → AreEntries ledger some }
-    ensures some_valid { (state part : State) → IsValid state → part.horizon ≡ state.horizon
-        → part.ledger ≡ state.ledger → IsSublist part.entries state.entries → IsValid part }
 {}
 
 /// What the walk over a state's entries in key order leaves is an excerpt: the entries whose keys are needed at the place, and no others.
@@ -85,9 +82,9 @@ pub fn excerpt_in_a_walk()
 
 /// One step of that walk. In key order no run is pending where a TIPLOC or an association comes: it is kept where it is at the place. A schedule joins the run of its UID, or ends the run and begins the next.
 pub fn excerpt_by_entry()
-    ensures no_run { (place : List ℕ) (entries : List (Key × Entry)) (key : Key) (entry : Entry)
-        → AreAscending (entries ++ (key, entry) ∷ [])
-        → ((uid : List ℕ) → has_uid uid key ≡ false) → (kept_so_far place entries).run ≡ [] }
+    ensures no_run { (place : List ℕ) (state : State) (key : Key)
+        → IsAboveEntries state key → ((uid : List ℕ) → has_uid uid key ≡ false)
+        → (kept_so_far place state.entries).run ≡ [] }
     ensures here { (place : List ℕ) (so_far : ExcerptSoFar) (key : Key) (entry : Entry)
         → is_here place key ≡ true → so_far.run ≡ [] → next_kept place so_far (key, entry)
         ≡ record { kept = so_far.kept ++ (key, entry) ∷ []; run = [] } }
@@ -121,9 +118,31 @@ pub fn run_of_one_uid()
     ensures names { (place : List ℕ) (entries : List (Key × Entry))
         → names_in (kept_so_far place entries).kept
         ≡ names_in (filter (λ (entry : Key × Entry). is_here place entry.0) entries) }
+    ensures names_stay { (place : List ℕ) (entries : List (Key × Entry)) (key : ScheduleKey)
+        (entry : Entry) → names_in
+        (kept_so_far place (entries ++ (schedule_key key, entry) ∷ [])).kept
+        ≡ names_in (kept_so_far place entries).kept }
     ensures more_names { (entries : List (Key × Entry)) (entry : Key × Entry)
         → names_in (entries ++ entry ∷ []) ≡ names_in entries ++ names_in (entry ∷ []) }
     ensures one_uid { (place : List ℕ) (entries : List (Key × Entry)) (uid : List ℕ)
         (one : Key × Entry) → goes_on (kept_so_far place entries).run uid ≡ true
         → Contains (kept_so_far place entries).run one → has_uid uid one.0 ≡ true }
+{}
+
+/// Some of the entries that a state was given, one behind the other: what may come behind all of them may come behind those, and each of those behind the ones before it.
+pub fn some_of_entries()
+    ensures more { (state : State) (key : Key) (entry : Entry)
+        → AreEntries state.ledger state.entries → IsStampHere state key entry.stamp
+        → IsOpOf key entry.op
+        → AreEntries state.ledger (state.entries ++ (key, entry) ∷ []) }
+    ensures still { (state part : State) (key : Key) (stamp : Stamp)
+        → IsSublist part.entries state.entries → part.ledger ≡ state.ledger
+        → IsStampHere state key stamp → IsStampHere part key stamp }
+    ensures behind { (state : State) (key : Key) (entry : Entry) (rest : List (Key × Entry))
+        → AreEntries state.ledger (state.entries ++ (key, entry) ∷ rest)
+        → IsStampHere state key entry.stamp × IsOpOf key entry.op }
+    ensures some { (ledger : List LedgerItem) (some all : List (Key × Entry))
+        → AreEntries ledger all → IsSublist some all → AreEntries ledger some }
+    ensures valid { (state part : State) → IsValid state → part.horizon ≡ state.horizon
+        → part.ledger ≡ state.ledger → IsSublist part.entries state.entries → IsValid part }
 {}

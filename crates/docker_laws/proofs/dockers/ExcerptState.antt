@@ -1,22 +1,26 @@
 -- An excerpt of a valid state for a place is valid, and refuses and prints the same there. What has all that is needed at the place is one.
-use Rattle.std.proofs.Common.{◌≡◌, ℕ, List, [], ◌∷◌, subst, inl, inr, ◌⊎◌, refl, ap, sym, ◌∙◌, Bool, true, false, cond, Some, None}
+use Rattle.std.proofs.Common.{◌++◌, ◌≡◌, ℕ, List, [], ◌∷◌, subst, inl, inr, ◌⊎◌, refl, ap, sym, ◌∙◌, Bool, true, false, cond, Some, None}
 use Rattle.std.specs.Prelude.{Option, ◌↔◌, ◌&&◌, ◌||◌, filter, find, option_and_then}
 use Rattle.std.specs.List.{list_any}
 use Rattle.std.specs.Str.{bytes_eq}
 use Rattle.std.specs.declared.cmp.Ordering.{Ordering}
 use Rattle.std.specs.Ordering.{is_eq, on}
 use Rattle.std.proofs.lemmas.Slice.Eq.{bytes_eq-Decides}
+use Rattle.std.proofs.lemmas.List.Elements.{All-from_recursion, recursion_from_All, Contains-append_right}
 use Rattle.docker_model.specs.records.Date.{IsDay}
 use Rattle.docker_model.specs.file.Change.{Key, tiploc_key, association_key, schedule_key, association_body, schedule_body}
 use Rattle.docker_model.specs.state.Order.{IsBelow}
-use Rattle.docker_model.specs.state.Stamp.{LedgerItem}
+use Rattle.docker_model.specs.state.Stamp.{LedgerItem, Stamp}
 use Rattle.docker_model.specs.state.Op.{Entry, body_of, key_cmp}
 use Rattle.docker_model.specs.state.Lapse.{HasNotToLapse, IsDayRefused}
-use Rattle.docker_model.specs.state.State.{State, IsValid, IsLedger, IsGoodEntry, AreEntries, HaveLapsed, live_table}
+use Rattle.docker_model.specs.state.StatePart.{IsStampHere}
+use Rattle.docker_model.specs.state.State.{IsStampIn, IsOpOf, State, IsValid, IsLedger, IsGoodEntry, AreEntries, HaveLapsed, live_table}
 use Rattle.docker_model.specs.docker.Excerpt.{IsSublist, HasCall, IsNamed, IsNeeded, IsExcerptState}
 use Rattle.docker_model.specs.docker.ExcerptWalk.{is_here, has_uid, name_in, is_call}
 use Rattle.docker_laws.proofs.orders.Orders.{same_key}
-use Rattle.docker_laws.proofs.orders.Ascending.{later_of, ascending_of}
+use Rattle.docker_laws.proofs.orders.Ascending.{later_of, ascending_of, ascending_last, below_next}
+use Rattle.docker_laws.proofs.lists.AllOf.{all_append}
+use Rattle.docker_laws.proofs.lists.Membership.{member_of, cons-Contains-first}
 use Rattle.docker_laws.proofs.lists.Sublists.{sublist_all, sublist_later, sublist_filter, sublist_itself, sublist_onward}
 use Rattle.docker_laws.proofs.lists.BoolsAndOptions.{and_true}
 use Rattle.docker_laws.proofs.lists.FilteredMembers.{find_some, filter_back}
@@ -36,6 +40,44 @@ some_entries ledger some all are is = (
   where
     by_key : Keyed → Keyed → Ordering
     by_key = on (λ (entry : Keyed). entry.0) key_cmp
+
+-- what may come behind the entries of a state may come behind some of them
+pub still_here : (state part : State) (key : Key) (stamp : Stamp) → IsSublist part.entries state.entries → part.ledger ≡ state.ledger
+    → IsStampHere state key stamp → IsStampHere part key stamp
+still_here state part key stamp is same here = (
+  (here.0.0, sublist_all (λ (entry : Keyed). IsBelow key_cmp entry.0 key) part.entries state.entries is here.0.1),
+  subst (λ ledger. IsStampIn ledger stamp) (sym same) here.1,
+)
+
+-- entries of a state over a ledger, and what may come behind them
+pub entries_more : (state : State) (key : Key) (entry : Entry) → AreEntries state.ledger state.entries → IsStampHere state key entry.stamp
+    → IsOpOf key entry.op
+    → AreEntries state.ledger (state.entries ++ (key, entry) ∷ [])
+entries_more state key entry are here of = (
+  All-from_recursion (IsGoodEntry state.ledger) (state.entries ++ (key, entry) ∷ [])
+      (all_append (IsGoodEntry state.ledger) state.entries ((key, entry) ∷ []) (recursion_from_All (IsGoodEntry state.ledger) state.entries are.0)
+      (record { key = here.0.0; stamp = here.1; op = of }, tt)),
+  ascending_last (on (λ (e : Keyed). e.0) key_cmp) state.entries (key, entry) are.1
+      (recursion_from_All (λ (e : Keyed). IsBelow key_cmp e.0 key) state.entries here.0.1),
+)
+
+-- each entry among those over a ledger may come behind those before it
+pub entry_behind : (state : State) (key : Key) (entry : Entry) (rest : List Keyed) → AreEntries state.ledger (state.entries ++ (key, entry) ∷ rest)
+    → IsStampHere state key entry.stamp × IsOpOf key entry.op
+entry_behind state key entry rest are =
+    let among = Contains-append_right state.entries ((key, entry) ∷ rest) (key, entry) (cons-Contains-first {A = Keyed} (key, entry) rest) in
+    let good : IsGoodEntry state.ledger (key, entry) =
+    member_of (IsGoodEntry state.ledger) (state.entries ++ (key, entry) ∷ rest) (key, entry) are.0 among in (
+      (
+        (
+          good.key,
+          All-from_recursion (λ (e : Keyed). IsBelow key_cmp e.0 key) state.entries
+              (below_next (on (λ (e : Keyed). e.0) key_cmp) state.entries (key, entry) rest are.1),
+        ),
+        good.stamp,
+      ),
+      good.op,
+    )
 
 -- a valid state with some of its entries is valid
 pub some_valid : (state part : State) → IsValid state → part.horizon ≡ state.horizon → part.ledger ≡ state.ledger → IsSublist part.entries state.entries

@@ -1,5 +1,5 @@
 -- The walk that makes an excerpt, entry by entry: where it is, and what it keeps in the end.
-use Rattle.std.proofs.Common.{◌≡◌, ℕ, List, [], ◌∷◌, ◌++◌, subst, inl, inr, ◌⊎◌, refl, ap, sym, ◌∙◌, Bool, true, false, cond, Some, Contains, append-nil, append_assoc}
+use Rattle.std.proofs.Common.{All, ◌≡◌, ℕ, List, [], ◌∷◌, ◌++◌, subst, inl, inr, ◌⊎◌, refl, ap, sym, ◌∙◌, Bool, true, false, cond, Some, Contains, append-nil, append_assoc}
 use Rattle.std.specs.Prelude.{Option, ◌||◌, ◌↔◌, filter, fold, option_and_then}
 use Rattle.std.specs.List.{list_any}
 use Rattle.std.specs.Str.{bytes_eq}
@@ -10,12 +10,13 @@ use Rattle.std.proofs.lemmas.List.Folds.{list_any-append}
 use Rattle.docker_model.specs.file.Change.{Key, tiploc_key, association_key, schedule_key, AssociationKey, ScheduleKey, tiploc_body, association_body, schedule_body}
 use Rattle.docker_model.specs.file.Journey.{CallsAt}
 use Rattle.docker_model.specs.state.Op.{Op, deleted, lapsed, put_with, Entry, body_of, key_cmp}
+use Rattle.docker_model.specs.state.Order.{IsBelow}
 use Rattle.docker_model.specs.state.Stamp.{LedgerItem}
 use Rattle.docker_model.specs.state.State.{State, AreAscending, AreEntries, live_table}
 use Rattle.docker_model.specs.docker.Excerpt.{IsNeeded, IsConcerned, IsSublist}
 use Rattle.docker_model.specs.docker.ExcerptWalk.{ExcerptSoFar, nothing_kept, is_here, has_uid, name_in, names_in, is_call, is_run_named, is_run_calling, is_run_needed, kept_after_run, goes_on, with_entry_of, next_kept, kept_from, kept_so_far, excerpt_for}
 use Rattle.docker_laws.proofs.orders.Ascending.{later_of}
-use Rattle.docker_laws.proofs.lists.Membership.{cons-Contains-first, nil-Contains, Contains-single}
+use Rattle.docker_laws.proofs.lists.Membership.{member_of, cons-Contains-first, nil-Contains, Contains-single}
 use Rattle.docker_laws.proofs.lists.Sublists.{sublist_itself, sublist_append, sublist_onward, sublist_member, sublist_front}
 use Rattle.docker_laws.proofs.lists.BoolsAndOptions.{both, either, none_some}
 use Rattle.docker_laws.proofs.lists.FilteredMembers.{filter_back, filter_forth}
@@ -23,7 +24,7 @@ use Rattle.docker_laws.proofs.states.PlainTable.{Keyed}
 use Rattle.docker_laws.proofs.joins.StagedEntry.{entry_at_iff}
 use Rattle.docker_laws.proofs.indexes.CallsTest.{any_back, any_forth, calls_test, no_member}
 use Rattle.docker_laws.proofs.dockers.ExcerptState.{calls_as, names_as, is_name, is_needed, needed_passes, some_entries, or_left, or_right}
-use Rattle.docker_laws.proofs.dockers.ExcerptWalk.{false_true, uid_once, above_uid, later_across, name_of, walk_keeps}
+use Rattle.docker_laws.proofs.dockers.ExcerptWalk.{false_true, uid_once, above_uid, name_of, walk_keeps}
 
 -- ---- along a walk
 
@@ -171,17 +172,15 @@ module _ (place : List ℕ) where
       let first = goes_first (kept_so_far place entries).run uid goes in
       subst (λ other. has_uid other r.0 ≡ true) (uid_once of.0 uid first.0.0 (of.1 first.0 first.1) first.2) (of.1 r among)
 
-  -- where what follows in key order is no schedule, there is no run
-  pub no_run_before : (entries : List Keyed) (key : Key) (entry : Entry) → AreAscending (entries ++ (key, entry) ∷ [])
+  -- where what is above all entries so far is no schedule, there is no run
+  pub no_run_before : (entries : List Keyed) (key : Key) → All (λ (e : Keyed). IsBelow key_cmp e.0 key) entries
       → ((uid : List ℕ) → has_uid uid key ≡ false) → (kept_so_far place entries).run ≡ []
-  no_run_before entries key entry up never =
+  no_run_before entries key above never =
       no_member (kept_so_far place entries).run (λ r among.
       let of = run_of_one_uid entries in
       let inside = sublist_member ((kept_so_far place entries).kept ++ (kept_so_far place entries).run) entries r (so_far_within entries)
       (Contains-append_right (kept_so_far place entries).kept (kept_so_far place entries).run r among) in
-      let below = later_across entries ((key, entry) ∷ []) r (key, entry) (later_of (on (λ (e : Keyed). e.0) key_cmp) (entries ++ (key, entry) ∷ []) up) inside
-      (cons-Contains-first {A = Keyed} (key, entry) []) in
-      let is = above_uid r.0 key of.0 below (of.1 r among) in
+      let is = above_uid r.0 key of.0 (member_of (λ (e : Keyed). IsBelow key_cmp e.0 key) entries r above inside) (of.1 r among) in
       false_true (sym (never is.0) ∙ is.1))
 
   -- ---- the names
@@ -251,6 +250,14 @@ module _ (place : List ℕ) where
   pub names_so_far : (entries : List Keyed)
       → names_in (kept_so_far place entries).kept ≡ names_in (filter (λ (entry : Keyed). is_here place entry.0) entries)
   names_so_far entries = (all_along place AreNamed (λ done so_far x here. named_more done so_far x.0 x.1 here) (refl, refl) entries).0
+
+  -- a schedule more names nobody
+  pub names_stay : (entries : List Keyed) (key : ScheduleKey) (entry : Entry)
+      → names_in (kept_so_far place (entries ++ (schedule_key key, entry) ∷ [])).kept ≡ names_in (kept_so_far place entries).kept
+  names_stay entries key entry =
+      let same : at_place (entries ++ (schedule_key key, entry) ∷ []) ≡ at_place entries =
+      filter-append (λ (e : Keyed). is_here place e.0) entries ((schedule_key key, entry) ∷ []) ∙ append-nil (at_place entries) in
+      names_so_far (entries ++ (schedule_key key, entry) ∷ []) ∙ ap names_in same ∙ sym (names_so_far entries)
 
 -- ---- one step
 

@@ -2,7 +2,7 @@ use Rattle.docker_laws.proofs.dockers.ExcerptSteps.{no_run_before, keeps_here, d
 use Rattle.docker_laws.proofs.excerpt.excerpt_by_entry.Goals as goal
 
 pub returns-clause-no_run : goal.returns-clause-no_run
-returns-clause-no_run c = no_run_before
+returns-clause-no_run c = λ place state key above never. no_run_before place state.entries key above never
 
 pub returns-clause-here : goal.returns-clause-here
 returns-clause-here c = keeps_here

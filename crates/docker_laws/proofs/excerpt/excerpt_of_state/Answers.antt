@@ -1,6 +1,6 @@
 use Rattle.docker_model.specs.state.State.{live_table}
 use Rattle.docker_laws.proofs.dockers.ExcerptDocker.{excerpt_list_iff, excerpt_text_iff}
-use Rattle.docker_laws.proofs.dockers.ExcerptState.{excerpt_valid, excerpt_refuses, excerpt_itself, excerpt_again, some_entries, some_valid}
+use Rattle.docker_laws.proofs.dockers.ExcerptState.{excerpt_valid, excerpt_refuses, excerpt_itself, excerpt_again}
 use Rattle.docker_laws.proofs.excerpt.excerpt_of_state.Goals as goal
 
 pub returns-clause-valid : goal.returns-clause-valid
@@ -20,9 +20,3 @@ returns-clause-itself c = excerpt_itself
 
 pub returns-clause-again : goal.returns-clause-again
 returns-clause-again c = excerpt_again
-
-pub returns-clause-some : goal.returns-clause-some
-returns-clause-some c = some_entries
-
-pub returns-clause-some_valid : goal.returns-clause-some_valid
-returns-clause-some_valid c = some_valid

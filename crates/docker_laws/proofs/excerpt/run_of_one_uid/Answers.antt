@@ -1,4 +1,4 @@
-use Rattle.docker_laws.proofs.dockers.ExcerptSteps.{keeps_run, drops_run, ends_none, run_needed_iff, calls_more, names_so_far, names_with, run_uid}
+use Rattle.docker_laws.proofs.dockers.ExcerptSteps.{keeps_run, drops_run, ends_none, run_needed_iff, calls_more, names_so_far, names_stay, names_with, run_uid}
 use Rattle.docker_laws.proofs.excerpt.run_of_one_uid.Goals as goal
 
 pub returns-clause-keeps : goal.returns-clause-keeps
@@ -24,3 +24,6 @@ returns-clause-more_names c = names_with
 
 pub returns-clause-one_uid : goal.returns-clause-one_uid
 returns-clause-one_uid c = run_uid
+
+pub returns-clause-names_stay : goal.returns-clause-names_stay
+returns-clause-names_stay c = names_stay
