@@ -46,13 +46,21 @@ pub fn excerpt_of_state()
         → IsExcerptState place state smaller }
 {}
 
-/// What the walk over a state's entries in key order leaves is an excerpt: the entries whose keys are needed at the place, and no others.
+/// What the walk over a state's entries in key order leaves is an excerpt: the entries whose keys are needed at the place, and no others. Of a valid state it is valid, and has the same dockers there.
 pub fn walk_leaves_excerpt()
     ensures is { (place : List ℕ) (state : State)
         → AreAscending state.entries → IsExcerptState place state (excerpt_for place state) }
     ensures members { (place : List ℕ) (state : State) (key : Key) (entry : Entry)
         → AreAscending state.entries → Contains (excerpt_for place state).entries (key, entry)
         ↔ (Contains state.entries (key, entry) × IsNeeded (live_table state) place key) }
+    ensures valid { (place : List ℕ) (state : State)
+        → IsValid state → IsValid (excerpt_for place state) }
+    ensures list { (place : List ℕ) (state : State) (day : ℕ) (lines : List DockerLine)
+        → IsValid state → IsDockerList (live_table state) place day lines
+        ↔ IsDockerList (live_table (excerpt_for place state)) place day lines }
+    ensures text { (place : List ℕ) (state : State) (day : ℕ) (text : List ℕ)
+        → IsValid state → IsDockerText (live_table state) place day text
+        ↔ IsDockerText (live_table (excerpt_for place state)) place day text }
 {}
 
 /// That walk, entry by entry: from its beginning on, and from any entry to its end. What it has kept and its run are some of the entries so far.

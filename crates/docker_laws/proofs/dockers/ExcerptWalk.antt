@@ -1,6 +1,6 @@
 -- A walk over entries in key order keeps those whose keys are needed, as the entries tell, and no others.
 use Rattle.std.proofs.Common.{◌≡◌, ℕ, List, [], ◌∷◌, ◌++◌, subst, inl, inr, ◌⊎◌, refl, ap, sym, ◌∙◌, Bool, true, false, cond, Some, None, Contains, append-nil, append_assoc}
-use Rattle.std.specs.Prelude.{Option, ◌||◌, filter}
+use Rattle.std.specs.Prelude.{◌↔◌, Option, ◌||◌, filter}
 use Rattle.std.specs.List.{list_any}
 use Rattle.std.specs.declared.cmp.Ordering.{Ordering}
 use Rattle.std.specs.declared.cmp.Ordering.TheVariants.{Less, Equal, Greater}
@@ -12,7 +12,10 @@ use Rattle.std.proofs.lemmas.List.Elements.{filter-append, Contains-append_cases
 use Rattle.docker_model.specs.file.Change.{Key, tiploc_key, association_key, schedule_key, AssociationKey, ScheduleKey}
 use Rattle.docker_model.specs.state.Order.{bytes_cmp, IsBelow, IsAtMost}
 use Rattle.docker_model.specs.state.Op.{Op, Entry, key_cmp, schedule_key_cmp}
-use Rattle.docker_model.specs.state.State.{State, AreAscending}
+use Rattle.docker_model.specs.state.State.{State, AreAscending, IsValid, live_table}
+use Rattle.docker_model.specs.docker.DockerLine.{DockerLine}
+use Rattle.docker_model.specs.docker.DockerList.{IsDockerList}
+use Rattle.docker_model.specs.docker.DockerText.{IsDockerText}
 use Rattle.docker_model.specs.docker.Excerpt.{IsExcerptState}
 use Rattle.docker_model.specs.docker.ExcerptWalk.{ExcerptSoFar, nothing_kept, is_here, has_uid, name_in, names_in, is_call, is_run_calling, is_run_needed, kept_after_run, goes_on, with_entry_of, next_kept, kept_from, kept_so_far, excerpt_for}
 use Rattle.docker_laws.proofs.orders.Ascending.{later_of}
@@ -22,7 +25,8 @@ use Rattle.docker_laws.proofs.lists.Membership.{Contains-cons, cons-Contains, co
 use Rattle.docker_laws.proofs.lists.BoolsAndOptions.{both, and_true}
 use Rattle.docker_laws.proofs.lists.FilteredMembers.{filter_back, filter_forth, part_back, part_forth}
 use Rattle.docker_laws.proofs.states.PlainTable.{Keyed}
-use Rattle.docker_laws.proofs.dockers.ExcerptState.{calls_as, names_as, is_name, is_concerned, is_needed, passing_is_excerpt}
+use Rattle.docker_laws.proofs.dockers.ExcerptDocker.{excerpt_list_iff, excerpt_text_iff}
+use Rattle.docker_laws.proofs.dockers.ExcerptState.{calls_as, names_as, is_name, is_concerned, is_needed, passing_is_excerpt, excerpt_valid}
 use Rattle.docker_laws.proofs.indexes.CallsTest.{any_back, any_forth}
 
 -- ---- keys of one UID
@@ -473,3 +477,19 @@ walk_is_excerpt place state up =
     subst (λ (entries : List Keyed). IsExcerptState place state (record { horizon = state.horizon; ledger = state.ledger; entries = entries }))
     (sym (walk_keeps place state.entries (later_of (on (λ (entry : Keyed). entry.0) key_cmp) state.entries up)))
     (passing_is_excerpt place state)
+
+-- of a valid state it is valid
+pub walk_valid : (place : List ℕ) (state : State) → IsValid state → IsValid (excerpt_for place state)
+walk_valid place state valid = excerpt_valid place state (excerpt_for place state) valid (walk_is_excerpt place state valid.entries.1)
+
+-- and has the same docker list at the place
+pub walk_list_iff : (place : List ℕ) (state : State) (day : ℕ) (lines : List DockerLine) → IsValid state
+    → IsDockerList (live_table state) place day lines ↔ IsDockerList (live_table (excerpt_for place state)) place day lines
+walk_list_iff place state day lines valid =
+    excerpt_list_iff place (live_table state) (live_table (excerpt_for place state)) (walk_is_excerpt place state valid.entries.1).live day lines
+
+-- and the same docker text
+pub walk_text_iff : (place : List ℕ) (state : State) (day : ℕ) (text : List ℕ) → IsValid state
+    → IsDockerText (live_table state) place day text ↔ IsDockerText (live_table (excerpt_for place state)) place day text
+walk_text_iff place state day text valid =
+    excerpt_text_iff place (live_table state) (live_table (excerpt_for place state)) (walk_is_excerpt place state valid.entries.1).live day text

@@ -231,6 +231,10 @@ parted_is_no_excerpt is = by (is (schedule_key partner_key))
 partner_is_kept : (excerpt_for place joined).entries ≡ joined.entries
 partner_is_kept = refl
 
+-- of the partner alone nothing is needed. So an excerpt is taken of a state that is whole: joined with what names the partner it would lack it
+partner_alone_is_dropped : (excerpt_for place (state_of (put_in (schedule_key partner_key) (schedule_body partner) ∷ []))).entries ≡ []
+partner_alone_is_dropped = refl
+
 -- ---- a walk
 
 abbrev other : List (List ℕ)
