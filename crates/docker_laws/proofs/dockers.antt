@@ -24,3 +24,4 @@ pub mod ExcerptDocker
 pub mod ExcerptState
 pub mod ExcerptWalk
 pub mod ExcerptSteps
+pub mod ExcerptTurns

@@ -1,5 +1,5 @@
 //! Laws of excerpts: what is left out of a table or a state for one place changes no docker of that place. Each is the contract of a function with no body: it holds of all that it names.
-ghost use Rattle.std.specs.Prelude.{◌≡◌, ℕ, List, [], ◌∷◌, ◌++◌, ◌↔◌, ◌||◌, ◌⊎◌, Contains, filter, true, false};
+ghost use Rattle.std.specs.Prelude.{◌≡◌, ℕ, List, [], ◌∷◌, ◌++◌, ◌↔◌, ◌||◌, ◌⊎◌, Contains, filter, Bool, true, false, if◌then◌else◌};
 ghost use Rattle.docker_model.specs.file.Change.{Key, schedule_key, ScheduleKey};
 ghost use Rattle.docker_model.specs.state.Stamp.{LedgerItem, Stamp};
 ghost use Rattle.docker_model.specs.state.Op.{Entry};
@@ -11,7 +11,7 @@ ghost use Rattle.docker_model.specs.docker.DockerLine.{DockerLine};
 ghost use Rattle.docker_model.specs.docker.DockerList.{IsDockerList};
 ghost use Rattle.docker_model.specs.docker.DockerText.{IsDockerText};
 ghost use Rattle.docker_model.specs.docker.Excerpt.{IsNeeded, IsExcerpt, IsSublist, IsExcerptState};
-ghost use Rattle.docker_model.specs.docker.ExcerptWalk.{ExcerptSoFar, nothing_kept, is_here, has_uid, names_in, is_call, is_run_calling, is_run_needed, kept_after_run, goes_on, next_kept, kept_from, kept_so_far, excerpt_for};
+ghost use Rattle.docker_model.specs.docker.ExcerptWalk.{ExcerptSoFar, nothing_kept, is_here, has_uid, names_in, is_call, is_run_calling, is_run_needed, kept_after_run, goes_on, next_kept, kept_from, kept_so_far, excerpt_for, HasKept};
 
 /// A table and each excerpt of it for a place have on each day one docker there.
 pub fn excerpt_has_one_docker()
@@ -135,6 +135,44 @@ pub fn run_of_one_uid()
     ensures one_uid { (place : List ℕ) (entries : List (Key × Entry)) (uid : List ℕ)
         (one : Key × Entry) → goes_on (kept_so_far place entries).run uid ≡ true
         → Contains (kept_so_far place entries).run one → has_uid uid one.0 ≡ true }
+{}
+
+/// The same walk as a loop has it that keeps rows, a run and whether the run is to be kept: from nothing, entry by entry in key order, to the excerpt.
+pub fn excerpt_in_a_loop()
+    ensures first { (place : List ℕ) → HasKept place [] [] [] false }
+    ensures alone { (place : List ℕ) (state : State) (kept run : List (Key × Entry))
+        (needed : Bool) (key : Key) → HasKept place state.entries kept run needed
+        → IsAboveEntries state key → ((uid : List ℕ) → has_uid uid key ≡ false) → run ≡ [] }
+    ensures here { (place : List ℕ) (state : State) (kept run : List (Key × Entry))
+        (needed : Bool) (key : Key) (entry : Entry) → HasKept place state.entries kept run needed
+        → IsAboveEntries state key → ((uid : List ℕ) → has_uid uid key ≡ false)
+        → is_here place key ≡ true → HasKept place (state.entries ++ (key, entry) ∷ [])
+        (kept ++ (key, entry) ∷ []) [] false }
+    ensures elsewhere { (place : List ℕ) (state : State) (kept run : List (Key × Entry))
+        (needed : Bool) (key : Key) (entry : Entry) → HasKept place state.entries kept run needed
+        → IsAboveEntries state key → ((uid : List ℕ) → has_uid uid key ≡ false)
+        → is_here place key ≡ false
+        → HasKept place (state.entries ++ (key, entry) ∷ []) kept [] false }
+    ensures joins { (place : List ℕ) (entries kept run : List (Key × Entry)) (needed : Bool)
+        (key : ScheduleKey) (entry : Entry) → HasKept place entries kept run needed
+        → goes_on run key.uid ≡ true
+        → HasKept place (entries ++ (schedule_key key, entry) ∷ []) kept
+        (run ++ (schedule_key key, entry) ∷ []) (needed || is_call place entry.op) }
+    ensures begins { (place : List ℕ) (entries kept run : List (Key × Entry)) (needed : Bool)
+        (key : ScheduleKey) (entry : Entry) (named : Bool)
+        → HasKept place entries kept run needed → goes_on run key.uid ≡ false
+        → (named ≡ true) ↔ Contains (names_in kept) key.uid
+        → HasKept place (entries ++ (schedule_key key, entry) ∷ [])
+        (if needed then kept ++ run else kept) ((schedule_key key, entry) ∷ [])
+        (named || is_call place entry.op) }
+    ensures last { (place : List ℕ) (state : State) (kept run : List (Key × Entry))
+        (needed : Bool) → HasKept place state.entries kept run needed
+        → (excerpt_for place state).entries ≡ (if needed then kept ++ run else kept) }
+    ensures within { (place : List ℕ) (entries kept run : List (Key × Entry)) (needed : Bool)
+        → HasKept place entries kept run needed → IsSublist (kept ++ run) entries }
+    ensures good { (place : List ℕ) (entries kept run : List (Key × Entry)) (needed : Bool)
+        (ledger : List LedgerItem) → HasKept place entries kept run needed
+        → AreEntries ledger entries → AreEntries ledger (kept ++ run) }
 {}
 
 /// Some of the entries that a state was given, one behind the other: what may come behind all of them may come behind those, and each of those behind the ones before it.

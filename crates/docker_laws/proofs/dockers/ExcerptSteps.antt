@@ -315,7 +315,7 @@ module _ (place : List ℕ) (so_far : ExcerptSoFar) where
       elsewhere_then (association_key key, entry) (is_here place (association_key key)) elsewhere none
 
 -- whether a run is named, by its first schedule
-named_iff : (names : List (List ℕ)) (key : ScheduleKey) (entry : Entry) (others : List Keyed)
+pub named_iff : (names : List (List ℕ)) (key : ScheduleKey) (entry : Entry) (others : List Keyed)
     → (is_run_named names ((schedule_key key, entry) ∷ others) ≡ true) ↔ Contains names key.uid
 named_iff names key entry others = (
   λ h.
@@ -348,7 +348,8 @@ run_needed_iff place so_far key entry others is = (λ h. forth (either (is_run_n
         or_right (is_run_named (names_in so_far.kept) so_far.run) (is_run_calling place so_far.run)
         (any_forth (λ (e : Keyed). is_call place e.1.op) so_far.run call.0 call.1 call.2)
 
-or_false : (b : Bool) → (b || false) ≡ b
+-- a test or none is the test
+pub or_false : (b : Bool) → (b || false) ≡ b
 or_false true = refl
 or_false false = refl
 

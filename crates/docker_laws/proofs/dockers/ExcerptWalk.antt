@@ -109,7 +109,8 @@ with_alike : (b : Bool) (xs ys : List Keyed) → cond b (xs ++ ys) xs ≡ xs ++ 
 with_alike true xs ys = refl
 with_alike false xs ys = sym (append-nil xs)
 
-same_tests : (a b : Bool) → (a ≡ true → b ≡ true) → (b ≡ true → a ≡ true) → a ≡ b
+-- two tests that are passed together are one
+pub same_tests : (a b : Bool) → (a ≡ true → b ≡ true) → (b ≡ true → a ≡ true) → a ≡ b
 same_tests true b to back = sym (to refl)
 same_tests false true to back = back refl
 same_tests false false to back = refl

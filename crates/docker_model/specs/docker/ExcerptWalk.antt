@@ -1,5 +1,5 @@
 -- The excerpt of a state for a place, as a walk over its entries in key order makes it. The entries of one UID's schedules, its run, are kept or dropped together.
-use Rattle.std.specs.Prelude.{ℕ, Bool, false, ◌||◌, if◌then◌else◌, List, [], ◌∷◌, ◌++◌, fold, Option, Some, None}
+use Rattle.std.specs.Prelude.{◌≡◌, ℕ, Bool, false, ◌||◌, if◌then◌else◌, List, [], ◌∷◌, ◌++◌, fold, Option, Some, None}
 use Rattle.std.specs.List.{filter_map, list_any}
 use Rattle.std.specs.Str.{bytes_eq}
 use Rattle.docker_model.specs.file.Journey.{calls_at}
@@ -87,3 +87,8 @@ kept_so_far place entries = fold (next_kept place) nothing_kept entries
 -- the excerpt of a state for the place
 abbrev pub excerpt_for : List ℕ → State → State
 excerpt_for place state = record { horizon = state.horizon; ledger = state.ledger; entries = kept_after_run place (kept_so_far place state.entries) }
+
+-- a walk that has come behind these entries has kept so much, is in this run, and the run is to be kept or not
+pub record HasKept (place : List ℕ) (entries kept run : List (Key × Entry)) (needed : Bool) : Type 0 where
+  pub so_far : kept_so_far place entries ≡ record { kept = kept; run = run }
+  pub is_needed : is_run_needed place (record { kept = kept; run = run }) ≡ needed

@@ -1,0 +1,119 @@
+-- The walk that makes an excerpt as a loop has it: what is kept, the run, and whether the run is to be kept, from entry to entry.
+use Rattle.std.proofs.Common.{◌≡◌, ℕ, List, [], ◌∷◌, ◌++◌, subst, refl, ap, sym, ◌∙◌, Bool, true, false, cond, Contains}
+use Rattle.std.specs.Prelude.{◌||◌, ◌↔◌}
+use Rattle.docker_model.specs.file.Change.{Key, schedule_key, ScheduleKey}
+use Rattle.docker_model.specs.state.Op.{Entry}
+use Rattle.docker_model.specs.state.Stamp.{LedgerItem}
+use Rattle.docker_model.specs.state.State.{State, AreEntries}
+use Rattle.docker_model.specs.state.StatePart.{IsAboveEntries}
+use Rattle.docker_model.specs.docker.Excerpt.{IsSublist}
+use Rattle.docker_model.specs.docker.ExcerptWalk.{ExcerptSoFar, is_here, has_uid, names_in, is_call, is_run_named, is_run_calling, kept_after_run, goes_on, next_kept, kept_so_far, excerpt_for, HasKept}
+use Rattle.docker_laws.proofs.states.PlainTable.{Keyed}
+use Rattle.docker_laws.proofs.dockers.ExcerptWalk.{false_true, same_tests}
+use Rattle.docker_laws.proofs.dockers.ExcerptSteps.{so_far_more, so_far_within, so_far_good, no_run_before, names_stay, joins_run, begins_run, keeps_here, drops_elsewhere, calls_more, named_iff, or_false}
+
+abbrev at : List Keyed → List Keyed → ExcerptSoFar
+at kept run = record { kept = kept; run = run }
+
+or_assoc : (a b c : Bool) → (a || (b || c)) ≡ ((a || b) || c)
+or_assoc true b c = refl
+or_assoc false b c = refl
+
+-- at first nothing is kept
+pub kept_first : (place : List ℕ) → HasKept place [] [] [] false
+kept_first place = record { so_far = refl; is_needed = refl }
+
+module _ (place : List ℕ) (entries kept run : List Keyed) (needed : Bool) (has : HasKept place entries kept run needed) where
+  -- where the walk is with an entry more
+  next_is : (x : Keyed) → kept_so_far place (entries ++ x ∷ []) ≡ next_kept place (at kept run) x
+  next_is x = so_far_more place entries x ∙ ap (λ (so_far : ExcerptSoFar). next_kept place so_far x) has.so_far
+
+  same_name : (names : List (List ℕ)) (rest : List Keyed) (uid : List ℕ) (x : Keyed) → goes_on rest uid ≡ true
+      → is_run_named names (rest ++ x ∷ []) ≡ is_run_named names rest
+  same_name names [] uid x goes = false_true goes
+  same_name names (first ∷ rest) uid x goes = refl
+
+  -- a schedule of the run's UID joins it
+  pub kept_joins : (key : ScheduleKey) (entry : Entry) → goes_on run key.uid ≡ true
+      → HasKept place (entries ++ (schedule_key key, entry) ∷ []) kept (run ++ (schedule_key key, entry) ∷ []) (needed || is_call place entry.op)
+  kept_joins key entry goes = record {
+    so_far = next_is (schedule_key key, entry) ∙ joins_run place (at kept run) key entry goes;
+    is_needed =
+        (λ i. same_name (names_in kept) run key.uid (schedule_key key, entry) goes i || calls_more place run (schedule_key key, entry) i)
+        ∙ or_assoc (is_run_named (names_in kept) run) (is_run_calling place run) (is_call place entry.op)
+        ∙ ap (λ b. b || is_call place entry.op) has.is_needed;
+  }
+
+  -- where a run ends it is kept or dropped
+  ended : kept_after_run place (at kept run) ≡ cond needed (kept ++ run) kept
+  ended = λ i. cond (has.is_needed i) (kept ++ run) kept
+
+  began : (key : ScheduleKey) (entry : Entry) → goes_on run key.uid ≡ false
+      → kept_so_far place (entries ++ (schedule_key key, entry) ∷ []) ≡ at (cond needed (kept ++ run) kept) ((schedule_key key, entry) ∷ [])
+  began key entry stops =
+      next_is (schedule_key key, entry)
+      ∙ begins_run place (at kept run) key entry stops
+      ∙ ap (λ (xs : List Keyed). at xs ((schedule_key key, entry) ∷ [])) ended
+
+  still_names : (key : ScheduleKey) (entry : Entry) → goes_on run key.uid ≡ false → names_in (cond needed (kept ++ run) kept) ≡ names_in kept
+  still_names key entry stops =
+      sym (ap (λ (so_far : ExcerptSoFar). names_in so_far.kept) (began key entry stops))
+      ∙ names_stay place entries key entry
+      ∙ ap (λ (so_far : ExcerptSoFar). names_in so_far.kept) has.so_far
+
+  -- a schedule of another UID ends the run and begins the next
+  pub kept_begins : (key : ScheduleKey) (entry : Entry) (named : Bool) → goes_on run key.uid ≡ false
+      → (named ≡ true) ↔ Contains (names_in kept) key.uid
+      → HasKept place (entries ++ (schedule_key key, entry) ∷ []) (cond needed (kept ++ run) kept) ((schedule_key key, entry) ∷ [])
+      (named || is_call place entry.op)
+  kept_begins key entry named stops tells = record {
+    so_far = began key entry stops;
+    is_needed = λ i. names i || or_false (is_call place entry.op) i;
+  }
+    where
+      told : (is_run_named (names_in (cond needed (kept ++ run) kept)) ((schedule_key key, entry) ∷ []) ≡ true) ↔ Contains (names_in kept) key.uid
+      told =
+          subst (λ (names : List (List ℕ)).
+          (is_run_named (names_in (cond needed (kept ++ run) kept)) ((schedule_key key, entry) ∷ []) ≡ true) ↔ Contains names key.uid)
+          (still_names key entry stops) (named_iff (names_in (cond needed (kept ++ run) kept)) key entry [])
+
+      names : is_run_named (names_in (cond needed (kept ++ run) kept)) ((schedule_key key, entry) ∷ []) ≡ named
+      names =
+          same_tests (is_run_named (names_in (cond needed (kept ++ run) kept)) ((schedule_key key, entry) ∷ [])) named (λ h. tells.1 (told.0 h))
+          (λ h. told.1 (tells.0 h))
+
+  -- what is kept and the run are some of the entries
+  pub kept_within : IsSublist (kept ++ run) entries
+  kept_within = subst (λ (so_far : ExcerptSoFar). IsSublist (so_far.kept ++ so_far.run) entries) has.so_far (so_far_within place entries)
+
+  -- and good where they are
+  pub kept_good : (ledger : List LedgerItem) → AreEntries ledger entries → AreEntries ledger (kept ++ run)
+  kept_good ledger are = subst (λ (so_far : ExcerptSoFar). AreEntries ledger (so_far.kept ++ so_far.run)) has.so_far (so_far_good place ledger entries are)
+
+module _ (place : List ℕ) (state : State) (kept run : List Keyed) (needed : Bool) (has : HasKept place state.entries kept run needed) where
+  -- before the first schedule there is no run
+  pub kept_alone : (key : Key) → IsAboveEntries state key → ((uid : List ℕ) → has_uid uid key ≡ false) → run ≡ []
+  kept_alone key above never = sym (ap (λ (so_far : ExcerptSoFar). so_far.run) has.so_far) ∙ no_run_before place state.entries key above never
+
+  -- a TIPLOC or an association at the place is kept
+  pub kept_here : (key : Key) (entry : Entry) → IsAboveEntries state key → ((uid : List ℕ) → has_uid uid key ≡ false) → is_here place key ≡ true
+      → HasKept place (state.entries ++ (key, entry) ∷ []) (kept ++ (key, entry) ∷ []) [] false
+  kept_here key entry above never here = record {
+    so_far = next_is place state.entries kept run needed has (key, entry) ∙ keeps_here place (at kept run) key entry here (kept_alone key above never);
+    is_needed = refl;
+  }
+
+  -- one elsewhere is not
+  pub kept_elsewhere : (key : Key) (entry : Entry) → IsAboveEntries state key → ((uid : List ℕ) → has_uid uid key ≡ false) → is_here place key ≡ false
+      → HasKept place (state.entries ++ (key, entry) ∷ []) kept [] false
+  kept_elsewhere key entry above never elsewhere = record {
+    so_far =
+        next_is place state.entries kept run needed has (key, entry)
+        ∙ drops_elsewhere place (at kept run) key entry never elsewhere (kept_alone key above never)
+        ∙ ap (at kept) (kept_alone key above never);
+    is_needed = refl;
+  }
+
+  -- at the end the excerpt is what was kept, with the run where that is to be kept
+  pub kept_last : (excerpt_for place state).entries ≡ cond needed (kept ++ run) kept
+  kept_last = ap (kept_after_run place) has.so_far ∙ ended place state.entries kept run needed has
