@@ -184,11 +184,13 @@ module _ (test : Key → Bool) where
   abbrev pub with_passing : State → State
   with_passing state = record { horizon = state.horizon; ledger = state.ledger; entries = filter (λ (entry : Keyed). test entry.0) state.entries }
 
+  -- a key that passes has there what it had
   pub live_kept : (state : State) (key : Key) → test key ≡ true → live_table (with_passing state) key ≡ live_table state key
   live_kept state key passes =
       ap (λ (found : Option Keyed).
       option_and_then (λ (entry : Entry). body_of entry.op) (option_and_then (λ (pair : Keyed). Some pair.1) found)) (find_kept key passes state.entries)
 
+  -- one that does not has nothing
   pub live_dropped : (state : State) (key : Key) → test key ≡ false → live_table (with_passing state) key ≡ None
   live_dropped state key fails = live_none (with_passing state) key (find_dropped key fails state.entries)
 
@@ -198,6 +200,7 @@ module _ (test : Key → Bool) where
 abbrev pub calls_as : List ℕ → List ℕ → Keyed → Bool
 calls_as place uid entry = has_uid uid entry.0 && is_call place entry.1.op
 
+-- the name, if there is one, is the UID
 abbrev pub is_name : List ℕ → Option (List ℕ) → Bool
 is_name uid None = false
 is_name uid (Some name) = bytes_eq name uid

@@ -31,6 +31,7 @@ use Rattle.docker_laws.proofs.indexes.CallsTest.{any_back, any_forth}
 
 -- ---- keys of one UID
 
+-- false is not true
 pub false_true : {A : Type 0} → false ≡ true → A
 false_true h = absurd (let bad : false ≡ true = h in cc)
 
@@ -80,9 +81,11 @@ between_uid (association_key a) b c uid up further h g = false_true h
 
 -- ---- lists
 
+-- the key of the first is below that of the second
 abbrev pub Below : Keyed → Keyed → Type 0
 Below a b = IsBelow (on (λ (entry : Keyed). entry.0) key_cmp) a b
 
+-- what stands in the first of two lists is below what stands in the second
 pub later_across : (xs ys : List Keyed) (x y : Keyed) → AllLater Below (xs ++ ys) → Contains xs x → Contains ys y → Below x y
 later_across [] ys x y later in_x in_y = absurd (nil-Contains x in_x)
 later_across (z ∷ xs) ys x y later in_x in_y = by (λ inside. later_across xs ys x y later.1 inside in_y) (Contains-cons z xs x in_x)
@@ -130,6 +133,7 @@ record IsAt (place : List ℕ) (all done : List Keyed) (so_far : ExcerptSoFar) (
 abbrev IsEnded : List Keyed → List Keyed → Type 0
 IsEnded run rest = (r y : Keyed) (other : List ℕ) → Contains run r → Contains rest y → has_uid other r.0 ≡ true → has_uid other y.0 ≡ true → ⊥
 
+-- the name that is found is the UID
 pub name_of : (uid : List ℕ) (found : Option (List ℕ)) → is_name uid found ≡ true → (name : List ℕ) × (found ≡ Some name) × (name ≡ uid)
 name_of uid None h = false_true h
 name_of uid (Some name) h = (name, refl, (bytes_eq-Decides name uid).0 h)

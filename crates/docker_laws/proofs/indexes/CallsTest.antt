@@ -33,6 +33,7 @@ any_back test (x ∷ xs) is = by (any_back test xs) (either (test x) (list_any t
     by rest (inl h) = (x, cons-Contains-first x xs, h)
     by rest (inr h) = let found = rest h in (found.0, cons-Contains x xs found.0 found.1, found.2)
 
+-- where a member passes, some member does
 pub any_forth : {A : Type 0} (test : A → Bool) (xs : List A) (x : A) → Contains xs x → test x ≡ true → list_any test xs ≡ true
 any_forth test [] x among h = absurd (nil-Contains x among)
 any_forth test (z ∷ xs) x among h = by (λ inside. any_forth test xs x inside h) (Contains-cons z xs x among)
