@@ -6,7 +6,7 @@ ghost use Rattle.std.proofs.Common.{refl};
 ghost use Rattle.docker_model.specs.records.Record.{columns};
 ghost use Rattle.docker_model.specs.state.Op.{body_tag, body_bytes, body_end, readable_end, body_cmp, op_cmp};
 ghost use Rattle.docker_model.specs.state.Order.{bytes_cmp};
-ghost use Rattle.docker_laws.proofs.orders.Orders.{body_total, op_total};
+ghost use Rattle.cif_laws.proofs.orders.Orders.{body_total, op_total};
 ghost use Rattle.cif_change.specs.Joined.{joined_bytes};
 ghost use Rattle.cif_change.specs.Meaning.{body_meant};
 ghost use Rattle.cif_change.specs.Acts.{act_op};

@@ -3,7 +3,7 @@ ghost use Rattle.std.specs.Prelude.{◌≡◌};
 ghost use Rattle.std.specs.Ordering.{on, as_partial_cmp, eq_by_cmp};
 ghost use Rattle.std.specs.Cmp.{partial_equiv_from_equiv, on_equiv, on_total, eq_by_cmp_equiv, partial_order_from_total};
 ghost use Rattle.docker_model.specs.state.Op.{key_cmp, key_tag};
-ghost use Rattle.docker_laws.proofs.orders.Orders.{key_total};
+ghost use Rattle.cif_laws.proofs.orders.Orders.{key_total};
 ghost use Rattle.std.proofs.Common.{refl};
 ghost use Rattle.cif_change.specs.Meaning.{key_meant};
 

@@ -11,7 +11,7 @@ use Rattle.jiff_core.proofs.DateLemmas.{civil}
 use Rattle.jiff_core.proofs.CalendarLemmas.{days_from_civil-day_count, day_count-lt_year, day_count-day, day_count-next_month, day_count-next_year, day_count-last_of_year, days_in_month_bounds}
 use Rattle.docker_model.specs.records.Date.{day_number, last_day}
 use Rattle.docker_model.specs.records.PrintedTime.{day_text, date_text}
-use Rattle.docker_laws.proofs.records.Dates.{day_number-day_count, day_text-day_number}
+use Rattle.cif_laws.proofs.records.Dates.{day_number-day_count, day_text-day_number}
 
 -- a day of the years 1960 to 2059
 pub record IsDayOf (number year month day : ℕ) : Type 0 where

@@ -8,7 +8,7 @@ use Rattle.jiff_core.proofs.SignedLemmas.{signed_arith}
 use Rattle.jiff_core.proofs.CalendarLemmas.{days_in_month_bounds}
 use Rattle.docker_model.specs.records.Date.{is_calendar_day, day_number, is_date, date_number, two_digits, full_year, last_day}
 use Rattle.docker_model.specs.records.PrintedTime.{two_digit_text, day_text}
-use Rattle.docker_laws.proofs.records.Dates.{is_calendar_day-IsDate}
+use Rattle.cif_laws.proofs.records.Dates.{is_calendar_day-IsDate}
 use Rattle.cif_field.proofs.CivilDays.{IsDayOf, number_is, text_is, day_at}
 
 -- a number below 10, written as a digit, is one

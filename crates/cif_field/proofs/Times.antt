@@ -8,8 +8,8 @@ use Rattle.std.proofs.lemmas.Slice.Eq.{bytes_eq-Decides}
 use Rattle.std.specs.Char.{is_ascii_digit}
 use Rattle.docker_model.specs.records.Date.{two_digits}
 use Rattle.docker_model.specs.records.Clock.{is_blank, is_clock, is_present_time, is_public_time}
-use Rattle.docker_laws.proofs.lists.BoolsAndOptions.{both}
-use Rattle.docker_laws.proofs.records.ScheduledTimes.{present_not_blank}
+use Rattle.cif_laws.proofs.lists.BoolsAndOptions.{both}
+use Rattle.cif_laws.proofs.records.ScheduledTimes.{present_not_blank}
 
 -- four digits, one by one
 pub four_digits : (field : List ℕ) → 4 ≤ length field →

@@ -114,7 +114,7 @@ fn first_bad_index(bytes: &[u8]) -> Option<usize>
 }
 
 /// The leftmost column, from 1, whose byte is not printable, looked for only once it is known that there is one.
-#[tactic(auto, using(docker_laws::proofs::records::RecordTests::no_bad_byte))]
+#[tactic(auto, using(cif_laws::proofs::records::RecordTests::no_bad_byte))]
 fn bad_column(bytes: &[u8; 80]) -> Option<u8>
     ensures value { result ≡ leftmost_bad_byte bytes.now }
     ensures none { IsNone result ↔ AllPass is_printable bytes.now }

@@ -10,15 +10,15 @@ use Rattle.docker_model.specs.records.Field.{HasGoodFields, leftmost_bad_field, 
 use Rattle.docker_model.specs.file.Change.{Change, Key, Act, Body, schedule_rest, acts_by_kind, changes_of_record, changes_from, changes, schedule_named, schedule_body, delete, put}
 use Rattle.docker_model.specs.file.FileFault as fault
 use Rattle.docker_model.specs.file.FileFault.{bad_place, bad_kind, bad_field}
-use Rattle.docker_laws.proofs.files.UnitChanges.{unit_then, schedule_change}
-use Rattle.docker_laws.specs.RecordTest.{is_record, has_good_fields}
-use Rattle.docker_laws.proofs.lists.BoolsAndOptions.{test_by_none, none_by_test}
-use Rattle.docker_laws.specs.ScheduleStage.{Stage, after_basic, after_details, in_journey, after_journey, stage_after, stage_of, may_end, is_sound_next, next_stage}
-use Rattle.docker_laws.proofs.schedules.ScheduleStages.{stage_of_more, stage_of_first, first_line_iff_test, schedule_iff_stage, begins_iff_stage, no_stage_of_none}
-use Rattle.docker_laws.specs.FileStage.{Place, before_header, between_units, in_schedule, after_end, unit_by_kind, place_in, in_stage_or, is_header_kind, place_by_kind, is_sound_at, next_place, IsPlaceOf}
-use Rattle.docker_laws.proofs.files.FileStages.{test_by_next, next_by_test, next_behind, stage_stops, file_iff_place, one_place, place_of_more, at_of_place}
-use Rattle.docker_laws.specs.RecordCause.{cause_of, kind_cause, place_cause, field_cause, with_column, is_after_end}
-use Rattle.docker_laws.proofs.schedules.ScheduleCauses.{no_unit_by_kind, next_place_of_stage, cause_of_record, cause_in_schedule, cause_behind_schedule, fault_of_schedule}
+use Rattle.cif_laws.proofs.files.UnitChanges.{unit_then, schedule_change}
+use Rattle.cif_laws.specs.RecordTest.{is_record, has_good_fields}
+use Rattle.cif_laws.proofs.lists.BoolsAndOptions.{test_by_none, none_by_test}
+use Rattle.cif_laws.specs.ScheduleStage.{Stage, after_basic, after_details, in_journey, after_journey, stage_after, stage_of, may_end, is_sound_next, next_stage}
+use Rattle.cif_laws.proofs.schedules.ScheduleStages.{stage_of_more, stage_of_first, first_line_iff_test, schedule_iff_stage, begins_iff_stage, no_stage_of_none}
+use Rattle.cif_laws.specs.FileStage.{Place, before_header, between_units, in_schedule, after_end, unit_by_kind, place_in, in_stage_or, is_header_kind, place_by_kind, is_sound_at, next_place, IsPlaceOf}
+use Rattle.cif_laws.proofs.files.FileStages.{test_by_next, next_by_test, next_behind, stage_stops, file_iff_place, one_place, place_of_more, at_of_place}
+use Rattle.cif_laws.specs.RecordCause.{cause_of, kind_cause, place_cause, field_cause, with_column, is_after_end}
+use Rattle.cif_laws.proofs.schedules.ScheduleCauses.{no_unit_by_kind, next_place_of_stage, cause_of_record, cause_in_schedule, cause_behind_schedule, fault_of_schedule}
 use Rattle.cif_line.specs.declared.kind_of_record.Kind as code
 use Rattle.cif_line.specs.declared.kind_of_record.Kind.TheVariants.{Header}
 use Rattle.cif_line.specs.Kind.{meaning}

@@ -17,13 +17,13 @@ use Rattle.docker_model.specs.file.File.{IsFile, BeginsFile}
 use Rattle.docker_model.specs.file.FaultSoFar.{IsFaultSoFar, lines_told}
 use Rattle.docker_model.specs.file.FileFault.{IsFileFault, IsUnended, too_many, after_trailer, bad_byte, bad_length, no_end}
 use Rattle.docker_model.specs.file.FileFault as model
-use Rattle.docker_laws.specs.RecordTest.{is_record, has_good_fields}
-use Rattle.docker_laws.specs.FileStage.{Place, after_end, place_at, next_place}
-use Rattle.docker_laws.proofs.files.FileStages.{next_by_test, file_iff_place, begins_iff_place}
-use Rattle.docker_laws.specs.RecordCause.{end_cause, length_cause, is_after_end, cause_of_long}
-use Rattle.docker_laws.specs.LinesTold.{HasNoFeed, told_lines, open_line, line_left}
-use Rattle.docker_laws.proofs.files.ToldLines.{lines_of_told, lines_of_ended, lines_of_open, told_lines_plain, open_line_plain, told_lines_ended, open_line_ended, told_lines_stay, lines_told_grow}
-use Rattle.docker_laws.proofs.files.ToldFaults.{cause_of_length, not_80, no_next_place, lines_told_short, length_at_end, fault_at_feed, fault_at_long, fault_at_end, fault_stays, no_fault_told}
+use Rattle.cif_laws.specs.RecordTest.{is_record, has_good_fields}
+use Rattle.cif_laws.specs.FileStage.{Place, after_end, place_at, next_place}
+use Rattle.cif_laws.proofs.files.FileStages.{next_by_test, file_iff_place, begins_iff_place}
+use Rattle.cif_laws.specs.RecordCause.{end_cause, length_cause, is_after_end, cause_of_long}
+use Rattle.cif_laws.specs.LinesTold.{HasNoFeed, told_lines, open_line, line_left}
+use Rattle.cif_laws.proofs.files.ToldLines.{lines_of_told, lines_of_ended, lines_of_open, told_lines_plain, open_line_plain, told_lines_ended, open_line_ended, told_lines_stay, lines_told_grow}
+use Rattle.cif_laws.proofs.files.ToldFaults.{cause_of_length, not_80, no_next_place, lines_told_short, length_at_end, fault_at_feed, fault_at_long, fault_at_end, fault_stays, no_fault_told}
 use Rattle.cif_journey.specs.declared.cause.FileCause.{FileCause}
 use Rattle.cif_journey.specs.declared.cause.FileCause.TheVariants.{Memory}
 use Rattle.cif_file.specs.declared.fault.FileFault.{FileFault}

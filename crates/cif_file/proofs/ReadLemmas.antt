@@ -4,7 +4,7 @@ use Rattle.std.specs.Prelude.{Option, Ok, OnOk, IfOk, IfErr}
 use Rattle.docker_model.specs.file.Text.{lines_of}
 use Rattle.docker_model.specs.file.FaultSoFar.{IsFaultSoFar}
 use Rattle.docker_model.specs.file.FileFault as model
-use Rattle.docker_laws.proofs.files.ToldFaults.{fault_in_the_end}
+use Rattle.cif_laws.proofs.files.ToldFaults.{fault_in_the_end}
 use Rattle.cif_line.specs.Device.{Reads, IsEnd}
 use Rattle.cif_line.specs.Taken.{BehindEach, HasFed, HasRefused, LosesOnePieceMore}
 use Rattle.cif_journey.specs.declared.cause.FileCause.{FileCause}

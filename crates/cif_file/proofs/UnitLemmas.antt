@@ -2,8 +2,8 @@
 use Rattle.std.proofs.Common.{◌≡◌, List, ℕ, true, Some, ap, subst, sym}
 use Rattle.std.specs.Prelude.{is_some}
 use Rattle.docker_model.specs.records.Record.{HasKind, kind_of}
-use Rattle.docker_laws.specs.FileStage.{unit_by_kind, between_units}
-use Rattle.docker_laws.specs.ScheduleStage.{is_first_line}
+use Rattle.cif_laws.specs.FileStage.{unit_by_kind, between_units}
+use Rattle.cif_laws.specs.ScheduleStage.{is_first_line}
 use Rattle.cif_file.specs.declared.single.Single.{Single}
 use Rattle.cif_file.specs.declared.single.Single.TheVariants.{TiplocInsert, TiplocAmend, TiplocDelete, Association}
 use Rattle.cif_file.specs.declared.unit.Unit.{Unit}

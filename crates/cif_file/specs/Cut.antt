@@ -1,6 +1,6 @@
 -- Bytes cut at their first line feed.
 use Rattle.std.specs.Prelude.{◌≡◌, ℕ, List, ◌∷◌, ◌++◌}
-use Rattle.docker_laws.specs.LinesTold.{HasNoFeed}
+use Rattle.cif_laws.specs.LinesTold.{HasNoFeed}
 
 -- the front has no line feed, and behind it stand one and the rest
 pub record IsCut (text front rest : List ℕ) : Type 0 where

@@ -5,10 +5,10 @@ use Rattle.docker_model.specs.file.FaultSoFar.{IsFaultSoFar, lines_told}
 use Rattle.docker_model.specs.file.File.{IsFile, BeginsFile}
 use Rattle.docker_model.specs.file.FileFault.{no_end, IsFileFault, IsFileText}
 use Rattle.docker_model.specs.file.FileFault as model
-use Rattle.docker_laws.specs.FileStage.{next_place, IsPlaceOf}
-use Rattle.docker_laws.specs.FileStage as law
-use Rattle.docker_laws.specs.RecordCause.{cause_of, cause_of_long}
-use Rattle.docker_laws.specs.LinesTold.{told_lines, open_line}
+use Rattle.cif_laws.specs.FileStage.{next_place, IsPlaceOf}
+use Rattle.cif_laws.specs.FileStage as law
+use Rattle.cif_laws.specs.RecordCause.{cause_of, cause_of_long}
+use Rattle.cif_laws.specs.LinesTold.{told_lines, open_line}
 use Rattle.cif_file.specs.declared.fault.FileFault.{FileFault}
 use Rattle.cif_journey.specs.declared.cause.FileCause.{FileCause}
 use Rattle.cif_journey.specs.declared.cause.FileCause.TheVariants.{Memory}

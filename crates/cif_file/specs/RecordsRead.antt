@@ -5,10 +5,10 @@ use Rattle.docker_model.specs.file.File.{first_record, follows_basic, IsFile, Is
 use Rattle.docker_model.specs.file.Change.{changes, schedule_named}
 use Rattle.docker_model.specs.records.Field.{as_new}
 use Rattle.docker_model.specs.file.FileFault as fault
-use Rattle.docker_laws.specs.ScheduleStage.{Stage, stage_of}
-use Rattle.docker_laws.specs.FileStage.{before_header, between_units, in_schedule, after_end, next_place, IsPlaceOf}
-use Rattle.docker_laws.specs.FileStage as law
-use Rattle.docker_laws.specs.RecordCause.{cause_of}
+use Rattle.cif_laws.specs.ScheduleStage.{Stage, stage_of}
+use Rattle.cif_laws.specs.FileStage.{before_header, between_units, in_schedule, after_end, next_place, IsPlaceOf}
+use Rattle.cif_laws.specs.FileStage as law
+use Rattle.cif_laws.specs.RecordCause.{cause_of}
 use Rattle.cif_change.specs.declared.key.Key.TheVariants as key
 use Rattle.cif_file.specs.declared.opened.Opened.{Opened}
 use Rattle.cif_file.specs.declared.front.FileStage.{FileStage}

@@ -4,7 +4,7 @@ use Rattle.docker_model.specs.file.Text.{lines_of}
 use Rattle.docker_model.specs.file.FaultSoFar.{IsFaultSoFar, lines_told}
 use Rattle.docker_model.specs.file.FileFault.{FileCause, IsFileFault}
 use Rattle.docker_model.specs.file.FileFault as model
-use Rattle.docker_laws.specs.LinesTold.{told_lines}
+use Rattle.cif_laws.specs.LinesTold.{told_lines}
 use Rattle.cif_line.specs.Device.{Reads}
 use Rattle.cif_file.specs.declared.ended.Ended.{Ended}
 use Rattle.cif_file.specs.declared.fault.FileFault.{FileFault}

@@ -1,8 +1,8 @@
 //! The next record of a file, from its bytes.
 ghost use Rattle.std.specs.Prelude.{◌≡◌, ℕ, ◌+◌, ◌<◌, List, [], ◌∷◌, ◌++◌, length, IsOk, IsErr, IfOk, IfErr, OnOk, Some};
 ghost use Rattle.docker_model.specs.records.Record.{IsRecord};
-ghost use Rattle.docker_laws.specs.FileStage.{Place};
-ghost use Rattle.docker_laws.specs.RecordCause.{length_cause};
+ghost use Rattle.cif_laws.specs.FileStage.{Place};
+ghost use Rattle.cif_laws.specs.RecordCause.{length_cause};
 ghost use Rattle.cif_journey.specs.Cause.{cause_meant};
 ghost use Rattle.cif_file.specs.RecordsRead.{TakesNext};
 ghost use Rattle.cif_file.specs.ParserRead.{RefusesWithin};

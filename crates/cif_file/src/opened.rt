@@ -1,7 +1,7 @@
 //! A schedule whose lines are being read.
 ghost use Rattle.std.specs.Prelude.{◌≡◌, [], ◌∷◌, true, false, IsOk, IsErr, IfOk, IfErr, OnOk, MatchOption, if◌then◌else◌};
 ghost use Rattle.docker_model.specs.records.Record.{HasKind, IsRecord};
-ghost use Rattle.docker_laws.specs.ScheduleStage.{is_first_line};
+ghost use Rattle.cif_laws.specs.ScheduleStage.{is_first_line};
 ghost use Rattle.docker_model.specs.file.Change.{schedule_named, schedule_body, delete, put};
 ghost use Rattle.cif_journey.specs.JourneyRead.{progress_meant, HasLines, Advances, FaultsLine, JudgesLine, is_over_by};
 ghost use Rattle.cif_line.specs.Kind.{meaning};

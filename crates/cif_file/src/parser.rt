@@ -1,6 +1,6 @@
 //! A parser that is fed a file piece by piece.
 ghost use Rattle.std.specs.Prelude.{◌≡◌, ℕ, ◌+◌, ◌≤◌, ◌↔◌, length, IsTrue, List, [], ◌∷◌, ◌++◌, IsOk, IfOk, IfErr, OnOk, Err};
-ghost use Rattle.docker_laws.specs.LinesTold.{HasNoFeed};
+ghost use Rattle.cif_laws.specs.LinesTold.{HasNoFeed};
 ghost use Rattle.cif_file.specs.ParserRead.{HasRead, HasFailed, HasNotFailed, IsReading, EndsBy, IsLater, NamesLater, IsLast, NamesLast, GoesOn, TellsFault, TellsNoFault, EndsAs, EndsInFault};
 
 use crate::ended::Ended;

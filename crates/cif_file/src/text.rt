@@ -1,7 +1,7 @@
 //! Line ends.
 ghost use Rattle.std.specs.Prelude.{◌≡◌, ◌==◌, ◌<◌, ◌≤◌, ◌↔◌, IsTrue, IfSome, length, position, take, MatchOption};
 ghost use Rattle.docker_model.specs.records.Record.{IsRecord};
-ghost use Rattle.docker_laws.specs.LinesTold.{HasNoFeed};
+ghost use Rattle.cif_laws.specs.LinesTold.{HasNoFeed};
 ghost use Rattle.cif_file.specs.Cut.{IsCut};
 ghost use Rattle.std.specs.Str.Lines.{strip_carriage_return};
 

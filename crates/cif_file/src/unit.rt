@@ -2,8 +2,8 @@
 ghost use Rattle.std.specs.Prelude.{◌≡◌, true, is_some, Some, IsErr, IfOk, IfErr};
 ghost use Rattle.docker_model.specs.records.Record.{HasKind, IsRecord, kind_of};
 ghost use Rattle.docker_model.specs.records.Field.{HasGoodFields};
-ghost use Rattle.docker_laws.specs.FileStage.{unit_by_kind, between_units};
-ghost use Rattle.docker_laws.specs.RecordCause.{place_cause};
+ghost use Rattle.cif_laws.specs.FileStage.{unit_by_kind, between_units};
+ghost use Rattle.cif_laws.specs.RecordCause.{place_cause};
 ghost use Rattle.cif_line.specs.Kind.{meaning};
 ghost use Rattle.cif_journey.specs.Cause.{cause_meant};
 ghost use Rattle.cif_file.specs.UnitRead.{IsUnitOf};

@@ -8,18 +8,18 @@ use Rattle.docker_model.specs.file.File.{first_record, IsSchedule, BeginsSchedul
 use Rattle.docker_model.specs.records.Field.{is_deletion, HasGoodFields, leftmost_bad_field}
 use Rattle.docker_model.specs.file.FileFault as fault
 use Rattle.docker_model.specs.file.FileFault.{bad_kind, bad_place}
-use Rattle.docker_laws.specs.RecordCause.{field_cause, schedule_cause, first_line_cause}
+use Rattle.cif_laws.specs.RecordCause.{field_cause, schedule_cause, first_line_cause}
 use Rattle.docker_model.specs.file.ScheduleFault.{IsScheduleFault}
 use Rattle.docker_model.specs.file.Journey.{Occasion, arrival, pass, departure, timed, times_of, times_by_kind, times_along, midnights, fall_count}
-use Rattle.docker_laws.proofs.records.Columns.{good_fields}
-use Rattle.docker_laws.proofs.records.ScheduledTimes.{time_there}
-use Rattle.docker_laws.specs.RecordTest.{is_record, has_good_fields}
-use Rattle.docker_laws.proofs.lists.BoolsAndOptions.{test_by_none, and_true}
-use Rattle.docker_laws.proofs.records.RecordTests.{record_iff_test, midnights_step, last_time_step, no_times, no_times_before}
-use Rattle.docker_laws.specs.TimesSoFar.{last_of, falls_after, later_or}
-use Rattle.docker_laws.specs.ScheduleStage.{Stage, after_basic, after_details, in_journey, after_journey, stage_after, is_basic_kind, stage_of, may_lack, may_end, is_first_line, is_sound_next, next_stage}
-use Rattle.docker_laws.proofs.schedules.ScheduleStages.{no_stage_of_none, stage_of_more, first_line_iff_test, schedule_iff_stage, begins_iff_stage, sound_next_by_count}
-use Rattle.docker_laws.proofs.schedules.ScheduleCauses.{first_line_fault, begins_next_stage, schedule_fault}
+use Rattle.cif_laws.proofs.records.Columns.{good_fields}
+use Rattle.cif_laws.proofs.records.ScheduledTimes.{time_there}
+use Rattle.cif_laws.specs.RecordTest.{is_record, has_good_fields}
+use Rattle.cif_laws.proofs.lists.BoolsAndOptions.{test_by_none, and_true}
+use Rattle.cif_laws.proofs.records.RecordTests.{record_iff_test, midnights_step, last_time_step, no_times, no_times_before}
+use Rattle.cif_laws.specs.TimesSoFar.{last_of, falls_after, later_or}
+use Rattle.cif_laws.specs.ScheduleStage.{Stage, after_basic, after_details, in_journey, after_journey, stage_after, is_basic_kind, stage_of, may_lack, may_end, is_first_line, is_sound_next, next_stage}
+use Rattle.cif_laws.proofs.schedules.ScheduleStages.{no_stage_of_none, stage_of_more, first_line_iff_test, schedule_iff_stage, begins_iff_stage, sound_next_by_count}
+use Rattle.cif_laws.proofs.schedules.ScheduleCauses.{first_line_fault, begins_next_stage, schedule_fault}
 use Rattle.cif_journey.specs.declared.cause.FileCause.{FileCause}
 use Rattle.cif_journey.specs.Cause.{cause_meant}
 use Rattle.cif_journey.specs.JourneyRead.{JourneyState, stage_then, HasLines, IsScheduleCause, may_end_by, time_list, FaultsLine}

@@ -6,9 +6,9 @@ use Rattle.docker_model.specs.file.Journey.{times_of, times_along, midnights}
 use Rattle.docker_model.specs.records.Record.{Kind}
 use Rattle.docker_model.specs.file.FileFault as fault
 use Rattle.docker_model.specs.file.ScheduleFault.{IsScheduleFault}
-use Rattle.docker_laws.specs.TimesSoFar.{last_of}
-use Rattle.docker_laws.specs.ScheduleStage.{after_basic, after_details, in_journey, after_journey, stage_of, stage_after, may_lack}
-use Rattle.docker_laws.specs.ScheduleStage as place
+use Rattle.cif_laws.specs.TimesSoFar.{last_of}
+use Rattle.cif_laws.specs.ScheduleStage.{after_basic, after_details, in_journey, after_journey, stage_of, stage_after, may_lack}
+use Rattle.cif_laws.specs.ScheduleStage as place
 use Rattle.cif_journey.specs.declared.cause.FileCause.{FileCause}
 use Rattle.cif_journey.specs.declared.journey_times.Times.{Times}
 use Rattle.cif_journey.specs.declared.progress.Progress.{Progress}

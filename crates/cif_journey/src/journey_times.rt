@@ -3,7 +3,7 @@ ghost use Rattle.std.specs.Prelude.{◌≡◌, ℕ, ◌+◌, ◌≤◌, ◌<◌,
 ghost use Rattle.docker_model.specs.records.Record.{HasKind, origin_location, intermediate_location, terminating_location};
 ghost use Rattle.docker_model.specs.records.Field.{HasGoodFields, leftmost_bad_field};
 ghost use Rattle.docker_model.specs.file.File.{follows_basic};
-ghost use Rattle.docker_laws.specs.TimesSoFar.{falls_after, later_or};
+ghost use Rattle.cif_laws.specs.TimesSoFar.{falls_after, later_or};
 ghost use Rattle.cif_line.specs.Kind.{meaning};
 ghost use Rattle.cif_journey.specs.JourneyRead.{time_list, times_list, AreTimesOf};
 

@@ -1,7 +1,7 @@
 //! How far a schedule has come.
 ghost use Rattle.std.specs.Prelude.{◌≡◌, option_map, Some, IsSome, true};
 ghost use Rattle.docker_model.specs.file.File.{follows_basic};
-ghost use Rattle.docker_laws.specs.ScheduleStage.{stage_after};
+ghost use Rattle.cif_laws.specs.ScheduleStage.{stage_after};
 ghost use Rattle.cif_line.specs.Kind.{meaning};
 ghost use Rattle.cif_journey.specs.JourneyRead.{stage_meant, may_end_by, is_over_by};
 

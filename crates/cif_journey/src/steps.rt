@@ -3,8 +3,8 @@ ghost use Rattle.std.specs.Prelude.{◌≡◌, ◌==◌, ℕ, ◌↔◌, IsTrue,
 ghost use Rattle.docker_model.specs.records.Record.{HasKind, IsRecord, basic_schedule, column};
 ghost use Rattle.docker_model.specs.records.Field.{is_deletion, HasGoodFields};
 ghost use Rattle.docker_model.specs.file.File.{follows_basic};
-ghost use Rattle.docker_laws.specs.ScheduleStage.{is_sound_next, is_first_line};
-ghost use Rattle.docker_laws.specs.RecordCause.{first_line_cause, field_cause};
+ghost use Rattle.cif_laws.specs.ScheduleStage.{is_sound_next, is_first_line};
+ghost use Rattle.cif_laws.specs.RecordCause.{first_line_cause, field_cause};
 ghost use Rattle.cif_line.specs.Kind.{meaning};
 ghost use Rattle.cif_journey.specs.JourneyRead.{HasLines, stage_meant, stage_then, is_over_by, progress_meant, Advances, JudgesLine, FaultsLine, JudgesWhole};
 ghost use Rattle.cif_journey.specs.Cause.{cause_meant};

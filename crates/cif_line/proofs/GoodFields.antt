@@ -5,7 +5,7 @@ use Rattle.docker_model.specs.records.Record.{Kind, header, tiploc_insert, tiplo
 use Rattle.docker_model.specs.records.Date.{is_date, is_date_day_first, is_end_date, is_days}
 use Rattle.docker_model.specs.records.Clock.{is_clock, is_public_time}
 use Rattle.docker_model.specs.records.Field.{CheckedField, checked, checked_fields, HasGoodFields, is_tiploc, is_new_tiploc, is_update_indicator, is_transaction, is_stp_indicator, is_stp_letter, is_deletion}
-use Rattle.docker_laws.proofs.records.Columns.{good_fields, IsGoodIn, one_column}
+use Rattle.cif_laws.proofs.records.Columns.{good_fields, IsGoodIn, one_column}
 use Rattle.cif_line.specs.View.{IsGood, IsGoodTiploc, IsTiplocRecord, new_code_of}
 
 -- each checked field of a good record

@@ -8,8 +8,8 @@ use Rattle.docker_model.specs.state.StateText.{Format}
 use Rattle.docker_model.specs.state.StatePart.{in_entry, before_line, width, AreGood}
 use Rattle.docker_model.specs.state.StateFault.{bad_mark, bad_item, bad_order, bad_floor, bad_tag, bad_stamp, bad_body, too_short, has_tail, too_long, bad_horizon}
 use Rattle.docker_model.specs.state.StateFault as model
-use Rattle.docker_laws.specs.TextStage.{advance}
-use Rattle.docker_laws.proofs.texts.TextsBefore.{more_lines}
+use Rattle.state_laws.specs.TextStage.{advance}
+use Rattle.state_laws.proofs.texts.TextsBefore.{more_lines}
 use Rattle.docker_parts.specs.ScheduleKey as code
 use Rattle.docker_parts.specs.Meaning.{stamp_meant}
 use Rattle.docker_parts.specs.Stamp as stamps

@@ -9,7 +9,7 @@ use Rattle.docker_model.specs.state.State.{State}
 use Rattle.docker_model.specs.state.StateText.{Format}
 use Rattle.docker_model.specs.state.StateFault.{has_tail, IsStateText, HasTail}
 use Rattle.docker_model.specs.state.StateFault as model
-use Rattle.docker_laws.proofs.texts.StateFaultStays.{bad_part_stays, long_stays}
+use Rattle.state_laws.proofs.texts.StateFaultStays.{bad_part_stays, long_stays}
 use Rattle.docker_parts.specs.declared.cause.StateCause.{StateCause}
 use Rattle.docker_parts.specs.declared.cause.StateCause.TheVariants as cause
 use Rattle.docker_bytes.specs.declared.fault.StateFault.{StateFault}

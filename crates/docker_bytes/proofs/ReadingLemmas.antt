@@ -9,11 +9,11 @@ use Rattle.docker_model.specs.state.State.{State}
 use Rattle.docker_model.specs.state.StateText.{Format, dks_1, dks_2, item_in}
 use Rattle.docker_model.specs.state.StateFault.{StateCause, too_short, IsBadPart, HasBadPart, IsLong}
 use Rattle.docker_model.specs.state.StatePart.{EntryPart, before_tag, before_key, before_stamp, before_op, before_body, before_line, Before, before_mark, before_horizon, before_ledger_count, before_item, before_entry_count, in_entry, at_end, items_before, parts_before, text_before, width, AreGood}
-use Rattle.docker_laws.proofs.texts.StateBytes.{AreBytes}
-use Rattle.docker_laws.proofs.texts.StateFaultStays.{bad_part_stays, long_stays}
+use Rattle.state_laws.proofs.texts.StateBytes.{AreBytes}
+use Rattle.state_laws.proofs.texts.StateFaultStays.{bad_part_stays, long_stays}
 use Rattle.std.proofs.Math.Seq.{take-append_seam}
-use Rattle.docker_laws.specs.TextStage.{advance, after_mark, after_items, after_entries, after_lines, after_op, with_entry}
-use Rattle.docker_laws.proofs.texts.PartJudged.{Judged, Good, judge}
+use Rattle.state_laws.specs.TextStage.{advance, after_mark, after_items, after_entries, after_lines, after_op, with_entry}
+use Rattle.state_laws.proofs.texts.PartJudged.{Judged, Good, judge}
 use Rattle.docker_bytes.specs.declared.reading.Reading.{Reading}
 use Rattle.docker_parts.specs.FaultMeaning.{IsBadHere}
 use Rattle.docker_parts.specs.Stage.{begins_item, LeadsTo}

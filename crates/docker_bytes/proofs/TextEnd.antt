@@ -4,8 +4,8 @@ use Rattle.docker_model.specs.state.State.{State}
 use Rattle.docker_model.specs.state.StateText.{Format, state_text}
 use Rattle.docker_model.specs.state.StatePart.{at_end, items_before, text_before, width, AreGood}
 use Rattle.docker_model.specs.state.StateFault.{too_short, IsShort, IsStateText}
-use Rattle.docker_laws.proofs.texts.TextOrFault.{end_or_part}
-use Rattle.docker_laws.proofs.texts.OneStateFault.{no_fault_of_state}
+use Rattle.state_laws.proofs.texts.TextOrFault.{end_or_part}
+use Rattle.state_laws.proofs.texts.OneStateFault.{no_fault_of_state}
 use Rattle.docker_parts.specs.declared.stage.Stage.{Stage}
 use Rattle.docker_parts.specs.declared.stage.Stage.TheVariants as stage
 use Rattle.docker_bytes.specs.declared.reading.Reading.{Reading}

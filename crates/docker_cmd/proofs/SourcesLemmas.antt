@@ -1,10 +1,10 @@
 -- What an office of one file is.
 use Rattle.std.proofs.Common.{ℕ, List, [], ◌∷◌, refl, sym, ◌∙◌}
 use Rattle.std.specs.Prelude.{Option}
-use Rattle.docker_laws.proofs.lists.Membership.{Contains-single}
+use Rattle.cif_laws.proofs.lists.Membership.{Contains-single}
 use Rattle.docker_model.specs.file.File.{most_records}
 use Rattle.docker_model.specs.state.State.{State}
-use Rattle.docker_laws.proofs.dockers.PrintedDocker.{live_table_is_plain}
+use Rattle.state_laws.proofs.states.PlainLive.{live_table_is_plain}
 use Rattle.docker_office.specs.Office.{KnowsFileToo}
 use Rattle.docker_cmd.specs.Prepared.{IsOfOneFile, office_read}
 

@@ -15,8 +15,8 @@ use Rattle.docker_model.specs.docker.Choice.{schedule_runs, association_runs, gr
 use Rattle.docker_model.specs.docker.DockerLine.{DockerLine, Detail, ends, tiploc_of_first}
 use Rattle.docker_model.specs.docker.LiveRows.{Train, Link, train_in, link_in, IsTrainOn, IsLinkOn}
 use Rattle.docker_model.specs.docker.Gathering.{event_lines, row_lines, runs_by, counts_as, is_in_force}
-use Rattle.docker_laws.proofs.orders.AtMost.{eq_is}
-use Rattle.docker_laws.proofs.orders.Orders.{exact_schedule_key, exact_association_key}
+use Rattle.cif_laws.proofs.orders.AtMost.{eq_is}
+use Rattle.cif_laws.proofs.orders.Orders.{exact_schedule_key, exact_association_key}
 use Rattle.docker_laws.proofs.dockers.OneChoice.{one_schedule, one_association}
 use Rattle.docker_laws.proofs.dockers.TrainOfRows.{trains_tell}
 use Rattle.docker_laws.proofs.dockers.LinkOfRows.{links_tell}

@@ -4,7 +4,7 @@ ghost use Rattle.std.specs.Ordering.{as_partial_cmp, eq_by_cmp};
 ghost use Rattle.std.specs.Cmp.{partial_equiv_from_equiv, eq_by_cmp_equiv, partial_order_from_total};
 ghost use Rattle.std.proofs.Common.{refl};
 ghost use Rattle.docker_model.specs.docker.DockerLine.{docker_line_cmp};
-ghost use Rattle.docker_laws.proofs.orders.Orders.{docker_line_total};
+ghost use Rattle.cif_laws.proofs.orders.Orders.{docker_line_total};
 ghost use Rattle.cif_line.specs.Letter.{stp_letter};
 ghost use Rattle.docker_train.specs.Meaning.{occasion_meant};
 ghost use Rattle.docker_day.specs.Details.{detail_meant};

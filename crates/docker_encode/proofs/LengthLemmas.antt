@@ -10,7 +10,7 @@ use Rattle.docker_model.specs.state.Op.{Entry}
 use Rattle.docker_model.specs.state.State.{State, IsBodyOf, IsGoodItem, IsGoodEntry, IsLedger, IsValid}
 use Rattle.docker_model.specs.state.StateText.{dks_2, head_text, item_bytes, stamp_bytes, put_bytes, op_bytes, entry_bytes, ledger_text, state_text}
 use Rattle.docker_model.specs.state.StatePart.{key_text}
-use Rattle.docker_laws.proofs.texts.StateReadBack.{item_width, stamp_width}
+use Rattle.state_laws.proofs.texts.StateReadBack.{item_width, stamp_width}
 use Rattle.docker_encode.specs.Entries.{IsOfWidth}
 use Rattle.std.proofs.lemmas.List.{length-map}
 

@@ -10,8 +10,8 @@ use Rattle.docker_model.specs.file.Change.{Key, tiploc_key, association_key, sch
 use Rattle.docker_model.specs.state.Op.{Op, deleted, lapsed, put_with, op_of, key_cmp}
 use Rattle.docker_model.specs.state.Order.{IsBelow}
 use Rattle.docker_model.specs.state.State.{AreAscending}
-use Rattle.docker_laws.proofs.lists.Membership.{Contains-cons, cons-Contains, cons-Contains-first, nil-Contains, below_by_recursion}
-use Rattle.docker_laws.proofs.orders.Orders.{key_total}
+use Rattle.cif_laws.proofs.lists.Membership.{Contains-cons, cons-Contains, cons-Contains-first, nil-Contains, below_by_recursion}
+use Rattle.cif_laws.proofs.orders.Orders.{key_total}
 use Rattle.docker_index.specs.Spots.{Places, call_places, link_places, spot_at, spots_from, spots_of}
 use Rattle.docker_index.specs.Rooms.{AreMadeBy}
 use Rattle.docker_index.proofs.Positions.{Keyed}

@@ -11,11 +11,11 @@ use Rattle.docker_model.specs.state.Stamp.{FileStamp, file_stamp_cmp, IsKept}
 use Rattle.docker_model.specs.state.Op as ops
 use Rattle.docker_model.specs.state.Op.{key_cmp}
 use Rattle.docker_model.specs.state.Order.{IsBelow, IsStrictlyAscending}
-use Rattle.docker_laws.proofs.orders.Ascending.{same_list}
-use Rattle.docker_laws.proofs.states.KeptEntries.{lapse_ascends}
-use Rattle.docker_laws.proofs.states.LapsedGreatest.{lapsed_from, lapsed_to}
-use Rattle.docker_laws.proofs.lists.FilteredMembers.{filter_back, filter_forth}
-use Rattle.docker_laws.proofs.orders.Orders.{key_total}
+use Rattle.cif_laws.proofs.orders.Ascending.{same_list}
+use Rattle.state_laws.proofs.states.KeptEntries.{lapse_ascends}
+use Rattle.state_laws.proofs.states.LapsedGreatest.{lapsed_from, lapsed_to}
+use Rattle.cif_laws.proofs.lists.FilteredMembers.{filter_back, filter_forth}
+use Rattle.cif_laws.proofs.orders.Orders.{key_total}
 use Rattle.docker_join.specs.Meaning.{row_meant}
 use Rattle.docker_join.specs.Rows.{AreAscending, IsJoinOfRows}
 use Rattle.docker_join.specs.RowLaws.{same_rows}

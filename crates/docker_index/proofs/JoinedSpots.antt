@@ -10,7 +10,7 @@ use Rattle.docker_model.specs.state.Stamp.{FileStamp}
 use Rattle.docker_model.specs.state.Op as ops
 use Rattle.docker_model.specs.state.Op.{deleted, lapsed, put_with, body_end}
 use Rattle.docker_model.specs.state.Lapse.{lapse, lapse_entries}
-use Rattle.docker_laws.proofs.states.Lapse.{below_or, put_lapses, put_stays}
+use Rattle.state_laws.proofs.states.Lapse.{below_or, put_lapses, put_stays}
 use Rattle.cif_file.specs.Meaning.{key_meant}
 use Rattle.docker_join.specs.Meaning.{op_meant, entry_meant, row_meant}
 use Rattle.docker_index.specs.SpotOrder.{Spot}

@@ -8,8 +8,8 @@ use Rattle.docker_model.specs.state.Op.{Op, deleted, lapsed, put_with, body_of}
 use Rattle.docker_model.specs.state.Lapse.{lapse, lapse_keyed, lapse_entries}
 use Rattle.docker_model.specs.state.Row.{Row}
 use Rattle.docker_model.specs.state.Order.{IsStrictlyAscending}
-use Rattle.docker_laws.proofs.lists.Membership.{nil-Contains}
-use Rattle.docker_laws.proofs.lists.FilteredMembers.{filter_back, filter_forth}
+use Rattle.cif_laws.proofs.lists.Membership.{nil-Contains}
+use Rattle.cif_laws.proofs.lists.FilteredMembers.{filter_back, filter_forth}
 use Rattle.docker_index.specs.SpotOrder.{Spot, spot_cmp}
 use Rattle.docker_index.specs.declared.mark.Mark.{Mark}
 use Rattle.docker_index.specs.MarkOrder.{mark_cmp}

@@ -14,10 +14,10 @@ use Rattle.docker_model.specs.state.State.{State, AreAscending, entry_at, live_t
 use Rattle.docker_model.specs.state.Row.{Row}
 use Rattle.docker_model.specs.state.Index.{CallingRow, LinkedRow, calling_keys, linked_keys, IsCalling, IsLinked, IsCallingIndex, IsLinkedIndex, AreCalling, AreLinked}
 use Rattle.docker_model.specs.file.Journey.{CallsAt}
-use Rattle.docker_laws.proofs.lists.Membership.{cons-Contains, cons-Contains-first}
-use Rattle.docker_laws.proofs.indexes.IndexSegment.{calling_piece, linked_piece}
-use Rattle.docker_laws.proofs.indexes.OneIndex.{calling_by_index, linked_by_index}
-use Rattle.docker_laws.proofs.joins.StagedEntry.{entry_at_iff}
+use Rattle.cif_laws.proofs.lists.Membership.{cons-Contains, cons-Contains-first}
+use Rattle.state_laws.proofs.indexes.IndexSegment.{calling_piece, linked_piece}
+use Rattle.state_laws.proofs.indexes.OneIndex.{calling_by_index, linked_by_index}
+use Rattle.state_laws.proofs.joins.StagedEntry.{entry_at_iff}
 use Rattle.docker_index.specs.SpotOrder.{Spot, spot_cmp}
 use Rattle.docker_index.specs.Spots.{call_places, link_places, spot_at, AreSpotsOf}
 use Rattle.docker_index.specs.Tables.{calling_row, linked_row, calling_rows, linked_rows}

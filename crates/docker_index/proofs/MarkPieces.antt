@@ -11,7 +11,7 @@ use Rattle.std.proofs.lemmas.List.{append_assoc, take-append-drop}
 use Rattle.std.proofs.lemmas.List.Elements.{Contains-append_left}
 use Rattle.std.proofs.lemmas.Map.Lookups.{exact_unsigned}
 use Rattle.docker_model.specs.state.Order.{IsBelow, IsStrictlyAscending}
-use Rattle.docker_laws.proofs.lists.Membership.{Contains-cons, nil-Contains}
+use Rattle.cif_laws.proofs.lists.Membership.{Contains-cons, nil-Contains}
 use Rattle.docker_index.specs.declared.mark.Mark.{Mark}
 use Rattle.docker_index.specs.MarkOrder.{mark_cmp}
 use Rattle.docker_index.specs.StandingRows.{IsPieceOf}

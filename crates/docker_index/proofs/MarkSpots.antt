@@ -12,7 +12,7 @@ use Rattle.std.proofs.lemmas.Cmp.{ranked}
 use Rattle.std.proofs.lemmas.List.Elements.{filter_map-append}
 use Rattle.std.proofs.lemmas.Map.Lookups.{exact_unsigned}
 use Rattle.docker_model.specs.state.Order.{bytes_cmp, IsStrictlyAscending}
-use Rattle.docker_laws.proofs.lists.Membership.{nil-Contains, cons-Contains, cons-Contains-first}
+use Rattle.cif_laws.proofs.lists.Membership.{nil-Contains, cons-Contains, cons-Contains-first}
 use Rattle.docker_index.specs.SpotOrder.{Spot, spot_cmp}
 use Rattle.docker_index.specs.declared.mark.Mark.{Mark}
 use Rattle.docker_index.specs.MarkOrder.{mark_cmp}

@@ -8,7 +8,7 @@ use Rattle.std.proofs.lemmas.List.Elements.{Contains-append_left, Contains-appen
 use Rattle.docker_model.specs.file.Change.{Key}
 use Rattle.docker_model.specs.state.Op.{Entry}
 use Rattle.docker_model.specs.state.Order.{IsBelow, IsStrictlyAscending}
-use Rattle.docker_laws.proofs.lists.Membership.{Contains-cons, cons-Contains, cons-Contains-first, nil-Contains, below_by_recursion, Contains-map, map-Contains}
+use Rattle.cif_laws.proofs.lists.Membership.{Contains-cons, cons-Contains, cons-Contains-first, nil-Contains, below_by_recursion, Contains-map, map-Contains}
 use Rattle.docker_index.specs.SpotOrder.{Spot}
 use Rattle.docker_index.specs.Spots.{Places, spot_at, spots_from, spots_of}
 

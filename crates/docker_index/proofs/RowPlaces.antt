@@ -5,8 +5,8 @@ use Rattle.docker_model.specs.records.Record.{Kind, header, tiploc_insert, tiplo
 use Rattle.docker_model.specs.file.Change.{Key, tiploc_key, association_key, schedule_key, AssociationKey, ScheduleKey, tiploc_body, association_body, schedule_body}
 use Rattle.docker_model.specs.state.Op.{Op, deleted, lapsed, put_with}
 use Rattle.docker_model.specs.file.Journey.{CallsAt}
-use Rattle.docker_laws.proofs.lists.Membership.{nil-Contains, Contains-map, map-Contains, Contains-single, single-Contains}
-use Rattle.docker_laws.proofs.lists.FilteredMembers.{filter_back, filter_forth}
+use Rattle.cif_laws.proofs.lists.Membership.{nil-Contains, Contains-map, map-Contains, Contains-single, single-Contains}
+use Rattle.cif_laws.proofs.lists.FilteredMembers.{filter_back, filter_forth}
 use Rattle.docker_index.specs.Spots.{call_places, link_places}
 use Rattle.docker_index.specs.Turns.{is_put}
 

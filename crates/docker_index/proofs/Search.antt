@@ -9,9 +9,9 @@ use Rattle.std.specs.declared.cmp.Ordering.TheVariants.{Less, Equal, Greater}
 use Rattle.std.specs.Ordering.{ordering_index, ordering_reverse}
 use Rattle.std.specs.Cmp.{IsTotalOrder, tied_itself}
 use Rattle.docker_model.specs.state.Order.{IsBelow, IsStrictlyAscending}
-use Rattle.docker_laws.proofs.lists.Membership.{cons-Contains, cons-Contains-first, Contains-map, map-Contains}
-use Rattle.docker_laws.proofs.orders.Ascending.{later_of}
-use Rattle.docker_laws.proofs.lists.Later.{pairs_from_later}
+use Rattle.cif_laws.proofs.lists.Membership.{cons-Contains, cons-Contains-first, Contains-map, map-Contains}
+use Rattle.cif_laws.proofs.orders.Ascending.{later_of}
+use Rattle.cif_laws.proofs.lists.Later.{pairs_from_later}
 use Rattle.docker_join.proofs.MeantOrder.{meant_ascending}
 
 -- the element at a place

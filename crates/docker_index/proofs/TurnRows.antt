@@ -7,7 +7,7 @@ use Rattle.std.specs.declared.cmp.Ordering.{Ordering}
 use Rattle.std.specs.declared.cmp.Ordering.TheVariants.{Less, Equal, Greater}
 use Rattle.docker_model.specs.state.Stamp.{FileStamp}
 use Rattle.docker_model.specs.state.Op.{entry_cmp}
-use Rattle.docker_laws.proofs.orders.Orders.{exact_key}
+use Rattle.cif_laws.proofs.orders.Orders.{exact_key}
 use Rattle.cif_change.specs.declared.key.Key.{Key}
 use Rattle.cif_file.specs.Meaning.{key_meant}
 use Rattle.docker_join.specs.declared.entry.Entry.{Entry}

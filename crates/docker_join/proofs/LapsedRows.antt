@@ -7,7 +7,7 @@ use Rattle.docker_model.specs.state.Op as ops
 use Rattle.docker_model.specs.state.Op.{key_cmp}
 use Rattle.docker_model.specs.state.Lapse.{lapse_entry, lapse_keyed, lapse_entries}
 use Rattle.docker_model.specs.state.Order.{IsStrictlyAscending}
-use Rattle.docker_laws.proofs.states.KeptEntries.{lapse_ascends}
+use Rattle.state_laws.proofs.states.KeptEntries.{lapse_ascends}
 use Rattle.cif_change.specs.declared.key.Key.{Key}
 use Rattle.cif_file.specs.Meaning.{key_meant}
 use Rattle.docker_join.specs.declared.entry.Entry.{Entry}

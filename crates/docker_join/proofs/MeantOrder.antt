@@ -3,7 +3,7 @@ use Rattle.std.proofs.Common.{List, [], ◌∷◌, map}
 use Rattle.std.specs.List.{AllByRecursion}
 use Rattle.std.specs.declared.cmp.Ordering.{Ordering}
 use Rattle.docker_model.specs.state.Order.{IsBelow, IsStrictlyAscending}
-use Rattle.docker_laws.proofs.lists.AllOf.{all_map}
+use Rattle.cif_laws.proofs.lists.AllOf.{all_map}
 
 -- elements that ascend by what a function makes of them: what it makes ascends
 pub ascending_meant : {A B : Type 0} (f : A → B) (cmp : B → B → Ordering) (xs : List A) → IsStrictlyAscending (λ a b. cmp (f a) (f b)) xs

@@ -9,8 +9,8 @@ use Rattle.docker_model.specs.records.Record.{IsRecord}
 use Rattle.docker_model.specs.state.Order.{bytes_cmp}
 use Rattle.docker_model.specs.state.Stamp.{file_stamp_cmp, stamp_cmp}
 use Rattle.docker_model.specs.state.Op.{op_cmp, entry_cmp, body_cmp, body_end, body_bytes, body_tag}
-use Rattle.docker_laws.proofs.orders.Orders as laws
-use Rattle.docker_laws.proofs.texts.TextStages.{same_front}
+use Rattle.cif_laws.proofs.orders.Orders as laws
+use Rattle.cif_laws.proofs.lists.Fronts.{same_front}
 use Rattle.std.proofs.lemmas.List.Elements.{All-head, All-tail}
 use Rattle.cif_change.specs.declared.change.Body.{Body}
 use Rattle.cif_change.specs.declared.change.Body.TheVariants as body

@@ -5,7 +5,7 @@ use Rattle.std.specs.declared.cmp.Ordering.TheVariants.{Less, Equal, Greater}
 use Rattle.std.specs.Ordering.{ord_max, is_lt}
 use Rattle.std.specs.Cmp.{IsTotalOrder}
 use Rattle.docker_model.specs.state.Order.{IsAtMost}
-use Rattle.docker_laws.proofs.orders.AtMost.{level, at_most_trans, at_most_itself, at_most_below}
+use Rattle.cif_laws.proofs.orders.AtMost.{level, at_most_trans, at_most_itself, at_most_below}
 use Rattle.docker_join.specs.Greater.{IsGreater}
 
 -- the order tells valid values apart

@@ -10,9 +10,9 @@ use Rattle.std.specs.Cmp.{IsTotalOrder, on_total, tied_itself}
 use Rattle.docker_model.specs.file.Change as model
 use Rattle.docker_model.specs.state.Op.{key_cmp}
 use Rattle.docker_model.specs.state.Order.{IsBelow}
-use Rattle.docker_laws.proofs.orders.Orders.{key_total, exact_key}
-use Rattle.docker_laws.proofs.lists.Membership.{Contains-cons, cons-Contains, cons-Contains-first, nil-Contains, below_by_recursion, all_members, member_of}
-use Rattle.docker_laws.proofs.orders.Ascending.{same_list}
+use Rattle.cif_laws.proofs.orders.Orders.{key_total, exact_key}
+use Rattle.cif_laws.proofs.lists.Membership.{Contains-cons, cons-Contains, cons-Contains-first, nil-Contains, below_by_recursion, all_members, member_of}
+use Rattle.cif_laws.proofs.orders.Ascending.{same_list}
 use Rattle.cif_field.specs.declared.letter.Stp.{Stp}
 use Rattle.cif_field.specs.declared.letter.Stp.TheVariants as stp
 use Rattle.cif_line.specs.Letter.{stp_letter}

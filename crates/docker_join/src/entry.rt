@@ -5,7 +5,7 @@ ghost use Rattle.std.specs.Cmp.{partial_equiv_from_equiv, on_equiv, on_total, eq
 ghost use Rattle.std.proofs.Common.{refl};
 ghost use Rattle.docker_model.specs.state.Op.{lapsed, op_cmp, entry_cmp};
 ghost use Rattle.docker_model.specs.state.Lapse.{lapse, lapse_entry};
-ghost use Rattle.docker_laws.proofs.orders.Orders.{op_total, entry_total};
+ghost use Rattle.cif_laws.proofs.orders.Orders.{op_total, entry_total};
 ghost use Rattle.docker_join.specs.Meaning.{op_meant, entry_meant};
 ghost use Rattle.docker_join.specs.Greater.{IsGreater};
 ghost use Rattle.docker_join.specs.GreaterLaws.{greater_closed, greater_one, greater_commutes, greater_associates, greater_itself, greater_max};

@@ -4,7 +4,7 @@ ghost use Rattle.std.specs.Ordering.{on, as_partial_cmp, eq_by_cmp, ord_max};
 ghost use Rattle.std.specs.Cmp.{partial_equiv_from_equiv, on_equiv, on_total, eq_by_cmp_equiv, partial_order_from_total};
 ghost use Rattle.std.proofs.Common.{refl};
 ghost use Rattle.docker_model.specs.state.Stamp.{file_stamp_cmp, stamp_cmp};
-ghost use Rattle.docker_laws.proofs.orders.Orders.{file_stamp_total, stamp_total};
+ghost use Rattle.cif_laws.proofs.orders.Orders.{file_stamp_total, stamp_total};
 ghost use Rattle.docker_join.specs.Meaning.{file_stamp_meant, stamp_meant};
 ghost use Rattle.docker_join.specs.Greater.{IsGreater};
 ghost use Rattle.docker_join.specs.GreaterLaws.{greater_closed, greater_one, greater_commutes, greater_associates, greater_itself, greater_max};

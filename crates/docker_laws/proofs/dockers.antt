@@ -25,3 +25,4 @@ pub mod ExcerptState
 pub mod ExcerptWalk
 pub mod ExcerptSteps
 pub mod ExcerptTurns
+pub mod NoLinesElsewhere

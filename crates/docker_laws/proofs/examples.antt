@@ -1,16 +1,7 @@
-pub mod RecordExamples
-pub mod FileExamples
-pub mod StateExamples
 pub mod DockerExamples
-pub mod OrderExamples
-pub mod SummaryExamples
 pub mod DockerListExample
-pub mod StateFaultExamples
 pub mod ChoiceExamples
 pub mod AssociationExample
-pub mod StageExamples
-pub mod HorizonExamples
-pub mod StagingExamples
 pub mod RunExamples
 pub mod GatherExamples
 pub mod ExcerptExamples

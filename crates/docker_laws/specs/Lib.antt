@@ -1,8 +1,1 @@
-pub mod RecordTest
-pub mod TimesSoFar
-pub mod ScheduleStage
-pub mod FileStage
-pub mod RecordCause
-pub mod LinesTold
-pub mod TextStage
 pub mod LawTerms

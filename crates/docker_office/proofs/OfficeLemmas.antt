@@ -6,9 +6,9 @@ use Rattle.std.proofs.Math.Nat.{zero-max}
 use Rattle.docker_model.specs.state.State.{State, IsJoin}
 use Rattle.docker_model.specs.state.Summary.{IsSummary}
 use Rattle.docker_model.specs.state.StateText.{Format, dks_2}
-use Rattle.docker_laws.proofs.joins.JoinLaws.{join_commutes}
-use Rattle.docker_laws.proofs.states.SummaryLaws.{join_is_summary}
-use Rattle.docker_laws.proofs.texts.TextsApart.{one_text}
+use Rattle.state_laws.proofs.joins.JoinLaws.{join_commutes}
+use Rattle.state_laws.proofs.states.SummaryLaws.{join_is_summary}
+use Rattle.state_laws.proofs.texts.TextsApart.{one_text}
 use Rattle.cif_file.specs.FileRead.{FileRead, IsOfRecords}
 use Rattle.cif_file.specs.SourceRead.{ReadsText}
 use Rattle.cif_file.specs.declared.fault.FileFault.{FileFault}

@@ -6,7 +6,7 @@ use Rattle.docker_model.specs.records.Date.{is_date}
 use Rattle.docker_model.specs.records.Field.{HasGoodFields, HasNewTransaction}
 use Rattle.docker_model.specs.file.Change.{AssociationKey, association_key, association_named, ScheduleKey, schedule_key, schedule_named}
 use Rattle.docker_model.specs.state.State.{IsAssociationOf}
-use Rattle.docker_laws.proofs.records.Columns.{good_fields}
+use Rattle.cif_laws.proofs.records.Columns.{good_fields}
 use Rattle.docker_parts.specs.Judged.{IsFirstOf}
 
 -- a good association record that is new and of a key is its line

@@ -12,8 +12,8 @@ use Rattle.docker_model.specs.state.State.{IsGoodItem, IsLedger}
 use Rattle.docker_model.specs.records.Date.{IsDay}
 use Rattle.docker_model.specs.state.StateText.{item_in}
 use Rattle.docker_model.specs.state.StatePart.{IsAboveItems}
-use Rattle.docker_laws.proofs.records.GoodFields.{update_letter}
-use Rattle.docker_laws.proofs.orders.Orders.{ledger_item_total}
+use Rattle.cif_laws.proofs.records.GoodFields.{update_letter}
+use Rattle.cif_laws.proofs.orders.Orders.{ledger_item_total}
 use Rattle.cif_field.specs.declared.letter.Extract.{Extract}
 use Rattle.cif_field.specs.declared.letter.Extract.TheVariants as letter
 use Rattle.cif_line.specs.Letter.{extract_letter}

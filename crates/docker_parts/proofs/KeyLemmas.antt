@@ -9,7 +9,7 @@ use Rattle.docker_model.specs.file.Change.{Key}
 use Rattle.docker_model.specs.state.Op.{Entry, key_cmp}
 use Rattle.docker_model.specs.state.State.{State, AreAscending}
 use Rattle.docker_model.specs.state.StatePart.{IsAboveEntries}
-use Rattle.docker_laws.proofs.orders.Orders.{key_total, exact_key}
+use Rattle.cif_laws.proofs.orders.Orders.{key_total, exact_key}
 use Rattle.docker_state.specs.Parts.{last_key}
 use Rattle.docker_parts.proofs.LastElement.{above_last, above_none}
 

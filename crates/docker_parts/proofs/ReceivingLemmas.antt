@@ -7,8 +7,8 @@ use Rattle.docker_model.specs.state.Order.{IsBelow}
 use Rattle.docker_model.specs.state.Stamp.{FileStamp, IsFloor}
 use Rattle.docker_model.specs.state.State.{State, IsValid, IsJoin}
 use Rattle.docker_model.specs.state.Staging.{IsStaged, IsCommit}
-use Rattle.docker_laws.proofs.lists.Membership.{member_of}
-use Rattle.docker_laws.proofs.joins.StagedEntry.{nothing_staged, one_staged_more, one_left_out, staging_joins_before}
+use Rattle.cif_laws.proofs.lists.Membership.{member_of}
+use Rattle.state_laws.proofs.joins.StagedEntry.{nothing_staged, one_staged_more, one_left_out, staging_joins_before}
 use Rattle.docker_state.specs.declared.item.LedgerItem.{LedgerItem}
 use Rattle.docker_state.specs.Parts.{last_key}
 use Rattle.docker_state.specs.Staging.{Staging, IsOffered, IsAboveStaged}

@@ -13,9 +13,9 @@ use Rattle.docker_model.specs.records.Date.{last_day}
 use Rattle.docker_model.specs.state.Stamp.{FileStamp, Stamp, LedgerItem, file_stamp_cmp, ledger_item_cmp}
 use Rattle.docker_model.specs.state.Order.{IsBelow, IsAtMost, IsStrictlyAscending}
 use Rattle.docker_model.specs.state.State.{IsGoodItem, IsLedger, IsStampIn}
-use Rattle.docker_laws.proofs.orders.Orders.{file_stamp_total, exact_file_stamp}
-use Rattle.docker_laws.proofs.lists.Membership.{Contains-map}
-use Rattle.docker_laws.proofs.texts.LedgerGrown.{stamps_below}
+use Rattle.cif_laws.proofs.orders.Orders.{file_stamp_total, exact_file_stamp}
+use Rattle.cif_laws.proofs.lists.Membership.{Contains-map}
+use Rattle.state_laws.proofs.texts.LedgerGrown.{stamps_below}
 use Rattle.docker_parts.specs.Told.{file_stamps}
 
 module _ {A : Type 0} (item : A → LedgerItem) where

@@ -7,9 +7,9 @@ use Rattle.docker_model.specs.state.Op.{put_with}
 use Rattle.docker_model.specs.state.State.{State, IsLedger, IsScheduleOf}
 use Rattle.docker_model.specs.state.StateText.{Format}
 use Rattle.docker_model.specs.state.StatePart.{Before, in_entry, before_line, AreLinesUpTo, IsPartHere}
-use Rattle.docker_laws.specs.TextStage.{advance, after_lines, after_entries, with_entry}
-use Rattle.docker_laws.proofs.texts.TextsBefore.{all_lines}
-use Rattle.docker_laws.proofs.texts.LedgerGrown.{one_item_more}
+use Rattle.state_laws.specs.TextStage.{advance, after_lines, after_entries, with_entry}
+use Rattle.state_laws.proofs.texts.TextsBefore.{all_lines}
+use Rattle.state_laws.proofs.texts.LedgerGrown.{one_item_more}
 use Rattle.docker_parts.specs.declared.cause.StateCause.{StateCause}
 use Rattle.docker_parts.specs.declared.cause.StateCause.TheVariants as cause
 use Rattle.docker_parts.specs.FaultMeaning.{cause_meant, IsWantingHere, IsBadHere}

@@ -2,7 +2,7 @@
 use Rattle.std.proofs.Common.{◌≡◌, ℕ, ap, sym, ◌∙◌, subst}
 use Rattle.std.specs.Prelude.{max}
 use Rattle.docker_model.specs.state.State.{State, IsValid, IsJoin, lapse_state, raise_horizon}
-use Rattle.docker_laws.proofs.joins.RaisedHorizon.{set_last, join_then_set}
+use Rattle.state_laws.proofs.joins.RaisedHorizon.{set_last, join_then_set}
 use Rattle.docker_parts.specs.Told.{under}
 
 -- parts without a horizon

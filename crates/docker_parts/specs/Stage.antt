@@ -15,7 +15,7 @@ use Rattle.docker_parts.specs.declared.stage.Tag.{Tag}
 use Rattle.docker_parts.specs.declared.stage.Tag.TheVariants as tag
 use Rattle.docker_parts.specs.declared.stage.Stage.{Stage}
 use Rattle.docker_parts.specs.declared.stage.Stage.TheVariants as stage
-use Rattle.docker_laws.specs.TextStage.{advance}
+use Rattle.state_laws.specs.TextStage.{advance}
 
 -- 1 for TIPLOCs, 2 for associations, 3 for schedules
 abbrev pub tag_meant : Tag → ℕ

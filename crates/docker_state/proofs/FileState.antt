@@ -13,10 +13,11 @@ use Rattle.docker_model.specs.state.Op.{key_cmp, op_of}
 use Rattle.docker_model.specs.state.Order.{IsAtMost, IsStrictlyAscending}
 use Rattle.docker_model.specs.state.State.{IsValid, IsGreatestAmong}
 use Rattle.docker_model.specs.state.Summary.{IsSummary, IsKeptFile, IsEntryOf, entry_of}
-use Rattle.docker_laws.proofs.orders.Orders.{file_stamp_total}
-use Rattle.docker_laws.proofs.lists.Membership.{Contains-cons, cons-Contains-first, nil-Contains, Contains-map, map-Contains, all_members}
-use Rattle.docker_laws.proofs.states.SummaryValid.{file_change, summary_is_valid}
-use Rattle.docker_laws.proofs.joins.RaisedHorizon.{plain_summary}
+use Rattle.cif_laws.proofs.orders.Orders.{file_stamp_total}
+use Rattle.cif_laws.proofs.lists.Membership.{Contains-cons, cons-Contains-first, nil-Contains, Contains-map, map-Contains, all_members}
+use Rattle.cif_laws.proofs.files.FileChanges.{file_change}
+use Rattle.state_laws.proofs.states.SummaryValid.{summary_is_valid}
+use Rattle.state_laws.proofs.joins.RaisedHorizon.{plain_summary}
 use Rattle.cif_change.specs.declared.key.Key.{Key}
 use Rattle.cif_change.specs.declared.change.Change as change
 use Rattle.cif_file.specs.FileRead.{FileRead, IsOfRecords}

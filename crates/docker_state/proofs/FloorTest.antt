@@ -7,7 +7,7 @@ use Rattle.std.specs.List.{AllByRecursion, items_where_true}
 use Rattle.std.specs.List.Retain.{IsFiltered, ReturnsInTurn}
 use Rattle.std.specs.declared.cmp.Ordering.{Ordering}
 use Rattle.docker_model.specs.state.Order.{IsBelow, IsStrictlyAscending}
-use Rattle.docker_laws.proofs.lists.FilteredMembers.{filter_back, filter_forth}
+use Rattle.cif_laws.proofs.lists.FilteredMembers.{filter_back, filter_forth}
 
 -- what a test that stays as it is leaves of a list
 module _ {X P : Type 0} (R : P → X → Bool → P → Type 0) (test : X → Bool) (p : P) (says : (x : X) (b : Bool) (q : P) → R p x b q → (b ≡ test x) × (q ≡ p)) where

@@ -5,8 +5,8 @@ use Rattle.std.proofs.lemmas.List.Elements.{Contains-append_left, Contains-appen
 use Rattle.docker_model.specs.state.Order.{IsAtMost}
 use Rattle.docker_model.specs.state.Stamp as stamps
 use Rattle.docker_model.specs.state.Stamp.{LedgerItem, file_stamp_cmp, IsFull, HasNoFull, IsGreatestFull}
-use Rattle.docker_laws.proofs.orders.Orders.{file_stamp_total}
-use Rattle.docker_laws.proofs.orders.AtMost.{at_most_trans}
+use Rattle.cif_laws.proofs.orders.Orders.{file_stamp_total}
+use Rattle.cif_laws.proofs.orders.AtMost.{at_most_trans}
 use Rattle.docker_join.specs.Greater.{IsGreater}
 
 module _ (left right : List LedgerItem) where

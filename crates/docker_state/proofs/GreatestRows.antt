@@ -9,9 +9,9 @@ use Rattle.docker_model.specs.state.Op as ops
 use Rattle.docker_model.specs.state.Op.{entry_cmp}
 use Rattle.docker_model.specs.state.Order.{IsAtMost}
 use Rattle.docker_model.specs.state.State.{IsGreatestAmong}
-use Rattle.docker_laws.proofs.orders.Orders.{key_total, exact_key, entry_total}
-use Rattle.docker_laws.proofs.lists.Membership.{Contains-cons, cons-Contains, cons-Contains-first, nil-Contains, Contains-map, map-Contains}
-use Rattle.docker_laws.proofs.orders.AtMost.{level}
+use Rattle.cif_laws.proofs.orders.Orders.{key_total, exact_key, entry_total}
+use Rattle.cif_laws.proofs.lists.Membership.{Contains-cons, cons-Contains, cons-Contains-first, nil-Contains, Contains-map, map-Contains}
+use Rattle.cif_laws.proofs.orders.AtMost.{level}
 use Rattle.cif_change.specs.declared.key.Key.{Key}
 use Rattle.cif_file.specs.Meaning.{key_meant}
 use Rattle.docker_join.specs.declared.entry.Entry.{Entry}

@@ -4,7 +4,7 @@ use Rattle.std.proofs.Math.Nat.{max-eq_right}
 use Rattle.docker_model.specs.state.Lapse.{lapse_entries}
 use Rattle.docker_model.specs.records.Date.{IsDay}
 use Rattle.docker_model.specs.state.State.{IsValid, raise_horizon, lapse_state}
-use Rattle.docker_laws.proofs.joins.JoinValid.{raised_is_valid}
+use Rattle.state_laws.proofs.joins.JoinValid.{raised_is_valid}
 use Rattle.docker_model.specs.file.Change as model
 use Rattle.docker_model.specs.state.Op as ops
 use Rattle.docker_index.specs.declared.index.Index.{Index}

@@ -10,16 +10,16 @@ use Rattle.docker_model.specs.state.Op as ops
 use Rattle.docker_model.specs.state.Op.{key_cmp}
 use Rattle.docker_model.specs.state.Order.{IsStrictlyAscending}
 use Rattle.docker_model.specs.state.Lapse.{HasNotToLapse, lapse_entries}
-use Rattle.docker_laws.proofs.states.KeptEntries.{lapse_ascends, entries_stay}
-use Rattle.docker_laws.proofs.states.LapsedGreatest.{lapsed_from, lapsed_to}
-use Rattle.docker_laws.proofs.joins.RaisedHorizon.{none_to_lapse}
+use Rattle.state_laws.proofs.states.KeptEntries.{lapse_ascends, entries_stay}
+use Rattle.state_laws.proofs.states.LapsedGreatest.{lapsed_from, lapsed_to}
+use Rattle.state_laws.proofs.joins.RaisedHorizon.{none_to_lapse}
 use Rattle.cif_change.specs.declared.key.Key.{Key}
 use Rattle.docker_join.specs.declared.entry.Entry.{Entry}
 use Rattle.docker_join.specs.Rows.{AreAscending}
 use Rattle.docker_join.proofs.MeantOrder.{ascending_meant, meant_ascending}
 use Rattle.docker_state.specs.Meaning.{row_meant}
 use Rattle.docker_state.specs.Rows.{LapsesTo}
-use Rattle.docker_laws.proofs.lists.FilteredMembers.{filter_back, filter_forth}
+use Rattle.cif_laws.proofs.lists.FilteredMembers.{filter_back, filter_forth}
 use Rattle.docker_state.proofs.FloorTest.{filter-map, filter_ascends, keeps, keeps_is, is_keeps}
 
 -- a key with its entry, as it is meant

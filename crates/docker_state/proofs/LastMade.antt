@@ -14,7 +14,7 @@ use Rattle.docker_model.specs.file.Change as model
 use Rattle.docker_model.specs.state.Stamp.{FileStamp}
 use Rattle.docker_model.specs.state.Op as ops
 use Rattle.docker_model.specs.state.Order.{IsAtMost}
-use Rattle.docker_laws.proofs.lists.Membership.{Contains-cons, cons-Contains, cons-Contains-first, nil-Contains}
+use Rattle.cif_laws.proofs.lists.Membership.{Contains-cons, cons-Contains, cons-Contains-first, nil-Contains}
 use Rattle.cif_change.specs.declared.key.Key.{Key}
 use Rattle.cif_change.specs.declared.change.Change.{Change}
 use Rattle.cif_file.specs.Meaning.{key_meant, change_meant}

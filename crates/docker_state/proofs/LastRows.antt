@@ -7,10 +7,10 @@ use Rattle.std.specs.Ordering.{ordering_then, ordering_reverse, is_eq}
 use Rattle.docker_model.specs.state.Op.{entry_cmp}
 use Rattle.docker_model.specs.state.Order.{IsBelow, IsAtMost}
 use Rattle.std.proofs.lemmas.List.Elements.{recursion_from_All}
-use Rattle.docker_laws.proofs.orders.Orders.{key_total, entry_total}
-use Rattle.docker_laws.proofs.lists.Membership.{Contains-cons, nil-Contains, below_by_recursion, all_members}
-use Rattle.docker_laws.proofs.orders.AtMost.{at_most_itself}
-use Rattle.docker_laws.proofs.lists.Later.{AllLater}
+use Rattle.cif_laws.proofs.orders.Orders.{key_total, entry_total}
+use Rattle.cif_laws.proofs.lists.Membership.{Contains-cons, nil-Contains, below_by_recursion, all_members}
+use Rattle.cif_laws.proofs.orders.AtMost.{at_most_itself}
+use Rattle.cif_laws.proofs.lists.Later.{AllLater}
 use Rattle.cif_change.specs.declared.key.Key.{Key}
 use Rattle.cif_file.specs.Meaning.{key_meant}
 use Rattle.docker_join.specs.declared.entry.Entry.{Entry}

@@ -5,7 +5,7 @@ use Rattle.std.specs.List.{AllWithin}
 use Rattle.std.proofs.lemmas.List.{get_or_default}
 use Rattle.std.proofs.lemmas.List.Elements.{AllWithin-more}
 use Rattle.docker_model.specs.state.Stamp.{FileStamp, LedgerItem}
-use Rattle.docker_laws.proofs.lists.Membership.{Contains-map}
+use Rattle.cif_laws.proofs.lists.Membership.{Contains-map}
 use Rattle.docker_state.specs.Staging.{HasIfKept, HasKeptItems}
 
 -- a ledger has each item of a list that is kept

@@ -6,8 +6,8 @@ use Rattle.std.specs.declared.cmp.Ordering.TheVariants.{Less}
 use Rattle.docker_model.specs.file.Change.{Key, Body}
 use Rattle.docker_model.specs.state.Op.{Op, deleted, lapsed, put_with, Entry, key_cmp, body_of}
 use Rattle.docker_model.specs.state.State.{State, AreAscending, IsValid, live_table}
-use Rattle.docker_laws.proofs.lists.Membership.{Contains-cons, cons-Contains, cons-Contains-first, nil-Contains}
-use Rattle.docker_laws.proofs.states.PlainTable.{Found, NotFound, find_in, one_per_key, live_at, live_none}
+use Rattle.cif_laws.proofs.lists.Membership.{Contains-cons, cons-Contains, cons-Contains-first, nil-Contains}
+use Rattle.state_laws.proofs.states.PlainTable.{Found, NotFound, find_in, one_per_key, live_at, live_none}
 use Rattle.docker_state.specs.Live.{put_before, live_rows, AreInKeyOrder}
 
 -- a key with a body

@@ -11,9 +11,9 @@ use Rattle.docker_model.specs.state.Op.{Entry, op_cmp}
 use Rattle.docker_model.specs.state.Stamp.{FileStamp, LedgerItem, file_stamp_cmp, ledger_item_cmp, IsKept}
 use Rattle.docker_model.specs.state.Staging.{IsToStage}
 use Rattle.docker_model.specs.state.State.{State, IsValid, IsGoodEntry}
-use Rattle.docker_laws.proofs.lists.Membership.{Contains-cons, Contains-map, Contains-single, below_by_recursion, cons-Contains, cons-Contains-first, member_of}
-use Rattle.docker_laws.proofs.orders.AtMost.{at_most_below, at_most_or, at_most_trans, level}
-use Rattle.docker_laws.proofs.orders.Orders.{file_stamp_total}
+use Rattle.cif_laws.proofs.lists.Membership.{Contains-cons, Contains-map, Contains-single, below_by_recursion, cons-Contains, cons-Contains-first, member_of}
+use Rattle.cif_laws.proofs.orders.AtMost.{at_most_below, at_most_or, at_most_trans, level}
+use Rattle.cif_laws.proofs.orders.Orders.{file_stamp_total}
 
 -- an item below another has a stamp that is not above its
 stamp_at_most : (a b : LedgerItem) → IsBelow ledger_item_cmp a b → IsAtMost file_stamp_cmp a.stamp b.stamp

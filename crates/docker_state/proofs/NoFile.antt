@@ -3,9 +3,9 @@ use Rattle.std.proofs.Common.{◌++◌, [], sym, List, Contains, inl, inr, ◌�
 use Rattle.std.proofs.Math.Nat.{max-eq_right}
 use Rattle.std.proofs.lemmas.List.Elements.{Contains-append_cases, Contains-append_left}
 use Rattle.docker_model.specs.state.State.{State, IsJoin, IsValid}
-use Rattle.docker_laws.proofs.joins.JoinLaws.{join_reduced, reduced_join, join_commutes, join_idempotent}
-use Rattle.docker_laws.proofs.lists.Membership.{SameMembers}
-use Rattle.docker_laws.proofs.states.ReducedMembers.{reduced_along}
+use Rattle.state_laws.proofs.joins.JoinLaws.{join_reduced, reduced_join, join_commutes, join_idempotent}
+use Rattle.cif_laws.proofs.lists.Membership.{SameMembers}
+use Rattle.state_laws.proofs.states.ReducedMembers.{reduced_along}
 
 -- the state of no file
 abbrev pub of_no_file : State

@@ -4,9 +4,9 @@ use Rattle.std.proofs.lemmas.List.{map-append}
 use Rattle.docker_model.specs.file.Change as model
 use Rattle.docker_model.specs.state.Op as ops
 use Rattle.docker_model.specs.state.State.{State, IsValid, IsOpOf}
-use Rattle.docker_laws.proofs.joins.RaisedHorizon.{none_has_to}
+use Rattle.state_laws.proofs.joins.RaisedHorizon.{none_has_to}
 use Rattle.docker_model.specs.state.StatePart.{IsStampHere}
-use Rattle.docker_laws.proofs.texts.StateGrown.{valid_more}
+use Rattle.state_laws.proofs.texts.StateGrown.{valid_more}
 use Rattle.cif_change.specs.declared.key.Key.{Key}
 use Rattle.cif_file.specs.Meaning.{key_meant}
 use Rattle.docker_join.specs.declared.entry.Entry.{Entry}

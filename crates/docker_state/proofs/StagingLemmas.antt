@@ -15,13 +15,13 @@ use Rattle.docker_model.specs.state.Lapse.{lapse_entry, HasNotToLapse}
 use Rattle.docker_model.specs.state.State.{State, entry_at, IsValid, IsGoodEntry, IsGreatestAmong, IsJoin}
 use Rattle.docker_model.specs.state.StatePart.{IsStampHere}
 use Rattle.docker_model.specs.state.Staging.{IsGreaterThan, IsToStage, staged_state}
-use Rattle.docker_laws.proofs.joins.StagedEntry.{to_stage_by_get}
-use Rattle.docker_laws.proofs.lists.Membership.{all_members, Contains-map, nil-Contains}
-use Rattle.docker_laws.proofs.states.Lapse.{entry_stays}
-use Rattle.docker_laws.proofs.orders.Orders.{entry_total, file_stamp_total}
-use Rattle.docker_laws.proofs.states.PlainTable.{one_per_key}
-use Rattle.docker_laws.proofs.states.OneJoin.{floor_unique}
-use Rattle.docker_laws.proofs.orders.AtMost.{at_most_itself}
+use Rattle.state_laws.proofs.joins.StagedEntry.{to_stage_by_get}
+use Rattle.cif_laws.proofs.lists.Membership.{all_members, Contains-map, nil-Contains}
+use Rattle.state_laws.proofs.states.Lapse.{entry_stays}
+use Rattle.cif_laws.proofs.orders.Orders.{entry_total, file_stamp_total}
+use Rattle.state_laws.proofs.states.PlainTable.{one_per_key}
+use Rattle.state_laws.proofs.states.OneJoin.{floor_unique}
+use Rattle.cif_laws.proofs.orders.AtMost.{at_most_itself}
 use Rattle.docker_state.specs.Staging.{Staging, HasKeptItems, HasNothingNew, IsAboveStaged}
 
 -- what stands in one list or in none stands in the one

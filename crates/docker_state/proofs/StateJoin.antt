@@ -13,8 +13,8 @@ use Rattle.docker_model.specs.state.Op.{key_cmp, entry_cmp, deleted, lapsed, put
 use Rattle.docker_model.specs.state.Order.{IsStrictlyAscending}
 use Rattle.docker_model.specs.state.State.{State, IsValid, IsGoodEntry, IsOpOf, IsJoin}
 use Rattle.docker_model.specs.state.Lapse.{lapse_entry, HasNotToLapse}
-use Rattle.docker_laws.proofs.states.Lapse.{entry_stays}
-use Rattle.docker_laws.proofs.joins.RaisedHorizon.{none_has_to}
+use Rattle.state_laws.proofs.states.Lapse.{entry_stays}
+use Rattle.state_laws.proofs.joins.RaisedHorizon.{none_has_to}
 use Rattle.cif_change.specs.declared.key.Key.{Key}
 use Rattle.docker_join.specs.declared.entry.Entry.{Entry}
 use Rattle.docker_join.specs.Meaning.{entry_meant}
@@ -23,7 +23,7 @@ use Rattle.docker_join.specs.Rows.{AreAscending, IsJoinOfRows}
 use Rattle.docker_state.specs.declared.item.LedgerItem.{LedgerItem}
 use Rattle.docker_state.specs.Meaning.{item_meant, row_meant, state_meant}
 use Rattle.docker_state.specs.Rows.{LapsesTo}
-use Rattle.docker_laws.proofs.states.OneJoin.{floor_unique}
+use Rattle.state_laws.proofs.states.OneJoin.{floor_unique}
 use Rattle.docker_index.specs.Joined.{AreJoined}
 use Rattle.docker_join.proofs.MergedRows.{walk, walk_joins}
 use Rattle.docker_join.proofs.MeantOrder.{ascending_meant, meant_ascending}

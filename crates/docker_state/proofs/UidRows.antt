@@ -19,9 +19,9 @@ use Rattle.docker_model.specs.state.Op as ops
 use Rattle.docker_model.specs.state.Op.{key_cmp, schedule_key_cmp, put_with}
 use Rattle.docker_model.specs.state.Order.{bytes_cmp, IsBelow, IsStrictlyAscending}
 use Rattle.docker_model.specs.state.State.{State, AreAscending as AscendMeant, IsValid, IsGoodEntry, IsOpOf, live_table}
-use Rattle.docker_laws.proofs.lists.Membership.{Contains-cons, nil-Contains, Contains-map}
-use Rattle.docker_laws.proofs.orders.Ascending.{later_of}
-use Rattle.docker_laws.proofs.lists.Later.{pairs_from_later}
+use Rattle.cif_laws.proofs.lists.Membership.{Contains-cons, nil-Contains, Contains-map}
+use Rattle.cif_laws.proofs.orders.Ascending.{later_of}
+use Rattle.cif_laws.proofs.lists.Later.{pairs_from_later}
 use Rattle.cif_change.specs.declared.key.Key.{Key}
 use Rattle.cif_file.specs.Meaning.{key_meant}
 use Rattle.docker_join.specs.declared.entry.Entry.{Entry}

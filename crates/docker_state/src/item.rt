@@ -5,7 +5,7 @@ ghost use Rattle.std.specs.Cmp.{partial_equiv_from_equiv, on_equiv, on_total, eq
 ghost use Rattle.std.proofs.Common.{refl};
 ghost use Rattle.docker_model.specs.state.Stamp.{ledger_item_cmp, ledger_item_of};
 ghost use Rattle.docker_model.specs.file.File.{first_record};
-ghost use Rattle.docker_laws.proofs.orders.Orders.{ledger_item_total};
+ghost use Rattle.cif_laws.proofs.orders.Orders.{ledger_item_total};
 ghost use Rattle.docker_join.specs.Meaning.{file_stamp_meant};
 ghost use Rattle.docker_state.specs.Meaning.{item_meant};
 

@@ -314,8 +314,8 @@ impl State {
 
 impl Merge for State {
     ghost use Rattle.docker_model.specs.state.State.{IsValid, IsJoin};
-    ghost use Rattle.docker_laws.proofs.joins.JoinValid.{join_is_valid};
-    ghost use Rattle.docker_laws.proofs.joins.JoinLaws.{join_unique, join_commutes, join_associates, join_idempotent};
+    ghost use Rattle.state_laws.proofs.joins.JoinValid.{join_is_valid};
+    ghost use Rattle.state_laws.proofs.joins.JoinLaws.{join_unique, join_commutes, join_associates, join_idempotent};
 
     ghost is_valid = { IsValid };
 

@@ -15,7 +15,7 @@ use Rattle.docker_model.specs.docker.Gathering.{runs_by}
 use Rattle.docker_model.specs.docker.ChoiceWalk.{IsChosenSoFar, IsLinkSoFar, next_chosen, next_link}
 use Rattle.docker_model.specs.state.State.{HasGoodBodies}
 use Rattle.docker_model.specs.state.Index.{AreCalling, AreLinked, AreOfUid}
-use Rattle.docker_laws.proofs.lists.Membership.{Contains-cons, cons-Contains, cons-Contains-first}
+use Rattle.cif_laws.proofs.lists.Membership.{Contains-cons, cons-Contains, cons-Contains-first}
 use Rattle.docker_laws.proofs.dockers.ChoiceWalk.{none_chosen, chosen_more, none_linked, link_more}
 use Rattle.docker_laws.proofs.dockers.TrainOfRows.{best_is_chosen, one_answer, rows_have, chosen_tells}
 use Rattle.docker_laws.proofs.dockers.LinkOfRows.{best_is_link, one_link_answer, links_tell}

@@ -2,8 +2,8 @@
 use Rattle.std.proofs.Common.{◌≡◌, ℕ, ◌≤◌, ◌==◌, List, ap, sym, ◌∙◌, subst, refl, Some, None, Contains, eqb-true, true, false}
 use Rattle.std.specs.Prelude.{Option, option_map, find, ◌↔◌, IsSome, IfSome}
 use Rattle.docker_model.specs.docker.Event.{Event, events_of, falls_to}
-use Rattle.docker_laws.proofs.lists.FilteredMembers.{find_some, find_none}
-use Rattle.docker_laws.proofs.lists.Membership.{Contains-map, map-Contains}
+use Rattle.cif_laws.proofs.lists.FilteredMembers.{find_some, find_none}
+use Rattle.cif_laws.proofs.lists.Membership.{Contains-map, map-Contains}
 use Rattle.docker_laws.proofs.dockers.ScheduleLines.{number_itself}
 use Rattle.docker_train.specs.Occurrences.{Occurrence, occurrence_of, occurrences}
 use Rattle.docker_train.specs.Falls.{falls_among}

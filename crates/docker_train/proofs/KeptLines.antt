@@ -11,8 +11,8 @@ use Rattle.docker_model.specs.file.Change.{AssociationKey, ScheduleKey, schedule
 use Rattle.docker_model.specs.docker.Choice.{schedule_runs}
 use Rattle.docker_model.specs.docker.Event.{falls_to}
 use Rattle.docker_model.specs.state.State.{IsAssociationOf, IsScheduleOf}
-use Rattle.docker_laws.proofs.records.Columns.{fields_good}
-use Rattle.docker_laws.proofs.lists.AllOf.{all_append}
+use Rattle.cif_laws.proofs.records.Columns.{fields_good}
+use Rattle.cif_laws.proofs.lists.AllOf.{all_append}
 use Rattle.docker_laws.proofs.dockers.FewMidnights.{few_midnights, falls_below}
 use Rattle.docker_train.specs.Runs.{runs_until}
 use Rattle.docker_train.proofs.RunFields.{three_tests}

@@ -4,8 +4,8 @@ use Rattle.docker_model.specs.records.Record.{origin_location, intermediate_loca
 use Rattle.docker_model.specs.records.Clock.{half_minutes, is_present_time, is_scheduled_time}
 use Rattle.docker_model.specs.records.Field.{HasGoodFields}
 use Rattle.docker_model.specs.file.Journey.{arrival, departure, timed, times_by_kind, times_of}
-use Rattle.docker_laws.proofs.records.Columns.{good_fields}
-use Rattle.docker_laws.proofs.records.ScheduledTimes.{time_there}
+use Rattle.cif_laws.proofs.records.Columns.{good_fields}
+use Rattle.cif_laws.proofs.records.ScheduledTimes.{time_there}
 
 -- the departure of an origin is a time
 pub origin_departure : (line : List ℕ) → HasKind origin_location line → HasGoodFields line → is_present_time (columns 11 15 line) ≡ true

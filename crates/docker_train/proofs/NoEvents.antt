@@ -9,9 +9,9 @@ use Rattle.docker_model.specs.docker.Event.{has_identity}
 use Rattle.docker_model.specs.file.File.{AreExtraDetails, IsJourney, MayLackJourney, first_record}
 use Rattle.docker_model.specs.file.Change.{ScheduleKey}
 use Rattle.docker_model.specs.state.State.{IsScheduleOf}
-use Rattle.docker_laws.proofs.lists.FilteredMembers.{find_none}
-use Rattle.docker_laws.proofs.records.RecordIdentity.{has_identity_is}
-use Rattle.docker_laws.proofs.lists.Membership.{cons-Contains-first}
+use Rattle.cif_laws.proofs.lists.FilteredMembers.{find_none}
+use Rattle.cif_laws.proofs.records.RecordIdentity.{has_identity_is}
+use Rattle.cif_laws.proofs.lists.Membership.{cons-Contains-first}
 use Rattle.docker_train.specs.Occurrences.{occurrences, Progress, before_all, turned, past_times, occurrences_at, occurrences_from}
 use Rattle.docker_train.proofs.Occurrences.{all_met}
 

@@ -5,7 +5,7 @@ use Rattle.std.specs.List.{AllByRecursion}
 use Rattle.docker_model.specs.records.Record.{association, basic_schedule, HasKind, columns}
 use Rattle.docker_model.specs.records.Date.{is_date, is_end_date, is_days}
 use Rattle.docker_model.specs.records.Field.{CheckedField, checked, HasGoodFields, is_deletion, is_tiploc, is_stp_indicator}
-use Rattle.docker_laws.proofs.records.Columns.{good_fields, IsGoodIn}
+use Rattle.cif_laws.proofs.records.Columns.{good_fields, IsGoodIn}
 
 -- the last two of three tests together
 pub three_tests : (a b c : Bool) → (a && (b && c)) ≡ ((a && b) && c)

@@ -15,15 +15,15 @@ use Rattle.docker_model.specs.docker.DockerLine.{DockerLine, docker_line_cmp, li
 use Rattle.docker_model.specs.docker.Association.{category_occasion, is_date_indicator, partner_start, IsPartnerIdentity, IsAssociationLine}
 use Rattle.docker_model.specs.docker.LiveRows.{Train, Link, IsTrainOn, TellsTrains, IsLinkOn, TellsLinks}
 use Rattle.docker_model.specs.docker.Gathering.{start_days, counts_as, identity_of, partner_identity, line_at, line_with, is_in_force}
-use Rattle.docker_laws.proofs.lists.Membership.{nil-Contains, Contains-single, single-Contains}
-use Rattle.docker_laws.proofs.lists.BoolsAndOptions.{both, not_true}
-use Rattle.docker_laws.proofs.orders.Orders.{association_key_total, exact_association_key}
-use Rattle.docker_laws.proofs.lists.Sorted.{AreApart}
+use Rattle.cif_laws.proofs.lists.Membership.{nil-Contains, Contains-single, single-Contains}
+use Rattle.cif_laws.proofs.lists.BoolsAndOptions.{both, not_true}
+use Rattle.cif_laws.proofs.orders.Orders.{association_key_total, exact_association_key}
+use Rattle.cif_laws.proofs.lists.Sorted.{AreApart}
 use Rattle.docker_laws.proofs.dockers.StartDays.{event_within, start_days_iff}
 use Rattle.docker_laws.proofs.dockers.FewMidnights.{bodies_few}
 use Rattle.docker_laws.proofs.dockers.OneChoice.{one_association, one_train, one_link}
 use Rattle.docker_laws.proofs.dockers.OneDockerLine.{one_identity}
-use Rattle.docker_laws.proofs.orders.AtMost.{eq_is}
+use Rattle.cif_laws.proofs.orders.AtMost.{eq_is}
 use Rattle.docker_laws.proofs.dockers.ScheduleLines.{number_itself}
 
 -- the lines on one base start day

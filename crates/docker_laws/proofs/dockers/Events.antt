@@ -3,12 +3,13 @@ use Rattle.std.proofs.Common.{◌≡◌, ℕ, zero, suc, ◌+◌, ◌<◌, ◌�
 use Rattle.std.specs.Prelude.{Option, slice_index_or}
 use Rattle.std.specs.List.{enumerate_from}
 use Rattle.std.proofs.lemmas.List.Elements.{Contains-append_cases}
-use Rattle.docker_model.specs.records.Record.{Kind, header, tiploc_insert, tiploc_amend, tiploc_delete, association, basic_schedule, extra_details, origin_location, intermediate_location, terminating_location, change_en_route, trailer, HasKind, kind_of, columns}
+use Rattle.docker_model.specs.records.Record.{Kind, header, tiploc_insert, tiploc_amend, tiploc_delete, association, basic_schedule, extra_details, origin_location, intermediate_location, terminating_location, change_en_route, trailer, kind_of, columns}
 use Rattle.docker_model.specs.records.Clock.{scheduled_time}
 use Rattle.docker_model.specs.file.Journey.{Occasion, arrival, pass, departure, timed, times_by_kind, times_of, CallsAt}
 use Rattle.docker_model.specs.docker.Event.{Event, placed_times, events_of, event_line}
-use Rattle.docker_laws.proofs.lists.Membership.{Contains-cons, nil-Contains, Contains-map, Contains-flat_map, each_member}
-use Rattle.docker_laws.proofs.lists.Later.{AllLater, later_map, one_before}
+use Rattle.cif_laws.proofs.lists.Membership.{Contains-cons, nil-Contains, Contains-map, Contains-flat_map, each_member}
+use Rattle.cif_laws.proofs.lists.Later.{AllLater, later_map, one_before}
+use Rattle.cif_laws.proofs.records.Locations.{IsLocation}
 
 abbrev Placed : Type 0
 Placed = ℕ × (Occasion × ℕ)
@@ -125,10 +126,6 @@ at_a_line lines event among = by (Contains-map as_event (enumerate_from 1 (place
 -- an arrival, a pass or a departure
 abbrev pub IsOfTrain : Occasion → Type 0
 IsOfTrain occasion = (occasion ≡ arrival) ⊎ (occasion ≡ pass) ⊎ (occasion ≡ departure)
-
--- the line is an origin, an intermediate or a terminating location
-abbrev pub IsLocation : List ℕ → Type 0
-IsLocation line = HasKind origin_location line ⊎ HasKind intermediate_location line ⊎ HasKind terminating_location line
 
 timed_is : (occasion : Occasion) (time : Option ℕ) (pair : Occasion × ℕ) → Contains (timed occasion time) pair → pair.0 ≡ occasion
 timed_is occasion None pair among = absurd (nil-Contains pair among)

@@ -17,17 +17,17 @@ use Rattle.docker_model.specs.state.StatePart.{IsStampHere}
 use Rattle.docker_model.specs.state.State.{IsStampIn, IsOpOf, State, IsValid, IsLedger, IsGoodEntry, AreEntries, HaveLapsed, live_table}
 use Rattle.docker_model.specs.docker.Excerpt.{IsSublist, HasCall, IsNamed, IsNeeded, IsExcerptState}
 use Rattle.docker_model.specs.docker.ExcerptWalk.{is_here, has_uid, name_in, is_call}
-use Rattle.docker_laws.proofs.orders.Orders.{same_key}
-use Rattle.docker_laws.proofs.orders.Ascending.{later_of, ascending_of, ascending_last, below_next}
-use Rattle.docker_laws.proofs.lists.AllOf.{all_append}
-use Rattle.docker_laws.proofs.lists.Membership.{member_of, cons-Contains-first}
-use Rattle.docker_laws.proofs.lists.Sublists.{sublist_all, sublist_later, sublist_filter, sublist_itself, sublist_onward}
-use Rattle.docker_laws.proofs.lists.BoolsAndOptions.{and_true}
-use Rattle.docker_laws.proofs.lists.FilteredMembers.{find_some, filter_back}
-use Rattle.docker_laws.proofs.states.PlainTable.{Keyed, live_none}
+use Rattle.cif_laws.proofs.orders.Orders.{same_key}
+use Rattle.cif_laws.proofs.orders.Ascending.{later_of, ascending_of, ascending_last, below_next}
+use Rattle.cif_laws.proofs.lists.AllOf.{all_append}
+use Rattle.cif_laws.proofs.lists.Membership.{member_of, cons-Contains-first}
+use Rattle.cif_laws.proofs.lists.Sublists.{sublist_all, sublist_later, sublist_filter, sublist_itself, sublist_onward}
+use Rattle.cif_laws.proofs.lists.BoolsAndOptions.{and_true}
+use Rattle.cif_laws.proofs.lists.FilteredMembers.{find_some, filter_back}
+use Rattle.state_laws.proofs.states.PlainTable.{Keyed, live_none}
 use Rattle.docker_laws.proofs.dockers.GoodBodies.{live_entry}
 use Rattle.docker_laws.proofs.dockers.ExcerptDocker.{same_where_needed}
-use Rattle.docker_laws.proofs.indexes.CallsTest.{any_forth, calls_test}
+use Rattle.state_laws.proofs.indexes.CallsTest.{any_forth, calls_test}
 
 -- ---- of an excerpt
 

@@ -18,16 +18,16 @@ use Rattle.docker_model.specs.docker.DockerList.{IsDockerList}
 use Rattle.docker_model.specs.docker.DockerText.{IsDockerText}
 use Rattle.docker_model.specs.docker.Excerpt.{IsExcerptState}
 use Rattle.docker_model.specs.docker.ExcerptWalk.{ExcerptSoFar, nothing_kept, is_here, has_uid, name_in, names_in, is_call, is_run_calling, is_run_needed, kept_after_run, goes_on, with_entry_of, next_kept, kept_from, kept_so_far, excerpt_for}
-use Rattle.docker_laws.proofs.orders.Ascending.{later_of}
-use Rattle.docker_laws.proofs.orders.AtMost.{level}
-use Rattle.docker_laws.proofs.lists.Later.{AllLater}
-use Rattle.docker_laws.proofs.lists.Membership.{Contains-cons, cons-Contains, cons-Contains-first, nil-Contains, Contains-single, below_by_recursion}
-use Rattle.docker_laws.proofs.lists.BoolsAndOptions.{both, and_true}
-use Rattle.docker_laws.proofs.lists.FilteredMembers.{filter_back, filter_forth, part_back, part_forth}
-use Rattle.docker_laws.proofs.states.PlainTable.{Keyed}
+use Rattle.cif_laws.proofs.orders.Ascending.{later_of}
+use Rattle.cif_laws.proofs.orders.AtMost.{level}
+use Rattle.cif_laws.proofs.lists.Later.{AllLater}
+use Rattle.cif_laws.proofs.lists.Membership.{Contains-cons, cons-Contains, cons-Contains-first, nil-Contains, Contains-single, below_by_recursion}
+use Rattle.cif_laws.proofs.lists.BoolsAndOptions.{both, and_true}
+use Rattle.cif_laws.proofs.lists.FilteredMembers.{filter_back, filter_forth, part_back, part_forth}
+use Rattle.state_laws.proofs.states.PlainTable.{Keyed}
 use Rattle.docker_laws.proofs.dockers.ExcerptDocker.{excerpt_list_iff, excerpt_text_iff}
 use Rattle.docker_laws.proofs.dockers.ExcerptState.{calls_as, names_as, is_name, is_concerned, is_needed, passing_is_excerpt, excerpt_valid}
-use Rattle.docker_laws.proofs.indexes.CallsTest.{any_back, any_forth}
+use Rattle.state_laws.proofs.indexes.CallsTest.{any_back, any_forth}
 
 -- ---- keys of one UID
 

@@ -11,8 +11,8 @@ use Rattle.docker_model.specs.file.Change.{schedule_key, ScheduleKey, schedule_b
 use Rattle.docker_model.specs.state.Table.{Table}
 use Rattle.docker_model.specs.state.State.{HasGoodBodies, IsScheduleOf}
 use Rattle.docker_model.specs.docker.Event.{Event, falls_to, event_day}
-use Rattle.docker_laws.proofs.records.RecordTests.{fewer_falls}
-use Rattle.docker_laws.proofs.schedules.ScheduleStages.{midnights_of_journey}
+use Rattle.cif_laws.proofs.records.RecordTests.{fewer_falls}
+use Rattle.cif_laws.proofs.schedules.ScheduleStages.{midnights_of_journey}
 
 -- the schedules of a table pass midnight at most twice
 abbrev pub HasFewMidnights : Table → Type 0

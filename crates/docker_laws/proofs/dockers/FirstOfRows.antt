@@ -5,8 +5,8 @@ use Rattle.std.specs.declared.cmp.Ordering.{Ordering}
 use Rattle.std.specs.Cmp.{IsTotalOrder}
 use Rattle.docker_model.specs.state.Order.{IsAtMost}
 use Rattle.docker_model.specs.docker.Best.{IsBest}
-use Rattle.docker_laws.proofs.lists.BoolsAndOptions.{true_is_not}
-use Rattle.docker_laws.proofs.orders.Least.{is_least, found_least, none_passes}
+use Rattle.cif_laws.proofs.lists.BoolsAndOptions.{true_is_not}
+use Rattle.cif_laws.proofs.orders.Least.{is_least, found_least, none_passes}
 
 -- what is found holds, and comes behind nothing that does; where nothing is found, nothing holds
 abbrev pub IsFirst : {A : Type 0} → (A → A → Ordering) → (A → Type 0) → Option A → Type 0

@@ -21,12 +21,12 @@ use Rattle.docker_model.specs.docker.DockerLine.{DockerLine, docker_line_cmp}
 use Rattle.docker_model.specs.docker.DockerList.{IsDockerList}
 use Rattle.docker_model.specs.docker.LiveRows.{Train, Link, TellsTrains, TellsLinks}
 use Rattle.docker_model.specs.docker.Gathering.{IsDockerLine, start_days, IsWalk, row_lines, gathered}
-use Rattle.docker_laws.proofs.lists.Membership.{nil-Contains, Contains-flat_map, flat_map-Contains}
-use Rattle.docker_laws.proofs.orders.Ascending.{irreflexive}
-use Rattle.docker_laws.proofs.orders.Orders.{key_total, docker_line_total}
-use Rattle.docker_laws.proofs.lists.FilteredMembers.{filter_back}
-use Rattle.docker_laws.proofs.lists.Later.{AllLater, later_weaker, later_flat_map, later_map, later_filter}
-use Rattle.docker_laws.proofs.lists.Sorted.{AreApart, sort_ascends}
+use Rattle.cif_laws.proofs.lists.Membership.{nil-Contains, Contains-flat_map, flat_map-Contains}
+use Rattle.cif_laws.proofs.orders.Ascending.{irreflexive}
+use Rattle.cif_laws.proofs.orders.Orders.{key_total, docker_line_total}
+use Rattle.cif_laws.proofs.lists.FilteredMembers.{filter_back}
+use Rattle.cif_laws.proofs.lists.Later.{AllLater, later_weaker, later_flat_map, later_map, later_filter}
+use Rattle.cif_laws.proofs.lists.Sorted.{AreApart, sort_ascends}
 use Rattle.docker_laws.proofs.dockers.Events.{event_calls}
 use Rattle.docker_laws.proofs.dockers.OneDockerLine.{tied_lines_agree, same_event_line, same_association_line, event_apart}
 use Rattle.docker_laws.proofs.dockers.ScheduleLines.{schedule_piece, IsOfSchedule, schedule_piece_back, schedule_piece_forth, schedule_piece_apart, event_starts}

@@ -6,9 +6,9 @@ use Rattle.std.proofs.lemmas.List.Elements.{All-contains}
 use Rattle.docker_model.specs.file.Change.{Key, Body}
 use Rattle.docker_model.specs.state.Op.{Op, deleted, lapsed, put_with, Entry, body_of, key_cmp}
 use Rattle.docker_model.specs.state.State.{State, IsValid, IsGoodEntry, IsOpOf, live_table, HasGoodBodies}
-use Rattle.docker_laws.proofs.states.PlainTable.{Keyed, live_at, live_none}
-use Rattle.docker_laws.proofs.orders.Orders.{same_key}
-use Rattle.docker_laws.proofs.lists.FilteredMembers.{find_some}
+use Rattle.state_laws.proofs.states.PlainTable.{Keyed, live_at, live_none}
+use Rattle.cif_laws.proofs.orders.Orders.{same_key}
+use Rattle.cif_laws.proofs.lists.FilteredMembers.{find_some}
 
 -- what is live at a key stands in an entry of it that is put
 pub live_entry : (state : State) (key : Key) (body : Body) → live_table state key ≡ Some body → (entry : Entry) × Contains state.entries (key, entry)

@@ -18,8 +18,8 @@ use Rattle.docker_model.specs.docker.Gathering.{IsWalk, gathered}
 use Rattle.docker_laws.proofs.dockers.GatheredLines.{sorted_gathering}
 use Rattle.docker_laws.proofs.dockers.TrainOfRows.{trains_tell}
 use Rattle.docker_laws.proofs.dockers.LinkOfRows.{links_tell}
-use Rattle.docker_laws.proofs.lists.Later.{later_append}
-use Rattle.docker_laws.proofs.orders.Ascending.{later_of, ascending_of}
+use Rattle.cif_laws.proofs.lists.Later.{later_append}
+use Rattle.cif_laws.proofs.orders.Ascending.{later_of, ascending_of}
 
 module _ (live : Table) (place : List ℕ) (linked calling : List Row) (are_linked : AreLinked live place linked)
     (are_calling : AreCalling live place calling) where

@@ -10,8 +10,8 @@ use Rattle.docker_model.specs.state.Op.{readable_end}
 use Rattle.docker_model.specs.state.Table.{Table}
 use Rattle.docker_model.specs.state.Lapse.{lapse_table}
 use Rattle.docker_model.specs.docker.Choice.{runs_within, IsRunning, IsChosen, TrainRuns, Group, IsAssociated, IsChosenAssociation}
-use Rattle.docker_laws.proofs.lists.BoolsAndOptions.{both}
-use Rattle.docker_laws.proofs.states.TableLapsed.{live_stays, was_live}
+use Rattle.cif_laws.proofs.lists.BoolsAndOptions.{both}
+use Rattle.state_laws.proofs.states.TableLapsed.{live_stays, was_live}
 
 -- what runs on a day doesn't end before it
 within_end : (first last days : List ℕ) (day : ℕ) → IsTrue (runs_within first last days day) → day ≤ end_number last

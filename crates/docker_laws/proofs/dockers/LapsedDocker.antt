@@ -15,7 +15,7 @@ use Rattle.docker_model.specs.docker.DockerLine.{DockerLine}
 use Rattle.docker_model.specs.docker.Association.{partner_start, IsIdentityOn, IsPartnerIdentity, IsAssociationLine}
 use Rattle.docker_model.specs.docker.DockerList.{IsEventLine, Lists, IsDockerList}
 use Rattle.docker_model.specs.docker.DockerText.{description_in, docker_text, IsDockerText, ended, line_text, last_line}
-use Rattle.docker_laws.proofs.states.TableLapsed.{was_live, body_stays}
+use Rattle.state_laws.proofs.states.TableLapsed.{was_live, body_stays}
 use Rattle.docker_laws.proofs.dockers.LapsedChoice.{train_iff, association_iff}
 use Rattle.docker_laws.proofs.dockers.FewMidnights.{HasFewMidnights, starts_near}
 

@@ -8,8 +8,8 @@ use Rattle.std.proofs.lemmas.Map.Lookups.{exact_unsigned}
 use Rattle.docker_model.specs.file.Change.{schedule_key, association_key, ScheduleKey, AssociationKey, schedule_body, association_body}
 use Rattle.docker_model.specs.state.Table.{Table}
 use Rattle.docker_model.specs.docker.Choice.{schedule_choice_cmp, association_choice_cmp, IsChosen, IsChosenAssociation, TrainRuns, Group, group_of}
-use Rattle.docker_laws.proofs.orders.Orders.{then_equal}
-use Rattle.docker_laws.proofs.orders.AtMost.{level}
+use Rattle.cif_laws.proofs.orders.Orders.{then_equal}
+use Rattle.cif_laws.proofs.orders.AtMost.{level}
 
 -- the order in which schedules are chosen is total
 pub schedule_choice_total : IsTotalOrder schedule_choice_cmp

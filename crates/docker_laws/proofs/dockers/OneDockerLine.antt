@@ -19,9 +19,9 @@ use Rattle.docker_model.specs.docker.DockerLine.{DockerLine, docker_line_cmp, oc
 use Rattle.docker_model.specs.docker.Association.{category_occasion, partner_start, IsIdentityOn, IsPartnerIdentity, IsAssociationLine}
 use Rattle.docker_model.specs.docker.DockerList.{IsEventLine}
 use Rattle.docker_model.specs.docker.Gathering.{IsDockerLine}
-use Rattle.docker_laws.proofs.orders.Orders.{then_equal}
-use Rattle.docker_laws.proofs.lists.BoolsAndOptions.{both, none_some}
-use Rattle.docker_laws.proofs.lists.FilteredMembers.{find_some}
+use Rattle.cif_laws.proofs.orders.Orders.{then_equal}
+use Rattle.cif_laws.proofs.lists.BoolsAndOptions.{both, none_some}
+use Rattle.cif_laws.proofs.lists.FilteredMembers.{find_some}
 use Rattle.docker_laws.proofs.dockers.OneChoice.{one_train, one_link}
 use Rattle.docker_laws.proofs.dockers.Events.{one_event, IsOfTrain, event_occasion}
 

@@ -1,6 +1,6 @@
 -- Whatever the horizon, each docker that is printed of a summary is that of the plain table, where the files' moments are distinct.
 use Rattle.std.proofs.Common.{◌≡◌, ℕ, ◌+◌, ◌≤◌, List, length, map, All, subst, inl, inr, ◌⊎◌, refl, ap, sym, ◌∙◌, Bool, true, false, Some, None, arith}
-use Rattle.std.specs.Prelude.{Option, ◌↔◌, nat_lt, fold, option_and_then}
+use Rattle.std.specs.Prelude.{Option, ◌↔◌, nat_lt, fold}
 use Rattle.std.proofs.lemmas.Bool.{ltb-true, ltb-false}
 use Rattle.std.proofs.lemmas.List.Elements.{All-contains}
 use Rattle.docker_model.specs.records.Date.{no_end_number, IsDay}
@@ -8,21 +8,20 @@ use Rattle.docker_model.specs.file.File.{IsFile, most_records}
 use Rattle.docker_model.specs.file.Change.{Key, Act, delete, put, Body}
 use Rattle.docker_model.specs.state.Stamp.{FileStamp, ledger_item_of, IsFloor}
 use Rattle.docker_model.specs.state.Op.{Entry, op_of, body_of}
-use Rattle.docker_model.specs.state.Table.{Table, empty_table, after_files, from_last_full, IsPlainTable}
-use Rattle.docker_model.specs.state.Lapse.{unlapsed, lapse_table, IsDayRefused}
+use Rattle.docker_model.specs.state.Table.{Table, empty_table, from_last_full, IsPlainTable}
+use Rattle.docker_model.specs.state.Lapse.{lapse_table, IsDayRefused}
 use Rattle.docker_model.specs.state.State.{IsBodyOf, State, IsValid, live_table, lapse_state, HasGoodBodies}
-use Rattle.docker_model.specs.state.Summary.{HaveDistinctMoments, IsSummary, IsEntryOf}
+use Rattle.docker_model.specs.state.Summary.{IsSummary, IsEntryOf}
 use Rattle.docker_model.specs.docker.DockerLine.{DockerLine}
 use Rattle.docker_model.specs.docker.DockerList.{IsDockerList}
 use Rattle.docker_model.specs.docker.DockerText.{IsDockerText}
-use Rattle.docker_laws.proofs.states.MomentOrder.{moment_order}
-use Rattle.docker_laws.proofs.states.SummaryValid.{body_of_file}
-use Rattle.docker_laws.proofs.states.PlainTable.{entries_along, step, NoneThere, LastThere, last_there, after_files_is, entries_ascend, suffix_ascends, out_entries}
-use Rattle.docker_laws.proofs.states.TableLapsed.{body_stays, live_lapsed}
-use Rattle.docker_laws.proofs.states.LapsedPlainTable.{live_is_plain}
+use Rattle.cif_laws.proofs.files.FileChanges.{body_of_file}
+use Rattle.state_laws.proofs.states.PlainTable.{entries_along, step, NoneThere, LastThere, last_there, after_files_is, entries_ascend, suffix_ascends, out_entries}
+use Rattle.state_laws.proofs.states.TableLapsed.{live_lapsed}
 use Rattle.docker_laws.proofs.dockers.FewMidnights.{bodies_few}
 use Rattle.docker_laws.proofs.dockers.GoodBodies.{good_bodies}
 use Rattle.docker_laws.proofs.dockers.LapsedDocker.{docker_list_iff, docker_text_iff}
+use Rattle.state_laws.proofs.states.PlainLive.{lapse_table_none, live_is_lapsed_plain}
 
 -- a horizon that is a day is no greater than the number for no end
 pub day_bound : (horizon : ℕ) → IsDay horizon → horizon ≤ no_end_number
@@ -78,18 +77,6 @@ module _ (files : List (List (List ℕ))) (each : All IsFile files) (few : All (
 
 -- ---- the law
 
-lapse_table_none : (table : Table) (key : Key) → lapse_table 0 table key ≡ table key
-lapse_table_none table key = by (table key)
-  where
-    by : (found : Option Body) → option_and_then (unlapsed 0) found ≡ found
-    by None = refl
-    by (Some body) = body_stays 0 body (omega arith)
-
--- the live table of a summary is the lapsed plain table
-pub live_is_lapsed_plain : (files : List (List (List ℕ))) (horizon : ℕ) (state : State) (table : Table) → IsSummary files horizon state
-    → IsPlainTable files table → live_table state ≡ lapse_table horizon table
-live_is_lapsed_plain files horizon state table summary plain = λ i key. live_is_plain files horizon state table summary plain key i
-
 -- a docker that is printed of a summary is that of the plain table
 pub printed_is_plain : (files : List (List (List ℕ))) (horizon : ℕ) (state : State) (table : Table) (place : List ℕ) (day : ℕ) (text : List ℕ)
     → All IsFile files → All (λ file. length file ≤ most_records) files → IsDay horizon → IsSummary files horizon state → IsPlainTable files table
@@ -114,17 +101,3 @@ printed_is_plain files horizon state table place day text each few is_day summar
         let zero_is : horizon ≡ 0 = omega arith in
         let all : lapse_table horizon table ≡ table = ap (λ h. lapse_table h table) zero_is ∙ (λ i key. lapse_table_none table key i) in
         turned (subst (λ (t : Table). IsDockerText table place day text ↔ IsDockerText t place day text) (sym all) (λ x. x, λ x. x))
-
--- where the moments are distinct, there is a plain table; without a horizon it is the live table
-pub live_table_is_plain : (files : List (List (List ℕ))) (state : State) → IsSummary files 0 state → HaveDistinctMoments files
-    → IsPlainTable files (live_table state)
-live_table_is_plain files state summary distinct =
-    let order = moment_order files distinct in
-    let plain : IsPlainTable files (after_files empty_table (from_last_full order.0)) = record { ordered = order.0; order = order.1; is = λ other. refl } in
-    record {
-      ordered = order.0;
-      order = order.1;
-      is = λ key.
-          live_is_plain files 0 state (after_files empty_table (from_last_full order.0)) summary plain key
-          ∙ lapse_table_none (after_files empty_table (from_last_full order.0)) key;
-    }

@@ -17,18 +17,18 @@ use Rattle.docker_model.specs.docker.DockerLine.{DockerLine, line_of_event, dock
 use Rattle.docker_model.specs.docker.DockerList.{IsEventLine}
 use Rattle.docker_model.specs.docker.LiveRows.{Train, IsTrainOn, TellsTrains}
 use Rattle.docker_model.specs.docker.Gathering.{event_lines, runs_by, start_days}
-use Rattle.docker_laws.proofs.lists.Membership.{Contains-map, map-Contains, nil-Contains}
-use Rattle.docker_laws.proofs.lists.BoolsAndOptions.{both}
-use Rattle.docker_laws.proofs.orders.Orders.{schedule_key_total, exact_schedule_key}
-use Rattle.docker_laws.proofs.lists.FilteredMembers.{filter_back, filter_forth}
-use Rattle.docker_laws.proofs.lists.Later.{later_weaker, later_filter, later_map}
-use Rattle.docker_laws.proofs.lists.Sorted.{AreApart}
+use Rattle.cif_laws.proofs.lists.Membership.{Contains-map, map-Contains, nil-Contains}
+use Rattle.cif_laws.proofs.lists.BoolsAndOptions.{both}
+use Rattle.cif_laws.proofs.orders.Orders.{schedule_key_total, exact_schedule_key}
+use Rattle.cif_laws.proofs.lists.FilteredMembers.{filter_back, filter_forth}
+use Rattle.cif_laws.proofs.lists.Later.{later_weaker, later_filter, later_map}
+use Rattle.cif_laws.proofs.lists.Sorted.{AreApart}
 use Rattle.docker_laws.proofs.dockers.StartDays.{event_within, start_days_iff}
 use Rattle.docker_laws.proofs.dockers.FewMidnights.{bodies_few}
 use Rattle.docker_laws.proofs.dockers.OneChoice.{one_schedule, one_train}
 use Rattle.docker_laws.proofs.dockers.Events.{numbers_ascend}
 use Rattle.docker_laws.proofs.dockers.OneDockerLine.{tied_lines_agree}
-use Rattle.docker_laws.proofs.orders.AtMost.{eq_is}
+use Rattle.cif_laws.proofs.orders.AtMost.{eq_is}
 
 -- a number equals itself, as a test
 pub number_itself : (n : ℕ) → (n == n) ≡ true

@@ -8,9 +8,9 @@ use Rattle.docker_model.specs.state.Table.{Table}
 use Rattle.docker_model.specs.state.State.{HasGoodBodies}
 use Rattle.docker_model.specs.docker.Event.{Event, event_day, falls_to}
 use Rattle.docker_model.specs.docker.Gathering.{start_days}
-use Rattle.docker_laws.proofs.lists.Membership.{Contains-cons, cons-Contains, cons-Contains-first, nil-Contains, Contains-map, map-Contains}
+use Rattle.cif_laws.proofs.lists.Membership.{Contains-cons, cons-Contains, cons-Contains-first, nil-Contains, Contains-map, map-Contains}
 use Rattle.docker_laws.proofs.dockers.FewMidnights.{bodies_few, falls_below}
-use Rattle.docker_laws.proofs.lists.FilteredMembers.{filter_back, filter_forth}
+use Rattle.cif_laws.proofs.lists.FilteredMembers.{filter_back, filter_forth}
 
 -- up to any event of a live schedule there are at most two falls
 pub few_falls_to : (live : Table) (key : ScheduleKey) (lines : List (List ℕ)) → HasGoodBodies live → live (schedule_key key) ≡ Some (schedule_body lines)

@@ -5,7 +5,7 @@ use Rattle.docker_model.specs.records.Date.{IsDay}
 use Rattle.docker_model.specs.file.Change.{AssociationKey, ScheduleKey}
 use Rattle.docker_model.specs.state.State.{State, live_table, lapse_state}
 use Rattle.docker_model.specs.docker.Choice.{Group, IsChosen, IsChosenAssociation, TrainRuns}
-use Rattle.docker_laws.proofs.states.TableLapsed.{live_lapsed}
+use Rattle.state_laws.proofs.states.TableLapsed.{live_lapsed}
 use Rattle.docker_laws.proofs.dockers.LapsedChoice.{chosen_iff, train_iff, association_iff}
 use Rattle.docker_laws.proofs.dockers.PrintedDocker.{day_bound}
 

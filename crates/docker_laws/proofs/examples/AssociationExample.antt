@@ -12,9 +12,9 @@ use Rattle.docker_model.specs.docker.Choice.{schedule_choice_cmp, association_ch
 use Rattle.docker_model.specs.docker.DockerLine.{DockerLine, line_of_association}
 use Rattle.docker_model.specs.docker.Association.{IsAssociationLine}
 use Rattle.docker_model.specs.docker.DockerText.{line_text}
-use Rattle.docker_laws.proofs.records.Builders.{no_text, bs, lo, lt, aa}
-use Rattle.docker_laws.proofs.lists.Membership.{Contains-cons, nil-Contains}
-use Rattle.docker_laws.proofs.states.PlainTable.{Keyed}
+use Rattle.cif_laws.proofs.records.Builders.{no_text, bs, lo, lt, aa}
+use Rattle.cif_laws.proofs.lists.Membership.{Contains-cons, nil-Contains}
+use Rattle.state_laws.proofs.states.PlainTable.{Keyed}
 use Rattle.docker_laws.proofs.examples.ChoiceExamples.{in_state, some_stamp}
 
 abbrev base_lines : List (List ℕ)

@@ -9,9 +9,9 @@ use Rattle.docker_model.specs.state.Stamp.{Stamp}
 use Rattle.docker_model.specs.state.Op.{Entry, put_with, body_of}
 use Rattle.docker_model.specs.state.State.{State, live_table}
 use Rattle.docker_model.specs.docker.Choice.{schedule_runs, schedule_choice_cmp, IsRunning, IsChosen}
-use Rattle.docker_laws.proofs.records.Builders.{no_text, bs, lo, f2_origin, f2_terminus}
-use Rattle.docker_laws.proofs.lists.Membership.{Contains-cons, nil-Contains}
-use Rattle.docker_laws.proofs.states.PlainTable.{Keyed, Found, NotFound, find_in, live_at, live_none}
+use Rattle.cif_laws.proofs.records.Builders.{no_text, bs, lo, f2_origin, f2_terminus}
+use Rattle.cif_laws.proofs.lists.Membership.{Contains-cons, nil-Contains}
+use Rattle.state_laws.proofs.states.PlainTable.{Keyed, Found, NotFound, find_in, live_at, live_none}
 
 -- what is live is an entry's put
 pub in_state : (state : State) (key : Key) (body : Body) → live_table state key ≡ Some body → (entry : Entry) × Contains state.entries (key, entry)

@@ -9,8 +9,8 @@ use Rattle.docker_model.specs.file.Change.{ScheduleKey, tiploc_body}
 use Rattle.docker_model.specs.docker.Event.{Event, events_of, event_day, event_identity, first_event_at}
 use Rattle.docker_model.specs.docker.DockerLine.{line_of_event, line_of_association}
 use Rattle.docker_model.specs.docker.DockerText.{line_text, last_line, description_in, files_text}
-use Rattle.docker_laws.proofs.examples.StateExamples.{f2_item}
-use Rattle.docker_laws.proofs.records.Builders.{f2_schedule, night_schedule, changing_schedule, rename_amend}
+use Rattle.state_laws.proofs.examples.StateExamples.{f2_item}
+use Rattle.cif_laws.proofs.records.Builders.{f2_schedule, night_schedule, changing_schedule, rename_amend}
 
 -- the departure of the worked schedule
 abbrev pub leaves_f2 : Event

@@ -16,11 +16,11 @@ use Rattle.docker_model.specs.docker.DockerLine.{DockerLine, line_of_event}
 use Rattle.docker_model.specs.docker.Association.{IsAssociationLine}
 use Rattle.docker_model.specs.docker.DockerList.{IsEventLine, IsDockerList}
 use Rattle.docker_model.specs.docker.DockerText.{IsDockerText, docker_text}
-use Rattle.docker_laws.proofs.records.Builders.{f2_schedule, f2_terminus}
-use Rattle.docker_laws.proofs.examples.StateExamples.{f2_state}
+use Rattle.cif_laws.proofs.records.Builders.{f2_schedule, f2_terminus}
+use Rattle.state_laws.proofs.examples.StateExamples.{f2_state}
 use Rattle.docker_laws.proofs.examples.DockerExamples.{leaves_f2, ends_f2, f2_key}
-use Rattle.docker_laws.proofs.lists.Membership.{Contains-single, single-Contains}
-use Rattle.docker_laws.proofs.orders.Orders.{exact_key}
+use Rattle.cif_laws.proofs.lists.Membership.{Contains-single, single-Contains}
+use Rattle.cif_laws.proofs.orders.Orders.{exact_key}
 
 abbrev live : Table
 live = live_table f2_state

@@ -11,11 +11,11 @@ use Rattle.docker_model.specs.docker.Association.{IsPartnerIdentity}
 use Rattle.docker_model.specs.docker.Excerpt.{IsNeeded, IsExcerpt, IsExcerptState}
 use Rattle.docker_model.specs.docker.ExcerptWalk.{excerpt_for}
 use Rattle.docker_model.specs.state.Order.{IsAtMost}
-use Rattle.docker_laws.proofs.records.Builders.{no_text, bs, lo, lt, aa}
-use Rattle.docker_laws.proofs.lists.Membership.{Contains-cons, Contains-single}
-use Rattle.docker_laws.proofs.states.PlainTable.{Keyed}
+use Rattle.cif_laws.proofs.records.Builders.{no_text, bs, lo, lt, aa}
+use Rattle.cif_laws.proofs.lists.Membership.{Contains-cons, Contains-single}
+use Rattle.state_laws.proofs.states.PlainTable.{Keyed}
 use Rattle.docker_laws.proofs.examples.ChoiceExamples.{in_state, some_stamp}
-use Rattle.docker_laws.proofs.indexes.CallsTest.{calls_test}
+use Rattle.state_laws.proofs.indexes.CallsTest.{calls_test}
 use Rattle.docker_laws.proofs.dockers.ExcerptWalk.{walk_is_excerpt}
 
 abbrev place : List ℕ

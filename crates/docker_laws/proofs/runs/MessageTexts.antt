@@ -12,10 +12,10 @@ use Rattle.docker_model.specs.state.StateText.{Format, dks_1, dks_2, state_text,
 use Rattle.docker_model.specs.state.StatePart.{IsCount}
 use Rattle.docker_model.specs.run.Run.{Known, IsStateOf}
 use Rattle.docker_model.specs.run.Knowledge.{IsGoodKnown}
-use Rattle.docker_laws.proofs.lists.Membership.{all_members}
-use Rattle.docker_laws.proofs.states.Lapse.{lapse_none}
-use Rattle.docker_laws.proofs.texts.StateGrown.{horizon_day}
-use Rattle.docker_laws.proofs.states.SummaryValid.{summary_is_valid}
+use Rattle.cif_laws.proofs.lists.Membership.{all_members}
+use Rattle.state_laws.proofs.states.Lapse.{lapse_none}
+use Rattle.state_laws.proofs.texts.StateGrown.{horizon_day}
+use Rattle.state_laws.proofs.states.SummaryValid.{summary_is_valid}
 
 -- ---- counts
 

@@ -13,15 +13,15 @@ use Rattle.docker_model.specs.state.StateText.{Format, state_text}
 use Rattle.docker_model.specs.docker.DockerText.{IsDockerText, docker_text}
 use Rattle.docker_model.specs.run.Run.{RunEvent, Exchange, IsRun, AreReplies, none_known, IsStateOf, IsMessageOf, Known, nothing, office_known, message_known, IsOffice, IsMessage}
 use Rattle.docker_model.specs.run.Knowledge.{HaveSameFiles, AreOneKnowledge, IsGoodKnown, IsGoodEvent, Holds, office_state, message_text, sets_of}
-use Rattle.docker_laws.proofs.states.Lapse.{max_most}
+use Rattle.state_laws.proofs.states.Lapse.{max_most}
 use Rattle.docker_laws.proofs.dockers.PrintedDocker.{state_text_iff, printed_is_plain}
-use Rattle.docker_laws.proofs.joins.RaisedHorizon.{lapsed_already, none_to_lapse}
+use Rattle.state_laws.proofs.joins.RaisedHorizon.{lapsed_already, none_to_lapse}
 use Rattle.docker_laws.proofs.runs.GoodKnowledge.{good_in_run}
 use Rattle.docker_laws.proofs.runs.MessageTexts.{summary_told}
-use Rattle.docker_laws.proofs.texts.StateGrown.{horizon_day}
-use Rattle.docker_laws.proofs.states.SummaryLaws.{summary_unique, lapsed_summary}
-use Rattle.docker_laws.proofs.states.OneJoin.{docker_unique}
-use Rattle.docker_laws.proofs.lists.ZipSteps.{zip_at}
+use Rattle.state_laws.proofs.texts.StateGrown.{horizon_day}
+use Rattle.state_laws.proofs.states.SummaryLaws.{summary_unique, lapsed_summary}
+use Rattle.state_laws.proofs.states.OneJoin.{docker_unique}
+use Rattle.cif_laws.proofs.lists.ZipSteps.{zip_at}
 
 -- what holds at the end is what a run leaves
 pub holds_at_end : (format : Format) (offices : ℕ) (events : List RunEvent) (exchange : Exchange) → AreReplies (none_known offices) events exchange.replies

@@ -11,12 +11,12 @@ use Rattle.docker_model.specs.state.StateText.{Format, state_text, IsHorizonOf, 
 use Rattle.docker_model.specs.state.StateFault.{IsStateText}
 use Rattle.docker_model.specs.run.Run.{RunEvent, take_file, send_state, deliver, reload, horizon_event, done, refused, Refusal, Known, KnownSets, IsOffice, IsMessage, IsStateOf, IsMessageOf, nothing, united, office_known, message_known, after_reply, none_known}
 use Rattle.docker_model.specs.run.Knowledge.{IsGoodKnown, Holds, office_state, message_text}
-use Rattle.docker_laws.proofs.joins.JoinLaws.{join_commutes}
+use Rattle.state_laws.proofs.joins.JoinLaws.{join_commutes}
 use Rattle.docker_laws.proofs.runs.GoodKnowledge.{nothing_good, united_good, file_good, horizon_good}
 use Rattle.docker_laws.proofs.runs.MessageTexts.{counts_fit, summary_told}
-use Rattle.docker_laws.proofs.texts.TextsApart.{one_text}
-use Rattle.docker_laws.proofs.states.SummaryLaws.{join_is_summary, raised_summary}
-use Rattle.docker_laws.proofs.lists.ZipSteps.{zip_set, zip_end, zip_at, zip_long, zip_replicate}
+use Rattle.state_laws.proofs.texts.TextsApart.{one_text}
+use Rattle.state_laws.proofs.states.SummaryLaws.{join_is_summary, raised_summary}
+use Rattle.cif_laws.proofs.lists.ZipSteps.{zip_set, zip_end, zip_at, zip_long, zip_replicate}
 
 module _ (format : Format) (known : KnownSets) (states : List State) (messages : List (List ℕ)) (holds : Holds format known states messages) where
   -- ---- an office and a message

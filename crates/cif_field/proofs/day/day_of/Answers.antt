@@ -2,7 +2,7 @@ use Rattle.std.proofs.Common.{arith, refl, ◌≡◌, ◌+◌, ◌≤◌, ◌∙
 use Rattle.std.proofs.lemmas.Int.{to_z_pos}
 use Rattle.jiff.specs.Words.{IsDate}
 use Rattle.docker_model.specs.records.Date.{day_number, last_day}
-use Rattle.docker_laws.proofs.records.Dates.{is_calendar_day-IsDate}
+use Rattle.cif_laws.proofs.records.Dates.{is_calendar_day-IsDate}
 use Rattle.cif_field.proofs.CivilDays.{day_of_parts}
 use Rattle.cif_field.proofs.day.day_of.Goals as goal
 

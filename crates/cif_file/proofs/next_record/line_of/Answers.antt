@@ -2,7 +2,7 @@
 use Rattle.std.proofs.Common.{◌∙◌, ap, sym, cond, Some, Err}
 use Rattle.std.specs.Prelude.{◌==◌}
 use Rattle.docker_model.specs.file.FileFault.{bad_byte, bad_length}
-use Rattle.docker_laws.specs.RecordCause.{byte_cause, kind_cause, with_column}
+use Rattle.cif_laws.specs.RecordCause.{byte_cause, kind_cause, with_column}
 use Rattle.cif_file.proofs.next_record.line_of.Goals as goal
 
 pub returns-in-Err-Byte-clause-err : goal.returns-in-Err-Byte-clause-err

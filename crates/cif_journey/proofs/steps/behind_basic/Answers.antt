@@ -3,7 +3,7 @@ use Rattle.std.proofs.Common.{◌≡◌, refl, ap, sym, ◌∙◌, Bool, Some}
 use Rattle.std.specs.Prelude.{◌||◌, ◌==◌}
 use Rattle.docker_model.specs.records.Record.{column}
 use Rattle.docker_model.specs.records.Field.{is_deletion}
-use Rattle.docker_laws.specs.ScheduleStage.{after_basic}
+use Rattle.cif_laws.specs.ScheduleStage.{after_basic}
 use Rattle.cif_journey.proofs.JourneyLemmas.{basic_read}
 use Rattle.cif_journey.proofs.steps.behind_basic.Goals as goal
 use Rattle.cif_journey.proofs.steps.behind_basic.Goals.{then-deletion, else-deletion}

@@ -1,6 +1,6 @@
 -- A basic schedule with good fields is a first line.
 use Rattle.std.proofs.Common.{◌≡◌, refl, true, subst, sym}
-use Rattle.docker_laws.specs.ScheduleStage.{is_first_line}
+use Rattle.cif_laws.specs.ScheduleStage.{is_first_line}
 use Rattle.cif_journey.proofs.JourneyLemmas.{first_line_is}
 use Rattle.cif_journey.proofs.steps.behind_first_basic.Goals as goal
 

@@ -1,4 +1,4 @@
-use Rattle.docker_laws.proofs.states.OnePlainTable.{some_plain_table}
+use Rattle.state_laws.proofs.states.OnePlainTable.{some_plain_table}
 use Rattle.docker_office.proofs.EndedRuns.{plain_prints}
 use Rattle.docker_office.proofs.headline.dockers_are_of_the_plain_table.Goals as goal
 

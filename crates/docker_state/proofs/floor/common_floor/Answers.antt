@@ -1,7 +1,7 @@
 use Rattle.std.proofs.Common.{subst}
 use Rattle.std.specs.Option.{option_map}
 use Rattle.docker_model.specs.state.Stamp.{IsFloor, file_stamp_cmp}
-use Rattle.docker_laws.proofs.orders.Orders.{file_stamp_total}
+use Rattle.cif_laws.proofs.orders.Orders.{file_stamp_total}
 use Rattle.std.specs.Cmp.{on_total}
 use Rattle.std.specs.Prelude.{⊤}
 use Rattle.docker_join.specs.Meaning.{file_stamp_meant}

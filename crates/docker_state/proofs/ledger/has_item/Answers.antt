@@ -1,4 +1,4 @@
-use Rattle.docker_laws.proofs.orders.Orders.{ledger_item_total, exact_ledger_item}
+use Rattle.cif_laws.proofs.orders.Orders.{ledger_item_total, exact_ledger_item}
 use Rattle.docker_state.specs.Meaning.{item_meant}
 use Rattle.docker_index.proofs.Search.{search_tells}
 use Rattle.docker_state.proofs.ledger.has_item.Goals as goal

@@ -1,5 +1,5 @@
 use Rattle.std.proofs.Common.{arith, rules}
-use Rattle.docker_laws.proofs.orders.Orders.{ledger_item_total, exact_ledger_item}
+use Rattle.cif_laws.proofs.orders.Orders.{ledger_item_total, exact_ledger_item}
 use Rattle.docker_state.specs.Meaning.{item_meant}
 use Rattle.docker_state.proofs.LedgerUnion.{out_ascends, out_members}
 use Rattle.docker_state.proofs.ledger.union_of.Goals as goal

@@ -4,7 +4,7 @@ use Rattle.std.specs.Ordering.{ordering_then}
 use Rattle.std.specs.Cmp.{Equal-is, tied_itself}
 use Rattle.docker_model.specs.state.Op.{op_cmp}
 use Rattle.docker_model.specs.state.Stamp.{stamp_cmp}
-use Rattle.docker_laws.proofs.orders.Orders.{op_total}
+use Rattle.cif_laws.proofs.orders.Orders.{op_total}
 use Rattle.docker_join.specs.Meaning.{op_meant, stamp_meant}
 use Rattle.docker_state.proofs.same.is_same.Goals as goal
 

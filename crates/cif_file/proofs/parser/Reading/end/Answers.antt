@@ -2,7 +2,7 @@
 use Rattle.std.proofs.Common.{ap, subst, ◌∙◌}
 use Rattle.std.proofs.lemmas.Result.{IfOk-weaker}
 use Rattle.std.specs.Str.Lines.{strip_carriage_return}
-use Rattle.docker_laws.specs.LinesTold.{told_lines}
+use Rattle.cif_laws.specs.LinesTold.{told_lines}
 use Rattle.docker_model.specs.file.Text.{lines_of}
 use Rattle.cif_file.specs.ParserRead.{IsFaultNext}
 use Rattle.cif_file.proofs.AnswerLemmas.{if_err_by}

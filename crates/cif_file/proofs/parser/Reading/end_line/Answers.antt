@@ -1,7 +1,7 @@
 -- A line that ends, with the bytes of it that came before.
 use Rattle.std.proofs.Common.{◌++◌, sym, ap, ◌∙◌}
 use Rattle.std.proofs.lemmas.Bool.{false≢true}
-use Rattle.docker_laws.specs.LinesTold.{told_lines}
+use Rattle.cif_laws.specs.LinesTold.{told_lines}
 use Rattle.cif_file.proofs.AnswerLemmas.{if_err_by}
 use Rattle.cif_file.proofs.FrontLemmas.{on_ok_one}
 use Rattle.cif_file.proofs.ParserLemmas.{ended_ok, ended_err, ended_long, ended_many, taken_is, empty_is, later_next, later_long}

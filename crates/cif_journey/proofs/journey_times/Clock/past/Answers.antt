@@ -1,6 +1,6 @@
 -- Three times in turn.
 use Rattle.std.proofs.Common.{◌+◌, ◌∙◌}
-use Rattle.docker_laws.specs.TimesSoFar.{falls_after, later_or}
+use Rattle.cif_laws.specs.TimesSoFar.{falls_after, later_or}
 use Rattle.cif_journey.specs.JourneyRead.{time_list}
 use Rattle.cif_journey.proofs.JourneyLemmas.{falls_of_three}
 use Rattle.cif_journey.proofs.journey_times.Clock.past.Goals as goal

@@ -3,7 +3,7 @@ use Rattle.std.proofs.Common.{ap, sym, ◌∙◌, Some}
 use Rattle.std.specs.Prelude.{option_map}
 use Rattle.std.proofs.lemmas.Bool.{false≢true}
 use Rattle.docker_model.specs.records.Record.{kind_of}
-use Rattle.docker_laws.specs.RecordCause.{field_cause, first_line_cause}
+use Rattle.cif_laws.specs.RecordCause.{field_cause, first_line_cause}
 use Rattle.cif_line.specs.Kind.{meaning}
 use Rattle.cif_journey.specs.JourneyRead.{progress_meant, stage_then, stage_meant}
 use Rattle.cif_journey.proofs.JourneyLemmas.{judged_ok, judged_err, iff_along, first_test, next_test, next_cause, cause_by, out_of_place, faults_line}

@@ -1,6 +1,6 @@
 use Rattle.std.specs.Prelude.{⊤}
 use Rattle.std.specs.Cmp.{on_total}
-use Rattle.docker_laws.proofs.orders.Orders.{stamp_total}
+use Rattle.cif_laws.proofs.orders.Orders.{stamp_total}
 use Rattle.docker_join.specs.Meaning.{stamp_meant}
 use Rattle.docker_join.specs.GreaterLaws.{greater_max}
 use Rattle.docker_join.proofs.stamp.StampMerge.join.Goals as goal

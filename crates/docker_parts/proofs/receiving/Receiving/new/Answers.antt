@@ -1,6 +1,6 @@
 use Rattle.std.proofs.Common.{length, map, sym, ap, subst}
 use Rattle.docker_model.specs.state.State.{IsLedger}
-use Rattle.docker_laws.proofs.texts.LedgerGrown.{no_items}
+use Rattle.state_laws.proofs.texts.LedgerGrown.{no_items}
 use Rattle.docker_state.specs.Meaning.{item_meant}
 use Rattle.docker_parts.proofs.ReceivingLemmas.{no_last}
 use Rattle.docker_parts.proofs.receiving.Receiving.new.Goals as goal

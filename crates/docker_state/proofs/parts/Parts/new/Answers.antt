@@ -1,6 +1,6 @@
 use Rattle.std.proofs.Common.{[], arith}
-use Rattle.docker_laws.proofs.texts.LedgerGrown.{no_items}
-use Rattle.docker_laws.proofs.texts.StateGrown.{valid_without}
+use Rattle.state_laws.proofs.texts.LedgerGrown.{no_items}
+use Rattle.state_laws.proofs.texts.StateGrown.{valid_without}
 use Rattle.docker_state.proofs.parts.Parts.new.Goals as goal
 
 pub invariant_of-result : goal.invariant_of-result

@@ -1,7 +1,7 @@
 use Rattle.std.proofs.Common.{rules, List, map, ap, ◌∙◌, subst}
 use Rattle.docker_model.specs.state.State.{State, IsJoin}
 use Rattle.docker_model.specs.state.Staging.{staged_state}
-use Rattle.docker_laws.proofs.joins.StagedState.{join_with_staged}
+use Rattle.state_laws.proofs.joins.StagedState.{join_with_staged}
 use Rattle.cif_change.specs.declared.key.Key.{Key}
 use Rattle.docker_join.specs.declared.entry.Entry.{Entry}
 use Rattle.docker_index.specs.Noted.{HasNoted, items_of}

@@ -1,7 +1,7 @@
 use Rattle.std.proofs.Common.{List, ◌++◌, map, subst, sym}
 use Rattle.docker_model.specs.state.Stamp.{IsFloor}
 use Rattle.docker_model.specs.state.State.{State, IsJoin}
-use Rattle.docker_laws.proofs.joins.JoinValid.{join_is_valid}
+use Rattle.state_laws.proofs.joins.JoinValid.{join_is_valid}
 use Rattle.cif_change.specs.declared.key.Key.{Key}
 use Rattle.docker_join.specs.declared.entry.Entry.{Entry}
 use Rattle.docker_join.specs.Rows.{AreAscending}

@@ -3,8 +3,8 @@ use Rattle.std.specs.Prelude.{max}
 use Rattle.docker_model.specs.state.State.{State, IsValid, raise_horizon}
 use Rattle.docker_model.specs.records.Date.{IsDay}
 use Rattle.docker_model.specs.state.Summary.{IsSummary}
-use Rattle.docker_laws.proofs.joins.RaisedHorizon.{not_greater}
-use Rattle.docker_laws.proofs.states.SummaryLaws.{raised_summary}
+use Rattle.state_laws.proofs.joins.RaisedHorizon.{not_greater}
+use Rattle.state_laws.proofs.states.SummaryLaws.{raised_summary}
 use Rattle.docker_state.proofs.HorizonLemmas.{rows_raised, raised_valid, lapsed_index}
 use Rattle.docker_state.proofs.state.State.set_horizon.Goals as goal
 

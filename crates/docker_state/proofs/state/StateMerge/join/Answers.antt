@@ -1,7 +1,7 @@
 use Rattle.std.proofs.Common.{subst, sym}
 use Rattle.std.proofs.lemmas.Result.{IfOk-weaker}
 use Rattle.docker_model.specs.state.State.{State, IsJoin}
-use Rattle.docker_laws.proofs.states.SummaryLaws.{join_is_summary}
+use Rattle.state_laws.proofs.states.SummaryLaws.{join_is_summary}
 use Rattle.docker_state.proofs.NoFile.{join_of_none, join_with_none}
 use Rattle.docker_state.proofs.state.StateMerge.join.Goals as goal
 

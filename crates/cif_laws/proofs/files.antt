@@ -1,0 +1,11 @@
+pub mod TextLines
+pub mod OneFileFault
+pub mod GoodChanges
+pub mod ChangeOrder
+pub mod UnitChanges
+pub mod FileStages
+pub mod FileCauses
+pub mod ToldLines
+pub mod ToldFaults
+pub mod ToldBound
+pub mod FileChanges

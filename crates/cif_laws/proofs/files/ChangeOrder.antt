@@ -1,0 +1,89 @@
+-- Of two changes of a file with one key the later record's is later: two changes of one record have different keys.
+use Rattle.std.proofs.Common.{◌≡◌, ℕ, ◌+◌, ◌<◌, ◌≤◌, List, [], ◌∷◌, map, inl, inr, ◌⊎◌, refl, arith, ap, sym, Bool, true, false, Some}
+use Rattle.std.specs.Prelude.{Option, ◌||◌}
+use Rattle.std.specs.List.{AllByRecursion, AllPairs}
+use Rattle.std.specs.Cmp.Lexicographic.{other_text}
+use Rattle.docker_model.specs.records.Record.{Kind, tiploc_insert, tiploc_amend, tiploc_delete, association, basic_schedule, kind_of, columns}
+use Rattle.docker_model.specs.records.Clock.{is_blank}
+use Rattle.docker_model.specs.file.Change.{Key, tiploc_key, Act, Change, tiploc_named, new_tiploc_named, keeps_code, acts_by_kind, changes_of_record, changes_from, changes}
+use Rattle.cif_laws.proofs.lists.Later.{AllLater, later_append_all, later_weaker_always, pairs_from_later}
+use Rattle.cif_laws.proofs.lists.AllOf.{all_append, all_weaker}
+
+-- the later one has a higher number, or another key
+abbrev pub Apart : Change → Change → Type 0
+Apart first second = (first.number < second.number) ⊎ ¬ (first.key ≡ second.key)
+
+abbrev changes_of_acts : ℕ → List (Key × Act) → List Change
+changes_of_acts number acts = map (λ act. record { number = number; key = act.0; act = act.1 }) acts
+
+number_in : (n : ℕ) (acts : List (Key × Act)) → AllByRecursion (λ (c : Change). c.number ≡ n) (changes_of_acts n acts)
+number_in n [] = tt
+number_in n (act ∷ acts) = (refl, number_in n acts)
+
+number_from : (n : ℕ) (lines : List (List ℕ)) → AllByRecursion (λ (c : Change). n ≤ c.number) (changes_from n lines)
+number_from n [] = tt
+number_from n (line ∷ lines) =
+    all_append (λ (c : Change). n ≤ c.number) (changes_of_record n line lines) (changes_from (n + 1) lines)
+    (all_weaker (λ (c : Change). c.number ≡ n) (λ (c : Change). n ≤ c.number) (λ c same. omega arith) (changes_of_record n line lines)
+    (number_in n (acts_by_kind (kind_of line) line lines)))
+    (all_weaker (λ (c : Change). n + 1 ≤ c.number) (λ (c : Change). n ≤ c.number) (λ c more. omega arith) (changes_from (n + 1) lines)
+    (number_from (n + 1) lines))
+
+-- a code that is given up differs from the new one
+second_of : (a b : Bool) → (a || b) ≡ false → b ≡ false
+second_of true b h = cc
+second_of false b h = h
+
+code_of : Key → List ℕ
+code_of (tiploc_key code) = code
+code_of _ = []
+
+codes_differ : (line : List ℕ) → keeps_code line ≡ false → ¬ (tiploc_named line ≡ new_tiploc_named line)
+unfolding code_of
+codes_differ line h same =
+    other_text (columns 73 79 line) (columns 3 9 line) (sym (second_of (is_blank (columns 73 79 line)) _ h)) (sym (ap code_of same))
+
+-- their keys differ
+abbrev KeysDiffer : Change → Change → Type 0
+KeysDiffer first second = ¬ (first.key ≡ second.key)
+
+acts_differ : (n : ℕ) (kind : Option Kind) (line : List ℕ) (following : List (List ℕ))
+    → AllLater KeysDiffer (changes_of_acts n (acts_by_kind kind line following))
+acts_differ n (Some tiploc_amend) line following = by (keeps_code line) refl
+  where
+    by : (b : Bool) → keeps_code line ≡ b → AllLater KeysDiffer (changes_of_acts n (acts_by_kind (Some tiploc_amend) line following))
+    by true h = rw h (tt, tt)
+    by false h = rw h ((codes_differ line h, tt), (tt, tt))
+acts_differ n (Some tiploc_insert) line following = (tt, tt)
+acts_differ n (Some tiploc_delete) line following = (tt, tt)
+acts_differ n (Some association) line following = (tt, tt)
+acts_differ n (Some basic_schedule) line following = (tt, tt)
+acts_differ n _ line following = tt
+
+acts_apart : (n : ℕ) (kind : Option Kind) (line : List ℕ) (following : List (List ℕ)) → AllLater Apart (changes_of_acts n (acts_by_kind kind line following))
+acts_apart n kind line following =
+    later_weaker_always KeysDiffer Apart (λ first second differ. inr differ)
+    (changes_of_acts n (acts_by_kind kind line following)) (acts_differ n kind line following)
+
+-- the changes of records, each against those behind it: another key, or a later record
+pub changes_apart : (n : ℕ) (lines : List (List ℕ)) → AllLater Apart (changes_from n lines)
+changes_apart n [] = tt
+changes_apart n (line ∷ lines) =
+    later_append_all Apart (changes_of_record n line lines) (changes_from (n + 1) lines)
+    (acts_apart n (kind_of line) line lines) (changes_apart (n + 1) lines)
+    (all_weaker (λ (c : Change). c.number ≡ n) (λ c. AllByRecursion (Apart c) (changes_from (n + 1) lines))
+    (λ c same. all_weaker (λ (d : Change). n + 1 ≤ d.number) (Apart c) (λ d more. inl (omega arith)) (changes_from (n + 1) lines) (number_from (n + 1) lines))
+    (changes_of_record n line lines) (number_in n (acts_by_kind (kind_of line) line lines)))
+
+-- the changes of one record have different keys
+pub record_keys_differ : (number : ℕ) (line : List ℕ) (following : List (List ℕ)) → AllPairs KeysDiffer (changes_of_record number line following)
+record_keys_differ number line following =
+    pairs_from_later KeysDiffer (changes_of_record number line following) (acts_differ number (kind_of line) line following)
+
+-- and so have two changes of a file that are of one record
+pub file_keys_differ : (file : List (List ℕ)) → AllPairs (λ (first second : Change). first.number ≡ second.number → ¬ (first.key ≡ second.key)) (changes file)
+file_keys_differ file = pairs_from_later _ (changes file) (later_weaker_always Apart _ by (changes file) (changes_apart 1 file))
+  where
+    by : (first second : Change) → Apart first second → first.number ≡ second.number → ¬ (first.key ≡ second.key)
+    by first second (inl before) same = absurd (omega arith)
+    by first second (inr differ) same = differ

@@ -1,0 +1,423 @@
+-- The cause of a fault by the place of the earlier records, and that a text has a fault where it is no file's.
+use Rattle.std.proofs.Common.{◌≡◌, refl, true, [], ◌∷◌, Some, None, ℕ, ◌+◌, List, ◌++◌, sym, ◌∙◌, Bool, false, cond, ◌⊎◌, inl, inr, Contains, ap, subst, ◌<◌, ◌≤◌, length, arith, eqb-true, append_assoc, append-nil, length-append}
+use Rattle.std.specs.Prelude.{Any, Option, is_some, ◌&&◌, ◌||◌, nat_le, is_none, ◌==◌}
+use Rattle.std.specs.List.{flat_map, AllByRecursion}
+use Rattle.std.proofs.lemmas.Bool.{leb-false, leb-true, eqb-false}
+use Rattle.std.proofs.lemmas.List.Elements.{Contains-append_right, All-from_recursion}
+use Rattle.docker_model.specs.records.Record.{Lines, trailer, HasKind, kind_of, Kind, basic_schedule, intermediate_location, change_en_route, origin_location, extra_details, IsRecord, leftmost_bad_byte}
+use Rattle.docker_model.specs.records.Field.{HasGoodFields, leftmost_bad_field, is_deletion}
+use Rattle.docker_model.specs.file.Journey.{midnights}
+use Rattle.docker_model.specs.file.File.{IsFile, follows_basic, IsWithinJourney, AreExtraDetails, first_record, BeginsFile}
+use Rattle.docker_model.specs.file.Text.{lines_of}
+use Rattle.docker_model.specs.file.FileFault.{EndsInSchedule, HasThirdFall, FileCause, too_many, after_trailer, bad_length, bad_byte, bad_kind, bad_place, bad_field, third_midnight, no_end, cause_rank, IsOutOfPlace, HoldsOf, IsCause, IsRecordFault, IsUnended, FileFault, IsFileFault, IsFileText}
+use Rattle.cif_laws.specs.RecordTest.{has_good_fields, is_record}
+use Rattle.cif_laws.specs.ScheduleStage.{may_end, Stage, stage_after, after_basic, after_details, in_journey, after_journey, is_sound_next}
+use Rattle.cif_laws.specs.FileStage.{Place, after_end, next_place, place_from, before_header, between_units, in_schedule, in_stage_or, place_by_kind, unit_by_kind, is_sound_at, IsPlaceOf, place_at}
+use Rattle.cif_laws.specs.RecordCause.{is_after_end, with_column, cause_of, place_cause, length_cause, field_cause, end_cause, byte_cause, kind_cause}
+use Rattle.cif_laws.proofs.lists.Membership.{Contains-cons, nil-Contains, cons-Contains-first}
+use Rattle.cif_laws.proofs.lists.AllOf.{all_weaker, all_append}
+use Rattle.cif_laws.proofs.files.GoodChanges.{Follows, follows_by, journey_follows}
+use Rattle.cif_laws.proofs.lists.BoolsAndOptions.{then_some, test_by_none, and_true, some_by_test}
+use Rattle.cif_laws.proofs.records.RecordTests.{record_iff_test, printable_by_none}
+use Rattle.cif_laws.proofs.schedules.ScheduleStages.{HasShape, details_of, IsSound, IsFront, midnights_of_journey, witness, witness_kind}
+use Rattle.cif_laws.proofs.files.FileStages.{next_by_test, stage_stops, IsWithin, IsAt, next_at, at_of_place, witness_next, at_begins, begins_iff_place, file_iff_place, place_of_more, begins_next_iff, one_place}
+
+-- ---- trailers
+
+end_by_test : (place : Place) → is_after_end place ≡ true → place ≡ after_end
+end_by_test after_end h = refl
+end_by_test _ h = cc
+
+end_stays : (rest : Lines) (final : Place) → place_from after_end rest ≡ Some final → final ≡ after_end
+end_stays [] final found = cc
+end_stays (line ∷ rest) final found =
+    let step = then_some (λ next. place_from next rest) (next_place after_end line) final found in
+    let none : None ≡ Some step.0 = (next_by_test after_end line step.0 step.1).place_is in cc
+
+trailer_place : (place next : Place) (line : List ℕ) → place_by_kind place (Some trailer) line ≡ Some next → next ≡ after_end
+trailer_place before_header next line found = cc
+trailer_place between_units next line found = cc
+trailer_place (in_schedule stage lines) next line found = by (may_end stage lines) refl
+  where
+    reached : cond (may_end stage lines) (Some after_end) None ≡ Some next
+    reached = (λ i. in_stage_or (lines ++ line ∷ []) (sym (stage_stops stage (Some trailer) refl) i) (cond (may_end stage lines) (Some after_end) None)) ∙ found
+
+    by : (b : Bool) → may_end stage lines ≡ b → next ≡ after_end
+    by true h = let same : Some after_end ≡ Some next = (λ i. cond (sym h i) (Some after_end) None) ∙ reached in cc
+    by false h = let none : None ≡ Some next = (λ i. cond (sym h i) (Some after_end) None) ∙ reached in cc
+trailer_place after_end next line found = cc
+
+-- a trailer among records leads behind it
+trailer_leads : (records : Lines) (place final : Place) (line : List ℕ) → place_from place records ≡ Some final → Contains records line → HasKind trailer line
+    → final ≡ after_end
+trailer_leads [] place final line found among kind = absurd (nil-Contains line among)
+trailer_leads (first ∷ rest) place final line found among kind =
+    by (then_some (λ next. place_from next rest) (next_place place first) final found) (λ next told inside. trailer_leads rest next final line told inside kind)
+    (Contains-cons first rest line among)
+  where
+    by : (next : Place) × (next_place place first ≡ Some next) × (place_from next rest ≡ Some final) → ((next : Place) → place_from next rest ≡ Some final
+        → Contains rest line → final ≡ after_end)
+        → (first ≡ line) ⊎ Contains rest line → final ≡ after_end
+    by step later (inl same) =
+        let told = (next_by_test place first step.0 step.1).place_is in
+        let reached = trailer_place place step.0 first ((λ i. place_by_kind place (sym (ap kind_of same ∙ kind) i) first) ∙ told) in
+        end_stays rest final (ap (λ p. place_from p rest) (sym reached) ∙ step.2)
+    by step later (inr inside) = later step.0 step.2 inside
+
+-- behind the trailer a trailer stands among the records
+trailer_among : (records : Lines) → IsFile records → Any (HasKind trailer) records
+trailer_among records is =
+    subst (λ r. Any (HasKind trailer) r) (sym is.whole)
+    (let among = Contains-append_right (is.first ∷ flat_map (λ unit. unit) is.units) (is.last ∷ []) is.last (cons-Contains-first is.last []) in
+    (among.0, is.last, among.1, among.2, is.trailer_kind))
+
+-- ---- kinds in place
+
+same_unit_by_kind : (kind : Option Kind) (first second : List ℕ) → is_some (unit_by_kind kind first) ≡ is_some (unit_by_kind kind second)
+same_unit_by_kind None first second = refl
+same_unit_by_kind (Some basic_schedule) first second = refl
+same_unit_by_kind (Some _) first second = refl
+
+-- whether a record is in place depends on its kind alone
+pub same_place_by_kind : (place : Place) (kind : Option Kind) (first second : List ℕ) → is_some (place_by_kind place kind first) ≡ is_some
+    (place_by_kind place kind second)
+same_place_by_kind before_header kind first second = refl
+same_place_by_kind between_units kind first second = same_unit_by_kind kind first second
+same_place_by_kind (in_schedule stage lines) kind first second = by (stage_after stage kind) (same_unit_by_kind kind first second)
+  where
+    by : (after : Option Stage) → is_some (unit_by_kind kind first) ≡ is_some (unit_by_kind kind second)
+        → is_some (in_stage_or (lines ++ first ∷ []) after (cond (may_end stage lines) (unit_by_kind kind first) None))
+        ≡ is_some (in_stage_or (lines ++ second ∷ []) after (cond (may_end stage lines) (unit_by_kind kind second) None))
+    by (Some next) same = refl
+    by None same = ended (may_end stage lines)
+      where
+        ended : (b : Bool) → is_some (cond b (unit_by_kind kind first) None) ≡ is_some (cond b (unit_by_kind kind second) None)
+        ended true = same
+        ended false = refl
+same_place_by_kind after_end kind first second = refl
+
+-- ---- third falls
+
+no_basic : (line : List ℕ) → Follows line → ¬ HasKind basic_schedule line
+no_basic line follows basic = let bad : false ≡ true = sym (ap follows_basic basic) ∙ follows in cc
+
+within_follows : (line : List ℕ) → IsWithinJourney line → Follows line
+within_follows line (inl call) = follows_by intermediate_location line call refl
+within_follows line (inr change) = follows_by change_en_route line change refl
+
+shape_follows : (stage : Stage) (extra journey : Lines) → HasShape stage extra journey → AllByRecursion Follows journey
+shape_follows after_basic extra journey shape = subst (AllByRecursion Follows) (sym shape.1) tt
+shape_follows after_details extra journey shape = subst (AllByRecursion Follows) (sym shape.1) tt
+shape_follows in_journey extra journey shape =
+    let open_journey = shape.1 in
+    subst (AllByRecursion Follows) (sym open_journey.2)
+    (follows_by origin_location open_journey.0 open_journey.3 refl, all_weaker IsWithinJourney Follows within_follows open_journey.1 open_journey.4)
+shape_follows after_journey extra journey shape = journey_follows journey shape.1
+
+details_follow : (extra : Lines) → AreExtraDetails extra → AllByRecursion Follows extra
+details_follow extra (inl none) = subst (AllByRecursion Follows) (sym none) tt
+details_follow extra (inr one) = subst (AllByRecursion Follows) (sym one.1) (follows_by extra_details one.0 one.2 refl, tt)
+
+-- the lines of a schedule's front are the last schedule of the records
+pub ends_in_schedule : (stage : Stage) (lines records : Lines) → IsWithin stage lines records → EndsInSchedule records lines
+ends_in_schedule stage lines records within = record {
+  before = within.before;
+  basic = within.front.basic;
+  others = within.front.extra ++ within.front.journey;
+  whole = within.whole;
+  schedule = within.front.whole;
+  kind = within.front.kind;
+  last = All-from_recursion (λ line. ¬ HasKind basic_schedule line) (within.front.extra ++ within.front.journey)
+      (all_weaker Follows (λ line. ¬ HasKind basic_schedule line) no_basic (within.front.extra ++ within.front.journey)
+      (all_append Follows within.front.extra within.front.journey
+      (details_follow within.front.extra (details_of stage within.front.extra within.front.journey within.front.shape))
+      (shape_follows stage within.front.extra within.front.journey within.front.shape)));
+}
+
+-- a line with good fields that is not sound makes the third fall
+third_fall : (stage : Stage) (lines records : Lines) (line : List ℕ) → IsWithin stage lines records → HasGoodFields line → is_sound_next lines line ≡ false
+    → HasThirdFall records line
+third_fall stage lines records line within fields test = (lines, ends_in_schedule stage lines records within, few within.front.sound, third)
+  where
+    front : IsFront stage lines
+    front = within.front
+
+    neither : (a b : Bool) → (a || b) ≡ false → (a ≡ false) × (b ≡ false)
+    neither true b h = (cc, cc)
+    neither false b h = (refl, h)
+
+    and_false : (a b : Bool) → a ≡ true → (a && b) ≡ false → b ≡ false
+    and_false true b h g = g
+    and_false false b h g = cc
+
+    parts : (is_deletion (first_record lines) ≡ false) × ((has_good_fields line && nat_le (midnights (lines ++ line ∷ [])) 2) ≡ false)
+    parts = neither (is_deletion (first_record lines)) _ test
+
+    third : 2 < midnights (lines ++ line ∷ [])
+    third = leb-false (midnights (lines ++ line ∷ [])) 2 (and_false (has_good_fields line) _ (test_by_none (leftmost_bad_field line) fields) parts.1)
+
+    few : IsSound front.basic front.journey → midnights lines ≤ 2
+    few (inl deletion) = let bad : true ≡ false = sym (subst (λ l. is_deletion (first_record l) ≡ true) (sym front.whole) deletion) ∙ parts.0 in cc
+    few (inr good) =
+        subst (λ n. n ≤ 2) (sym (ap midnights front.whole ∙ midnights_of_journey front.basic front.extra front.journey front.kind
+        (details_of stage front.extra front.journey front.shape))) good.falls
+
+-- ---- the cause
+
+module _ (limit : ℕ) (earlier : Lines) (place : Place) (line : List ℕ) (found : IsPlaceOf earlier place) where
+  at : IsAt place earlier
+  at = at_of_place earlier place found
+
+  -- no cause below a rank holds
+  none_below : (rank : ℕ) → rank ≤ 7 → (0 < rank → ¬ (limit ≤ length earlier)) → (1 < rank → ¬ Any (HasKind trailer) earlier) → (2 < rank → length line ≡ 80)
+      → (3 < rank → leftmost_bad_byte line ≡ None) → (4 < rank → ¬ (kind_of line ≡ None)) → (5 < rank → ¬ IsOutOfPlace earlier line)
+      → (6 < rank → leftmost_bad_field line ≡ None)
+      → (other : FileCause) → cause_rank other < rank → ¬ HoldsOf limit earlier line other
+  none_below rank most r0 r1 r2 r3 r4 r5 r6 too_many below holds = r0 below holds
+  none_below rank most r0 r1 r2 r3 r4 r5 r6 after_trailer below holds = r1 below holds
+  none_below rank most r0 r1 r2 r3 r4 r5 r6 bad_length below holds = holds (r2 below)
+  none_below rank most r0 r1 r2 r3 r4 r5 r6 (bad_byte column) below holds = let none = sym (r3 below) ∙ holds in cc
+  none_below rank most r0 r1 r2 r3 r4 r5 r6 bad_kind below holds = r4 below holds
+  none_below rank most r0 r1 r2 r3 r4 r5 r6 bad_place below holds = r5 below holds
+  none_below rank most r0 r1 r2 r3 r4 r5 r6 (bad_field column) below holds = let none = sym (r6 below) ∙ holds in cc
+  none_below rank most r0 r1 r2 r3 r4 r5 r6 third_midnight below holds = absurd (omega arith)
+  none_below rank most r0 r1 r2 r3 r4 r5 r6 no_end below holds = holds
+
+  -- a record of a kind that is not in place is out of place, and one of a kind that is is not
+  pub out_of_place : place_by_kind place (kind_of line) line ≡ None → IsOutOfPlace earlier line
+  out_of_place none next same begins =
+      let told = (begins_next_iff earlier place next found).0 begins in
+      let some : is_some (place_by_kind place (kind_of line) next) ≡ true = (λ i. is_some (place_by_kind place (sym same i) next))
+      ∙ ap is_some told.1.place_is in
+      let bad : false ≡ true = (λ i. is_some (sym none i)) ∙ same_place_by_kind place (kind_of line) line next ∙ some in cc
+
+  -- a record that has a next place is not out of place
+  pub in_place : (next : Place) → ¬ (kind_of line ≡ None) → place_by_kind place (kind_of line) line ≡ Some next → ¬ IsOutOfPlace earlier line
+  in_place next known told out = by (kind_of line) refl
+    where
+      by : (kind : Option Kind) → kind_of line ≡ kind → ⊥
+      by None h = known h
+      by (Some kind) h =
+          let some : is_some (place_by_kind place (Some kind) (witness kind)) ≡ true =
+          same_place_by_kind place (Some kind) (witness kind) line ∙ (λ i. is_some (place_by_kind place (sym h i) line)) ∙ ap is_some told in
+          let there = some_by_test (place_by_kind place (Some kind) (witness kind)) some in
+          out (witness kind) (witness_kind kind ∙ sym h)
+          (at_begins there.0 (earlier ++ witness kind ∷ [])
+          (next_at place earlier (witness kind) there.0 at (witness_next place earlier kind there.0 at there.1)))
+
+  -- what is in place with good fields and leads nowhere makes a third fall
+  third : (next : Place) → IsRecord line → place_by_kind place (kind_of line) line ≡ Some next → HasGoodFields line → next_place place line ≡ None
+      → HasThirdFall earlier line
+  third next is told fields nowhere = by place at unsound
+    where
+      unsound : is_sound_at place line ≡ false
+      unsound = pick (is_sound_at place line) refl
+        where
+          pick : (b : Bool) → is_sound_at place line ≡ b → is_sound_at place line ≡ false
+          pick true h =
+              let some : next_place place line ≡ Some next =
+              (λ i. cond (and_true (is_record line) _ ((record_iff_test line).0 is) h i) (place_by_kind place (kind_of line) line) None) ∙ told in
+              let bad : None ≡ Some next = sym nowhere ∙ some in cc
+          pick false h = h
+
+      good : has_good_fields line ≡ true
+      good = test_by_none (leftmost_bad_field line) fields
+
+      by : (p : Place) → IsAt p earlier → is_sound_at p line ≡ false → HasThirdFall earlier line
+      by (in_schedule stage lines) here test = staged (stage_after stage (kind_of line)) test
+        where
+          staged : (after : Option Stage) → cond (is_some after) (is_sound_next lines line) (has_good_fields line) ≡ false → HasThirdFall earlier line
+          staged (Some after) t = third_fall stage lines earlier line here fields t
+          staged None t = let bad : true ≡ false = sym good ∙ t in cc
+      by _ here test = let bad : true ≡ false = sym good ∙ test in cc
+
+  -- each cause, where no lower one holds
+  field_is : ¬ (limit ≤ length earlier) → ¬ Any (HasKind trailer) earlier → length line ≡ 80 → leftmost_bad_byte line ≡ None → ¬ (kind_of line ≡ None)
+      → (next : Place) → place_by_kind place (kind_of line) line ≡ Some next → next_place place line ≡ None → IsCause limit earlier line (field_cause line)
+  field_is r0 r1 r2 r3 r4 next told nowhere = by (leftmost_bad_field line) refl
+    where
+      by : (bad : Option ℕ) → leftmost_bad_field line ≡ bad → IsCause limit earlier line (with_column bad_field bad third_midnight)
+      by (Some column) h =
+          record {
+            holds = h;
+            first = none_below 6 (omega arith) (λ _. r0) (λ _. r1) (λ _. r2) (λ _. r3) (λ _. r4) (λ _. in_place next r4 told)
+                (λ below. absurd (omega arith));
+          }
+      by None h = record {
+        holds = third next (r2, printable_by_none line r3) told h nowhere;
+        first = none_below 7 (omega arith) (λ _. r0) (λ _. r1) (λ _. r2) (λ _. r3) (λ _. r4) (λ _. in_place next r4 told) (λ _. h);
+      }
+
+  place_is : ¬ (limit ≤ length earlier) → ¬ Any (HasKind trailer) earlier → length line ≡ 80 → leftmost_bad_byte line ≡ None → ¬ (kind_of line ≡ None)
+      → next_place place line ≡ None → IsCause limit earlier line (place_cause place line)
+  place_is r0 r1 r2 r3 r4 nowhere = by (place_by_kind place (kind_of line) line) refl
+    where
+      by : (reached : Option Place) → place_by_kind place (kind_of line) line ≡ reached
+          → IsCause limit earlier line (cond (is_none reached) bad_place (field_cause line))
+      by None h = record {
+        holds = out_of_place h;
+        first = none_below 5 (omega arith) (λ _. r0) (λ _. r1) (λ _. r2) (λ _. r3) (λ _. r4) (λ below. absurd (omega arith)) (λ below. absurd (omega arith));
+      }
+      by (Some next) h = field_is r0 r1 r2 r3 r4 next h nowhere
+
+  kind_is : ¬ (limit ≤ length earlier) → ¬ Any (HasKind trailer) earlier → length line ≡ 80 → leftmost_bad_byte line ≡ None → next_place place line ≡ None
+      → IsCause limit earlier line (kind_cause place line)
+  kind_is r0 r1 r2 r3 nowhere = by (kind_of line) refl
+    where
+      by : (kind : Option Kind) → kind_of line ≡ kind → IsCause limit earlier line (cond (is_none kind) bad_kind (place_cause place line))
+      by None h = record {
+        holds = h;
+        first =
+            none_below 4 (omega arith) (λ _. r0) (λ _. r1) (λ _. r2) (λ _. r3) (λ below. absurd (omega arith)) (λ below. absurd (omega arith))
+            (λ below. absurd (omega arith));
+      }
+      by (Some kind) h = place_is r0 r1 r2 r3 (λ none. let bad : None ≡ Some kind = sym none ∙ h in cc) nowhere
+
+  byte_is : ¬ (limit ≤ length earlier) → ¬ Any (HasKind trailer) earlier → length line ≡ 80 → next_place place line ≡ None
+      → IsCause limit earlier line (byte_cause place line)
+  byte_is r0 r1 r2 nowhere = by (leftmost_bad_byte line) refl
+    where
+      by : (bad : Option ℕ) → leftmost_bad_byte line ≡ bad → IsCause limit earlier line (with_column bad_byte bad (kind_cause place line))
+      by (Some column) h = record {
+        holds = h;
+        first =
+            none_below 3 (omega arith) (λ _. r0) (λ _. r1) (λ _. r2) (λ below. absurd (omega arith)) (λ below. absurd (omega arith))
+            (λ below. absurd (omega arith)) (λ below. absurd (omega arith));
+      }
+      by None h = kind_is r0 r1 r2 h nowhere
+
+  length_is : ¬ (limit ≤ length earlier) → ¬ Any (HasKind trailer) earlier → next_place place line ≡ None → IsCause limit earlier line (length_cause place line)
+  length_is r0 r1 nowhere = by (length line == 80) refl
+    where
+      by : (b : Bool) → (length line == 80) ≡ b → IsCause limit earlier line (cond b (byte_cause place line) bad_length)
+      by true h = byte_is r0 r1 (eqb-true (length line) 80 h) nowhere
+      by false h = record {
+        holds = eqb-false (length line) 80 h;
+        first =
+            none_below 2 (omega arith) (λ _. r0) (λ _. r1) (λ below. absurd (omega arith)) (λ below. absurd (omega arith)) (λ below. absurd (omega arith))
+            (λ below. absurd (omega arith)) (λ below. absurd (omega arith));
+      }
+
+  end_is : ¬ (limit ≤ length earlier) → next_place place line ≡ None → IsCause limit earlier line (end_cause place line)
+  end_is r0 nowhere = by (is_after_end place) refl
+    where
+      by : (b : Bool) → is_after_end place ≡ b → IsCause limit earlier line (cond b after_trailer (length_cause place line))
+      by true h = record {
+        holds = trailer_among earlier ((file_iff_place earlier).1 (found ∙ ap Some (end_by_test place h)));
+        first =
+            none_below 1 (omega arith) (λ _. r0) (λ below. absurd (omega arith)) (λ below. absurd (omega arith)) (λ below. absurd (omega arith))
+            (λ below. absurd (omega arith)) (λ below. absurd (omega arith)) (λ below. absurd (omega arith));
+      }
+      by false h = length_is r0 (λ any.
+          let reached = trailer_leads earlier before_header place any.1 found (any.0, any.2, any.3) any.4 in
+          let bad : true ≡ false = sym (ap is_after_end reached) ∙ h in cc) nowhere
+
+  -- the cause by the place is the cause
+  pub cause_is : (limit ≤ length earlier) ⊎ (next_place place line ≡ None) → IsCause limit earlier line (cause_of limit (length earlier) place line)
+  cause_is here = by (nat_le limit (length earlier)) refl here
+    where
+      by : (b : Bool) → nat_le limit (length earlier) ≡ b → (limit ≤ length earlier) ⊎ (next_place place line ≡ None)
+          → IsCause limit earlier line (cond b too_many (end_cause place line))
+      by true h _ = record { holds = leb-true limit (length earlier) h; first = λ other below. absurd (omega arith) }
+      by false h (inl over) = let under = leb-false limit (length earlier) h in absurd (omega arith)
+      by false h (inr nowhere) = let under = leb-false limit (length earlier) h in end_is (λ over. omega arith) nowhere
+
+  -- the record is at fault
+  pub record_fault : (records later : Lines) → records ≡ earlier ++ line ∷ later → length earlier ≤ limit → (limit ≤ length earlier)
+      ⊎ (next_place place line ≡ None)
+      → IsRecordFault limit records (record { number = length earlier + 1; cause = cause_of limit (length earlier) place line })
+  record_fault records later whole within here = record {
+    earlier = earlier;
+    line = line;
+    later = later;
+    whole = whole;
+    number = refl;
+    earlier_within = within;
+    earlier_begin = at_begins place earlier at;
+    here = ends here;
+    cause = cause_is here;
+  }
+    where
+      ends : (limit ≤ length earlier) ⊎ (next_place place line ≡ None) → (limit ≤ length earlier) ⊎ (¬ BeginsFile (earlier ++ line ∷ []))
+      ends (inl over) = inl over
+      ends (inr nowhere) = inr (λ begins.
+          let reached = (begins_iff_place (earlier ++ line ∷ [])).0 begins in
+          let bad : None ≡ Some reached.0 = sym nowhere ∙ sym (place_of_more earlier place line found) ∙ reached.1 in cc)
+
+-- the records are no file yet
+pub no_end_behind : (limit : ℕ) (records : Lines) (place : Place) → IsPlaceOf records place → is_after_end place ≡ false → length records ≤ limit
+    → IsUnended limit records (record { number = length records + 1; cause = no_end })
+no_end_behind limit records place found open_end within = record {
+  within = within;
+  begin = at_begins place records (at_of_place records place found);
+  unended =
+      λ is. let same = one_place records after_end place ((file_iff_place records).0 is) found in let bad : true ≡ false = ap is_after_end same ∙ open_end in
+      cc;
+  number = refl;
+  cause = refl;
+}
+
+-- ---- a file, or a fault
+
+-- the records pass: they are within the limit and lead to a place
+abbrev pub Pass : ℕ → Lines → Type 0
+Pass limit records = (place : Place) × IsPlaceOf records place × (length records ≤ limit)
+
+-- one of the records is at fault
+abbrev pub HasRecordFault : ℕ → Lines → Type 0
+HasRecordFault limit records = (fault : FileFault) × IsRecordFault limit records fault
+
+pass_from : (rest : Lines) (limit : ℕ) (records earlier : Lines) (place : Place) → IsPlaceOf earlier place → length earlier ≤ limit → records ≡ earlier ++ rest
+    → Pass limit records ⊎ HasRecordFault limit records
+pass_from [] limit records earlier place found within whole = inl (subst (Pass limit) (sym (whole ∙ append-nil earlier)) (place, found, within))
+pass_from (line ∷ rest) limit records earlier place found within whole =
+    by (nat_le limit (length earlier)) refl (next_place place line) refl
+    (λ next at more. pass_from rest limit records (earlier ++ line ∷ []) next at more (whole ∙ sym (append_assoc earlier (line ∷ []) rest)))
+  where
+    fault : (limit ≤ length earlier) ⊎ (next_place place line ≡ None) → HasRecordFault limit records
+    fault here = (
+      record { number = length earlier + 1; cause = cause_of limit (length earlier) place line },
+      record_fault limit earlier place line found records rest whole within here,
+    )
+
+    by : (b : Bool) → nat_le limit (length earlier) ≡ b → (reached : Option Place) → next_place place line ≡ reached
+        → ((next : Place) → IsPlaceOf (earlier ++ line ∷ []) next → length (earlier ++ line ∷ []) ≤ limit → Pass limit records ⊎ HasRecordFault limit records)
+        → Pass limit records ⊎ HasRecordFault limit records
+    by true h reached told later = inr (fault (inl (leb-true limit (length earlier) h)))
+    by false h None told later = inr (fault (inr told))
+    by false h (Some next) told later =
+        let under = leb-false limit (length earlier) h in
+        let size = length-append earlier (line ∷ []) in
+        later next (place_of_more earlier place line found ∙ told) (omega arith)
+
+-- records pass, or one of them is at fault
+pub pass_or_fault : (limit : ℕ) (records : Lines) → Pass limit records ⊎ HasRecordFault limit records
+pass_or_fault limit records = pass_from records limit records [] before_header refl (omega arith) refl
+
+-- a text is a file's within the limit, or it has a fault
+pub file_or_fault : (limit : ℕ) (text : List ℕ) → ((file : Lines) × IsFileText limit text file) ⊎ ((fault : FileFault) × IsFileFault limit text fault)
+file_or_fault limit text = by (pass_or_fault limit (lines_of text))
+  where
+    by : Pass limit (lines_of text) ⊎ HasRecordFault limit (lines_of text) → ((file : Lines) × IsFileText limit text file)
+        ⊎ ((fault : FileFault) × IsFileFault limit text fault)
+    by (inl pass) = ended (is_after_end pass.0) refl
+      where
+        ended : (b : Bool) → is_after_end pass.0 ≡ b → ((file : Lines) × IsFileText limit text file) ⊎ ((fault : FileFault) × IsFileFault limit text fault)
+        ended true h =
+            inl (lines_of text, record { lines = refl; is = (file_iff_place (lines_of text)).1 (pass.1 ∙ ap Some (end_by_test pass.0 h)); within = pass.2 })
+        ended false h = inr (record { number = length (lines_of text) + 1; cause = no_end }, inr (no_end_behind limit (lines_of text) pass.0 pass.1 h pass.2))
+    by (inr fault) = inr (fault.0, inl fault.1)
+
+-- the records are a file, or they are none
+pub file_or_not : (records : Lines) → IsFile records ⊎ ¬ IsFile records
+file_or_not records = by (place_at records) refl
+  where
+    by : (found : Option Place) → place_at records ≡ found → IsFile records ⊎ ¬ IsFile records
+    by None h = inr (λ is. let bad : None ≡ Some after_end = sym h ∙ (file_iff_place records).0 is in cc)
+    by (Some place) h = ended (is_after_end place) refl
+      where
+        ended : (b : Bool) → is_after_end place ≡ b → IsFile records ⊎ ¬ IsFile records
+        ended true end = inl ((file_iff_place records).1 (h ∙ ap Some (end_by_test place end)))
+        ended false end =
+            inr (λ is. let same = one_place records after_end place ((file_iff_place records).0 is) h in let bad : true ≡ false = ap is_after_end same ∙ end in
+            cc)

@@ -1,0 +1,501 @@
+-- Where a file is after its records so far: which record may come next, and when the records are a file.
+use Rattle.std.proofs.Common.{◌≡◌, ℕ, List, ◌∷◌, ◌++◌, [], true, Some, refl, Bool, false, cond, None, ◌∙◌, ap, sym, append-nil, inl, inr, subst, append_assoc, ◌<◌, length, arith, length-append, ◌⊎◌}
+use Rattle.std.specs.Prelude.{◌&&◌, Option, is_some, option_and_then, ◌↔◌, ⊤}
+use Rattle.std.specs.List.{AllByRecursion, flat_map}
+use Rattle.std.proofs.lemmas.Grind.{flat_map-append}
+use Rattle.std.proofs.lemmas.List.Elements.{All-from_recursion, recursion_from_All}
+use Rattle.docker_model.specs.records.Record.{header, IsRecord, HasKind, Lines, kind_of, Kind, tiploc_insert, tiploc_amend, tiploc_delete, association, basic_schedule, trailer, terminating_location, origin_location, extra_details, intermediate_location, change_en_route}
+use Rattle.docker_model.specs.records.Field.{HasGoodFields, leftmost_bad_field}
+use Rattle.docker_model.specs.file.File.{IsUnit, IsFile, BeginsFile, follows_basic, IsSingleKind}
+use Rattle.cif_laws.specs.RecordTest.{is_record, has_good_fields}
+use Rattle.cif_laws.specs.ScheduleStage.{Stage, after_basic, may_end, after_details, in_journey, after_journey, next_stage, stage_after, is_sound_next, stage_from, is_first_line, stage_of}
+use Rattle.cif_laws.specs.FileStage.{in_schedule, Place, after_end, between_units, before_header, place_by_kind, is_sound_at, next_place, unit_by_kind, place_in, in_stage_or, is_header_kind, place_from, IsPlaceOf, place_at}
+use Rattle.cif_laws.proofs.files.OneFileFault.{begins_front}
+use Rattle.cif_laws.proofs.lists.AllOf.{all_append}
+use Rattle.cif_laws.proofs.records.Columns.{fields_good}
+use Rattle.cif_laws.proofs.lists.BoolsAndOptions.{both, and_true, none_by_test, test_by_none, then_some, some_then}
+use Rattle.cif_laws.proofs.files.GoodChanges.{StopsHere, units_stop}
+use Rattle.cif_laws.proofs.records.RecordTests.{record_iff_test}
+use Rattle.cif_laws.proofs.schedules.ScheduleStages.{IsFront, front_of_basic, schedule_of_front, next_front, test_by_next_line, witness, witness_kind, witness_record, witness_fields, witness_sound, next_line_by_test, IsNextLine, first_line_iff_test, stage_of_schedule, stage_of_more}
+
+-- ---- what a place tells of the records
+
+-- a header and whole units
+pub record IsBetween (records : Lines) : Type 0 where
+  pub first : List ℕ
+  pub units : List Lines
+  pub whole : records ≡ first ∷ flat_map (λ unit. unit) units
+  pub header_record : IsRecord first
+  pub header_kind : HasKind header first
+  pub header_fields : HasGoodFields first
+  pub each : AllByRecursion IsUnit units
+
+-- a header, whole units, and these lines of a schedule
+pub record IsWithin (stage : Stage) (lines records : Lines) : Type 0 where
+  pub before : Lines
+  pub whole : records ≡ before ++ lines
+  pub between : IsBetween before
+  pub front : IsFront stage lines
+
+-- what a place tells of the records that lead to it
+abbrev pub IsAt : Place → Lines → Type 0
+IsAt before_header records = records ≡ []
+IsAt between_units records = IsBetween records
+IsAt (in_schedule stage lines) records = IsWithin stage lines records
+IsAt after_end records = IsFile records
+
+-- ---- the parts of the test of a next record
+
+-- the record is sound at the place, and its kind leads to the next place
+pub record IsNext (place : Place) (line : List ℕ) (next : Place) : Type 0 where
+  pub is : IsRecord line
+  pub sound : is_sound_at place line ≡ true
+  pub place_is : place_by_kind place (kind_of line) line ≡ Some next
+
+-- a record that leads on passes the parts of the test
+pub next_by_test : (place : Place) (line : List ℕ) (next : Place) → next_place place line ≡ Some next → IsNext place line next
+next_by_test place line next found = by (is_record line && is_sound_at place line) refl found
+  where
+    by : (b : Bool) → (is_record line && is_sound_at place line) ≡ b → cond b (place_by_kind place (kind_of line) line) None ≡ Some next
+        → IsNext place line next
+    by true h told = let parts = both (is_record line) _ h in record { is = (record_iff_test line).1 parts.0; sound = parts.1; place_is = told }
+    by false h told = cc
+
+-- a record that passes the parts of the test leads on
+pub test_by_next : (place : Place) (line : List ℕ) (next : Place) → IsNext place line next → next_place place line ≡ Some next
+test_by_next place line next told =
+    (λ i. cond (and_true (is_record line) _ ((record_iff_test line).0 told.is) told.sound i) (place_by_kind place (kind_of line) line) None) ∙ told.place_is
+
+-- ---- one more record
+
+between_more : (records unit : Lines) → IsBetween records → IsUnit unit → IsBetween (records ++ unit)
+between_more records unit between is = record {
+  first = between.first;
+  units = between.units ++ unit ∷ [];
+  whole = (λ i. between.whole i ++ unit)
+      ∙ ap (λ rest. between.first ∷ rest) ((λ i. flat_map (λ u. u) between.units ++ sym (append-nil unit) i)
+      ∙ sym (flat_map-append (λ u. u) between.units (unit ∷ [])));
+  header_record = between.header_record;
+  header_kind = between.header_kind;
+  header_fields = between.header_fields;
+  each = all_append IsUnit between.units (unit ∷ []) between.each (is, tt);
+}
+
+-- what a record between units leads to
+unit_more : (records : Lines) (kind : Kind) (line : List ℕ) (next : Place) → IsBetween records → IsRecord line → HasKind kind line → HasGoodFields line
+    → unit_by_kind (Some kind) line ≡ Some next
+    → IsAt next (records ++ line ∷ [])
+unit_more records tiploc_insert line next between is kind fields found =
+    let same : between_units ≡ next = cc in subst (λ p. IsAt p (records ++ line ∷ [])) same
+    (between_more records (line ∷ []) between (inl (line, refl, is, inl kind, fields)))
+unit_more records tiploc_amend line next between is kind fields found =
+    let same : between_units ≡ next = cc in subst (λ p. IsAt p (records ++ line ∷ [])) same
+    (between_more records (line ∷ []) between (inl (line, refl, is, inr (inl kind), fields)))
+unit_more records tiploc_delete line next between is kind fields found =
+    let same : between_units ≡ next = cc in subst (λ p. IsAt p (records ++ line ∷ [])) same
+    (between_more records (line ∷ []) between (inl (line, refl, is, inr (inr (inl kind)), fields)))
+unit_more records association line next between is kind fields found =
+    let same : between_units ≡ next = cc in subst (λ p. IsAt p (records ++ line ∷ [])) same
+    (between_more records (line ∷ []) between (inl (line, refl, is, inr (inr (inr kind)), fields)))
+unit_more records basic_schedule line next between is kind fields found =
+    let same : in_schedule after_basic (line ∷ []) ≡ next = cc in
+    subst (λ p. IsAt p (records ++ line ∷ [])) same
+    (record { before = records; whole = refl; between = between; front = front_of_basic line (record { is = is; kind = kind; fields = fields }) })
+unit_more records trailer line next between is kind fields found =
+    let same : after_end ≡ next = cc in
+    subst (λ p. IsAt p (records ++ line ∷ [])) same (record {
+      first = between.first;
+      units = between.units;
+      last = line;
+      whole = λ i. between.whole i ++ line ∷ [];
+      header_record = between.header_record;
+      header_kind = between.header_kind;
+      header_fields = between.header_fields;
+      each = All-from_recursion IsUnit between.units between.each;
+      trailer_record = is;
+      trailer_kind = kind;
+    })
+unit_more records _ line next between is kind fields found = cc
+
+-- a record between units, by its own kind
+unit_more_of : (records : Lines) (line : List ℕ) (next : Place) → IsBetween records → IsRecord line → HasGoodFields line
+    → unit_by_kind (kind_of line) line ≡ Some next → IsAt next (records ++ line ∷ [])
+unit_more_of records line next between is fields found = by (kind_of line) refl found
+  where
+    by : (kind : Option Kind) → kind_of line ≡ kind → unit_by_kind kind line ≡ Some next → IsAt next (records ++ line ∷ [])
+    by None h told = cc
+    by (Some kind) h told = unit_more records kind line next between is h fields told
+
+-- behind whole lines of a schedule
+within_ended : (stage : Stage) (lines records : Lines) → IsWithin stage lines records → may_end stage lines ≡ true → IsBetween records
+within_ended stage lines records within may =
+    subst IsBetween (sym within.whole) (between_more within.before lines within.between (inr (schedule_of_front stage lines within.front may)))
+
+at_place_in : (stage : Stage) (lines records : Lines) → IsWithin stage lines records → IsAt (place_in stage lines) records
+at_place_in after_basic lines records within = within
+at_place_in after_details lines records within = within
+at_place_in in_journey lines records within = within
+at_place_in after_journey lines records within = within_ended after_journey lines records within refl
+
+within_more : (stage : Stage) (lines records : Lines) (line : List ℕ) (next : Stage) → IsWithin stage lines records → next_stage stage lines line ≡ Some next
+    → IsWithin next (lines ++ line ∷ []) (records ++ line ∷ [])
+within_more stage lines records line next within found = record {
+  before = within.before;
+  whole = (λ i. within.whole i ++ line ∷ []) ∙ append_assoc within.before lines (line ∷ []);
+  between = within.between;
+  front = next_front stage lines line next within.front found;
+}
+
+-- the place with one more record is that of the records with it
+pub next_at : (place : Place) (records : Lines) (line : List ℕ) (next : Place) → IsAt place records → next_place place line ≡ Some next
+    → IsAt next (records ++ line ∷ [])
+next_at before_header records line next at found = by (next_by_test before_header line next found) (kind_of line) refl
+  where
+    by : IsNext before_header line next → (kind : Option Kind) → kind_of line ≡ kind → IsAt next (records ++ line ∷ [])
+    by told (Some header) h =
+        let reached : Some between_units ≡ Some next = (λ i. cond (is_header_kind (sym h i)) (Some between_units) None) ∙ told.place_is in
+        let same : between_units ≡ next = cc in
+        subst (λ p. IsAt p (records ++ line ∷ [])) same (subst (λ r. IsBetween (r ++ line ∷ [])) (sym at) (record {
+          first = line;
+          units = [];
+          whole = refl;
+          header_record = told.is;
+          header_kind = h;
+          header_fields = none_by_test (leftmost_bad_field line) told.sound;
+          each = tt;
+        }))
+    by told _ h = let none = (λ i. cond (is_header_kind (sym h i)) (Some between_units) None) ∙ told.place_is in cc
+next_at between_units records line next at found =
+    let told = next_by_test between_units line next found in
+    unit_more_of records line next at told.is (none_by_test (leftmost_bad_field line) told.sound) told.place_is
+next_at (in_schedule stage lines) records line next at found =
+    by (next_by_test (in_schedule stage lines) line next found) (stage_after stage (kind_of line)) refl
+  where
+    by : IsNext (in_schedule stage lines) line next → (after : Option Stage) → stage_after stage (kind_of line) ≡ after → IsAt next (records ++ line ∷ [])
+    by told (Some after) h =
+        let reached : Some (place_in after (lines ++ line ∷ [])) ≡ Some next =
+        (λ i. in_stage_or (lines ++ line ∷ []) (sym h i) (cond (may_end stage lines) (unit_by_kind (kind_of line) line) None)) ∙ told.place_is in
+        let same : place_in after (lines ++ line ∷ []) ≡ next = cc in
+        let sound : is_sound_next lines line ≡ true = (λ i. cond (is_some (sym h i)) (is_sound_next lines line) (has_good_fields line)) ∙ told.sound in
+        subst (λ p. IsAt p (records ++ line ∷ [])) same (at_place_in after (lines ++ line ∷ []) (records ++ line ∷ [])
+        (within_more stage lines records line after at (test_by_next_line stage lines line after (record { is = told.is; sound = sound; stage_is = h }))))
+    by told None h = ended (may_end stage lines) refl
+      where
+        reached : cond (may_end stage lines) (unit_by_kind (kind_of line) line) None ≡ Some next
+        reached = (λ i. in_stage_or (lines ++ line ∷ []) (sym h i) (cond (may_end stage lines) (unit_by_kind (kind_of line) line) None)) ∙ told.place_is
+
+        good : has_good_fields line ≡ true
+        good = (λ i. cond (is_some (sym h i)) (is_sound_next lines line) (has_good_fields line)) ∙ told.sound
+
+        ended : (b : Bool) → may_end stage lines ≡ b → IsAt next (records ++ line ∷ [])
+        ended true may =
+            unit_more_of records line next (within_ended stage lines records at may) told.is (none_by_test (leftmost_bad_field line) good)
+            ((λ i. cond (sym may i) (unit_by_kind (kind_of line) line) None) ∙ reached)
+        ended false may = let none = (λ i. cond (sym may i) (unit_by_kind (kind_of line) line) None) ∙ reached in cc
+next_at after_end records line next at found = let told = (next_by_test after_end line next found).place_is in cc
+
+at_from : (rest : Lines) (place : Place) (records : Lines) (final : Place) → IsAt place records → place_from place rest ≡ Some final
+    → IsAt final (records ++ rest)
+at_from [] place records final at found =
+    let same : place ≡ final = cc in subst (λ p. IsAt p (records ++ [])) same (subst (IsAt place) (sym (append-nil records)) at)
+at_from (line ∷ rest) place records final at found =
+    let step = then_some (λ next. place_from next rest) (next_place place line) final found in
+    subst (IsAt final) (append_assoc records (line ∷ []) rest)
+    (at_from rest step.0 (records ++ line ∷ []) final (next_at place records line step.0 at step.1) step.2)
+
+-- the records that lead to a place are as it tells
+pub at_of_place : (records : Lines) (place : Place) → IsPlaceOf records place → IsAt place records
+at_of_place records place found = at_from records before_header [] place refl found
+
+-- ---- at each place some file begins
+
+-- a good record of a kind that is in place leads on
+pub witness_next : (place : Place) (records : Lines) (kind : Kind) (next : Place) → IsAt place records → place_by_kind place (Some kind)
+    (witness kind) ≡ Some next → next_place place (witness kind) ≡ Some next
+witness_next place records kind next at found = test_by_next place (witness kind) next (record {
+  is = (record_iff_test (witness kind)).1 (witness_record kind);
+  sound = sound place at;
+  place_is = ap (λ k. place_by_kind place k (witness kind)) (witness_kind kind) ∙ found;
+})
+  where
+    good : has_good_fields (witness kind) ≡ true
+    good = test_by_none (leftmost_bad_field (witness kind)) (witness_fields kind)
+
+    either_way : (b s : Bool) → s ≡ true → cond b s (has_good_fields (witness kind)) ≡ true
+    either_way true s h = h
+    either_way false s h = good
+
+    sound : (p : Place) → IsAt p records → is_sound_at p (witness kind) ≡ true
+    sound before_header here = good
+    sound between_units here = good
+    sound (in_schedule stage lines) here =
+        either_way (is_some (stage_after stage (kind_of (witness kind)))) (is_sound_next lines (witness kind)) (witness_sound stage lines kind here.front)
+    sound after_end here = good
+
+leads : (place : Place) (records : Lines) (kind : Kind) (next : Place) → IsAt place records → place_by_kind place (Some kind) (witness kind) ≡ Some next
+    → IsAt next (records ++ witness kind ∷ [])
+leads place records kind next at found = next_at place records (witness kind) next at (witness_next place records kind next at found)
+
+file_begins : (records : Lines) → IsFile records → BeginsFile records
+file_begins records is = ([], subst IsFile (sym (append-nil records)) is)
+
+between_begins : (records : Lines) → IsBetween records → BeginsFile records
+between_begins records at =
+    begins_front records (witness trailer ∷ []) (file_begins (records ++ witness trailer ∷ []) (leads between_units records trailer after_end at refl))
+
+journey_begins : (lines records : Lines) → IsWithin in_journey lines records → BeginsFile records
+journey_begins lines records at =
+    begins_front records (witness terminating_location ∷ [])
+    (between_begins (records ++ witness terminating_location ∷ []) (leads (in_schedule in_journey lines) records terminating_location between_units at refl))
+
+-- with records as a place tells some file begins
+pub at_begins : (place : Place) (records : Lines) → IsAt place records → BeginsFile records
+at_begins before_header records at =
+    begins_front records (witness header ∷ []) (between_begins (records ++ witness header ∷ []) (leads before_header records header between_units at refl))
+at_begins between_units records at = between_begins records at
+at_begins (in_schedule after_basic lines) records at =
+    begins_front records (witness origin_location ∷ []) (journey_begins (lines ++ witness origin_location ∷ []) (records ++ witness origin_location ∷ [])
+    (leads (in_schedule after_basic lines) records origin_location (in_schedule in_journey (lines ++ witness origin_location ∷ [])) at refl))
+at_begins (in_schedule after_details lines) records at =
+    begins_front records (witness origin_location ∷ []) (journey_begins (lines ++ witness origin_location ∷ []) (records ++ witness origin_location ∷ [])
+    (leads (in_schedule after_details lines) records origin_location (in_schedule in_journey (lines ++ witness origin_location ∷ [])) at refl))
+at_begins (in_schedule in_journey lines) records at = journey_begins lines records at
+at_begins (in_schedule after_journey lines) records at = between_begins records (within_ended after_journey lines records at refl)
+at_begins after_end records at = file_begins records at
+
+-- ---- a file leads behind its trailer
+
+place_from_append : (front : Lines) (place middle : Place) (more : Lines) → place_from place front ≡ Some middle
+    → place_from place (front ++ more) ≡ place_from middle more
+place_from_append [] place middle more found = let same : place ≡ middle = cc in ap (λ p. place_from p more) same
+place_from_append (line ∷ front) place middle more found =
+    let step = then_some (λ next. place_from next front) (next_place place line) middle found in
+    (λ i. option_and_then (λ next. place_from next (front ++ more)) (step.1 i)) ∙ place_from_append front step.0 middle more step.2
+
+-- the next stage of a schedule leads on
+pub next_of_stage : (stage : Stage) (lines : Lines) (line : List ℕ) (next : Stage) → next_stage stage lines line ≡ Some next
+    → next_place (in_schedule stage lines) line ≡ Some (place_in next (lines ++ line ∷ []))
+next_of_stage stage lines line next found =
+    let told = next_line_by_test stage lines line next found in
+    test_by_next (in_schedule stage lines) line (place_in next (lines ++ line ∷ [])) (record {
+      is = told.is;
+      sound = (λ i. cond (is_some (told.stage_is i)) (is_sound_next lines line) (has_good_fields line)) ∙ told.sound;
+      place_is = λ i. in_stage_or (lines ++ line ∷ []) (told.stage_is i) (cond (may_end stage lines) (unit_by_kind (kind_of line) line) None);
+    })
+
+-- the same at a place that may lie behind a whole journey
+next_in : (stage : Stage) (lines : Lines) (line : List ℕ) (next : Stage) → next_stage stage lines line ≡ Some next
+    → next_place (place_in stage lines) line ≡ Some (place_in next (lines ++ line ∷ []))
+next_in stage lines line next found = by stage (next_line_by_test stage lines line next found)
+  where
+    by : (s : Stage) → IsNextLine s lines line next → next_place (place_in s lines) line ≡ Some (place_in next (lines ++ line ∷ []))
+    by after_basic told = next_of_stage after_basic lines line next (test_by_next_line after_basic lines line next told)
+    by after_details told = next_of_stage after_details lines line next (test_by_next_line after_details lines line next told)
+    by in_journey told = next_of_stage in_journey lines line next (test_by_next_line in_journey lines line next told)
+    by after_journey told = let none : None ≡ Some next = told.stage_is in cc
+
+schedule_from : (rest : Lines) (stage : Stage) (done : Lines) (final : Stage) (more : Lines) → stage_from stage done rest ≡ Some final
+    → place_from (place_in stage done) (rest ++ more) ≡ place_from (place_in final (done ++ rest)) more
+schedule_from [] stage done final more found = let same : stage ≡ final = cc in λ i. place_from (place_in (same i) (sym (append-nil done) i)) more
+schedule_from (line ∷ rest) stage done final more found =
+    let step = then_some (λ next. stage_from next (done ++ line ∷ []) rest) (next_stage stage done line) final found in
+    (λ i. option_and_then (λ next. place_from next (rest ++ more)) (next_in stage done line step.0 step.1 i))
+    ∙ schedule_from rest step.0 (done ++ line ∷ []) final more step.2
+    ∙ (λ i. place_from (place_in final (append_assoc done (line ∷ []) rest i)) more)
+
+next_between : (line : List ℕ) (next : Place) → IsRecord line → HasGoodFields line → unit_by_kind (kind_of line) line ≡ Some next
+    → next_place between_units line ≡ Some next
+next_between line next is fields found =
+    test_by_next between_units line next (record { is = is; sound = test_by_none (leftmost_bad_field line) fields; place_is = found })
+
+unit_from : (unit : Lines) (stage : Stage) (more : Lines) → stage_of unit ≡ Some stage → place_from between_units (unit ++ more) ≡ place_from
+    (place_in stage unit) more
+unit_from [] stage more found = cc
+unit_from (basic ∷ rest) stage more found = by (is_first_line basic) refl found
+  where
+    by : (b : Bool) → is_first_line basic ≡ b → cond b (stage_from after_basic (basic ∷ []) rest) None ≡ Some stage
+        → place_from between_units ((basic ∷ rest) ++ more) ≡ place_from (place_in stage (basic ∷ rest)) more
+    by true h told =
+        let first = (first_line_iff_test basic).1 h in
+        (λ i. option_and_then (λ next. place_from next (rest ++ more)) (next_between basic (in_schedule after_basic (basic ∷ [])) first.is first.fields
+        (ap (λ k. unit_by_kind k basic) first.kind) i))
+        ∙ schedule_from rest after_basic (basic ∷ []) stage more told
+    by false h told = cc
+
+-- a record that begins anew is no schedule's next line
+pub stage_stops : (stage : Stage) (kind : Option Kind) → follows_basic kind ≡ false → stage_after stage kind ≡ None
+stage_stops stage None h = by stage
+  where
+    by : (s : Stage) → stage_after s None ≡ None
+    by after_basic = refl
+    by after_details = refl
+    by in_journey = refl
+    by after_journey = refl
+stage_stops after_basic (Some extra_details) h = cc
+stage_stops after_basic (Some origin_location) h = cc
+stage_stops after_details (Some origin_location) h = cc
+stage_stops in_journey (Some intermediate_location) h = cc
+stage_stops in_journey (Some change_en_route) h = cc
+stage_stops in_journey (Some terminating_location) h = cc
+stage_stops _ _ h = refl
+
+-- behind lines that may end a record that begins anew stands as between units
+pub next_behind : (stage : Stage) (lines : Lines) (line : List ℕ) → may_end stage lines ≡ true → follows_basic (kind_of line) ≡ false
+    → next_place (in_schedule stage lines) line ≡ next_place between_units line
+next_behind stage lines line may anew =
+    let none = stage_stops stage (kind_of line) anew in
+    (λ i. cond (is_record line && cond (is_some (none i)) (is_sound_next lines line) (has_good_fields line))
+    (in_stage_or (lines ++ line ∷ []) (none i) (cond (may i) (unit_by_kind (kind_of line) line) None)) None)
+
+behind : (stage : Stage) (lines rest : Lines) → may_end stage lines ≡ true → StopsHere rest → 0 < length rest
+    → place_from (place_in stage lines) rest ≡ place_from between_units rest
+behind stage lines [] may anew some = absurd (omega arith)
+behind stage lines (line ∷ rest) may anew some = by stage may
+  where
+    step : (s : Stage) → may_end s lines ≡ true → place_from (in_schedule s lines) (line ∷ rest) ≡ place_from between_units (line ∷ rest)
+    step s h = ap (option_and_then (λ next. place_from next rest)) (next_behind s lines line h anew)
+
+    by : (s : Stage) → may_end s lines ≡ true → place_from (place_in s lines) (line ∷ rest) ≡ place_from between_units (line ∷ rest)
+    by after_basic h = step after_basic h
+    by after_details h = step after_details h
+    by in_journey h = step in_journey h
+    by after_journey h = refl
+
+single_place : (line : List ℕ) → IsSingleKind line → unit_by_kind (kind_of line) line ≡ Some between_units
+single_place line (inl kind) = ap (λ k. unit_by_kind k line) kind
+single_place line (inr (inl kind)) = ap (λ k. unit_by_kind k line) kind
+single_place line (inr (inr (inl kind))) = ap (λ k. unit_by_kind k line) kind
+single_place line (inr (inr (inr kind))) = ap (λ k. unit_by_kind k line) kind
+
+unit_passes : (unit rest : Lines) → IsUnit unit → StopsHere rest → 0 < length rest → place_from between_units (unit ++ rest) ≡ place_from between_units rest
+unit_passes unit rest (inl single) anew some =
+    ap (λ u. place_from between_units (u ++ rest)) single.1
+    ∙ (λ i. option_and_then (λ next. place_from next rest) (next_between single.0 between_units single.2 single.4 (single_place single.0 single.3) i))
+unit_passes unit rest (inr schedule) anew some =
+    let whole = stage_of_schedule unit schedule in
+    unit_from unit whole.0 rest whole.1.found ∙ behind whole.0 unit rest whole.1.may anew some
+
+units_pass : (units : List Lines) (last : List ℕ) → AllByRecursion IsUnit units → IsRecord last → HasKind trailer last
+    → place_from between_units (flat_map (λ unit. unit) units ++ last ∷ []) ≡ Some after_end
+units_pass [] last each is end =
+    λ i. option_and_then (λ next. Some next) (next_between last after_end is (fields_good trailer last end tt) (ap (λ k. unit_by_kind k last) end) i)
+units_pass (unit ∷ units) last each is end =
+    let size = length-append (flat_map (λ u. u) units) (last ∷ []) in
+    ap (place_from between_units) (append_assoc unit (flat_map (λ u. u) units) (last ∷ []))
+    ∙ unit_passes unit (flat_map (λ u. u) units ++ last ∷ []) each.0 (units_stop units last each.1 end) (omega arith)
+    ∙ units_pass units last each.1 is end
+
+-- a file leads behind the trailer
+pub place_of_file : (file : Lines) → IsFile file → IsPlaceOf file after_end
+place_of_file file is =
+    ap place_at is.whole
+    ∙ (λ i. option_and_then (λ next. place_from next (flat_map (λ u. u) is.units ++ is.last ∷ [])) (test_by_next before_header is.first between_units (record {
+      is = is.header_record;
+      sound = test_by_none (leftmost_bad_field is.first) is.header_fields;
+      place_is = λ j. cond (is_header_kind (is.header_kind j)) (Some between_units) None;
+    }) i))
+    ∙ units_pass is.units is.last (recursion_from_All IsUnit is.units is.each) is.trailer_record is.trailer_kind
+
+-- ---- the laws
+
+place_from_front : (front rest : Lines) (place final : Place) → place_from place (front ++ rest) ≡ Some final
+    → (middle : Place) × (place_from place front ≡ Some middle)
+place_from_front [] rest place final found = (place, refl)
+place_from_front (line ∷ front) rest place final found =
+    let step = then_some (λ next. place_from next (front ++ rest)) (next_place place line) final found in
+    let more = place_from_front front rest step.0 final step.2 in
+    (more.0, (λ i. option_and_then (λ next. place_from next front) (step.1 i)) ∙ more.1)
+
+-- a file begins with some records exactly where they lead to a place
+pub begins_iff_place : (records : Lines) → BeginsFile records ↔ ((place : Place) × IsPlaceOf records place)
+begins_iff_place records = (
+  λ begins. place_from_front records begins.0 before_header after_end (place_of_file (records ++ begins.0) begins.1),
+  λ at. at_begins at.0 records (at_of_place records at.0 at.1),
+)
+
+-- the records are a file exactly where they lead behind the trailer
+pub file_iff_place : (records : Lines) → IsFile records ↔ IsPlaceOf records after_end
+file_iff_place records = (place_of_file records, at_of_place records after_end)
+
+-- records lead to one place
+pub one_place : (records : Lines) (first second : Place) → IsPlaceOf records first → IsPlaceOf records second → first ≡ second
+one_place records first second one two = let both_are : Some first ≡ Some second = sym one ∙ two in cc
+
+-- the place with one more record
+pub place_of_more : (records : Lines) (place : Place) (line : List ℕ) → IsPlaceOf records place → place_at (records ++ line ∷ []) ≡ next_place place line
+place_of_more records place line found = place_from_append records before_header place (line ∷ []) found ∙ some_then (next_place place line)
+
+-- with one more record a file begins exactly where there is a next place
+pub begins_next_iff : (records : Lines) (place : Place) (line : List ℕ) → IsPlaceOf records place → BeginsFile (records ++ line ∷ [])
+    ↔ ((next : Place) × IsNext place line next)
+begins_next_iff records place line found = (
+  λ begins. let at = (begins_iff_place (records ++ line ∷ [])).0 begins in
+      (at.0, next_by_test place line at.0 (sym (place_of_more records place line found) ∙ at.1)),
+  λ told. (begins_iff_place (records ++ line ∷ [])).1 (told.0, place_of_more records place line found ∙ test_by_next place line told.0 told.1),
+)
+
+-- with the records so far a file begins, or with none does
+pub begins_file_or_not : (records : Lines) → BeginsFile records ⊎ ¬ BeginsFile records
+begins_file_or_not records = by (place_at records) refl
+  where
+    by : (found : Option Place) → place_at records ≡ found → BeginsFile records ⊎ ¬ BeginsFile records
+    by None h = inr (λ begins. let at = (begins_iff_place records).0 begins in let bad : None ≡ Some at.0 = sym h ∙ at.1 in cc)
+    by (Some place) h = inl ((begins_iff_place records).1 (place, h))
+
+-- ---- the schedule of a place
+
+-- the stage of a place is that of its lines, and no journey there is whole
+abbrev pub IsTracked : Place → Type 0
+IsTracked (in_schedule stage lines) = (stage_of lines ≡ Some stage) × ¬ (stage ≡ after_journey)
+IsTracked _ = ⊤
+
+tracked_unit : (kind : Option Kind) (line : List ℕ) (next : Place) → kind_of line ≡ kind → IsRecord line → has_good_fields line ≡ true
+    → unit_by_kind kind line ≡ Some next → IsTracked next
+tracked_unit (Some basic_schedule) line next kind is good found =
+    let same : in_schedule after_basic (line ∷ []) ≡ next = cc in
+    let first = (first_line_iff_test line).0 (record { is = is; kind = kind; fields = none_by_test (leftmost_bad_field line) good }) in
+    subst IsTracked same ((λ i. cond (first i) (Some after_basic) None), λ bad. cc)
+tracked_unit (Some tiploc_insert) line next kind is good found = let same : between_units ≡ next = cc in subst IsTracked same tt
+tracked_unit (Some tiploc_amend) line next kind is good found = let same : between_units ≡ next = cc in subst IsTracked same tt
+tracked_unit (Some tiploc_delete) line next kind is good found = let same : between_units ≡ next = cc in subst IsTracked same tt
+tracked_unit (Some association) line next kind is good found = let same : between_units ≡ next = cc in subst IsTracked same tt
+tracked_unit (Some trailer) line next kind is good found = let same : after_end ≡ next = cc in subst IsTracked same tt
+tracked_unit _ line next kind is good found = cc
+
+tracked_in : (stage : Stage) (lines : Lines) → stage_of lines ≡ Some stage → IsTracked (place_in stage lines)
+tracked_in after_basic lines found = (found, λ bad. cc)
+tracked_in after_details lines found = (found, λ bad. cc)
+tracked_in in_journey lines found = (found, λ bad. cc)
+tracked_in after_journey lines found = tt
+
+next_tracked : (place : Place) (line : List ℕ) (next : Place) → IsTracked place → IsNext place line next → IsTracked next
+next_tracked before_header line next tracked told = by (is_header_kind (kind_of line)) told.place_is
+  where
+    by : (b : Bool) → cond b (Some between_units) None ≡ Some next → IsTracked next
+    by true found = let same : between_units ≡ next = cc in subst IsTracked same tt
+    by false found = cc
+next_tracked between_units line next tracked told = tracked_unit (kind_of line) line next refl told.is told.sound told.place_is
+next_tracked (in_schedule stage lines) line next tracked told = by (stage_after stage (kind_of line)) refl told.sound told.place_is
+  where
+    by : (after : Option Stage) → stage_after stage (kind_of line) ≡ after → cond (is_some after) (is_sound_next lines line) (has_good_fields line) ≡ true
+        → in_stage_or (lines ++ line ∷ []) after (cond (may_end stage lines) (unit_by_kind (kind_of line) line) None) ≡ Some next → IsTracked next
+    by (Some after) h sound found =
+        let same : place_in after (lines ++ line ∷ []) ≡ next = cc in
+        let reached = test_by_next_line stage lines line after (record { is = told.is; sound = sound; stage_is = h }) in
+        subst IsTracked same (tracked_in after (lines ++ line ∷ []) (stage_of_more lines stage line tracked.0 ∙ reached))
+    by None h sound found = ended (may_end stage lines) found
+      where
+        ended : (b : Bool) → cond b (unit_by_kind (kind_of line) line) None ≡ Some next → IsTracked next
+        ended true reached = tracked_unit (kind_of line) line next refl told.is sound reached
+        ended false reached = cc
+next_tracked after_end line next tracked told = let none : None ≡ Some next = told.place_is in cc
+
+tracked_from : (rest : Lines) (place final : Place) → IsTracked place → place_from place rest ≡ Some final → IsTracked final
+tracked_from [] place final tracked found = let same : place ≡ final = cc in subst IsTracked same tracked
+tracked_from (line ∷ rest) place final tracked found =
+    let step = then_some (λ next. place_from next rest) (next_place place line) final found in
+    tracked_from rest step.0 final (next_tracked place line step.0 tracked (next_by_test place line step.0 step.1)) step.2
+
+-- the stage of a place that records lead to is that of its lines
+pub tracked_place : (records : Lines) (place : Place) → IsPlaceOf records place → IsTracked place
+tracked_place records place found = tracked_from records before_header place tt found

@@ -1,0 +1,391 @@
+-- The changes of a file within the limit: their keys and bodies are well formed. A schedule's lines as kept are a schedule again.
+use Rattle.std.proofs.Common.{◌≡◌, ℕ, ◌+◌, ◌-◌, ◌^◌, ◌<◌, ◌⊎◌, inl, inr, List, [], ◌∷◌, ◌++◌, length, take, All, subst, refl, ap, sym, ◌∙◌, Bool, true, false, cond, Some, arith, append_assoc, length-append}
+use Rattle.std.specs.Prelude.{Option, ⊤, ◌||◌, ◌==◌}
+use Rattle.std.specs.List.{AllByRecursion, flat_map, prefix_len}
+use Rattle.std.proofs.Math.Seq.{take-append_seam}
+use Rattle.std.proofs.lemmas.List.Elements.{All-from_recursion, recursion_from_All}
+use Rattle.docker_model.specs.records.Record.{Kind, tiploc_insert, tiploc_amend, tiploc_delete, association, basic_schedule, extra_details, origin_location, intermediate_location, terminating_location, change_en_route, trailer, IsRecord, HasKind, kind_of, columns, column}
+use Rattle.docker_model.specs.records.Date.{is_date, date_number, is_end_date, is_days}
+use Rattle.docker_model.specs.records.Clock.{is_blank}
+use Rattle.docker_model.specs.records.Field.{HasGoodFields, is_deletion, is_stp_letter, is_stp_indicator, is_tiploc, is_transaction, checked, checked_fields, as_new, IsTiploc}
+use Rattle.docker_model.specs.file.File.{IsSchedule, IsJourney, IsSoundJourney, IsWithinJourney, AreExtraDetails, MayLackJourney, IsSingleKind, IsUnit, follows_basic}
+use Rattle.docker_model.specs.file.Change.{Key, association_key, schedule_key, Act, Change, association_named, schedule_named, keeps_code, schedule_rest, acts_by_kind, changes_of_record, changes_from}
+use Rattle.docker_model.specs.state.Op.{op_of}
+use Rattle.docker_model.specs.state.State.{IsGoodKey, IsOpOf}
+use Rattle.cif_laws.proofs.lists.AllOf.{all_append, all_weaker, all_map}
+use Rattle.cif_laws.proofs.records.Columns.{IsGoodIn, good_fields, fields_good, text_in, one_column, printable_column, new_columns, new_column, new_kind, new_record, is_new}
+use Rattle.cif_laws.proofs.records.GoodFields.{date_is_day, tiploc_starts, new_tiploc_starts}
+
+-- the key and the op of a change are well formed and agree
+abbrev pub IsGoodAct : Key × Act → Type 0
+IsGoodAct act = IsGoodKey act.0 × IsOpOf act.0 (op_of act.1)
+
+-- ---- keys
+
+letter_at : (line : List ℕ) → is_stp_indicator (columns 80 80 line) ≡ true → is_stp_letter (column 80 line) ≡ true
+letter_at line is = ap is_stp_letter (sym (one_column line 80 (omega arith))) ∙ is
+
+tiploc_at : (line : List ℕ) → IsRecord line → is_tiploc (columns 3 9 line) ≡ true → IsTiploc (columns 3 9 line)
+tiploc_at line is good = (text_in line 3 9 is (omega arith) (omega arith), tiploc_starts (columns 3 9 line) good)
+
+-- the fields of an association that its key and its deletion need
+record AssociationFields (line : List ℕ) : Type 0 where
+  pub start : is_date (columns 16 21 line) ≡ true
+  pub location : is_tiploc (columns 38 44 line) ≡ true
+  pub indicator : is_stp_indicator (columns 80 80 line) ≡ true
+
+association_fields : (line : List ℕ) → HasKind association line → HasGoodFields line → AssociationFields line
+association_fields line kind good = by (is_deletion line) refl (good_fields association line kind good)
+  where
+    by : (b : Bool) → is_deletion line ≡ b → AllByRecursion (IsGoodIn line) (checked_fields association line) → AssociationFields line
+    by true h all = let found = rw h at all in record { start = found.1.0; location = found.1.1.0; indicator = found.1.1.1.0 }
+    by false h all = let found = rw h at all in record { start = found.1.0; location = found.1.1.1.1.0; indicator = found.1.1.1.1.1.0 }
+
+association_key_good : (line : List ℕ) → IsRecord line → HasKind association line → HasGoodFields line → IsGoodKey (association_named line)
+association_key_good line is kind good =
+    let fields = association_fields line kind good in
+    record {
+      base = text_in line 4 9 is (omega arith) (omega arith);
+      associated = text_in line 10 15 is (omega arith) (omega arith);
+      start = date_is_day (columns 16 21 line) fields.start;
+      location = (text_in line 38 44 is (omega arith) (omega arith), tiploc_starts (columns 38 44 line) fields.location);
+      suffix = printable_column line 45 is (omega arith);
+      indicator = letter_at line fields.indicator;
+    }
+
+record BasicFields (line : List ℕ) : Type 0 where
+  pub start : is_date (columns 10 15 line) ≡ true
+  pub indicator : is_stp_indicator (columns 80 80 line) ≡ true
+
+basic_fields : (line : List ℕ) → HasKind basic_schedule line → HasGoodFields line → BasicFields line
+basic_fields line kind good = by (is_deletion line) refl (good_fields basic_schedule line kind good)
+  where
+    by : (b : Bool) → is_deletion line ≡ b → AllByRecursion (IsGoodIn line) (checked_fields basic_schedule line) → BasicFields line
+    by true h all = let found = rw h at all in record { start = found.1.0; indicator = found.1.1.0 }
+    by false h all = let found = rw h at all in record { start = found.1.0; indicator = found.1.1.1.1.0 }
+
+schedule_key_good : (line : List ℕ) → IsRecord line → HasKind basic_schedule line → HasGoodFields line → IsGoodKey (schedule_named line)
+schedule_key_good line is kind good =
+    let fields = basic_fields line kind good in
+    record {
+      uid = text_in line 4 9 is (omega arith) (omega arith);
+      runs_from = date_is_day (columns 10 15 line) fields.start;
+      indicator = letter_at line fields.indicator;
+    }
+
+-- ---- the same key and good fields with the transaction N
+
+same_association : (line : List ℕ) → association_named (as_new line) ≡ association_named line
+same_association line = λ i. association_key (record {
+  base = new_columns line 4 9 (omega arith) i;
+  associated = new_columns line 10 15 (omega arith) i;
+  start = date_number (new_columns line 16 21 (omega arith) i);
+  location = new_columns line 38 44 (omega arith) i;
+  suffix = new_column line 45 (omega arith) i;
+  indicator = new_column line 80 (omega arith) i;
+})
+
+-- setting the transaction to N leaves the schedule's key
+pub same_schedule : (line : List ℕ) → schedule_named (as_new line) ≡ schedule_named line
+same_schedule line = λ i. schedule_key (record {
+  uid = new_columns line 4 9 (omega arith) i;
+  runs_from = date_number (new_columns line 10 15 (omega arith) i);
+  indicator = new_column line 80 (omega arith) i;
+})
+
+no_deletion : (line : List ℕ) → IsRecord line → is_deletion (as_new line) ≡ false
+no_deletion line is = λ i. is_new line is i == 68
+
+still_good : (line : List ℕ) (first last : ℕ) (test : List ℕ → Bool) → 3 < first → test (columns first last line) ≡ true
+    → test (columns first last (as_new line)) ≡ true
+still_good line first last test behind good = ap test (new_columns line first last behind) ∙ good
+
+transaction_good : (line : List ℕ) → IsRecord line → IsGoodIn (as_new line) (checked 3 3 is_transaction)
+transaction_good line is = ap (λ b. (b == 78) || (b == 68) || (b == 82)) (one_column (as_new line) 3 (omega arith) ∙ is_new line is)
+
+-- setting the transaction to N leaves an association's fields good
+pub new_association_fields : (line : List ℕ) → IsRecord line → HasKind association line → HasGoodFields line → is_deletion line ≡ false
+    → HasGoodFields (as_new line)
+new_association_fields line is kind good kept = fields_good association (as_new line) (new_kind line ∙ kind) (by (good_fields association line kind good))
+  where
+    by : AllByRecursion (IsGoodIn line) (checked_fields association line) → AllByRecursion (IsGoodIn (as_new line)) (checked_fields association (as_new line))
+    by all =
+        let found = rw kept at all in
+        rw (no_deletion line is) (
+          transaction_good line is,
+          (
+            still_good line 16 21 is_date (omega arith) found.1.0,
+            (
+              still_good line 22 27 is_end_date (omega arith) found.1.1.0,
+              (
+                still_good line 28 34 is_days (omega arith) found.1.1.1.0,
+                (
+                  still_good line 38 44 is_tiploc (omega arith) found.1.1.1.1.0,
+                  (still_good line 80 80 is_stp_indicator (omega arith) found.1.1.1.1.1.0, tt),
+                ),
+              ),
+            ),
+          ),
+        )
+
+-- setting the transaction to N leaves a basic schedule's fields good
+pub new_basic_fields : (line : List ℕ) → IsRecord line → HasKind basic_schedule line → HasGoodFields line → is_deletion line ≡ false
+    → HasGoodFields (as_new line)
+new_basic_fields line is kind good kept = fields_good basic_schedule (as_new line) (new_kind line ∙ kind) (by (good_fields basic_schedule line kind good))
+  where
+    by : AllByRecursion (IsGoodIn line) (checked_fields basic_schedule line) → AllByRecursion (IsGoodIn (as_new line))
+        (checked_fields basic_schedule (as_new line))
+    by all =
+        let found = rw kept at all in
+        rw (no_deletion line is) (
+          transaction_good line is,
+          (
+            still_good line 10 15 is_date (omega arith) found.1.0,
+            (
+              still_good line 16 21 is_end_date (omega arith) found.1.1.0,
+              (
+                still_good line 22 28 is_days (omega arith) found.1.1.1.0,
+                (still_good line 80 80 is_stp_indicator (omega arith) found.1.1.1.1.0, tt),
+              ),
+            ),
+          ),
+        )
+
+-- ---- the acts of single records
+
+kept_or : (a b : Bool) → (a || b) ≡ false → a ≡ false
+kept_or true b h = h
+kept_or false b h = refl
+
+single_acts : (line : List ℕ) (following : List (List ℕ)) → IsRecord line → IsSingleKind line → HasGoodFields line
+    → AllByRecursion IsGoodAct (acts_by_kind (kind_of line) line following)
+single_acts line following is (inl kind) good =
+    let fields = good_fields tiploc_insert line kind good in
+    subst (λ k. AllByRecursion IsGoodAct (acts_by_kind k line following)) (sym kind)
+    ((tiploc_at line is fields.0, text_in line 10 72 is (omega arith) (omega arith)), tt)
+single_acts line following is (inr (inl kind)) good =
+    subst (λ k. AllByRecursion IsGoodAct (acts_by_kind k line following)) (sym kind) (by (keeps_code line) refl (good_fields tiploc_amend line kind good))
+  where
+    by : (b : Bool) → keeps_code line ≡ b → AllByRecursion (IsGoodIn line) (checked_fields tiploc_amend line)
+        → AllByRecursion IsGoodAct (acts_by_kind (Some tiploc_amend) line following)
+    by true h fields = rw h ((tiploc_at line is fields.0, text_in line 10 72 is (omega arith) (omega arith)), tt)
+    by false h fields = rw h (
+      (tiploc_at line is fields.0, tt),
+      (
+        (
+          (text_in line 73 79 is (omega arith) (omega arith), new_tiploc_starts (columns 73 79 line) fields.1.0 (kept_or (is_blank (columns 73 79 line)) _ h)),
+          text_in line 10 72 is (omega arith) (omega arith),
+        ),
+        tt,
+      ),
+    )
+single_acts line following is (inr (inr (inl kind))) good =
+    let fields = good_fields tiploc_delete line kind good in
+    subst (λ k. AllByRecursion IsGoodAct (acts_by_kind k line following)) (sym kind) ((tiploc_at line is fields.0, tt), tt)
+single_acts line following is (inr (inr (inr kind))) good =
+    subst (λ k. AllByRecursion IsGoodAct (acts_by_kind k line following)) (sym kind) (by (is_deletion line) refl)
+  where
+    by : (b : Bool) → is_deletion line ≡ b → AllByRecursion IsGoodAct (acts_by_kind (Some association) line following)
+    by true h = rw h ((association_key_good line is kind good, tt), tt)
+    by false h = rw h (
+      (
+        association_key_good line is kind good,
+        record {
+          is_record = new_record line is;
+          kind = new_kind line ∙ kind;
+          fields = new_association_fields line is kind good h;
+          new = is_new line is;
+          key_is = same_association line;
+        },
+      ),
+      tt,
+    )
+
+-- ---- schedules
+
+-- a schedule that is no deletion is a schedule again with its transaction set to N
+pub new_is_schedule : (lines : List (List ℕ)) (schedule : IsSchedule lines) → is_deletion schedule.basic ≡ false
+    → IsSchedule (as_new schedule.basic ∷ schedule.extra ++ schedule.journey)
+new_is_schedule lines schedule kept =
+    let records = recursion_from_All IsRecord (schedule.basic ∷ schedule.extra ++ schedule.journey) (subst (All IsRecord) schedule.whole schedule.records) in
+    record {
+      basic = as_new schedule.basic;
+      extra = schedule.extra;
+      journey = schedule.journey;
+      whole = refl;
+      records = All-from_recursion IsRecord (as_new schedule.basic ∷ schedule.extra ++ schedule.journey) (new_record schedule.basic records.0, records.1);
+      kind = new_kind schedule.basic ∙ schedule.kind;
+      fields = new_basic_fields schedule.basic records.0 schedule.kind schedule.fields kept;
+      details = schedule.details;
+      journey_or_none = lacks schedule.journey_or_none;
+      sound = sound schedule.sound;
+    }
+  where
+    lacks : IsJourney schedule.journey ⊎ ((schedule.journey ≡ []) × MayLackJourney schedule.basic) → IsJourney schedule.journey
+        ⊎ ((schedule.journey ≡ []) × MayLackJourney (as_new schedule.basic))
+    lacks (inl journey) = inl journey
+    lacks (inr none) = inr (none.0, letter none.1)
+      where
+        letter : MayLackJourney schedule.basic → MayLackJourney (as_new schedule.basic)
+        letter (inl deletion) = let bad : false ≡ true = sym kept ∙ deletion in cc
+        letter (inr same) = inr (new_column schedule.basic 80 (omega arith) ∙ same)
+
+    sound : (is_deletion schedule.basic ≡ true) ⊎ IsSoundJourney schedule.journey → (is_deletion (as_new schedule.basic) ≡ true)
+        ⊎ IsSoundJourney schedule.journey
+    sound (inl deletion) = let bad : false ≡ true = sym kept ∙ deletion in cc
+    sound (inr good) = inr good
+
+-- a record behind which no schedule goes on
+abbrev pub StopsHere : List (List ℕ) → Type 0
+StopsHere [] = ⊤
+StopsHere (line ∷ lines) = follows_basic (kind_of line) ≡ false
+
+-- the record stands in a schedule behind its basic schedule
+abbrev pub Follows : List ℕ → Type 0
+Follows line = follows_basic (kind_of line) ≡ true
+
+prefix_is : (lines rest : List (List ℕ)) → AllByRecursion Follows lines → StopsHere rest → prefix_len (λ line. follows_basic (kind_of line))
+    (lines ++ rest) ≡ length lines
+prefix_is [] [] all stops = refl
+prefix_is [] (line ∷ rest) all stops = λ i. cond (stops i) (1 + prefix_len (λ line. follows_basic (kind_of line)) rest) 0
+prefix_is (line ∷ lines) rest all stops =
+    (λ i. cond (all.0 i) (1 + prefix_len (λ line. follows_basic (kind_of line)) (lines ++ rest)) 0) ∙ (let e = prefix_is lines rest all.1 stops in omega arith)
+
+-- the rest of a schedule is the lines that follow, up to a record that begins anew
+pub rest_is : (lines rest : List (List ℕ)) → AllByRecursion Follows lines → StopsHere rest → schedule_rest (lines ++ rest) ≡ lines
+rest_is lines rest all stops = ap (λ n. take n (lines ++ rest)) (prefix_is lines rest all stops) ∙ take-append_seam lines rest
+
+-- a record of a kind that follows a basic schedule
+pub follows_by : (kind : Kind) (line : List ℕ) → HasKind kind line → follows_basic (Some kind) ≡ true → Follows line
+follows_by kind line is follows = ap follows_basic is ∙ follows
+
+-- each line of a journey follows a basic schedule
+pub journey_follows : (lines : List (List ℕ)) → IsJourney lines → AllByRecursion Follows lines
+journey_follows lines journey =
+    subst (AllByRecursion Follows) (sym journey.whole) (
+      follows_by origin_location journey.first journey.origin refl,
+      all_append Follows journey.between (journey.last ∷ [])
+          (all_weaker IsWithinJourney Follows within journey.between (recursion_from_All IsWithinJourney journey.between journey.calls))
+          (follows_by terminating_location journey.last journey.terminus refl, tt),
+    )
+  where
+    within : (line : List ℕ) → IsWithinJourney line → Follows line
+    within line (inl call) = follows_by intermediate_location line call refl
+    within line (inr change) = follows_by change_en_route line change refl
+
+-- each line behind a schedule's basic schedule follows one
+pub schedule_follows : (lines : List (List ℕ)) (schedule : IsSchedule lines) → AllByRecursion Follows (schedule.extra ++ schedule.journey)
+schedule_follows lines schedule = all_append Follows schedule.extra schedule.journey (details schedule.details) (journey schedule.journey_or_none)
+  where
+    details : AreExtraDetails schedule.extra → AllByRecursion Follows schedule.extra
+    details (inl none) = subst (AllByRecursion Follows) (sym none) tt
+    details (inr one) = subst (AllByRecursion Follows) (sym one.1) (follows_by extra_details one.0 one.2 refl, tt)
+
+    journey : IsJourney schedule.journey ⊎ ((schedule.journey ≡ []) × MayLackJourney schedule.basic) → AllByRecursion Follows schedule.journey
+    journey (inl is) = journey_follows schedule.journey is
+    journey (inr none) = subst (AllByRecursion Follows) (sym none.0) tt
+
+schedule_acts : (lines : List (List ℕ)) (schedule : IsSchedule lines) (rest : List (List ℕ)) → StopsHere rest
+    → length (schedule.extra ++ schedule.journey) + 1 < 2 ^ 32 - 1
+    → AllByRecursion IsGoodAct (acts_by_kind (kind_of schedule.basic) schedule.basic ((schedule.extra ++ schedule.journey) ++ rest))
+schedule_acts lines schedule rest stops few =
+    subst (λ k. AllByRecursion IsGoodAct (acts_by_kind k schedule.basic ((schedule.extra ++ schedule.journey) ++ rest))) (sym schedule.kind)
+    (by (is_deletion schedule.basic) refl)
+  where
+    first_is : IsRecord schedule.basic
+    first_is = (recursion_from_All IsRecord (schedule.basic ∷ schedule.extra ++ schedule.journey) (subst (All IsRecord) schedule.whole schedule.records)).0
+
+    key_is : IsGoodKey (schedule_named schedule.basic)
+    key_is = schedule_key_good schedule.basic first_is schedule.kind schedule.fields
+
+    by : (b : Bool) → is_deletion schedule.basic ≡ b
+        → AllByRecursion IsGoodAct (acts_by_kind (Some basic_schedule) schedule.basic ((schedule.extra ++ schedule.journey) ++ rest))
+    by true h = rw h ((key_is, tt), tt)
+    by false h = rw (h, rest_is (schedule.extra ++ schedule.journey) rest (schedule_follows lines schedule) stops) (
+      (
+        key_is,
+        record {
+          schedule = new_is_schedule lines schedule h;
+          few = omega arith;
+          new = is_new schedule.basic first_is;
+          key_is = same_schedule schedule.basic;
+        },
+      ),
+      tt,
+    )
+
+-- ---- files
+
+-- the key and the body of a change are well formed
+abbrev pub IsGoodChange : Change → Type 0
+IsGoodChange change = IsGoodAct (change.key, change.act)
+
+record_changes : (n : ℕ) (line : List ℕ) (following : List (List ℕ)) → AllByRecursion IsGoodAct (acts_by_kind (kind_of line) line following)
+    → AllByRecursion IsGoodChange (changes_of_record n line following)
+record_changes n line following all =
+    all_map (λ (act : Key × Act). record { number = n; key = act.0; act = act.1 }) IsGoodChange (acts_by_kind (kind_of line) line following) all
+
+no_acts : (kind : Option Kind) (line : List ℕ) (following : List (List ℕ)) → follows_basic kind ≡ true
+    → AllByRecursion IsGoodAct (acts_by_kind kind line following)
+no_acts (Some extra_details) line following h = tt
+no_acts (Some origin_location) line following h = tt
+no_acts (Some intermediate_location) line following h = tt
+no_acts (Some terminating_location) line following h = tt
+no_acts (Some change_en_route) line following h = tt
+no_acts _ line following h = cc
+
+-- each change of these records is good
+abbrev pub AllChangesGood : List (List ℕ) → Type 0
+AllChangesGood lines = (n : ℕ) → AllByRecursion IsGoodChange (changes_from n lines)
+
+behind_schedule : (lines rest : List (List ℕ)) → AllByRecursion Follows lines → AllChangesGood rest → AllChangesGood (lines ++ rest)
+behind_schedule [] rest all good = good
+behind_schedule (line ∷ lines) rest all good = λ n.
+    all_append IsGoodChange (changes_of_record n line (lines ++ rest)) (changes_from (n + 1) (lines ++ rest))
+    (record_changes n line (lines ++ rest) (no_acts (kind_of line) line (lines ++ rest) all.0)) (behind_schedule lines rest all.1 good (n + 1))
+
+unit_changes : (unit rest : List (List ℕ)) → IsUnit unit → StopsHere rest → length unit < 2 ^ 32 - 1 → AllChangesGood rest → AllChangesGood (unit ++ rest)
+unit_changes unit rest (inl single) stops few good =
+    subst (λ u. AllChangesGood (u ++ rest)) (sym single.1) (λ n.
+    all_append IsGoodChange (changes_of_record n single.0 rest) (changes_from (n + 1) rest)
+    (record_changes n single.0 rest (single_acts single.0 rest single.2 single.3 single.4)) (good (n + 1)))
+unit_changes unit rest (inr schedule) stops few good =
+    let size = ap length schedule.whole in
+    subst (λ u. AllChangesGood (u ++ rest)) (sym schedule.whole) (λ n.
+    all_append IsGoodChange (changes_of_record n schedule.basic ((schedule.extra ++ schedule.journey) ++ rest))
+    (changes_from (n + 1) ((schedule.extra ++ schedule.journey) ++ rest))
+    (record_changes n schedule.basic ((schedule.extra ++ schedule.journey) ++ rest) (schedule_acts unit schedule rest stops (omega arith)))
+    (behind_schedule (schedule.extra ++ schedule.journey) rest (schedule_follows unit schedule) good (n + 1)))
+
+stops_by : (kind : Kind) (line : List ℕ) → HasKind kind line → follows_basic (Some kind) ≡ false → follows_basic (kind_of line) ≡ false
+stops_by kind line is stops = ap follows_basic is ∙ stops
+
+unit_stops : (unit rest : List (List ℕ)) → IsUnit unit → StopsHere (unit ++ rest)
+unit_stops unit rest (inl single) = subst (λ u. StopsHere (u ++ rest)) (sym single.1) (by single.3)
+  where
+    by : IsSingleKind single.0 → follows_basic (kind_of single.0) ≡ false
+    by (inl kind) = stops_by tiploc_insert single.0 kind refl
+    by (inr (inl kind)) = stops_by tiploc_amend single.0 kind refl
+    by (inr (inr (inl kind))) = stops_by tiploc_delete single.0 kind refl
+    by (inr (inr (inr kind))) = stops_by association single.0 kind refl
+unit_stops unit rest (inr schedule) = subst (λ u. StopsHere (u ++ rest)) (sym schedule.whole) (stops_by basic_schedule schedule.basic schedule.kind refl)
+
+-- units and a trailer begin anew
+pub units_stop : (units : List (List (List ℕ))) (last : List ℕ) → AllByRecursion IsUnit units → HasKind trailer last
+    → StopsHere (flat_map (λ unit. unit) units ++ last ∷ [])
+units_stop [] last all end = stops_by trailer last end refl
+units_stop (unit ∷ units) last all end =
+    subst StopsHere (sym (append_assoc unit (flat_map (λ u. u) units) (last ∷ []))) (unit_stops unit (flat_map (λ u. u) units ++ last ∷ []) all.0)
+
+-- the changes of units within the limit are good
+pub units_changes : (units : List (List (List ℕ))) (last : List ℕ) → AllByRecursion IsUnit units → HasKind trailer last
+    → length (flat_map (λ unit. unit) units) < 2 ^ 32 - 1
+    → AllChangesGood (flat_map (λ unit. unit) units ++ last ∷ [])
+units_changes [] last all end few =
+    λ n. all_append IsGoodChange (changes_of_record n last []) []
+    (record_changes n last [] (subst (λ k. AllByRecursion IsGoodAct (acts_by_kind k last [])) (sym end) tt)) tt
+units_changes (unit ∷ units) last all end few =
+    let size = length-append unit (flat_map (λ u. u) units) in
+    subst AllChangesGood (sym (append_assoc unit (flat_map (λ u. u) units) (last ∷ [])))
+    (unit_changes unit (flat_map (λ u. u) units ++ last ∷ []) all.0 (units_stop units last all.1 end) (omega arith)
+    (units_changes units last all.1 end (omega arith)))

@@ -1,0 +1,86 @@
+-- A text that tells no fault is short: each line that it tells has at most 81 bytes and its line feed, and so does the open line without one.
+use Rattle.std.proofs.Common.{◌≡◌, ℕ, List, length, [], ◌∷◌, Some, ◌+◌, ◌<◌, arith, refl, ap, Bool, true, false, ◌*◌, ◌≤◌, map, ◌⊎◌, inl, inr}
+use Rattle.std.specs.Prelude.{◌==◌}
+use Rattle.std.specs.List.{AllByRecursion, onto_first, slice_split}
+use Rattle.std.specs.Str.Lines.{strip_carriage_return}
+use Rattle.std.proofs.lemmas.List.{length-map}
+use Rattle.std.proofs.lemmas.List.Splits.{slice_split-cons_yes, slice_split-cons_no, length-slice_split}
+use Rattle.docker_model.specs.records.Record.{Lines}
+use Rattle.docker_model.specs.file.FileFault.{FileFault}
+use Rattle.docker_model.specs.file.FaultSoFar.{last_of, IsFaultSoFar}
+use Rattle.cif_laws.specs.FileStage.{Place, next_place, place_from, before_header}
+use Rattle.cif_laws.specs.LinesTold.{but_last, pieces_of, told_lines}
+use Rattle.cif_laws.proofs.lists.BoolsAndOptions.{then_some}
+use Rattle.cif_laws.proofs.files.FileStages.{next_by_test, begins_iff_place}
+use Rattle.cif_laws.proofs.files.ToldFaults.{strip_long, TellsNoFault, fault_so_far_or_none}
+
+abbrev Has80 : List ℕ → Type 0
+Has80 line = length line ≡ 80
+
+-- records that lead to a place have 80 bytes each
+records_of_80 : (records : Lines) (place final : Place) → place_from place records ≡ Some final → AllByRecursion Has80 records
+records_of_80 [] place final reached = tt
+records_of_80 (line ∷ rest) place final reached =
+    let next = then_some (λ (n : Place). place_from n rest) (next_place place line) final reached in
+    ((next_by_test place line next.0 next.1).is.0, records_of_80 rest next.0 final next.2)
+
+-- the bytes of pieces, with one behind each
+bytes_in : Lines → ℕ
+bytes_in [] = 0
+bytes_in (piece ∷ pieces) = length piece + 1 + bytes_in pieces
+
+bytes_more : (b : ℕ) (pieces : Lines) → 0 < length pieces → bytes_in (onto_first b pieces) ≡ bytes_in pieces + 1
+unfolding bytes_in
+bytes_more b [] some = absurd (omega arith)
+bytes_more b (piece ∷ pieces) some = omega arith
+
+-- a text has a byte less than its pieces, since none stands behind the last
+bytes_of_split : (p : ℕ → Bool) (text : List ℕ) → bytes_in (slice_split p text) ≡ length text + 1
+unfolding bytes_in
+bytes_of_split p [] = refl
+bytes_of_split p (b ∷ text) = by (p b) refl (bytes_of_split p text)
+  where
+    by : (t : Bool) → p b ≡ t → bytes_in (slice_split p text) ≡ length text + 1 → bytes_in (slice_split p (b ∷ text)) ≡ length (b ∷ text) + 1
+    by true h rest = let split = ap bytes_in (slice_split-cons_yes p b text h) in omega arith
+    by false h rest =
+        let size = length-slice_split p text in
+        let split = ap bytes_in (slice_split-cons_no p b text h) in
+        let more = bytes_more b (slice_split p text) (omega arith) in
+        omega arith
+
+-- the last piece apart
+bytes_but_last : (pieces : Lines) → 0 < length pieces → bytes_in pieces ≡ bytes_in (but_last pieces) + length (last_of pieces) + 1
+unfolding bytes_in
+bytes_but_last [] some = absurd (omega arith)
+bytes_but_last (piece ∷ []) some = omega arith
+bytes_but_last (piece ∷ next ∷ pieces) some = let rest = bytes_but_last (next ∷ pieces) (omega arith) in omega arith
+
+-- pieces that are lines of 80 bytes
+few_bytes : (pieces : Lines) → AllByRecursion Has80 (map strip_carriage_return pieces) → bytes_in pieces ≤ 82 * length pieces
+unfolding bytes_in
+few_bytes [] all = omega arith
+few_bytes (piece ∷ pieces) all =
+    let long = strip_long piece in
+    let first = all.0 in
+    let rest = few_bytes pieces all.1 in
+    omega arith
+
+bound_of_none : (limit : ℕ) (text : List ℕ) → TellsNoFault limit text → length text ≤ 82 * limit + 81
+bound_of_none limit text none =
+    let place = (begins_iff_place (told_lines text)).0 none.begin in
+    let size = length-slice_split (λ b. b == 10) text in
+    let whole = bytes_of_split (λ b. b == 10) text in
+    let apart = bytes_but_last (pieces_of text) (omega arith) in
+    let few = few_bytes (but_last (pieces_of text)) (records_of_80 (told_lines text) before_header place.0 place.1) in
+    let told = length-map (but_last (pieces_of text)) strip_carriage_return in
+    let within = none.within in
+    let short = none.short in
+    omega arith
+
+-- so its bytes are bounded by the limit on records
+pub text_without_fault_is_bounded : (limit : ℕ) (text : List ℕ) → ((fault : FileFault) → ¬ IsFaultSoFar limit text fault) → length text ≤ 82 * limit + 81
+text_without_fault_is_bounded limit text never = by (fault_so_far_or_none limit text)
+  where
+    by : ((fault : FileFault) × IsFaultSoFar limit text fault) ⊎ TellsNoFault limit text → length text ≤ 82 * limit + 81
+    by (inl fault) = absurd (never fault.0 fault.1)
+    by (inr none) = bound_of_none limit text none

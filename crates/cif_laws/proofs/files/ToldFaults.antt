@@ -1,0 +1,373 @@
+-- The fault that a text tells before its end: it stays the fault of every longer text, and where there is none the lines that are told begin a file.
+use Rattle.std.proofs.Common.{ℕ, ◌+◌, ◌-◌, ◌≤◌, List, take, length, Bool, true, false, cond, arith, ◌≡◌, refl, Some, None, [], ◌∷◌, ◌++◌, ◌<◌, sym, ◌∙◌, append_assoc, ◌⊎◌, inl, inr, map, subst, length-append, ap}
+use Rattle.std.specs.Prelude.{◌==◌, slice_index, ◌≢◌, Option, nat_le}
+use Rattle.std.specs.List.{slice_split}
+use Rattle.std.specs.Str.Lines.{strip_carriage_return}
+use Rattle.std.proofs.lemmas.Bool.{cases_lt, leb-true, lt-leb, le-leb, ne_eqb}
+use Rattle.std.proofs.lemmas.List.{length-take-le, take_at}
+use Rattle.docker_model.specs.records.Record.{Lines}
+use Rattle.docker_model.specs.file.File.{BeginsFile}
+use Rattle.docker_model.specs.file.Text.{without_empty_last, lines_of}
+use Rattle.docker_model.specs.file.FileFault.{FileCause, too_many, after_trailer, bad_length, bad_byte, bad_kind, bad_place, bad_field, third_midnight, no_end, cause_rank, HoldsOf, IsCause, FileFault, IsRecordFault, IsFileFault}
+use Rattle.docker_model.specs.file.FaultSoFar.{IsFaultSoFar, lines_told, last_of}
+use Rattle.cif_laws.specs.FileStage.{Place, next_place, IsPlaceOf}
+use Rattle.cif_laws.specs.RecordCause.{is_after_end, byte_cause, cause_of, cause_of_long}
+use Rattle.cif_laws.specs.LinesTold.{open_line, told_lines, line_left, HasNoFeed}
+use Rattle.cif_laws.proofs.files.OneFileFault.{begins_front, one_fault}
+use Rattle.cif_laws.proofs.files.FileStages.{next_by_test, begins_iff_place, begins_next_iff}
+use Rattle.cif_laws.proofs.files.FileCauses.{Pass, HasRecordFault, pass_or_fault, record_fault}
+use Rattle.cif_laws.proofs.files.ToldLines.{GoesOn, goes_on, lines_of_told, lines_of_open, lines_told_is, lines_told_grow, told_lines_cut}
+
+-- ---- a piece of more than 81 bytes is no record
+
+-- a carriage return taken away is one byte at most
+pub strip_long : (piece : List ℕ) → length piece ≤ length (strip_carriage_return piece) + 1
+strip_long piece = by (slice_index piece (length piece - 1) == 13)
+  where
+    by : (b : Bool) → length piece ≤ length (cond b (take (length piece - 1) piece) piece) + 1
+    by true = let size = length-take-le (length piece - 1) piece (omega arith) in omega arith
+    by false = omega arith
+
+-- a piece of more than 81 bytes is no line of 80
+pub not_80 : (piece : List ℕ) → 82 ≤ length piece → length (strip_carriage_return piece) ≢ 80
+not_80 piece long is = let most = strip_long piece in absurd (omega arith)
+
+-- a line of another length is no next record
+pub no_next_place : (place : Place) (line : List ℕ) → length line ≢ 80 → next_place place line ≡ None
+no_next_place place line apart = by (next_place place line) refl
+  where
+    by : (next : Option Place) → next_place place line ≡ next → next_place place line ≡ None
+    by None h = h
+    by (Some next) h = absurd (apart (next_by_test place line next h).is.0)
+
+no_begin : (earlier : Lines) (line : List ℕ) → length line ≢ 80 → ¬ BeginsFile (earlier ++ line ∷ [])
+no_begin earlier line apart begins =
+    let reached = (begins_iff_place earlier).0 (begins_front earlier (line ∷ []) begins) in
+    let told = (begins_next_iff earlier reached.0 line reached.1).0 begins in
+    apart told.1.is.0
+
+-- ---- parts of lists
+
+-- what stands before the end of a front stands in it
+within_front : (front more earlier : Lines) (line : List ℕ) (later : Lines) → front ++ more ≡ earlier ++ line ∷ later → length earlier < length front
+    → (rest : Lines) × (front ≡ earlier ++ line ∷ rest)
+within_front [] more earlier line later e below = absurd (omega arith)
+within_front (first ∷ front) more [] line later e below =
+    let e' : first ∷ (front ++ more) ≡ line ∷ later = e in let heads : first ≡ line = cc in (front, λ i. heads i ∷ front)
+within_front (first ∷ front) more (second ∷ earlier) line later e below =
+    let e' : first ∷ (front ++ more) ≡ second ∷ (earlier ++ line ∷ later) = e in
+    let heads : first ≡ second = cc in
+    let tails : front ++ more ≡ earlier ++ line ∷ later = cc in
+    let rest = within_front front more earlier line later tails (omega arith) in
+    (rest.0, λ i. heads i ∷ rest.1 i)
+
+-- what stands behind a whole front is what follows it
+behind_front : (front : Lines) (last : List ℕ) (earlier : Lines) (line : List ℕ) (later : Lines) → front ++ last ∷ [] ≡ earlier ++ line ∷ later
+    → length earlier ≡ length front
+    → (earlier ≡ front) × (line ≡ last)
+behind_front [] last [] line later e same = let e' : last ∷ [] ≡ line ∷ later = e in (refl, cc)
+behind_front [] last (second ∷ earlier) line later e same = absurd (omega arith)
+behind_front (first ∷ front) last [] line later e same = absurd (omega arith)
+behind_front (first ∷ front) last (second ∷ earlier) line later e same =
+    let e' : first ∷ (front ++ last ∷ []) ≡ second ∷ (earlier ++ line ∷ later) = e in
+    let heads : first ≡ second = cc in
+    let tails : front ++ last ∷ [] ≡ earlier ++ line ∷ later = cc in
+    let rest = behind_front front last earlier line later tails (omega arith) in
+    (λ i. sym heads i ∷ rest.0 i, rest.1)
+
+-- ---- a told fault stays
+
+-- a cause that is told of a line of another length is told of each such line
+cause_stays : (limit : ℕ) (earlier : Lines) (line other : List ℕ) (cause : FileCause) → length line ≢ 80 → length other ≢ 80 → IsCause limit earlier line cause
+    → IsCause limit earlier other cause
+cause_stays limit earlier line other cause one two is = by cause is
+  where
+    above : (c : FileCause) → IsCause limit earlier line c → 2 < cause_rank c → ⊥
+    above c told high = told.first bad_length high one
+
+    below : (c : FileCause) → IsCause limit earlier line c → cause_rank c ≤ 2 → (o : FileCause) → cause_rank o < cause_rank c → ¬ HoldsOf limit earlier other o
+    below c told low too_many less holds = told.first too_many less holds
+    below c told low after_trailer less holds = told.first after_trailer less holds
+    below c told low bad_length less holds = absurd (omega arith)
+    below c told low (bad_byte at) less holds = absurd (omega arith)
+    below c told low bad_kind less holds = absurd (omega arith)
+    below c told low bad_place less holds = absurd (omega arith)
+    below c told low (bad_field at) less holds = absurd (omega arith)
+    below c told low third_midnight less holds = absurd (omega arith)
+    below c told low no_end less holds = holds
+
+    by : (c : FileCause) → IsCause limit earlier line c → IsCause limit earlier other c
+    by too_many told = record { holds = told.holds; first = below too_many told (omega arith) }
+    by after_trailer told = record { holds = told.holds; first = below after_trailer told (omega arith) }
+    by bad_length told = record { holds = two; first = below bad_length told (omega arith) }
+    by (bad_byte at) told = absurd (above (bad_byte at) told (omega arith))
+    by bad_kind told = absurd (above bad_kind told (omega arith))
+    by bad_place told = absurd (above bad_place told (omega arith))
+    by (bad_field at) told = absurd (above (bad_field at) told (omega arith))
+    by third_midnight told = absurd (above third_midnight told (omega arith))
+    by no_end told = absurd told.holds
+
+-- a record at fault among the first of some records is at fault among those that begin with them
+fault_in_front : (limit : ℕ) (front records more : Lines) (fault : FileFault) → records ≡ front ++ more → IsRecordFault limit front fault
+    → IsRecordFault limit records fault
+fault_in_front limit front records more fault whole is = record {
+  earlier = is.earlier;
+  line = is.line;
+  later = is.later ++ more;
+  whole = whole ∙ (λ i. is.whole i ++ more) ∙ append_assoc is.earlier (is.line ∷ is.later) more;
+  number = is.number;
+  earlier_within = is.earlier_within;
+  earlier_begin = is.earlier_begin;
+  here = is.here;
+  cause = is.cause;
+}
+
+-- the first line of pieces of which the first isn't empty
+first_left : (piece : List ℕ) (pieces : Lines) → 0 < length piece → (others : Lines) × (without_empty_last (piece ∷ pieces) ≡ piece ∷ others)
+first_left [] [] some = absurd (omega arith)
+first_left (b ∷ bytes) [] some = ([], refl)
+first_left piece (next ∷ pieces) some = (without_empty_last (next ∷ pieces), refl)
+
+-- a fault that a text tells stays the one of every longer text
+pub fault_stays : (limit : ℕ) (text more : List ℕ) (fault : FileFault) → IsFaultSoFar limit text fault → IsFaultSoFar limit (text ++ more) fault
+fault_stays limit text more fault told =
+    record {
+      is = by (cases_lt (length told.is.earlier) (length (told_lines text)));
+      told = (let grown = lines_told_grow text more in let before = told.told in
+          omega arith);
+    }
+  where
+    on : GoesOn text more
+    on = goes_on text more
+
+    open_told : length (told_lines text) ≤ length told.is.earlier → (b : Bool) → nat_le 82 (length (open_line text)) ≡ b → length told.is.earlier + 1 ≤ length
+        (told_lines text) + cond b 1 0
+        → (length told.is.earlier ≡ length (told_lines text)) × (82 ≤ length (open_line text))
+    open_told high true h most = (omega arith, leb-true 82 (length (open_line text)) h)
+    open_told high false h most = absurd (omega arith)
+
+    most : length told.is.earlier + 1 ≤ length (told_lines text) + cond (nat_le 82 (length (open_line text))) 1 0
+    most =
+        subst (λ n. n ≤ length (told_lines text) + cond (nat_le 82 (length (open_line text))) 1 0) told.is.number
+        (subst (λ n. fault.number ≤ n) (lines_told_is text) told.told)
+
+    by : (length told.is.earlier < length (told_lines text)) ⊎ (length (told_lines text) ≤ length told.is.earlier)
+        → IsRecordFault limit (lines_of (text ++ more)) fault
+    by (inl below) =
+        let within = within_front (told_lines text) (line_left (open_line text)) told.is.earlier told.is.line told.is.later (sym (lines_of_told text)
+        ∙ told.is.whole) below in
+        fault_in_front limit (told_lines text) (lines_of (text ++ more))
+        (map strip_carriage_return (without_empty_last ((open_line text ++ on.first) ∷ on.pieces))) fault on.lines (record {
+          earlier = told.is.earlier;
+          line = told.is.line;
+          later = within.0;
+          whole = within.1;
+          number = told.is.number;
+          earlier_within = told.is.earlier_within;
+          earlier_begin = told.is.earlier_begin;
+          here = told.is.here;
+          cause = told.is.cause;
+        })
+    by (inr high) =
+        let opened = open_told high (nat_le 82 (length (open_line text))) refl most in
+        let long = opened.1 in
+        let size = length-append (open_line text) on.first in
+        let left = first_left (open_line text ++ on.first) on.pieces (omega arith) in
+        let place = behind_front (told_lines text) (strip_carriage_return (open_line text)) told.is.earlier told.is.line told.is.later
+        (sym (lines_of_open text (omega arith)) ∙ told.is.whole) opened.0 in
+        let longer : length (strip_carriage_return (open_line text ++ on.first)) ≢ 80 = not_80 (open_line text ++ on.first) (omega arith) in
+        let short : length told.is.line ≢ 80 = subst (λ line. length line ≢ 80) (sym place.1) (not_80 (open_line text) long) in
+        record {
+          earlier = told.is.earlier;
+          line = strip_carriage_return (open_line text ++ on.first);
+          later = map strip_carriage_return left.0;
+          whole = on.lines ∙ (λ i. sym place.0 i ++ map strip_carriage_return (left.1 i));
+          number = told.is.number;
+          earlier_within = told.is.earlier_within;
+          earlier_begin = told.is.earlier_begin;
+          here = inr (no_begin told.is.earlier (strip_carriage_return (open_line text ++ on.first)) longer);
+          cause = cause_stays limit told.is.earlier told.is.line (strip_carriage_return (open_line text ++ on.first)) fault.cause short longer told.is.cause;
+        }
+
+-- and is the fault of the whole text
+pub fault_in_the_end : (limit : ℕ) (text more : List ℕ) (fault : FileFault) → IsFaultSoFar limit text fault → IsFileFault limit (text ++ more) fault
+fault_in_the_end limit text more fault told = inl (fault_stays limit text more fault told).is
+
+-- a text tells one fault at most
+pub one_fault_so_far : (limit : ℕ) (text : List ℕ) (first second : FileFault) → IsFaultSoFar limit text first → IsFaultSoFar limit text second → first ≡ second
+one_fault_so_far limit text first second one two = one_fault limit text first second (inl one.is) (inl two.is)
+
+-- ---- a fault, or none among the told lines
+
+-- the lines that are told of a text with at most 81 bytes behind its last line feed
+pub lines_told_short : (text : List ℕ) → length (open_line text) ≤ 81 → lines_told text ≡ length (told_lines text)
+lines_told_short text short =
+    lines_told_is text ∙ ap (λ b. length (told_lines text) + cond b 1 0) (lt-leb 82 (length (open_line text)) (omega arith)) ∙ omega arith
+
+-- an open line of more than 81 bytes is told too
+pub lines_told_long : (text : List ℕ) → 82 ≤ length (open_line text) → lines_told text ≡ length (told_lines text) + 1
+lines_told_long text long = lines_told_is text ∙ ap (λ b. length (told_lines text) + cond b 1 0) (le-leb 82 (length (open_line text)) long)
+
+-- where the open line is shorter, what is told is the lines whose line feed came
+pub take_told : (text : List ℕ) → length (open_line text) ≤ 81 → take (lines_told text) (lines_of text) ≡ told_lines text
+take_told text short =
+    ap (λ lines. take (lines_told text) lines) (lines_of_told text) ∙ take_at (told_lines text) (line_left (open_line text)) (lines_told text)
+    (sym (lines_told_short text short))
+
+-- no line that is told is at fault: some file begins with them, they are within the limit, and the open line has at most 81 bytes
+pub record TellsNoFault (limit : ℕ) (text : List ℕ) : Type 0 where
+  pub begin : BeginsFile (told_lines text)
+  pub within : length (told_lines text) ≤ limit
+  pub short : length (open_line text) ≤ 81
+
+number_within : (limit : ℕ) (records : Lines) (fault : FileFault) → IsRecordFault limit records fault → fault.number ≤ length records
+number_within limit records fault is = let size = ap length is.whole ∙ length-append is.earlier (is.line ∷ is.later) in let number = is.number in omega arith
+
+-- a text tells a fault, or none of its told records is at fault
+pub fault_so_far_or_none : (limit : ℕ) (text : List ℕ) → ((fault : FileFault) × IsFaultSoFar limit text fault) ⊎ TellsNoFault limit text
+fault_so_far_or_none limit text = by (cases_lt (length (open_line text)) 82)
+  where
+    told : Pass limit (told_lines text) ⊎ HasRecordFault limit (told_lines text) → length (open_line text) ≤ 81
+        → ((fault : FileFault) × IsFaultSoFar limit text fault) ⊎ TellsNoFault limit text
+    told (inl pass) short = inr (record { begin = (begins_iff_place (told_lines text)).1 (pass.0, pass.1); within = pass.2; short = short })
+    told (inr fault) short =
+        let same = lines_told_short text short in
+        let number = number_within limit (told_lines text) fault.0 fault.1 in
+        inl (
+          fault.0,
+          record {
+            is = fault_in_front limit (told_lines text) (lines_of text) (line_left (open_line text)) fault.0 (lines_of_told text) fault.1;
+            told = omega arith;
+          },
+        )
+
+    opened : Pass limit (lines_of text) ⊎ HasRecordFault limit (lines_of text) → 82 ≤ length (open_line text)
+        → ((fault : FileFault) × IsFaultSoFar limit text fault) ⊎ TellsNoFault limit text
+    opened (inl pass) long =
+        absurd (no_begin (told_lines text) (strip_carriage_return (open_line text)) (not_80 (open_line text) long)
+        (subst BeginsFile (lines_of_open text (omega arith)) ((begins_iff_place (lines_of text)).1 (pass.0, pass.1))))
+    opened (inr fault) long =
+        let same = lines_told_long text long in
+        let size = ap length (lines_of_open text (omega arith)) ∙ length-append (told_lines text) (strip_carriage_return (open_line text) ∷ []) in
+        let number = number_within limit (lines_of text) fault.0 fault.1 in
+        inl (fault.0, record { is = fault.1; told = omega arith })
+
+    by : (length (open_line text) < 82) ⊎ (82 ≤ length (open_line text)) → ((fault : FileFault) × IsFaultSoFar limit text fault) ⊎ TellsNoFault limit text
+    by (inl short) = told (pass_or_fault limit (told_lines text)) (omega arith)
+    by (inr long) = opened (pass_or_fault limit (lines_of text)) long
+
+-- the same in the words of the definitions
+abbrev pub PassesSoFar : ℕ → List ℕ → Type 0
+PassesSoFar limit text =
+    BeginsFile (take (lines_told text) (lines_of text)) × (lines_told text ≤ limit) × (length (last_of (slice_split (λ b. b == 10) text)) ≤ 81)
+
+-- where no told record is at fault, the told lines begin a file within the limit
+pub passes_so_far : (limit : ℕ) (text : List ℕ) → TellsNoFault limit text → PassesSoFar limit text
+passes_so_far limit text none =
+    let same = lines_told_short text none.short in
+    let within = none.within in
+    (subst BeginsFile (sym (take_told text none.short)) none.begin, omega arith, none.short)
+
+-- a text tells a fault, or its told lines begin a file within the limit
+pub fault_so_far_or_passes : (limit : ℕ) (text : List ℕ) → ((fault : FileFault) × IsFaultSoFar limit text fault) ⊎ PassesSoFar limit text
+fault_so_far_or_passes limit text = by (fault_so_far_or_none limit text)
+  where
+    by : ((fault : FileFault) × IsFaultSoFar limit text fault) ⊎ TellsNoFault limit text → ((fault : FileFault) × IsFaultSoFar limit text fault)
+        ⊎ PassesSoFar limit text
+    by (inl fault) = inl fault
+    by (inr none) = inr (passes_so_far limit text none)
+
+-- and not both
+pub passes_no_fault : (limit : ℕ) (text : List ℕ) (fault : FileFault) → PassesSoFar limit text → ¬ IsFaultSoFar limit text fault
+passes_no_fault limit text fault passes told = by told.is.here
+  where
+    same : lines_told text ≡ length (told_lines text)
+    same = lines_told_short text passes.2
+
+    below : length told.is.earlier < length (told_lines text)
+    below = let number = told.is.number in let at_number = told.told in let told_is = same in omega arith
+
+    within : (rest : Lines) × (told_lines text ≡ told.is.earlier ++ told.is.line ∷ rest)
+    within =
+        within_front (told_lines text) (line_left (open_line text)) told.is.earlier told.is.line told.is.later (sym (lines_of_told text) ∙ told.is.whole) below
+
+    by : (limit ≤ length told.is.earlier) ⊎ (¬ BeginsFile (told.is.earlier ++ told.is.line ∷ [])) → ⊥
+    by (inl over) = let most = passes.1 in let under = below in let told_is = same in absurd (omega arith)
+    by (inr none) =
+        none (begins_front (told.is.earlier ++ told.is.line ∷ []) within.0
+        (subst BeginsFile (take_told text passes.2 ∙ within.1 ∙ sym (append_assoc told.is.earlier (told.is.line ∷ []) within.0)) passes.0))
+
+-- ---- for a reader of pieces
+
+-- of a line of another length the cause does not look at its bytes
+pub cause_of_length : (limit count : ℕ) (place : Place) (line : List ℕ) → length line ≢ 80 → cause_of limit count place line ≡ cause_of_long limit count place
+cause_of_length limit count place line apart =
+    λ i. cond (nat_le limit count) too_many
+    (cond (is_after_end place) after_trailer (cond (ne_eqb (length line) 80 apart i) (byte_cause place line) bad_length))
+
+-- where the lines that are told lead to a place, none is at fault
+pub no_fault_told : (limit : ℕ) (text : List ℕ) (place : Place) → IsPlaceOf (told_lines text) place → length (told_lines text) ≤ limit
+    → length (open_line text) ≤ 81
+    → (fault : FileFault) → ¬ IsFaultSoFar limit text fault
+no_fault_told limit text place found within short fault =
+    passes_no_fault limit text fault (passes_so_far limit text (record {
+      begin = (begins_iff_place (told_lines text)).1 (place, found);
+      within = within;
+      short = short;
+    }))
+
+-- a line whose line feed came is at fault, whatever follows it
+pub fault_at_feed : (limit : ℕ) (text front rest : List ℕ) (place : Place) → HasNoFeed front → IsPlaceOf (told_lines text) place
+    → length (told_lines text) ≤ limit
+    → (limit ≤ length (told_lines text)) ⊎ (next_place place (strip_carriage_return (open_line text ++ front)) ≡ None)
+    → IsFaultSoFar limit (text ++ (front ++ 10 ∷ rest))
+    (record {
+      number = length (told_lines text) + 1;
+      cause = cause_of limit (length (told_lines text)) place
+          (strip_carriage_return (open_line text ++ front));
+    })
+fault_at_feed limit text front rest place plain found within here = record {
+  is = record_fault limit (told_lines text) place (strip_carriage_return (open_line text ++ front)) found (lines_of (text ++ (front ++ 10 ∷ rest)))
+      (told_lines rest ++ line_left (open_line (text ++ (front ++ 10 ∷ rest))))
+      (lines_of_told (text ++ (front ++ 10 ∷ rest)) ∙ (λ i. told_lines_cut text front rest plain i ++ line_left (open_line (text ++ (front ++ 10 ∷ rest))))
+      ∙ append_assoc (told_lines text) (strip_carriage_return (open_line text ++ front) ∷ told_lines rest)
+      (line_left (open_line (text ++ (front ++ 10 ∷ rest)))))
+      within here;
+  told =
+      let told_is = lines_told_is (text ++ (front ++ 10 ∷ rest)) in
+      let size = ap length (told_lines_cut text front rest plain) ∙ length-append (told_lines text)
+      (strip_carriage_return (open_line text ++ front) ∷ told_lines rest) in
+      omega arith;
+}
+
+-- an open line of more than 81 bytes is at fault, whatever follows it
+pub fault_at_long : (limit : ℕ) (text : List ℕ) (place : Place) → IsPlaceOf (told_lines text) place → length (told_lines text) ≤ limit
+    → 82 ≤ length (open_line text)
+    → IsFaultSoFar limit text (record { number = length (told_lines text) + 1; cause = cause_of_long limit (length (told_lines text)) place })
+fault_at_long limit text place found within long =
+    let apart : length (strip_carriage_return (open_line text)) ≢ 80 = not_80 (open_line text) long in
+    let told_is = lines_told_long text long in
+    subst (λ cause. IsFaultSoFar limit text (record { number = length (told_lines text) + 1; cause = cause }))
+    (cause_of_length limit (length (told_lines text)) place (strip_carriage_return (open_line text)) apart)
+    (record {
+      is =
+          record_fault limit (told_lines text) place (strip_carriage_return (open_line text)) found (lines_of text) [] (lines_of_open text (omega arith)) within
+          (inr (no_next_place place (strip_carriage_return (open_line text)) apart));
+      told = omega arith;
+    })
+
+-- at the end the open line is a line too, if it isn't empty
+pub fault_at_end : (limit : ℕ) (text : List ℕ) (place : Place) → IsPlaceOf (told_lines text) place → length (told_lines text) ≤ limit
+    → 0 < length (open_line text)
+    → (limit ≤ length (told_lines text)) ⊎ (next_place place (strip_carriage_return (open_line text)) ≡ None)
+    → IsFileFault limit text (record {
+      number = length (told_lines text) + 1;
+      cause = cause_of limit (length (told_lines text)) place
+          (strip_carriage_return (open_line text));
+    })
+fault_at_end limit text place found within some here =
+    inl (record_fault limit (told_lines text) place (strip_carriage_return (open_line text)) found (lines_of text) [] (lines_of_open text some) within here)
+
+-- an open line with bytes is one line more
+pub length_at_end : (text : List ℕ) → 0 < length (open_line text) → length (lines_of text) ≡ length (told_lines text) + 1
+length_at_end text some = ap length (lines_of_open text some) ∙ length-append (told_lines text) (strip_carriage_return (open_line text) ∷ [])

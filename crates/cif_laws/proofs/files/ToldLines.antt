@@ -1,0 +1,234 @@
+-- A text as it comes in: the lines whose line feed came, and the open line behind the last one.
+use Rattle.std.proofs.Common.{ℕ, ◌<◌, List, length, Bool, arith, ◌≡◌, ◌+◌, [], ◌∷◌, ◌++◌, refl, ap, sym, ◌∙◌, true, false, map, append-nil, ◌≤◌, subst, cond, length-append}
+use Rattle.std.specs.Prelude.{◌==◌, nat_le, if◌then◌else◌}
+use Rattle.std.specs.List.{slice_split, onto_first}
+use Rattle.std.specs.Str.Lines.{strip_carriage_return}
+use Rattle.std.proofs.lemmas.Bool.{leb-true, le-leb}
+use Rattle.std.proofs.lemmas.List.{map-append, length-map}
+use Rattle.std.proofs.lemmas.List.Splits.{length-slice_split, slice_split-cons_yes, slice_split-cons_no, slice_split_none, slice_split_at}
+use Rattle.docker_model.specs.records.Record.{Lines}
+use Rattle.docker_model.specs.file.Text.{last_piece, without_empty_last, lines_of}
+use Rattle.docker_model.specs.file.FaultSoFar.{last_of, lines_told}
+use Rattle.cif_laws.specs.LinesTold.{but_last, open_line, told_lines, pieces_of, line_left, feeds, HasNoFeed}
+
+-- ---- pieces
+
+some_pieces : (p : ℕ → Bool) (text : List ℕ) → 0 < length (slice_split p text)
+some_pieces p text = let size = length-slice_split p text in omega arith
+
+without_last : (pieces : Lines) → without_empty_last pieces ≡ but_last pieces ++ last_piece (last_of pieces)
+without_last [] = refl
+without_last (piece ∷ []) = refl
+without_last (piece ∷ next ∷ pieces) = ap (λ rest. piece ∷ rest) (without_last (next ∷ pieces))
+
+length_but_last : (pieces : Lines) → 0 < length pieces → length (but_last pieces) + 1 ≡ length pieces
+length_but_last [] some = absurd (omega arith)
+length_but_last (piece ∷ []) some = refl
+length_but_last (piece ∷ next ∷ pieces) some = let rest = length_but_last (next ∷ pieces) (omega arith) in omega arith
+
+but_last_append : (front : Lines) (piece : List ℕ) (pieces : Lines) → but_last (front ++ piece ∷ pieces) ≡ front ++ but_last (piece ∷ pieces)
+but_last_append [] piece pieces = refl
+but_last_append (first ∷ []) piece pieces = refl
+but_last_append (first ∷ second ∷ front) piece pieces = ap (λ rest. first ∷ rest) (but_last_append (second ∷ front) piece pieces)
+
+last_of_append : (front : Lines) (piece : List ℕ) (pieces : Lines) → last_of (front ++ piece ∷ pieces) ≡ last_of (piece ∷ pieces)
+last_of_append [] piece pieces = refl
+last_of_append (first ∷ []) piece pieces = refl
+last_of_append (first ∷ second ∷ front) piece pieces = last_of_append (second ∷ front) piece pieces
+
+without_last_append : (front : Lines) (piece : List ℕ) (pieces : Lines) → without_empty_last (front ++ piece ∷ pieces) ≡ front ++ without_empty_last
+    (piece ∷ pieces)
+without_last_append [] piece pieces = refl
+without_last_append (first ∷ []) piece pieces = refl
+without_last_append (first ∷ second ∷ front) piece pieces = ap (λ rest. first ∷ rest) (without_last_append (second ∷ front) piece pieces)
+
+-- pieces of which the first goes on with these bytes
+abbrev pub going_on : List ℕ → Lines → Lines
+going_on bytes [] = bytes ∷ []
+going_on bytes (piece ∷ pieces) = (bytes ++ piece) ∷ pieces
+
+at_feed : (pieces more : Lines) → 0 < length pieces → [] ∷ (but_last pieces ++ going_on (last_of pieces) more) ≡ but_last ([] ∷ pieces) ++ going_on
+    (last_of ([] ∷ pieces)) more
+at_feed [] more some = absurd (omega arith)
+at_feed (piece ∷ pieces) more some = refl
+
+at_byte : (b : ℕ) (pieces more : Lines) → 0 < length pieces
+    → onto_first b (but_last pieces ++ going_on (last_of pieces) more) ≡ but_last (onto_first b pieces) ++ going_on (last_of (onto_first b pieces)) more
+at_byte b [] more some = absurd (omega arith)
+at_byte b (piece ∷ []) [] some = refl
+at_byte b (piece ∷ []) (first ∷ more) some = refl
+at_byte b (piece ∷ next ∷ pieces) more some = refl
+
+go_on_empty : (pieces : Lines) → 0 < length pieces → pieces ≡ going_on [] pieces
+go_on_empty [] some = absurd (omega arith)
+go_on_empty (piece ∷ pieces) some = refl
+
+-- the pieces of a text that goes on: the last piece so far goes on
+pub split_append : (p : ℕ → Bool) (text more : List ℕ) → slice_split p (text ++ more) ≡ but_last (slice_split p text) ++ going_on (last_of (slice_split p text))
+    (slice_split p more)
+split_append p [] more = go_on_empty (slice_split p more) (some_pieces p more)
+split_append p (b ∷ text) more = by (p b) refl (split_append p text more)
+  where
+    by : (t : Bool) → p b ≡ t → slice_split p (text ++ more) ≡ but_last (slice_split p text) ++ going_on (last_of (slice_split p text)) (slice_split p more)
+        → slice_split p ((b ∷ text) ++ more) ≡ but_last (slice_split p (b ∷ text)) ++ going_on (last_of (slice_split p (b ∷ text))) (slice_split p more)
+    by true h rest =
+        slice_split-cons_yes p b (text ++ more) h ∙ ap (λ pieces. [] ∷ pieces) rest ∙ at_feed (slice_split p text) (slice_split p more) (some_pieces p text)
+        ∙ (λ i. but_last (sym (slice_split-cons_yes p b text h) i) ++ going_on (last_of (sym (slice_split-cons_yes p b text h) i)) (slice_split p more))
+    by false h rest =
+        slice_split-cons_no p b (text ++ more) h ∙ ap (onto_first b) rest ∙ at_byte b (slice_split p text) (slice_split p more) (some_pieces p text)
+        ∙ (λ i. but_last (sym (slice_split-cons_no p b text h) i) ++ going_on (last_of (sym (slice_split-cons_no p b text h) i)) (slice_split p more))
+
+-- ---- lines
+
+-- the lines of a text are those that are told, and the open one where it isn't empty
+pub lines_of_told : (text : List ℕ) → lines_of text ≡ told_lines text ++ line_left (open_line text)
+lines_of_told text =
+    ap (map strip_carriage_return) (without_last (pieces_of text)) ∙ map-append strip_carriage_return (but_last (pieces_of text)) (last_piece (open_line text))
+
+-- the same where the open line is empty, and where it isn't
+pub lines_of_ended : (text : List ℕ) → open_line text ≡ [] → lines_of text ≡ told_lines text
+lines_of_ended text none = lines_of_told text ∙ (λ i. told_lines text ++ line_left (none i)) ∙ append-nil (told_lines text)
+
+line_left_some : (piece : List ℕ) → 0 < length piece → line_left piece ≡ strip_carriage_return piece ∷ []
+line_left_some [] some = absurd (omega arith)
+line_left_some (b ∷ bytes) some = refl
+
+-- an open line with bytes is the last line of the text
+pub lines_of_open : (text : List ℕ) → 0 < length (open_line text) → lines_of text ≡ told_lines text ++ strip_carriage_return (open_line text) ∷ []
+lines_of_open text some = lines_of_told text ∙ ap (λ lines. told_lines text ++ lines) (line_left_some (open_line text) some)
+
+-- a line is told for each line feed
+pub length_told_lines : (text : List ℕ) → length (told_lines text) ≡ feeds text
+length_told_lines text =
+    let size = length-slice_split (λ b. b == 10) text in
+    let front = length_but_last (pieces_of text) (some_pieces (λ b. b == 10) text) in
+    let mapped = length-map (but_last (pieces_of text)) strip_carriage_return in
+    omega arith
+
+-- the lines that are told whatever follows: those, and an open one of more than 81 bytes
+pub lines_told_is : (text : List ℕ) → lines_told text ≡ length (told_lines text) + (if nat_le 82 (length (open_line text)) then 1 else 0)
+lines_told_is text = ap (λ n. n + (if nat_le 82 (length (open_line text)) then 1 else 0)) (sym (length_told_lines text))
+
+-- ---- a text that goes on
+
+-- bytes without a line feed tell no line
+pub told_lines_plain : (text piece : List ℕ) → HasNoFeed piece → told_lines (text ++ piece) ≡ told_lines text
+told_lines_plain text piece plain =
+    ap (λ pieces. map strip_carriage_return (but_last pieces))
+    (split_append (λ b. b == 10) text piece ∙ (λ i. but_last (pieces_of text) ++ going_on (open_line text) (slice_split_none (λ b. b == 10) piece plain i)))
+    ∙ ap (map strip_carriage_return) (but_last_append (but_last (pieces_of text)) (open_line text ++ piece) [] ∙ append-nil (but_last (pieces_of text)))
+
+-- and the open line goes on with them
+pub open_line_plain : (text piece : List ℕ) → HasNoFeed piece → open_line (text ++ piece) ≡ open_line text ++ piece
+open_line_plain text piece plain =
+    ap last_of (split_append (λ b. b == 10) text piece
+    ∙ (λ i. but_last (pieces_of text) ++ going_on (open_line text) (slice_split_none (λ b. b == 10) piece plain i)))
+    ∙ last_of_append (but_last (pieces_of text)) (open_line text ++ piece) []
+
+pieces_cut : (text front rest : List ℕ) → HasNoFeed front → pieces_of (text ++ (front ++ 10 ∷ rest)) ≡ but_last (pieces_of text) ++
+    (open_line text ++ front) ∷ pieces_of rest
+pieces_cut text front rest plain =
+    split_append (λ b. b == 10) text (front ++ 10 ∷ rest)
+    ∙ (λ i. but_last (pieces_of text) ++ going_on (open_line text) (slice_split_at (λ b. b == 10) front 10 rest plain refl i))
+
+but_first : (piece : List ℕ) (pieces : Lines) → 0 < length pieces → but_last (piece ∷ pieces) ≡ piece ∷ but_last pieces
+but_first piece [] some = absurd (omega arith)
+but_first piece (next ∷ pieces) some = refl
+
+last_rest : (piece : List ℕ) (pieces : Lines) → 0 < length pieces → last_of (piece ∷ pieces) ≡ last_of pieces
+last_rest piece [] some = absurd (omega arith)
+last_rest piece (next ∷ pieces) some = refl
+
+-- a line feed ends the open line, and what follows it is a text of its own
+pub told_lines_cut : (text front rest : List ℕ) → HasNoFeed front
+    → told_lines (text ++ (front ++ 10 ∷ rest)) ≡ told_lines text ++ strip_carriage_return (open_line text ++ front) ∷ told_lines rest
+told_lines_cut text front rest plain =
+    ap (λ pieces. map strip_carriage_return (but_last pieces)) (pieces_cut text front rest plain)
+    ∙ ap (map strip_carriage_return)
+    (but_last_append (but_last (pieces_of text)) (open_line text ++ front) (pieces_of rest)
+    ∙ ap (λ pieces. but_last (pieces_of text) ++ pieces) (but_first (open_line text ++ front) (pieces_of rest) (some_pieces (λ b. b == 10) rest)))
+    ∙ map-append strip_carriage_return (but_last (pieces_of text)) ((open_line text ++ front) ∷ but_last (pieces_of rest))
+
+-- a line feed cuts the open line off
+pub open_line_cut : (text front rest : List ℕ) → HasNoFeed front → open_line (text ++ (front ++ 10 ∷ rest)) ≡ open_line rest
+open_line_cut text front rest plain =
+    ap last_of (pieces_cut text front rest plain)
+    ∙ last_of_append (but_last (pieces_of text)) (open_line text ++ front) (pieces_of rest)
+    ∙ last_rest (open_line text ++ front) (pieces_of rest) (some_pieces (λ b. b == 10) rest)
+
+-- the same up to the line feed
+pub told_lines_ended : (text front : List ℕ) → HasNoFeed front → told_lines (text ++ (front ++ 10 ∷ [])) ≡ told_lines text ++ strip_carriage_return
+    (open_line text ++ front) ∷ []
+told_lines_ended text front plain = told_lines_cut text front [] plain
+
+-- behind a line feed the open line is empty
+pub open_line_ended : (text front : List ℕ) → HasNoFeed front → open_line (text ++ (front ++ 10 ∷ [])) ≡ []
+open_line_ended text front plain = open_line_cut text front [] plain
+
+-- ---- what a text that goes on keeps
+
+-- a longer text: the first piece of what follows goes on with the open line
+pub record GoesOn (text more : List ℕ) : Type 0 where
+  pub first : List ℕ
+  pub pieces : Lines
+  pub lines : lines_of (text ++ more) ≡ told_lines text ++ map strip_carriage_return (without_empty_last ((open_line text ++ first) ∷ pieces))
+  pub told : told_lines (text ++ more) ≡ told_lines text ++ map strip_carriage_return (but_last ((open_line text ++ first) ∷ pieces))
+  pub open_is : open_line (text ++ more) ≡ last_of ((open_line text ++ first) ∷ pieces)
+
+-- what a text tells, and what is open, where it goes on
+pub goes_on : (text more : List ℕ) → GoesOn text more
+goes_on text more = by (slice_split (λ b. b == 10) more) refl
+  where
+    by : (pieces : Lines) → pieces_of more ≡ pieces → GoesOn text more
+    by [] h = let some = some_pieces (λ b. b == 10) more in let none = ap length h in absurd (omega arith)
+    by (first ∷ pieces) h = record {
+      first = first;
+      pieces = pieces;
+      lines = ap (λ all. map strip_carriage_return (without_empty_last all)) whole
+          ∙ ap (map strip_carriage_return) (without_last_append (but_last (pieces_of text)) (open_line text ++ first) pieces)
+          ∙ map-append strip_carriage_return (but_last (pieces_of text)) (without_empty_last ((open_line text ++ first) ∷ pieces));
+      told = ap (λ all. map strip_carriage_return (but_last all)) whole
+          ∙ ap (map strip_carriage_return) (but_last_append (but_last (pieces_of text)) (open_line text ++ first) pieces)
+          ∙ map-append strip_carriage_return (but_last (pieces_of text)) (but_last ((open_line text ++ first) ∷ pieces));
+      open_is = ap last_of whole ∙ last_of_append (but_last (pieces_of text)) (open_line text ++ first) pieces;
+    }
+      where
+        whole : pieces_of (text ++ more) ≡ but_last (pieces_of text) ++ (open_line text ++ first) ∷ pieces
+        whole = split_append (λ b. b == 10) text more ∙ (λ i. but_last (pieces_of text) ++ going_on (open_line text) (h i))
+
+-- the lines that a text tells begin those that a longer one tells
+pub told_lines_stay : (text more : List ℕ) → (others : Lines) × (told_lines (text ++ more) ≡ told_lines text ++ others)
+told_lines_stay text more = let on = goes_on text more in (map strip_carriage_return (but_last ((open_line text ++ on.first) ∷ on.pieces)), on.told)
+
+-- a longer text tells no fewer
+pub lines_told_grow : (text more : List ℕ) → lines_told text ≤ lines_told (text ++ more)
+lines_told_grow text more = by on.pieces on.told on.open_is
+  where
+    on : GoesOn text more
+    on = goes_on text more
+
+    longer : (b : Bool) → nat_le 82 (length (open_line text)) ≡ b → (if b then 1 else 0) ≤ (if nat_le 82 (length (open_line text ++ on.first)) then 1 else 0)
+    longer true h =
+        let size = length-append (open_line text) on.first in
+        let low = leb-true 82 (length (open_line text)) h in
+        subst (λ c. 1 ≤ cond c 1 0) (sym (le-leb 82 (length (open_line text ++ on.first)) (omega arith))) (omega arith)
+    longer false h = omega arith
+
+    most : (b : Bool) → cond b 1 0 ≤ 1
+    most true = omega arith
+    most false = omega arith
+
+    by : (pieces : Lines) → told_lines (text ++ more) ≡ told_lines text ++ map strip_carriage_return (but_last ((open_line text ++ on.first) ∷ pieces))
+        → open_line (text ++ more) ≡ last_of ((open_line text ++ on.first) ∷ pieces) → lines_told text ≤ lines_told (text ++ more)
+    by [] told last =
+        let before = lines_told_is text in
+        let behind = lines_told_is (text ++ more) ∙ (λ i. length (told i) + (if nat_le 82 (length (last i)) then 1 else 0)) in
+        let size = length-append (told_lines text) [] in
+        let grown = longer (nat_le 82 (length (open_line text))) refl in
+        omega arith
+    by (next ∷ pieces) told last =
+        let before = lines_told_is text in
+        let behind = lines_told_is (text ++ more) in
+        let size = ap length told ∙ length-append (told_lines text) (map strip_carriage_return (but_last ((open_line text ++ on.first) ∷ next ∷ pieces))) in
+        let grown = most (nat_le 82 (length (open_line text))) in
+        omega arith

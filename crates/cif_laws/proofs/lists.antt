@@ -1,0 +1,10 @@
+pub mod Membership
+pub mod AllOf
+pub mod BoolsAndOptions
+pub mod FilteredMembers
+pub mod Later
+pub mod Sorted
+pub mod ZipSteps
+pub mod Decisions
+pub mod Sublists
+pub mod Fronts

@@ -1,0 +1,20 @@
+-- Two lists that begin one list, and are as long, are one.
+use Rattle.std.proofs.Common.{◌≡◌, ℕ, List, ◌++◌, length, [], ◌∷◌, ap, refl, arith}
+
+-- fronts of one length
+pub same_front : (xs ys more rest : List ℕ) → length xs ≡ length ys → xs ++ more ≡ ys ++ rest → (xs ≡ ys) × (more ≡ rest)
+same_front [] [] more rest size same = (refl, same)
+same_front [] (y ∷ ys) more rest size same = absurd (omega arith)
+same_front (x ∷ xs) [] more rest size same = absurd (omega arith)
+same_front (x ∷ xs) (y ∷ ys) more rest size same = by (same_front xs ys more rest (omega arith) (ap tail_of same))
+  where
+    tail_of : List ℕ → List ℕ
+    tail_of [] = []
+    tail_of (z ∷ zs) = zs
+
+    head_or : List ℕ → ℕ
+    head_or [] = x
+    head_or (z ∷ zs) = z
+
+    by : (xs ≡ ys) × (more ≡ rest) → (x ∷ xs ≡ y ∷ ys) × (more ≡ rest)
+    by told = ((λ i. ap head_or same i ∷ told.0 i), told.1)

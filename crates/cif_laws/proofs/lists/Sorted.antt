@@ -1,0 +1,100 @@
+-- A sorted list of members no two of which tie is strictly ascending.
+use Rattle.std.proofs.Common.{◌≡◌, ℕ, suc, ◌+◌, ◌≤◌, List, [], ◌∷◌, get_or, refl, ap, sym, ◌∙◌, subst, true, false, cond, arith}
+use Rattle.std.specs.List.{AllByRecursion, sum_by}
+use Rattle.std.specs.List.Sorted.{IsSorted, IsPermutation}
+use Rattle.std.specs.declared.cmp.Ordering.{Ordering}
+use Rattle.std.specs.declared.cmp.Ordering.TheVariants.{Less, Equal, Greater}
+use Rattle.std.specs.Ordering.{is_eq, is_lt, ordering_reverse}
+use Rattle.std.specs.Cmp.{IsTotalOrder, tied_itself}
+use Rattle.std.proofs.lemmas.List.Sums.{sum_by-cons}
+use Rattle.std.proofs.lemmas.List.Sorted.{sum_by-IsPermutation}
+use Rattle.docker_model.specs.state.Order.{IsBelow, IsStrictlyAscending}
+use Rattle.cif_laws.proofs.lists.Membership.{below_by_recursion, each_member}
+use Rattle.cif_laws.proofs.lists.Later.{AllLater}
+
+-- the order tells each member from all behind it
+abbrev pub AreApart : {A : Type 0} → (A → A → Ordering) → List A → Type 0
+AreApart cmp xs = AllLater (λ a b. ¬ (cmp a b ≡ Equal)) xs
+
+module _ {A : Type 0} {cmp : A → A → Ordering} (total : IsTotalOrder cmp) where
+  -- 1 where the order does not tell the two apart
+  tie : A → A → ℕ
+  tie x y = cond (is_eq (cmp x y)) 1 0
+
+  -- how many tie with it
+  ties : A → List A → ℕ
+  ties x xs = sum_by (tie x) xs
+
+  tie_equal : (x y : A) → cmp x y ≡ Equal → tie x y ≡ 1
+  unfolding tie
+  tie_equal x y e = λ i. cond (is_eq (e i)) 1 0
+
+  tie_apart : (x y : A) → ¬ (cmp x y ≡ Equal) → tie x y ≡ 0
+  unfolding tie
+  tie_apart x y apart = by (cmp x y) refl
+    where
+      by : (o : Ordering) → cmp x y ≡ o → ◌≡◌ {A = ℕ} (cond (is_eq o) 1 0) 0
+      by Less e = refl
+      by Equal e = absurd (apart e)
+      by Greater e = refl
+
+  ties_nil : (x : A) → ties x [] ≡ 0
+  unfolding ties
+  ties_nil x = refl
+
+  ties_cons : (x y : A) (ys : List A) → ties x (y ∷ ys) ≡ tie x y + ties x ys
+  unfolding ties
+  ties_cons x y ys = sum_by-cons (tie x) y ys
+
+  no_ties : (x : A) (xs : List A) → AllByRecursion (λ y. ¬ (cmp x y ≡ Equal)) xs → ties x xs ≡ 0
+  no_ties x [] all = ties_nil x
+  no_ties x (y ∷ ys) all = let first = tie_apart x y all.0 in let rest = no_ties x ys all.1 in let whole = ties_cons x y ys in omega arith
+
+  -- where all are apart, at most one ties with it
+  one_tie : (x : A) (xs : List A) → AreApart cmp xs → ties x xs ≤ 1
+  one_tie x [] apart = let none = ties_nil x in omega arith
+  one_tie x (y ∷ ys) apart = by (one_tie x ys apart.1) (cmp x y) refl
+    where
+      other : ties x ys ≤ 1 → ¬ (cmp x y ≡ Equal) → ties x (y ∷ ys) ≤ 1
+      other rest no_tie = let first = tie_apart x y no_tie in let whole = ties_cons x y ys in omega arith
+
+      by : ties x ys ≤ 1 → (o : Ordering) → cmp x y ≡ o → ties x (y ∷ ys) ≤ 1
+      by rest Less e = other rest (λ f. cc)
+      by rest Greater e = other rest (λ f. cc)
+      by rest Equal e =
+          let first = tie_equal x y e in
+          let none = no_ties x ys (each_member (λ z. ¬ (cmp x z ≡ Equal)) ys (λ z among same. below_by_recursion (λ w. ¬ (cmp y w ≡ Equal)) ys z apart.0 among
+          (sym (total.congr x y z e) ∙ same))) in
+          let whole = ties_cons x y ys in omega arith
+
+  rest_sorted : (x : A) (xs : List A) → IsSorted cmp (x ∷ xs) → IsSorted cmp xs
+  rest_sorted x xs sorted k d low below =
+      let at : suc k + 1 ≡ suc (k + 1) = omega arith in
+      subst (λ n. is_lt (cmp (get_or (x ∷ xs) n d) (get_or xs k d)) ≡ false) at (sorted (suc k) d (omega arith) (omega arith))
+
+  -- a list in order in which at most one ties with each is strictly ascending
+  strictly : (xs : List A) → IsSorted cmp xs → ((x : A) → ties x xs ≤ 1) → IsStrictlyAscending cmp xs
+  strictly [] sorted one = tt
+  strictly (x ∷ []) sorted one = (tt, tt)
+  strictly (x ∷ y ∷ ys) sorted one =
+      by (strictly (y ∷ ys) (rest_sorted x (y ∷ ys) sorted) (λ z. let whole = ties_cons z x (y ∷ ys) in let bound = one z in omega arith)) (cmp x y) refl
+    where
+      by : IsStrictlyAscending cmp (y ∷ ys) → (o : Ordering) → cmp x y ≡ o → IsStrictlyAscending cmp (x ∷ y ∷ ys)
+      by rest Less e = ((e, each_member (IsBelow cmp x) ys (λ z among. total.trans x y z e (below_by_recursion (IsBelow cmp y) ys z rest.0 among))), rest)
+      by rest Equal e =
+          let self = tie_equal x x (tied_itself total x) in
+          let other = tie_equal x y e in
+          let first = ties_cons x x (y ∷ ys) in
+          let second = ties_cons x y ys in
+          let bound = one x in
+          absurd (omega arith)
+      by rest Greater e =
+          let back : cmp y x ≡ Less = total.antisymm y x ∙ ap ordering_reverse e in
+          let bad : true ≡ false = sym (ap is_lt back) ∙ sorted 0 x (omega arith) (omega arith) in
+          cc
+
+  -- so what a sort makes of members that are apart is strictly ascending
+  pub sort_ascends : (xs ys : List A) → AreApart cmp xs → IsPermutation xs ys → IsSorted cmp ys → IsStrictlyAscending cmp ys
+  unfolding ties
+  sort_ascends xs ys apart same sorted =
+      strictly ys sorted (λ x. let sums = sum_by-IsPermutation (tie x) xs ys same in let bound = one_tie x xs apart in subst (λ n. n ≤ 1) (sym sums) bound)

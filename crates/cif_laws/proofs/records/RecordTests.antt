@@ -1,0 +1,204 @@
+-- Tests of a record, and the midnights of a schedule as its lines come in.
+use Rattle.std.proofs.Common.{ℕ, List, ◌≡◌, refl, true, ◌+◌, [], ◌∷◌, length, ◌∙◌, cond, arith, Bool, false, suc, ◌≤◌, Some, None, sym, ap, eqb-true, ◌++◌, map, subst, ◌*◌, ◌⊎◌, inl, inr}
+use Rattle.std.specs.Prelude.{not, option_map, nat_lt, ◌==◌, ◌↔◌, Option, slice_index, ◌||◌}
+use Rattle.std.specs.List.{prefix_len, AllByRecursion, AllPass, flat_map}
+use Rattle.std.proofs.lemmas.Bool.{ltb-true, ltb-false}
+use Rattle.std.proofs.lemmas.List.{map-append}
+use Rattle.std.proofs.lemmas.Grind.{flat_map-append}
+use Rattle.std.proofs.lemmas.List.Elements.{recursion_from_All, All-from_recursion}
+use Rattle.docker_model.specs.records.Record.{is_printable, leftmost_bad_byte, IsRecord, Kind, HasKind, origin_location, intermediate_location, terminating_location, columns, kind_of}
+use Rattle.docker_model.specs.records.Clock.{is_clock, is_present_time, half_minutes, minute_of, is_blank, is_scheduled_time, scheduled_time}
+use Rattle.docker_model.specs.records.Field.{HasGoodFields}
+use Rattle.docker_model.specs.file.Journey.{fall_count, Occasion, times_of, times_along, midnights, times_by_kind, timed, departure, arrival, pass}
+use Rattle.cif_laws.specs.RecordTest.{is_record}
+use Rattle.cif_laws.specs.TimesSoFar.{falls_after, last_of, later_or}
+use Rattle.cif_laws.proofs.lists.AllOf.{all_append, all_map}
+use Rattle.cif_laws.proofs.records.Columns.{good_fields}
+use Rattle.cif_laws.proofs.lists.BoolsAndOptions.{both, test_by_none, none_by_test, and_true, either}
+use Rattle.cif_laws.proofs.records.GoodFields.{clock_minute}
+
+-- ---- a record
+
+abbrev printable_front : List ℕ → ℕ
+printable_front bytes = prefix_len (λ b. not (not (is_printable b))) bytes
+
+front_whole : (bytes : List ℕ) → AllByRecursion (λ b. is_printable b ≡ true) bytes → printable_front bytes ≡ length bytes
+front_whole [] all = refl
+front_whole (b ∷ bytes) all = (λ i. cond (not (not (all.0 i))) (1 + printable_front bytes) 0) ∙ (let e = front_whole bytes all.1 in omega arith)
+
+whole_front : (bytes : List ℕ) → length bytes ≤ printable_front bytes → AllByRecursion (λ b. is_printable b ≡ true) bytes
+whole_front [] all = tt
+whole_front (b ∷ bytes) all = by (is_printable b) refl all (whole_front bytes)
+  where
+    by : (t : Bool) → is_printable b ≡ t → suc (length bytes) ≤ cond (not (not t)) (1 + printable_front bytes) 0
+        → (length bytes ≤ printable_front bytes → AllByRecursion (λ c. is_printable c ≡ true) bytes) → AllByRecursion (λ c. is_printable c ≡ true) (b ∷ bytes)
+    by true h most rest = (h, rest (omega arith))
+    by false h most rest = absurd (omega arith)
+
+bad_byte_by : (bytes : List ℕ) (t : Bool) → nat_lt (printable_front bytes) (length bytes) ≡ t → leftmost_bad_byte bytes ≡ option_map (λ (i : ℕ). i + 1)
+    (cond t (Some (printable_front bytes)) None)
+bad_byte_by bytes t h = λ i. option_map (λ (k : ℕ). k + 1) (cond (h i) (Some (printable_front bytes)) None)
+
+-- printable bytes have no bad one
+pub no_bad_byte : (bytes : List ℕ) → AllPass is_printable bytes → leftmost_bad_byte bytes ≡ None
+no_bad_byte bytes all = by (nat_lt (printable_front bytes) (length bytes)) refl
+  where
+    by : (t : Bool) → nat_lt (printable_front bytes) (length bytes) ≡ t → leftmost_bad_byte bytes ≡ None
+    by true h =
+        let whole = front_whole bytes (recursion_from_All (λ b. is_printable b ≡ true) bytes all) in let less = ltb-true (printable_front bytes)
+        (length bytes) h in absurd (omega arith)
+    by false h = bad_byte_by bytes false h
+
+-- bytes without a bad one are printable
+pub printable_by_none : (bytes : List ℕ) → leftmost_bad_byte bytes ≡ None → AllPass is_printable bytes
+printable_by_none bytes none = by (nat_lt (printable_front bytes) (length bytes)) refl
+  where
+    by : (t : Bool) → nat_lt (printable_front bytes) (length bytes) ≡ t → AllPass is_printable bytes
+    by true h = let bad : Some (printable_front bytes + 1) ≡ None = sym (bad_byte_by bytes true h) ∙ none in cc
+    by false h =
+        let most = ltb-false (printable_front bytes) (length bytes) h in All-from_recursion (λ b. is_printable b ≡ true) bytes (whole_front bytes (omega arith))
+
+-- bytes are a record exactly where they pass the test
+pub record_iff_test : (line : List ℕ) → IsRecord line ↔ (is_record line ≡ true)
+record_iff_test line = (
+  λ is. and_true (length line == 80) _ (ap (λ n. n == 80) is.0) (test_by_none (leftmost_bad_byte line) (no_bad_byte line is.1)),
+  λ test.
+      let parts = both (length line == 80) _ test in
+      (eqb-true (length line) 80 parts.0, printable_by_none line (none_by_test (leftmost_bad_byte line) parts.1)),
+)
+
+-- ---- midnights
+
+-- the falls of times in two parts
+pub fall_count-append : (times later : List ℕ) → fall_count (times ++ later) ≡ fall_count times + falls_after (last_of times) later
+fall_count-append [] later = omega arith
+fall_count-append (time ∷ []) later = omega arith
+fall_count-append (time ∷ next ∷ times) later = let rest = fall_count-append (next ∷ times) later in omega arith
+
+-- times that go on fall no less often, from a first one on
+pub fall_count_behind : (time : ℕ) (times later : List ℕ) → fall_count (time ∷ times) ≤ fall_count ((time ∷ times) ++ later)
+fall_count_behind time [] later = omega arith
+fall_count_behind time (next ∷ times) later = let rest = fall_count_behind next times later in omega arith
+
+-- times that go on fall no less often
+pub fewer_falls : (times later : List ℕ) → fall_count times ≤ fall_count (times ++ later)
+fewer_falls [] later = omega arith
+fewer_falls (time ∷ times) later = fall_count_behind time times later
+
+-- the last of times in two parts is the last of the second, if it has one
+pub last_of-append : (times later : List ℕ) → last_of (times ++ later) ≡ later_or (last_of later) (last_of times)
+last_of-append [] later = by (last_of later)
+  where
+    by : (o : Option ℕ) → o ≡ later_or o None
+    by None = refl
+    by (Some last) = refl
+last_of-append (time ∷ []) [] = refl
+last_of-append (time ∷ []) (next ∷ later) = by next later
+  where
+    by : (first : ℕ) (rest : List ℕ) → last_of (first ∷ rest) ≡ later_or (last_of (first ∷ rest)) (Some time)
+    by first [] = refl
+    by first (second ∷ rest) = by second rest
+last_of-append (time ∷ next ∷ times) later = last_of-append (next ∷ times) later
+
+-- a time that none is above adds no fall
+abbrev pub last_time : ℕ
+last_time = 2879
+
+no_fall_behind : (time : ℕ) (times : List ℕ) → AllByRecursion (λ t. t ≤ last_time) (time ∷ times) → fall_count ((time ∷ times) ++ last_time ∷ []) ≡ fall_count
+    (time ∷ times)
+no_fall_behind time [] all = by (nat_lt last_time time) refl
+  where
+    by : (t : Bool) → nat_lt last_time time ≡ t → cond (nat_lt last_time time) 1 0 + 0 ≡ 0
+    by true h = let less = ltb-true last_time time h in let within = all.0 in absurd (omega arith)
+    by false h = λ i. cond (h i) 1 0 + 0
+no_fall_behind time (next ∷ times) all = ap (λ n. cond (nat_lt next time) 1 0 + n) (no_fall_behind next times all.1)
+
+-- a time that none is above adds no fall
+pub no_fall_last : (times : List ℕ) → AllByRecursion (λ t. t ≤ last_time) times → fall_count (times ++ last_time ∷ []) ≡ fall_count times
+no_fall_last [] all = refl
+no_fall_last (time ∷ times) all = no_fall_behind time times all
+
+-- the times of lines in two parts
+pub times_append : (lines more : List (List ℕ)) → times_along (lines ++ more) ≡ times_along lines ++ times_along more
+times_append lines more =
+    ap (map (λ (time : Occasion × ℕ). time.1)) (flat_map-append times_of lines more) ∙ map-append (λ (time : Occasion × ℕ). time.1) (flat_map times_of lines)
+    (flat_map times_of more)
+
+-- lines that go on pass midnight no less often
+pub fewer_midnights : (lines more : List (List ℕ)) → midnights lines ≤ midnights (lines ++ more)
+fewer_midnights lines more =
+    subst (λ times. midnights lines ≤ fall_count times) (sym (times_append lines more)) (fewer_falls (times_along lines) (times_along more))
+
+-- the midnights with one more record: those so far, and the falls of its times behind the last time so far
+pub midnights_step : (lines : List (List ℕ)) (line : List ℕ) → midnights (lines ++ line ∷ []) ≡ midnights lines + falls_after (last_of (times_along lines))
+    (times_along (line ∷ []))
+midnights_step lines line = ap fall_count (times_append lines (line ∷ [])) ∙ fall_count-append (times_along lines) (times_along (line ∷ []))
+
+-- the last time with one more record
+pub last_time_step : (lines : List (List ℕ)) (line : List ℕ) → last_of (times_along (lines ++ line ∷ [])) ≡ later_or (last_of (times_along (line ∷ [])))
+    (last_of (times_along lines))
+last_time_step lines line = ap last_of (times_append lines (line ∷ [])) ∙ last_of-append (times_along lines) (times_along (line ∷ []))
+
+-- a line without times
+pub no_times : (kind : Kind) (line : List ℕ) → HasKind kind line → times_by_kind (Some kind) line ≡ [] → times_of line ≡ []
+no_times kind line is none = ap (λ k. times_by_kind k line) is ∙ none
+
+-- a line without times adds none
+pub no_times_before : (line : List ℕ) (lines : List (List ℕ)) → times_of line ≡ [] → times_along (line ∷ lines) ≡ times_along lines
+no_times_before line lines none = ap (λ times. map (λ (time : Occasion × ℕ). time.1) (times ++ flat_map times_of lines)) none
+
+-- the times of good fields are within the day
+abbrev IsWithinDay : Occasion × ℕ → Type 0
+IsWithinDay time = time.1 ≤ last_time
+
+half_minutes_within : (field : List ℕ) → is_present_time field ≡ true → half_minutes field ≤ last_time
+half_minutes_within field is = by (slice_index field 4 == 72)
+  where
+    by : (t : Bool) → 2 * minute_of field + cond t 1 0 ≤ last_time
+    by true = let below = clock_minute field (both (is_clock field) _ is).0 in omega arith
+    by false = let below = clock_minute field (both (is_clock field) _ is).0 in omega arith
+
+timed_within : (occasion : Occasion) (field : List ℕ) → is_scheduled_time field ≡ true → AllByRecursion IsWithinDay (timed occasion (scheduled_time field))
+timed_within occasion field is = by (is_blank field) refl (either (is_blank field) (is_present_time field) is)
+  where
+    by : (t : Bool) → is_blank field ≡ t → (is_blank field ≡ true) ⊎ (is_present_time field ≡ true)
+        → AllByRecursion IsWithinDay (timed occasion (scheduled_time field))
+    by true h told = rw h tt
+    by false h (inl blank) = let bad : true ≡ false = sym blank ∙ h in cc
+    by false h (inr present) = rw h (half_minutes_within field present, tt)
+
+present_scheduled : (field : List ℕ) → is_present_time field ≡ true → is_scheduled_time field ≡ true
+present_scheduled field is = by (is_blank field)
+  where
+    by : (t : Bool) → (t || is_present_time field) ≡ true
+    by true = refl
+    by false = is
+
+times_by_kind_within : (kind : Kind) (line : List ℕ) → HasKind kind line → HasGoodFields line → AllByRecursion IsWithinDay (times_by_kind (Some kind) line)
+times_by_kind_within origin_location line is good =
+    let fields = good_fields origin_location line is good in timed_within departure (columns 11 15 line) (present_scheduled (columns 11 15 line) fields.1.0)
+times_by_kind_within intermediate_location line is good =
+    let fields = good_fields intermediate_location line is good in
+    all_append IsWithinDay (timed arrival (scheduled_time (columns 11 15 line)) ++ timed pass (scheduled_time (columns 21 25 line)))
+    (timed departure (scheduled_time (columns 16 20 line)))
+    (all_append IsWithinDay (timed arrival (scheduled_time (columns 11 15 line))) (timed pass (scheduled_time (columns 21 25 line)))
+    (timed_within arrival (columns 11 15 line) fields.1.0) (timed_within pass (columns 21 25 line) fields.1.1.1.0))
+    (timed_within departure (columns 16 20 line) fields.1.1.0)
+times_by_kind_within terminating_location line is good =
+    let fields = good_fields terminating_location line is good in timed_within arrival (columns 11 15 line) (present_scheduled (columns 11 15 line) fields.1.0)
+times_by_kind_within _ line is good = tt
+
+times_within : (line : List ℕ) → HasGoodFields line → AllByRecursion IsWithinDay (times_of line)
+times_within line good = by (kind_of line) refl
+  where
+    by : (kind : Option Kind) → kind_of line ≡ kind → AllByRecursion IsWithinDay (times_by_kind (kind_of line) line)
+    by None h = subst (λ k. AllByRecursion IsWithinDay (times_by_kind k line)) (sym h) tt
+    by (Some kind) h = subst (λ k. AllByRecursion IsWithinDay (times_by_kind k line)) (sym h) (times_by_kind_within kind line h good)
+
+lines_within : (lines : List (List ℕ)) → AllByRecursion HasGoodFields lines → AllByRecursion IsWithinDay (flat_map times_of lines)
+lines_within [] all = tt
+lines_within (line ∷ lines) all = all_append IsWithinDay (times_of line) (flat_map times_of lines) (times_within line all.0) (lines_within lines all.1)
+
+-- the times of lines with good fields are within the day
+pub along_within : (lines : List (List ℕ)) → AllByRecursion HasGoodFields lines → AllByRecursion (λ t. t ≤ last_time) (times_along lines)
+along_within lines all = all_map (λ (time : Occasion × ℕ). time.1) (λ t. t ≤ last_time) (flat_map times_of lines) (lines_within lines all)

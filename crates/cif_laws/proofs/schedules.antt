@@ -1,0 +1,4 @@
+pub mod ScheduleStages
+pub mod ScheduleFronts
+pub mod ScheduleCauses
+pub mod WorkedSchedule

@@ -1,0 +1,332 @@
+-- The cause of a record that does not go on with a schedule, by the stage of the earlier lines; and that at such a place a file's record has the same cause.
+use Rattle.std.proofs.Common.{◌≡◌, ℕ, List, refl, ap, ◌<◌, ◌⊎◌, inl, inr, sym, ◌∙◌, ◌≤◌, None, arith, [], ◌∷◌, Bool, true, false, cond, Some, ◌++◌, subst, length}
+use Rattle.std.specs.Prelude.{unwrap_or, Option, is_none, is_some, option_map, ◌&&◌, ◌==◌}
+use Rattle.std.proofs.lemmas.Bool.{cases_order, lt-leb}
+use Rattle.docker_model.specs.records.Record.{Lines, kind_of, Kind, basic_schedule, IsRecord, extra_details, origin_location, intermediate_location, terminating_location, change_en_route}
+use Rattle.docker_model.specs.records.Field.{leftmost_bad_field, is_deletion}
+use Rattle.docker_model.specs.file.Journey.{midnights}
+use Rattle.docker_model.specs.file.File.{BeginsSchedule, first_record, follows_basic}
+use Rattle.docker_model.specs.file.FileFault.{FileCause, too_many, after_trailer, bad_length, bad_byte, bad_kind, bad_place, bad_field, third_midnight, no_end, cause_rank}
+use Rattle.docker_model.specs.file.ScheduleFault.{HoldsInSchedule, IsScheduleFault, IsOutOfSchedule}
+use Rattle.cif_laws.specs.RecordTest.{is_record, has_good_fields}
+use Rattle.cif_laws.specs.ScheduleStage.{after_basic, is_first_line, is_basic_kind, Stage, next_stage, stage_of, stage_after, may_end, is_sound_next}
+use Rattle.cif_laws.specs.FileStage.{unit_by_kind, in_schedule, place_in, in_stage_or, is_sound_at, next_place, Place, between_units, IsPlaceOf}
+use Rattle.cif_laws.specs.RecordCause.{with_column, field_cause, first_line_cause, schedule_cause, is_after_end, kind_cause, byte_cause, length_cause, end_cause, cause_of}
+use Rattle.cif_laws.proofs.files.OneFileFault.{column_of, column_told, same_cause}
+use Rattle.cif_laws.proofs.records.RecordTests.{record_iff_test, no_bad_byte}
+use Rattle.cif_laws.proofs.schedules.ScheduleStages.{begins_iff_stage, witness, witness_kind, witness_record, witness_fields, front_of_basic, front_begins, first_line_iff_test, no_lines_begin, next_line_by_test, begins_more_iff, IsSound, IsFront, details_of, midnights_of_journey, test_by_next_line, front_of_stage, schedule_out_of_place, schedule_in_place, IsNoNextLine, no_next_line}
+use Rattle.cif_laws.proofs.files.FileStages.{stage_stops, tracked_place}
+
+-- ---- one cause
+
+column_in : (earlier : Lines) (line : List ℕ) (cause : FileCause) → HoldsInSchedule earlier line cause → column_told (cause_rank cause) line ≡ column_of cause
+unfolding column_of column_told
+column_in earlier line too_many holds = refl
+column_in earlier line after_trailer holds = refl
+column_in earlier line bad_length holds = refl
+column_in earlier line (bad_byte at) holds = absurd holds
+column_in earlier line bad_kind holds = refl
+column_in earlier line bad_place holds = refl
+column_in earlier line (bad_field at) holds = ap (λ o. unwrap_or o 0) holds
+column_in earlier line third_midnight holds = refl
+column_in earlier line no_end holds = refl
+
+-- a line has one cause at most for which it does not go on with a schedule
+pub one_schedule_cause : (earlier : Lines) (line : List ℕ) (first second : FileCause) → IsScheduleFault earlier line first → IsScheduleFault earlier line second
+    → first ≡ second
+one_schedule_cause earlier line first second is_first is_second = by (cases_order (cause_rank first) (cause_rank second))
+  where
+    by : (cause_rank first ≡ cause_rank second) ⊎ ((cause_rank first < cause_rank second) ⊎ (cause_rank second < cause_rank first)) → first ≡ second
+    by (inl same) =
+        same_cause first second same
+        (sym (column_in earlier line first is_first.holds) ∙ ap (λ rank. column_told rank line) same ∙ column_in earlier line second is_second.holds)
+    by (inr (inl below)) = absurd (is_second.first first below is_first.holds)
+    by (inr (inr above)) = absurd (is_first.first second above is_second.holds)
+
+-- ---- the first line
+
+-- no cause below a rank holds
+none_below : (earlier : Lines) (line : List ℕ) (rank : ℕ) → rank ≤ 7 → (4 < rank → ¬ (kind_of line ≡ None)) → (5 < rank → ¬ IsOutOfSchedule earlier line)
+    → (6 < rank → leftmost_bad_field line ≡ None)
+    → (other : FileCause) → cause_rank other < rank → ¬ HoldsInSchedule earlier line other
+none_below earlier line rank most r4 r5 r6 too_many below holds = holds
+none_below earlier line rank most r4 r5 r6 after_trailer below holds = holds
+none_below earlier line rank most r4 r5 r6 bad_length below holds = holds
+none_below earlier line rank most r4 r5 r6 (bad_byte column) below holds = holds
+none_below earlier line rank most r4 r5 r6 bad_kind below holds = r4 below holds
+none_below earlier line rank most r4 r5 r6 bad_place below holds = r5 below holds
+none_below earlier line rank most r4 r5 r6 (bad_field column) below holds = let none = sym (r6 below) ∙ holds in cc
+none_below earlier line rank most r4 r5 r6 third_midnight below holds = absurd (omega arith)
+none_below earlier line rank most r4 r5 r6 no_end below holds = holds
+
+-- the line that a schedule begins with is its basic schedule
+begins_first : (line : List ℕ) → BeginsSchedule (line ∷ []) → is_first_line line ≡ true
+begins_first line begins = by (is_first_line line) ((begins_iff_stage line []).0 begins).1
+  where
+    by : (b : Bool) → cond b (Some after_basic) None ≡ Some ((begins_iff_stage line []).0 begins).0 → b ≡ true
+    by true h = refl
+    by false h = cc
+
+basic_is : (kind : Option Kind) → is_basic_kind kind ≡ true → kind ≡ Some basic_schedule
+basic_is (Some basic_schedule) h = refl
+basic_is _ h = cc
+
+-- with a good basic schedule a schedule begins
+witness_begins : BeginsSchedule (witness basic_schedule ∷ [])
+witness_begins = front_begins after_basic (witness basic_schedule ∷ []) (front_of_basic (witness basic_schedule) (record {
+  is = (record_iff_test (witness basic_schedule)).1 (witness_record basic_schedule);
+  kind = witness_kind basic_schedule;
+  fields = witness_fields basic_schedule;
+}))
+
+kind_is_known : (line : List ℕ) (kind : Kind) → kind_of line ≡ Some kind → ¬ (kind_of line ≡ None)
+kind_is_known line kind is none = let bad : None ≡ Some kind = sym none ∙ is in cc
+
+-- a record that is no schedule's first line has this cause
+pub first_line_fault : (line : List ℕ) → IsRecord line → is_first_line line ≡ false → IsScheduleFault [] line (first_line_cause line)
+first_line_fault line is test = by (kind_of line) refl
+  where
+    here : ¬ BeginsSchedule (line ∷ [])
+    here begins = let bad : true ≡ false = sym (begins_first line begins) ∙ test in cc
+
+    out : is_basic_kind (kind_of line) ≡ false → IsOutOfSchedule [] line
+    out other next same begins =
+        let told = (first_line_iff_test next).1 (begins_first next begins) in
+        let bad : true ≡ false = (λ i. is_basic_kind (sym told.kind i)) ∙ ap is_basic_kind same ∙ other in cc
+
+    inside : kind_of line ≡ Some basic_schedule → ¬ IsOutOfSchedule [] line
+    inside kind outside = outside (witness basic_schedule) (witness_kind basic_schedule ∙ sym kind) witness_begins
+
+    field : (bad : Option ℕ) → leftmost_bad_field line ≡ bad → kind_of line ≡ Some basic_schedule
+        → IsScheduleFault [] line (with_column bad_field bad third_midnight)
+    field None h kind =
+        let first = (first_line_iff_test line).0 (record { is = is; kind = kind; fields = h }) in
+        let wrong : true ≡ false = sym first ∙ test in cc
+    field (Some at) h kind = record {
+      earlier_begin = no_lines_begin;
+      here = here;
+      holds = h;
+      first = none_below [] line 6 (omega arith) (λ _. kind_is_known line basic_schedule kind) (λ _. inside kind) (λ below. absurd (omega arith));
+    }
+
+    placed : (kind : Kind) → kind_of line ≡ Some kind → (b : Bool) → is_basic_kind (Some kind) ≡ b
+        → IsScheduleFault [] line (cond b (field_cause line) bad_place)
+    placed kind h true basic = field (leftmost_bad_field line) refl (h ∙ basic_is (Some kind) basic)
+    placed kind h false basic = record {
+      earlier_begin = no_lines_begin;
+      here = here;
+      holds = out (ap is_basic_kind h ∙ basic);
+      first = none_below [] line 5 (omega arith) (λ _. kind_is_known line kind h) (λ below. absurd (omega arith)) (λ below. absurd (omega arith));
+    }
+
+    by : (kind : Option Kind) → kind_of line ≡ kind
+        → IsScheduleFault [] line (cond (is_none kind) bad_kind (cond (is_basic_kind kind) (field_cause line) bad_place))
+    by None h = record {
+      earlier_begin = no_lines_begin;
+      here = here;
+      holds = h;
+      first = none_below [] line 4 (omega arith) (λ below. absurd (omega arith)) (λ below. absurd (omega arith)) (λ below. absurd (omega arith));
+    }
+    by (Some kind) h = placed kind h (is_basic_kind (Some kind)) refl
+
+-- ---- a later line
+
+-- a schedule begins with one more line exactly where there is a next stage
+pub begins_next_stage : (lines : Lines) (stage : Stage) (line : List ℕ) (next : Stage) → stage_of lines ≡ Some stage → next_stage stage lines line ≡ Some next
+    → BeginsSchedule (lines ++ line ∷ [])
+begins_next_stage [] stage line next at found = cc
+begins_next_stage (basic ∷ rest) stage line next at found =
+    (begins_more_iff basic rest stage line at).1 (next, next_line_by_test stage (basic ∷ rest) line next found)
+
+-- a line with which no schedule begins has no next stage
+pub no_next_stage : (lines : Lines) (stage : Stage) (line : List ℕ) → stage_of lines ≡ Some stage → ¬ BeginsSchedule (lines ++ line ∷ [])
+    → next_stage stage lines line ≡ None
+no_next_stage lines stage line at here = by (next_stage stage lines line) refl
+  where
+    by : (next : Option Stage) → next_stage stage lines line ≡ next → next_stage stage lines line ≡ None
+    by None h = h
+    by (Some next) h = absurd (here (begins_next_stage lines stage line next at h))
+
+-- a record that has no next stage has this cause
+pub schedule_fault : (earlier : Lines) (stage : Stage) (line : List ℕ) → stage_of earlier ≡ Some stage → IsRecord line → next_stage stage earlier line ≡ None
+    → IsScheduleFault earlier line (schedule_cause stage line)
+schedule_fault [] stage line at is nowhere = cc
+schedule_fault (basic ∷ rest) stage line at is nowhere = by (kind_of line) refl
+  where
+    front : IsFront stage (basic ∷ rest)
+    front = front_of_stage (basic ∷ rest) stage at
+
+    begin : BeginsSchedule (basic ∷ rest)
+    begin = (begins_iff_stage basic rest).1 (stage, at)
+
+    here : ¬ BeginsSchedule (basic ∷ rest ++ line ∷ [])
+    here begins =
+        let told = (begins_more_iff basic rest stage line at).0 begins in
+        let bad : None ≡ Some told.0 = sym nowhere ∙ test_by_next_line stage (basic ∷ rest) line told.0 told.1 in cc
+
+    inside : (kind : Kind) (next : Stage) → kind_of line ≡ Some kind → stage_after stage (Some kind) ≡ Some next → ¬ IsOutOfSchedule (basic ∷ rest) line
+    inside kind next h after out = out (witness kind) (witness_kind kind ∙ sym h) (schedule_in_place basic rest stage kind next at after)
+
+    few : is_deletion (first_record (basic ∷ rest)) ≡ false → IsSound front.basic front.journey → midnights (basic ∷ rest) ≤ 2
+    few kept (inl deletion) = let bad : true ≡ false = sym (subst (λ l. is_deletion (first_record l) ≡ true) (sym front.whole) deletion) ∙ kept in cc
+    few kept (inr good) =
+        subst (λ n. n ≤ 2) (sym (ap midnights front.whole ∙ midnights_of_journey front.basic front.extra front.journey front.kind
+        (details_of stage front.extra front.journey front.shape))) good.falls
+
+    told : (kind : Kind) (next : Stage) → kind_of line ≡ Some kind → stage_after stage (Some kind) ≡ Some next → IsNoNextLine stage (basic ∷ rest) line
+        → IsScheduleFault (basic ∷ rest) line (field_cause line)
+    told kind next h after (inl out) = let bad : Some next ≡ None = sym after ∙ ap (stage_after stage) (sym h) ∙ out in cc
+    told kind next h after (inr (inl field)) =
+        subst (λ bad. IsScheduleFault (basic ∷ rest) line (with_column bad_field bad third_midnight)) (sym field.1) (record {
+          earlier_begin = begin;
+          here = here;
+          holds = field.1;
+          first = none_below (basic ∷ rest) line 6 (omega arith) (λ _. kind_is_known line kind h) (λ _. inside kind next h after)
+              (λ below. absurd (omega arith));
+        })
+    told kind next h after (inr (inr third)) =
+        subst (λ bad. IsScheduleFault (basic ∷ rest) line (with_column bad_field bad third_midnight)) (sym third.0) (record {
+          earlier_begin = begin;
+          here = here;
+          holds = (few third.2 front.sound, third.1);
+          first = none_below (basic ∷ rest) line 7 (omega arith) (λ _. kind_is_known line kind h) (λ _. inside kind next h after) (λ _. third.0);
+        })
+
+    placed : (kind : Kind) → kind_of line ≡ Some kind → (after : Option Stage) → stage_after stage (Some kind) ≡ after → IsScheduleFault (basic ∷ rest) line
+        (cond (is_none after) bad_place (field_cause line))
+    placed kind h None after = record {
+      earlier_begin = begin;
+      here = here;
+      holds = schedule_out_of_place basic rest stage line at (ap (stage_after stage) h ∙ after);
+      first = none_below (basic ∷ rest) line 5 (omega arith) (λ _. kind_is_known line kind h) (λ below. absurd (omega arith)) (λ below. absurd (omega arith));
+    }
+    placed kind h (Some next) after = told kind next h after (no_next_line stage (basic ∷ rest) line is nowhere)
+
+    by : (kind : Option Kind) → kind_of line ≡ kind → IsScheduleFault (basic ∷ rest) line
+        (cond (is_none kind) bad_kind (cond (is_none (stage_after stage kind)) bad_place (field_cause line)))
+    by None h = record {
+      earlier_begin = begin;
+      here = here;
+      holds = h;
+      first = none_below (basic ∷ rest) line 4 (omega arith) (λ below. absurd (omega arith)) (λ below. absurd (omega arith)) (λ below. absurd (omega arith));
+    }
+    by (Some kind) h = placed kind h (stage_after stage (Some kind)) refl
+
+-- a record goes on with the schedule, or it is at fault
+pub goes_on_or_fault : (earlier : Lines) (line : List ℕ) → BeginsSchedule earlier → IsRecord line → BeginsSchedule (earlier ++ line ∷ [])
+    ⊎ ((cause : FileCause) × IsScheduleFault earlier line cause)
+goes_on_or_fault [] line begins is = by (is_first_line line) refl
+  where
+    by : (b : Bool) → is_first_line line ≡ b → BeginsSchedule (line ∷ []) ⊎ ((cause : FileCause) × IsScheduleFault [] line cause)
+    by true h = inl ((begins_iff_stage line []).1 (after_basic, λ i. cond (h i) (Some after_basic) None))
+    by false h = inr (first_line_cause line, first_line_fault line is h)
+goes_on_or_fault (basic ∷ rest) line begins is = by ((begins_iff_stage basic rest).0 begins)
+  where
+    by : (stage : Stage) × (stage_of (basic ∷ rest) ≡ Some stage) → BeginsSchedule (basic ∷ rest ++ line ∷ [])
+        ⊎ ((cause : FileCause) × IsScheduleFault (basic ∷ rest) line cause)
+    by at = staged (next_stage at.0 (basic ∷ rest) line) refl
+      where
+        staged : (next : Option Stage) → next_stage at.0 (basic ∷ rest) line ≡ next → BeginsSchedule (basic ∷ rest ++ line ∷ [])
+            ⊎ ((cause : FileCause) × IsScheduleFault (basic ∷ rest) line cause)
+        staged None h = inr (schedule_cause at.0 line, schedule_fault (basic ∷ rest) at.0 line at.1 is h)
+        staged (Some next) h = inl (begins_next_stage (basic ∷ rest) at.0 line next at.1 h)
+
+-- ---- a file's record at a place in a schedule
+
+-- a kind that follows a basic schedule begins no unit
+pub no_unit_by_kind : (kind : Option Kind) (line : List ℕ) → follows_basic kind ≡ true → unit_by_kind kind line ≡ None
+no_unit_by_kind (Some extra_details) line h = refl
+no_unit_by_kind (Some origin_location) line h = refl
+no_unit_by_kind (Some intermediate_location) line h = refl
+no_unit_by_kind (Some terminating_location) line h = refl
+no_unit_by_kind (Some change_en_route) line h = refl
+no_unit_by_kind _ line h = cc
+
+-- the record goes on with the schedule or with nothing: the schedule may not end, or the record begins no unit
+abbrev pub IsOfSchedule : Stage → Lines → List ℕ → Type 0
+IsOfSchedule stage lines line = (may_end stage lines ≡ false) ⊎ (unit_by_kind (kind_of line) line ≡ None)
+
+no_other : (stage : Stage) (lines : Lines) (line : List ℕ) → IsOfSchedule stage lines line → cond (may_end stage lines) (unit_by_kind (kind_of line) line) None
+    ≡ None
+no_other stage lines line (inl open_end) = λ i. cond (open_end i) (unit_by_kind (kind_of line) line) None
+no_other stage lines line (inr none) = by (may_end stage lines)
+  where
+    by : (b : Bool) → cond b (unit_by_kind (kind_of line) line) None ≡ None
+    by true = none
+    by false = refl
+
+-- its place is that of the schedule's next stage
+pub next_place_of_stage : (stage : Stage) (lines : Lines) (line : List ℕ) → IsOfSchedule stage lines line
+    → next_place (in_schedule stage lines) line ≡ option_map (λ next. place_in next (lines ++ line ∷ [])) (next_stage stage lines line)
+next_place_of_stage stage lines line of =
+    (λ i. cond (is_record line && is_sound_at (in_schedule stage lines) line) (in_stage_or (lines ++ line ∷ []) (stage_after stage (kind_of line))
+    (no_other stage lines line of i)) None)
+    ∙ by (stage_after stage (kind_of line))
+  where
+    tested : (b : Bool) (next : Stage) → cond b (Some (place_in next (lines ++ line ∷ []))) None ≡ option_map (λ s. place_in s (lines ++ line ∷ []))
+        (cond b (Some next) None)
+    tested true next = refl
+    tested false next = refl
+
+    none : (b c : Bool) → cond b None None ≡ option_map (λ s. place_in s (lines ++ line ∷ [])) (cond c None None)
+    none true true = refl
+    none true false = refl
+    none false true = refl
+    none false false = refl
+
+    by : (after : Option Stage) → cond (is_record line && cond (is_some after) (is_sound_next lines line) (has_good_fields line))
+        (in_stage_or (lines ++ line ∷ []) after None) None
+        ≡ option_map (λ s. place_in s (lines ++ line ∷ [])) (cond (is_record line && is_sound_next lines line) after None)
+    by None = none (is_record line && has_good_fields line) (is_record line && is_sound_next lines line)
+    by (Some next) = tested (is_record line && is_sound_next lines line) next
+
+-- of a record within the limit, behind no trailer, the cause is told by its kind on
+pub cause_of_record : (limit count : ℕ) (place : Place) (line : List ℕ) → count < limit → is_after_end place ≡ false → IsRecord line
+    → cause_of limit count place line ≡ kind_cause place line
+cause_of_record limit count place line under open_end is =
+    (λ i. cond (lt-leb limit count under i) too_many (end_cause place line))
+    ∙ (λ i. cond (open_end i) after_trailer (length_cause place line))
+    ∙ (λ i. cond (ap (λ n. n == 80) is.0 i) (byte_cause place line) bad_length)
+    ∙ (λ i. with_column bad_byte (no_bad_byte line is.1 i) (kind_cause place line))
+
+-- of such a record the cause is the schedule's
+pub cause_in_schedule : (limit count : ℕ) (stage : Stage) (lines : Lines) (line : List ℕ) → count < limit → IsRecord line → IsOfSchedule stage lines line
+    → cause_of limit count (in_schedule stage lines) line ≡ schedule_cause stage line
+cause_in_schedule limit count stage lines line under is of =
+    cause_of_record limit count (in_schedule stage lines) line under refl is
+    ∙ (λ i. cond (is_none (kind_of line)) bad_kind
+    (cond (is_none (in_stage_or (lines ++ line ∷ []) (stage_after stage (kind_of line)) (no_other stage lines line of i))) bad_place (field_cause line)))
+    ∙ ap (λ b. cond (is_none (kind_of line)) bad_kind (cond b bad_place (field_cause line))) (by (stage_after stage (kind_of line)))
+  where
+    by : (after : Option Stage) → is_none (in_stage_or (lines ++ line ∷ []) after None) ≡ is_none after
+    by None = refl
+    by (Some next) = refl
+
+-- of a record that begins anew where the schedule may end, the cause is that between units
+pub cause_behind_schedule : (limit count : ℕ) (stage : Stage) (lines : Lines) (line : List ℕ) → count < limit → IsRecord line → may_end stage lines ≡ true
+    → follows_basic (kind_of line) ≡ false
+    → cause_of limit count (in_schedule stage lines) line ≡ cause_of limit count between_units line
+cause_behind_schedule limit count stage lines line under is may anew =
+    cause_of_record limit count (in_schedule stage lines) line under refl is
+    ∙ (λ i. cond (is_none (kind_of line)) bad_kind
+    (cond (is_none (in_stage_or (lines ++ line ∷ []) (stage_stops stage (kind_of line) anew i) (cond (may i) (unit_by_kind (kind_of line) line) None)))
+    bad_place
+    (field_cause line)))
+    ∙ sym (cause_of_record limit count between_units line under refl is)
+
+-- where a schedule's reader tells a fault, the file's record is at fault for the same cause
+pub fault_of_schedule : (limit : ℕ) (earlier : Lines) (stage : Stage) (lines : Lines) (line : List ℕ) (cause : FileCause)
+    → IsPlaceOf earlier (in_schedule stage lines) → length earlier < limit → IsRecord line
+    → IsOfSchedule stage lines line → IsScheduleFault lines line cause
+    → (next_place (in_schedule stage lines) line ≡ None) × (cause_of limit (length earlier) (in_schedule stage lines) line ≡ cause)
+fault_of_schedule limit earlier stage lines line cause found under is of fault = (
+  next_place_of_stage stage lines line of ∙ ap (option_map (λ next. place_in next (lines ++ line ∷ []))) nowhere,
+  cause_in_schedule limit (length earlier) stage lines line under is of ∙ one_schedule_cause lines line (schedule_cause stage line) cause
+      (schedule_fault lines stage line at is nowhere) fault,
+)
+  where
+    at : stage_of lines ≡ Some stage
+    at = (tracked_place earlier (in_schedule stage lines) found).0
+
+    nowhere : next_stage stage lines line ≡ None
+    nowhere = no_next_stage lines stage line at fault.here

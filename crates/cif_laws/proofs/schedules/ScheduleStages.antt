@@ -1,0 +1,762 @@
+-- Where a schedule is after its lines so far: which line may come next, and when the lines are a schedule.
+use Rattle.std.proofs.Common.{◌≡◌, ℕ, List, ◌∷◌, [], ◌⊎◌, true, ◌+◌, ◌++◌, inl, refl, Some, ap, inr, arith, ◌∙◌, ◌≤◌, Bool, false, subst, append_assoc, cond, None, sym, eqb-true, append-nil, All, ◌<◌}
+use Rattle.std.specs.Prelude.{Option, ◌&&◌, ◌↔◌, nat_le, ◌||◌, ◌==◌, codes, option_and_then, is_none}
+use Rattle.std.specs.List.{AllByRecursion}
+use Rattle.std.proofs.lemmas.Bool.{leb-true, le-leb, leb-false}
+use Rattle.std.proofs.lemmas.List.Elements.{All-from_recursion, recursion_from_All}
+use Rattle.docker_model.specs.records.Record.{origin_location, HasKind, Lines, basic_schedule, IsRecord, Kind, kind_of, extra_details, intermediate_location, terminating_location, change_en_route, column, header, tiploc_insert, tiploc_amend, tiploc_delete, association, trailer}
+use Rattle.docker_model.specs.records.Field.{is_deletion, HasGoodFields, leftmost_bad_field}
+use Rattle.docker_model.specs.file.Journey.{times_along, fall_count, midnights}
+use Rattle.docker_model.specs.file.File.{IsWithinJourney, IsJourney, AreExtraDetails, IsSoundJourney, first_record, MayLackJourney, IsSchedule, BeginsSchedule}
+use Rattle.cif_laws.specs.RecordTest.{is_record, has_good_fields}
+use Rattle.cif_laws.specs.TimesSoFar.{falls_after, last_of}
+use Rattle.cif_laws.specs.ScheduleStage.{in_journey, after_basic, Stage, after_details, after_journey, is_basic_kind, is_first_line, is_sound_next, stage_after, next_stage, may_lack, may_end, stage_from, stage_of}
+use Rattle.cif_laws.proofs.records.Builders.{no_text, hd, ti, ta, aa, bs, lo, li, lt, cr, zz, wide}
+use Rattle.cif_laws.proofs.lists.AllOf.{all_append}
+use Rattle.cif_laws.proofs.records.Columns.{fields_good}
+use Rattle.cif_laws.proofs.lists.BoolsAndOptions.{both, none_by_test, test_by_none, and_true, either, then_some, some_then}
+use Rattle.cif_laws.proofs.records.RecordTests.{record_iff_test, no_times, no_times_before, midnights_step, last_time, no_fall_last, times_append, along_within, fewer_midnights}
+
+-- ---- what a stage tells of the lines
+
+-- an origin, and then intermediate locations and changes en route
+abbrev pub IsOpenJourney : Lines → Type 0
+IsOpenJourney journey =
+    (first : List ℕ) × (between : Lines) × (journey ≡ first ∷ between) × HasKind origin_location first × AllByRecursion IsWithinJourney between
+
+-- what a stage tells of the extra details and the journey
+abbrev pub HasShape : Stage → Lines → Lines → Type 0
+HasShape after_basic extra journey = (extra ≡ []) × (journey ≡ [])
+HasShape after_details extra journey = AreExtraDetails extra × (journey ≡ [])
+HasShape in_journey extra journey = AreExtraDetails extra × IsOpenJourney journey
+HasShape after_journey extra journey = AreExtraDetails extra × IsJourney journey
+
+-- the schedule is a deletion, or its journey so far is sound
+abbrev pub IsSound : List ℕ → Lines → Type 0
+IsSound basic journey = (is_deletion basic ≡ true) ⊎ IsSoundJourney journey
+
+-- the lines are the front of a schedule that ends in this stage
+pub record IsFront (stage : Stage) (lines : Lines) : Type 0 where
+  pub basic : List ℕ
+  pub extra : Lines
+  pub journey : Lines
+  pub whole : lines ≡ basic ∷ extra ++ journey
+  pub records : AllByRecursion IsRecord lines
+  pub kind : HasKind basic_schedule basic
+  pub fields : HasGoodFields basic
+  pub shape : HasShape stage extra journey
+  pub sound : IsSound basic journey
+
+-- at each stage the extra details are at most one
+pub details_of : (stage : Stage) (extra journey : Lines) → HasShape stage extra journey → AreExtraDetails extra
+details_of after_basic extra journey shape = inl shape.0
+details_of after_details extra journey shape = shape.0
+details_of in_journey extra journey shape = shape.0
+details_of after_journey extra journey shape = shape.0
+
+-- ---- the first line
+
+basic_by_test : (kind : Option Kind) → is_basic_kind kind ≡ true → kind ≡ Some basic_schedule
+basic_by_test (Some basic_schedule) h = refl
+basic_by_test _ h = cc
+
+-- a basic schedule with good fields
+pub record IsFirstLine (line : List ℕ) : Type 0 where
+  pub is : IsRecord line
+  pub kind : HasKind basic_schedule line
+  pub fields : HasGoodFields line
+
+-- a line is a first line exactly where it passes the test
+pub first_line_iff_test : (line : List ℕ) → IsFirstLine line ↔ (is_first_line line ≡ true)
+first_line_iff_test line = (
+  λ told.
+      and_true (is_record line && is_basic_kind (kind_of line)) _
+      (and_true (is_record line) _ ((record_iff_test line).0 told.is) (ap is_basic_kind told.kind)) (test_by_none (leftmost_bad_field line) told.fields),
+  λ test.
+      let parts = both (is_record line && is_basic_kind (kind_of line)) _ test in
+      let first = both (is_record line) _ parts.0 in
+      record { is = (record_iff_test line).1 first.0; kind = basic_by_test (kind_of line) first.1; fields = none_by_test (leftmost_bad_field line) parts.1 },
+)
+
+-- a first line is the front of a schedule
+pub front_of_basic : (line : List ℕ) → IsFirstLine line → IsFront after_basic (line ∷ [])
+front_of_basic line told = record {
+  basic = line;
+  extra = [];
+  journey = [];
+  whole = refl;
+  records = (told.is, tt);
+  kind = told.kind;
+  fields = told.fields;
+  shape = (refl, refl);
+  sound = inr (record { fields = All-from_recursion HasGoodFields [] tt; falls = omega arith });
+}
+
+-- ---- midnights
+
+-- the records before a journey have no times
+details_no_times : (extra journey : Lines) → AreExtraDetails extra → times_along (extra ++ journey) ≡ times_along journey
+details_no_times extra journey (inl none) = ap (λ e. times_along (e ++ journey)) none
+details_no_times extra journey (inr one) = ap (λ e. times_along (e ++ journey)) one.1 ∙ no_times_before one.0 journey (no_times extra_details one.0 one.2 refl)
+
+-- the times of a schedule are those of its journey
+pub times_of_journey : (basic : List ℕ) (extra journey : Lines) → HasKind basic_schedule basic → AreExtraDetails extra
+    → times_along (basic ∷ extra ++ journey) ≡ times_along journey
+times_of_journey basic extra journey kind details =
+    no_times_before basic (extra ++ journey) (no_times basic_schedule basic kind refl) ∙ details_no_times extra journey details
+
+-- a schedule passes midnight as often as its journey
+pub midnights_of_journey : (basic : List ℕ) (extra journey : Lines) → HasKind basic_schedule basic → AreExtraDetails extra
+    → midnights (basic ∷ extra ++ journey) ≡ midnights journey
+midnights_of_journey basic extra journey kind details =
+    ap fall_count (times_of_journey basic extra journey kind details)
+
+-- ---- one more line
+
+-- extra details have no bad field
+pub no_extra_fields : (line : List ℕ) → HasKind extra_details line → HasGoodFields line
+no_extra_fields line kind = fields_good extra_details line kind tt
+
+-- the line has good fields, and no third fall comes with it
+pub record IsSoundNext (lines : Lines) (line : List ℕ) : Type 0 where
+  pub fields : HasGoodFields line
+  pub falls : midnights (lines ++ line ∷ []) ≤ 2
+
+-- a line that passes the test is a deletion's or sound
+pub sound_next_by_test : (lines : Lines) (line : List ℕ) → is_sound_next lines line ≡ true → (is_deletion (first_record lines) ≡ true) ⊎ IsSoundNext lines line
+sound_next_by_test lines line test = by (either (is_deletion (first_record lines)) _ test)
+  where
+    by : (is_deletion (first_record lines) ≡ true) ⊎ ((has_good_fields line && nat_le (midnights (lines ++ line ∷ [])) 2) ≡ true)
+        → (is_deletion (first_record lines) ≡ true) ⊎ IsSoundNext lines line
+    by (inl deletion) = inl deletion
+    by (inr good) =
+        let parts = both (has_good_fields line) _ good in
+        inr (record { fields = none_by_test (leftmost_bad_field line) parts.0; falls = leb-true (midnights (lines ++ line ∷ [])) 2 parts.1 })
+
+-- a line of a deletion, or a sound one, passes the test
+pub test_by_sound_next : (lines : Lines) (line : List ℕ) → (is_deletion (first_record lines) ≡ true) ⊎ IsSoundNext lines line → is_sound_next lines line ≡ true
+test_by_sound_next lines line (inl deletion) = ap (λ b. b || (has_good_fields line && nat_le (midnights (lines ++ line ∷ [])) 2)) deletion
+test_by_sound_next lines line (inr good) = by (is_deletion (first_record lines))
+  where
+    by : (b : Bool) → (b || (has_good_fields line && nat_le (midnights (lines ++ line ∷ [])) 2)) ≡ true
+    by true = refl
+    by false = and_true (has_good_fields line) _ (test_by_none (leftmost_bad_field line) good.fields) (le-leb (midnights (lines ++ line ∷ [])) 2 good.falls)
+
+-- the test by what a reader keeps: whether the schedule is a deletion, its midnights so far, and its last time so far
+pub sound_next_by_count : (lines : Lines) (line : List ℕ)
+    → is_sound_next lines line
+    ≡ (is_deletion (first_record lines) || (has_good_fields line && nat_le (midnights lines + falls_after (last_of (times_along lines))
+    (times_along (line ∷ []))) 2))
+sound_next_by_count lines line = λ i. is_deletion (first_record lines) || (has_good_fields line && nat_le (midnights_step lines line i) 2)
+
+-- the journey with one more line is sound
+sound_more : (stage : Stage) (lines : Lines) (line : List ℕ) (front : IsFront stage lines) → is_sound_next lines line ≡ true
+    → IsSound front.basic (front.journey ++ line ∷ [])
+sound_more stage lines line front test = by (sound_next_by_test lines line test) front.sound
+  where
+    same_whole : lines ++ line ∷ [] ≡ front.basic ∷ front.extra ++ (front.journey ++ line ∷ [])
+    same_whole = (λ i. front.whole i ++ line ∷ []) ∙ ap (λ rest. front.basic ∷ rest) (append_assoc front.extra front.journey (line ∷ []))
+
+    by : (is_deletion (first_record lines) ≡ true) ⊎ IsSoundNext lines line → IsSound front.basic front.journey
+        → IsSound front.basic (front.journey ++ line ∷ [])
+    by told (inl deletion) = inl deletion
+    by (inl deletion) (inr good) = inl (subst (λ l. is_deletion (first_record l) ≡ true) front.whole deletion)
+    by (inr next) (inr good) =
+        let same = ap midnights same_whole ∙ midnights_of_journey front.basic front.extra (front.journey ++ line ∷ []) front.kind
+        (details_of stage front.extra front.journey front.shape) in
+        let falls = next.falls in
+        inr (record {
+          fields =
+              All-from_recursion HasGoodFields (front.journey ++ line ∷ []) (all_append HasGoodFields front.journey (line ∷ [])
+              (recursion_from_All HasGoodFields front.journey good.fields) (next.fields, tt));
+          falls = omega arith;
+        })
+
+-- the parts of the test of a next line
+pub record IsNextLine (stage : Stage) (lines : Lines) (line : List ℕ) (next : Stage) : Type 0 where
+  pub is : IsRecord line
+  pub sound : is_sound_next lines line ≡ true
+  pub stage_is : stage_after stage (kind_of line) ≡ Some next
+
+-- a line that leads on passes the parts of the test
+pub next_line_by_test : (stage : Stage) (lines : Lines) (line : List ℕ) (next : Stage) → next_stage stage lines line ≡ Some next
+    → IsNextLine stage lines line next
+next_line_by_test stage lines line next is = by (is_record line && is_sound_next lines line) refl is
+  where
+    by : (b : Bool) → (is_record line && is_sound_next lines line) ≡ b → cond b (stage_after stage (kind_of line)) None ≡ Some next
+        → IsNextLine stage lines line next
+    by true h found = let parts = both (is_record line) _ h in record { is = (record_iff_test line).1 parts.0; sound = parts.1; stage_is = found }
+    by false h found = cc
+
+-- a line that passes the parts of the test leads on
+pub test_by_next_line : (stage : Stage) (lines : Lines) (line : List ℕ) (next : Stage) → IsNextLine stage lines line next
+    → next_stage stage lines line ≡ Some next
+test_by_next_line stage lines line next told =
+    (λ i. cond (and_true (is_record line) _ ((record_iff_test line).0 told.is) told.sound i) (stage_after stage (kind_of line)) None) ∙ told.stage_is
+
+-- an open journey with one more line within it
+journey_more : (journey : Lines) (line : List ℕ) → IsOpenJourney journey → IsWithinJourney line → IsOpenJourney (journey ++ line ∷ [])
+journey_more journey line so_far is = (
+  so_far.0,
+  so_far.1 ++ line ∷ [],
+  (λ i. so_far.2 i ++ line ∷ []),
+  so_far.3,
+  all_append IsWithinJourney so_far.1 (line ∷ []) so_far.4 (is, tt),
+)
+
+-- the shape with one more line
+shape_more : (stage : Stage) (kind : Kind) (next : Stage) (extra journey : Lines) (line : List ℕ) → HasShape stage extra journey → HasKind kind line
+    → stage_after stage (Some kind) ≡ Some next
+    → (HasShape next extra (journey ++ line ∷ [])) ⊎ (HasShape next (line ∷ []) journey × (extra ≡ []) × (journey ≡ []))
+shape_more after_basic extra_details next extra journey line shape is after =
+    let same : after_details ≡ next = cc in inr (subst (λ s. HasShape s (line ∷ []) journey) same (inr (line, refl, is), shape.1), shape.0, shape.1)
+shape_more after_basic origin_location next extra journey line shape is after =
+    let same : in_journey ≡ next = cc in
+    inl (subst (λ s. HasShape s extra (journey ++ line ∷ [])) same (inl shape.0, (line, [], (λ i. shape.1 i ++ line ∷ []), is, tt)))
+shape_more after_details origin_location next extra journey line shape is after =
+    let same : in_journey ≡ next = cc in
+    inl (subst (λ s. HasShape s extra (journey ++ line ∷ [])) same (shape.0, (line, [], (λ i. shape.1 i ++ line ∷ []), is, tt)))
+shape_more in_journey intermediate_location next extra journey line shape is after =
+    let same : in_journey ≡ next = cc in
+    inl (subst (λ s. HasShape s extra (journey ++ line ∷ [])) same (shape.0, journey_more journey line shape.1 (inl is)))
+shape_more in_journey change_en_route next extra journey line shape is after =
+    let same : in_journey ≡ next = cc in
+    inl (subst (λ s. HasShape s extra (journey ++ line ∷ [])) same (shape.0, journey_more journey line shape.1 (inr is)))
+shape_more in_journey terminating_location next extra journey line shape is after =
+    let same : after_journey ≡ next = cc in
+    let open_journey = shape.1 in
+    inl (subst (λ s. HasShape s extra (journey ++ line ∷ [])) same (
+      shape.0,
+      record {
+        first = open_journey.0;
+        between = open_journey.1;
+        last = line;
+        whole = λ i. open_journey.2 i ++ line ∷ [];
+        origin = open_journey.3;
+        calls = All-from_recursion IsWithinJourney open_journey.1 open_journey.4;
+        terminus = is;
+      },
+    ))
+shape_more _ _ next extra journey line shape is after = cc
+
+-- a record of no kind leads to no stage
+pub no_stage_of_none : (stage : Stage) → stage_after stage None ≡ None
+no_stage_of_none after_basic = refl
+no_stage_of_none after_details = refl
+no_stage_of_none in_journey = refl
+no_stage_of_none after_journey = refl
+
+-- a front with one more line is a front
+pub next_front : (stage : Stage) (lines : Lines) (line : List ℕ) (next : Stage) → IsFront stage lines → next_stage stage lines line ≡ Some next
+    → IsFront next (lines ++ line ∷ [])
+next_front stage lines line next front test = by (kind_of line) refl (next_line_by_test stage lines line next test)
+  where
+    by : (kind : Option Kind) → kind_of line ≡ kind → IsNextLine stage lines line next → IsFront next (lines ++ line ∷ [])
+    by None h told = let none : None ≡ Some next = sym (no_stage_of_none stage) ∙ ap (stage_after stage) (sym h) ∙ told.stage_is in cc
+    by (Some kind) h told = shaped (shape_more stage kind next front.extra front.journey line front.shape h (ap (stage_after stage) (sym h) ∙ told.stage_is))
+      where
+        shaped : (HasShape next front.extra (front.journey ++ line ∷ [])) ⊎ (HasShape next (line ∷ []) front.journey × (front.extra ≡ [])
+            × (front.journey ≡ [])) → IsFront next (lines ++ line ∷ [])
+        shaped (inl shape) = record {
+          basic = front.basic;
+          extra = front.extra;
+          journey = front.journey ++ line ∷ [];
+          whole = (λ i. front.whole i ++ line ∷ []) ∙ ap (λ rest. front.basic ∷ rest) (append_assoc front.extra front.journey (line ∷ []));
+          records = all_append IsRecord lines (line ∷ []) front.records (told.is, tt);
+          kind = front.kind;
+          fields = front.fields;
+          shape = shape;
+          sound = sound_more stage lines line front told.sound;
+        }
+        shaped (inr alone) = record {
+          basic = front.basic;
+          extra = line ∷ [];
+          journey = front.journey;
+          whole = (λ i. front.whole i ++ line ∷ []) ∙ (λ i. (front.basic ∷ alone.1 i ++ alone.2 i) ++ line ∷ []) ∙ (λ i. front.basic ∷ line ∷ sym alone.2 i);
+          records = all_append IsRecord lines (line ∷ []) front.records (told.is, tt);
+          kind = front.kind;
+          fields = front.fields;
+          shape = alone.0;
+          sound = front.sound;
+        }
+
+-- ---- the end
+
+-- a basic schedule that passes the test may lack its journey
+pub lack_by_test : (basic : List ℕ) → may_lack basic ≡ true → MayLackJourney basic
+lack_by_test basic test = by (either (is_deletion basic) _ test)
+  where
+    by : (is_deletion basic ≡ true) ⊎ ((column 80 basic == 67) ≡ true) → MayLackJourney basic
+    by (inl deletion) = inl deletion
+    by (inr letter) = inr (eqb-true (column 80 basic) 67 letter)
+
+-- one that may lack its journey passes the test
+pub test_by_lack : (basic : List ℕ) → MayLackJourney basic → may_lack basic ≡ true
+test_by_lack basic (inl deletion) = ap (λ b. b || (column 80 basic == 67)) deletion
+test_by_lack basic (inr letter) = or_right (is_deletion basic) (ap (λ n. n == 67) letter)
+  where
+    or_right : (b : Bool) → (column 80 basic == 67) ≡ true → (b || (column 80 basic == 67)) ≡ true
+    or_right true h = refl
+    or_right false h = h
+
+-- a front that may end is a schedule
+pub schedule_of_front : (stage : Stage) (lines : Lines) → IsFront stage lines → may_end stage lines ≡ true → IsSchedule lines
+schedule_of_front stage lines front test = record {
+  basic = front.basic;
+  extra = front.extra;
+  journey = front.journey;
+  whole = front.whole;
+  records = All-from_recursion IsRecord lines front.records;
+  kind = front.kind;
+  fields = front.fields;
+  details = details_of stage front.extra front.journey front.shape;
+  journey_or_none = by stage front.shape (subst (λ l. may_end stage l ≡ true) front.whole test);
+  sound = front.sound;
+}
+  where
+    by : (s : Stage) → HasShape s front.extra front.journey → may_end s (front.basic ∷ front.extra ++ front.journey) ≡ true → IsJourney front.journey
+        ⊎ ((front.journey ≡ []) × MayLackJourney front.basic)
+    by after_basic shape h = inr (shape.1, lack_by_test front.basic h)
+    by after_details shape h = inr (shape.1, lack_by_test front.basic h)
+    by in_journey shape h = cc
+    by after_journey shape h = inl shape.1
+
+-- ---- a line of each kind that may come next wherever its kind may
+
+-- some record of each kind, with good fields
+pub witness : Kind → List ℕ
+witness header = hd (codes "090624") (codes "2100") (codes "DFROC1A") (codes "DFROC1Z") (codes "U")
+witness tiploc_insert = ti (codes "ASHFELD") (codes "ASHFIELD")
+witness tiploc_amend = ta (codes "ASHFELD") (codes "ASHFIELD") no_text
+witness tiploc_delete = wide 80 (codes "TDASHFELD")
+witness association =
+    aa (codes "N") (codes "C10001") (codes "C10002") (codes "240610") (codes "240614") (codes "1111100") (codes "NP") (codes "S")
+    (codes "ASHFELD") no_text no_text (codes "P")
+witness basic_schedule = bs (codes "N") (codes "C10001") (codes "240610") (codes "240614") (codes "1111100") (codes "1A10") (codes "P")
+witness extra_details = wide 80 (codes "BX")
+witness origin_location = lo (codes "ASHFELD") no_text (codes "2359H") no_text no_text no_text
+witness intermediate_location = li (codes "CLAYDON") no_text no_text no_text no_text no_text no_text no_text no_text no_text
+witness terminating_location = lt (codes "BRAYTON") no_text (codes "2359H") no_text no_text no_text
+witness change_en_route = cr (codes "CLAYDON") no_text (codes "1A11")
+witness trailer = zz
+
+-- it is of that kind
+pub witness_kind : (kind : Kind) → HasKind kind (witness kind)
+unfolding witness
+witness_kind header = refl
+witness_kind tiploc_insert = refl
+witness_kind tiploc_amend = refl
+witness_kind tiploc_delete = refl
+witness_kind association = refl
+witness_kind basic_schedule = refl
+witness_kind extra_details = refl
+witness_kind origin_location = refl
+witness_kind intermediate_location = refl
+witness_kind terminating_location = refl
+witness_kind change_en_route = refl
+witness_kind trailer = refl
+
+-- it is a record
+pub witness_record : (kind : Kind) → is_record (witness kind) ≡ true
+unfolding witness
+witness_record header = refl
+witness_record tiploc_insert = refl
+witness_record tiploc_amend = refl
+witness_record tiploc_delete = refl
+witness_record association = refl
+witness_record basic_schedule = refl
+witness_record extra_details = refl
+witness_record origin_location = refl
+witness_record intermediate_location = refl
+witness_record terminating_location = refl
+witness_record change_en_route = refl
+witness_record trailer = refl
+
+-- its fields are good
+pub witness_fields : (kind : Kind) → HasGoodFields (witness kind)
+unfolding witness
+witness_fields header = refl
+witness_fields tiploc_insert = refl
+witness_fields tiploc_amend = refl
+witness_fields tiploc_delete = refl
+witness_fields association = refl
+witness_fields basic_schedule = refl
+witness_fields extra_details = refl
+witness_fields origin_location = refl
+witness_fields intermediate_location = refl
+witness_fields terminating_location = refl
+witness_fields change_en_route = refl
+witness_fields trailer = refl
+
+witness_times : (kind : Kind) → (times_along (witness kind ∷ []) ≡ []) ⊎ (times_along (witness kind ∷ []) ≡ last_time ∷ [])
+unfolding witness
+witness_times origin_location = inr refl
+witness_times terminating_location = inr refl
+witness_times header = inl refl
+witness_times tiploc_insert = inl refl
+witness_times tiploc_amend = inl refl
+witness_times tiploc_delete = inl refl
+witness_times association = inl refl
+witness_times basic_schedule = inl refl
+witness_times extra_details = inl refl
+witness_times intermediate_location = inl refl
+witness_times change_en_route = inl refl
+witness_times trailer = inl refl
+
+-- behind a front it makes no third fall
+pub witness_sound : (stage : Stage) (lines : Lines) (kind : Kind) → IsFront stage lines → is_sound_next lines (witness kind) ≡ true
+witness_sound stage lines kind front = test_by_sound_next lines (witness kind) (by front.sound)
+  where
+    by : IsSound front.basic front.journey → (is_deletion (first_record lines) ≡ true) ⊎ IsSoundNext lines (witness kind)
+    by (inl deletion) = inl (subst (λ l. is_deletion (first_record l) ≡ true) (sym front.whole) deletion)
+    by (inr good) = inr (record { fields = witness_fields kind; falls = few (witness_times kind) })
+      where
+        same : times_along lines ≡ times_along front.journey
+        same =
+            ap times_along front.whole ∙ times_of_journey front.basic front.extra front.journey front.kind
+            (details_of stage front.extra front.journey front.shape)
+
+        joined : (times : List ℕ) → times_along (witness kind ∷ []) ≡ times → midnights (lines ++ witness kind ∷ []) ≡ fall_count
+            (times_along front.journey ++ times)
+        joined times is = ap fall_count (times_append lines (witness kind ∷ []) ∙ (λ i. same i ++ is i))
+
+        few : (times_along (witness kind ∷ []) ≡ []) ⊎ (times_along (witness kind ∷ []) ≡ last_time ∷ []) → midnights (lines ++ witness kind ∷ []) ≤ 2
+        few (inl none) =
+            let whole = joined [] none ∙ ap fall_count (append-nil (times_along front.journey)) in
+            let falls = good.falls in omega arith
+        few (inr one) =
+            let whole = joined (last_time ∷ []) one ∙ no_fall_last (times_along front.journey)
+            (along_within front.journey (recursion_from_All HasGoodFields front.journey good.fields)) in
+            let falls = good.falls in omega arith
+
+-- a front of a schedule goes on with it where its kind leads on
+pub witness_front : (stage : Stage) (lines : Lines) (kind : Kind) (next : Stage) → IsFront stage lines → stage_after stage (Some kind) ≡ Some next
+    → IsFront next (lines ++ witness kind ∷ [])
+witness_front stage lines kind next front after =
+    next_front stage lines (witness kind) next front (test_by_next_line stage lines (witness kind) next (record {
+      is = (record_iff_test (witness kind)).1 (witness_record kind);
+      sound = witness_sound stage lines kind front;
+      stage_is = ap (stage_after stage) (witness_kind kind) ∙ after;
+    }))
+
+-- a front of lines with which a schedule begins is one too
+pub begins_shorter : (front rest : Lines) → BeginsSchedule (front ++ rest) → BeginsSchedule front
+begins_shorter front rest begins = (rest ++ begins.0, subst IsSchedule (append_assoc front rest begins.0) begins.1)
+
+-- with each front some schedule begins
+pub front_begins : (stage : Stage) (lines : Lines) → IsFront stage lines → BeginsSchedule lines
+front_begins stage lines front = by stage lines front
+  where
+    ended : (l : Lines) → IsFront after_journey l → BeginsSchedule l
+    ended l f = ([], subst IsSchedule (sym (append-nil l)) (schedule_of_front after_journey l f refl))
+
+    inside : (l : Lines) → IsFront in_journey l → BeginsSchedule l
+    inside l f =
+        begins_shorter l (witness terminating_location ∷ [])
+        (ended (l ++ witness terminating_location ∷ []) (witness_front in_journey l terminating_location after_journey f refl))
+
+    by : (s : Stage) (l : Lines) → IsFront s l → BeginsSchedule l
+    by after_basic l f =
+        begins_shorter l (witness origin_location ∷ [])
+        (inside (l ++ witness origin_location ∷ []) (witness_front after_basic l origin_location in_journey f refl))
+    by after_details l f =
+        begins_shorter l (witness origin_location ∷ [])
+        (inside (l ++ witness origin_location ∷ []) (witness_front after_details l origin_location in_journey f refl))
+    by in_journey l f = inside l f
+    by after_journey l f = ended l f
+
+-- ---- the stage of lines
+
+front_from : (rest : Lines) (stage : Stage) (done : Lines) (final : Stage) → IsFront stage done → stage_from stage done rest ≡ Some final
+    → IsFront final (done ++ rest)
+front_from [] stage done final front found =
+    let same : stage ≡ final = cc in subst (λ s. IsFront s (done ++ [])) same (subst (IsFront stage) (sym (append-nil done)) front)
+front_from (line ∷ rest) stage done final front found =
+    let step = then_some (λ next. stage_from next (done ++ line ∷ []) rest) (next_stage stage done line) final found in
+    subst (IsFront final) (append_assoc done (line ∷ []) rest)
+    (front_from rest step.0 (done ++ line ∷ []) final (next_front stage done line step.0 front step.1) step.2)
+
+-- lines that have a stage are the front of a schedule
+pub front_of_stage : (lines : Lines) (stage : Stage) → stage_of lines ≡ Some stage → IsFront stage lines
+front_of_stage [] stage found = cc
+front_of_stage (basic ∷ rest) stage found = by (is_first_line basic) refl found
+  where
+    by : (b : Bool) → is_first_line basic ≡ b → cond b (stage_from after_basic (basic ∷ []) rest) None ≡ Some stage → IsFront stage (basic ∷ rest)
+    by true h told = front_from rest after_basic (basic ∷ []) stage (front_of_basic basic ((first_line_iff_test basic).1 h)) told
+    by false h told = cc
+
+stage_from_append : (front : Lines) (stage : Stage) (done : Lines) (middle : Stage) (more : Lines) → stage_from stage done front ≡ Some middle
+    → stage_from stage done (front ++ more) ≡ stage_from middle (done ++ front) more
+stage_from_append [] stage done middle more found = let same : stage ≡ middle = cc in λ i. stage_from (same i) (sym (append-nil done) i) more
+stage_from_append (line ∷ front) stage done middle more found =
+    let step = then_some (λ next. stage_from next (done ++ line ∷ []) front) (next_stage stage done line) middle found in
+    (λ i. option_and_then (λ next. stage_from next (done ++ line ∷ []) (front ++ more)) (step.1 i))
+    ∙ stage_from_append front step.0 (done ++ line ∷ []) middle more step.2
+    ∙ (λ i. stage_from middle (append_assoc done (line ∷ []) front i) more)
+
+-- the stage of more lines, from that of the first
+pub stage_of_append : (front : Lines) (stage : Stage) (more : Lines) → stage_of front ≡ Some stage → stage_of (front ++ more) ≡ stage_from stage front more
+stage_of_append [] stage more found = cc
+stage_of_append (basic ∷ rest) stage more found = by (is_first_line basic) refl found
+  where
+    by : (b : Bool) → is_first_line basic ≡ b → cond b (stage_from after_basic (basic ∷ []) rest) None ≡ Some stage
+        → stage_of ((basic ∷ rest) ++ more) ≡ stage_from stage (basic ∷ rest) more
+    by true h told =
+        (λ i. cond (h i) (stage_from after_basic (basic ∷ []) (rest ++ more)) None) ∙ stage_from_append rest after_basic (basic ∷ []) stage more told
+    by false h told = cc
+
+-- the stage with one more line
+pub stage_of_more : (lines : Lines) (stage : Stage) (line : List ℕ) → stage_of lines ≡ Some stage → stage_of (lines ++ line ∷ []) ≡ next_stage stage lines line
+stage_of_more lines stage line found = stage_of_append lines stage (line ∷ []) found ∙ some_then (next_stage stage lines line)
+
+-- the stage of one line
+pub stage_of_first : (line : List ℕ) → stage_of (line ∷ []) ≡ cond (is_first_line line) (Some after_basic) None
+stage_of_first line = refl
+
+stage_from_front : (front rest : Lines) (stage : Stage) (done : Lines) (final : Stage) → stage_from stage done (front ++ rest) ≡ Some final
+    → (middle : Stage) × (stage_from stage done front ≡ Some middle)
+stage_from_front [] rest stage done final found = (stage, refl)
+stage_from_front (line ∷ front) rest stage done final found =
+    let step = then_some (λ next. stage_from next (done ++ line ∷ []) (front ++ rest)) (next_stage stage done line) final found in
+    let more = stage_from_front front rest step.0 (done ++ line ∷ []) final step.2 in
+    (more.0, (λ i. option_and_then (λ next. stage_from next (done ++ line ∷ []) front) (step.1 i)) ∙ more.1)
+
+-- each front of lines that have a stage has one
+pub stage_of_front : (basic : List ℕ) (front rest : Lines) (final : Stage) → stage_of (basic ∷ front ++ rest) ≡ Some final
+    → (stage : Stage) × (stage_of (basic ∷ front) ≡ Some stage)
+stage_of_front basic front rest final found = by (is_first_line basic) refl found
+  where
+    by : (b : Bool) → is_first_line basic ≡ b → cond b (stage_from after_basic (basic ∷ []) (front ++ rest)) None ≡ Some final
+        → (stage : Stage) × (stage_of (basic ∷ front) ≡ Some stage)
+    by true h told =
+        let more = stage_from_front front rest after_basic (basic ∷ []) final told in
+        (more.0, (λ i. cond (h i) (stage_from after_basic (basic ∷ []) front) None) ∙ more.1)
+    by false h told = cc
+
+-- ---- a schedule has a stage
+
+-- the stage after lines, by their kinds alone
+abbrev pub stage_along : Stage → Lines → Option Stage
+stage_along stage [] = Some stage
+stage_along stage (line ∷ rest) = option_and_then (λ next. stage_along next rest) (stage_after stage (kind_of line))
+
+-- the lines to come are a deletion's, or they have good fields and all of them make no third fall
+abbrev IsSoundRest : List ℕ → Lines → Lines → Type 0
+IsSoundRest basic done rest = (is_deletion basic ≡ true) ⊎ (AllByRecursion HasGoodFields rest × (midnights (basic ∷ done ++ rest) ≤ 2))
+
+sound_head : (basic : List ℕ) (done : Lines) (line : List ℕ) (rest : Lines) → IsSoundRest basic done (line ∷ rest) → is_sound_next (basic ∷ done) line ≡ true
+sound_head basic done line rest (inl deletion) = test_by_sound_next (basic ∷ done) line (inl deletion)
+sound_head basic done line rest (inr good) =
+    let fewer = subst (λ l. midnights (basic ∷ done ++ line ∷ []) ≤ midnights (basic ∷ l)) (append_assoc done (line ∷ []) rest)
+    (fewer_midnights (basic ∷ done ++ line ∷ []) rest) in
+    let all = good.1 in
+    test_by_sound_next (basic ∷ done) line (inr (record { fields = good.0.0; falls = omega arith }))
+
+sound_tail : (basic : List ℕ) (done : Lines) (line : List ℕ) (rest : Lines) → IsSoundRest basic done (line ∷ rest) → IsSoundRest basic (done ++ line ∷ []) rest
+sound_tail basic done line rest (inl deletion) = inl deletion
+sound_tail basic done line rest (inr good) = inr (good.0.1, subst (λ l. midnights (basic ∷ l) ≤ 2) (sym (append_assoc done (line ∷ []) rest)) good.1)
+
+stage_from_along : (rest : Lines) (stage : Stage) (basic : List ℕ) (done : Lines) (final : Stage) → AllByRecursion IsRecord rest → IsSoundRest basic done rest
+    → stage_along stage rest ≡ Some final
+    → stage_from stage (basic ∷ done) rest ≡ Some final
+stage_from_along [] stage basic done final records sound along = along
+stage_from_along (line ∷ rest) stage basic done final records sound along =
+    let step = then_some (λ next. stage_along next rest) (stage_after stage (kind_of line)) final along in
+    let next = test_by_next_line stage (basic ∷ done) line step.0
+    (record { is = records.0; sound = sound_head basic done line rest sound; stage_is = step.1 }) in
+    (λ i. option_and_then (λ next. stage_from next (basic ∷ done ++ line ∷ []) rest) (next i))
+    ∙ stage_from_along rest step.0 basic (done ++ line ∷ []) final records.1 (sound_tail basic done line rest sound) step.2
+
+calls_along : (between : Lines) (last : List ℕ) → AllByRecursion IsWithinJourney between → HasKind terminating_location last
+    → stage_along in_journey (between ++ last ∷ []) ≡ Some after_journey
+calls_along [] last calls terminus = λ i. option_and_then (λ next. Some next) (stage_after in_journey (terminus i))
+calls_along (line ∷ between) last calls terminus = by (calls_along between last calls.1 terminus) calls.0
+  where
+    by : stage_along in_journey (between ++ last ∷ []) ≡ Some after_journey → IsWithinJourney line
+        → stage_along in_journey ((line ∷ between) ++ last ∷ []) ≡ Some after_journey
+    by rest (inl call) = (λ i. option_and_then (λ next. stage_along next (between ++ last ∷ [])) (stage_after in_journey (call i))) ∙ rest
+    by rest (inr change) = (λ i. option_and_then (λ next. stage_along next (between ++ last ∷ [])) (stage_after in_journey (change i))) ∙ rest
+
+journey_along : (stage : Stage) (journey : Lines) → stage_after stage (Some origin_location) ≡ Some in_journey → IsJourney journey
+    → stage_along stage journey ≡ Some after_journey
+journey_along stage journey starts is =
+    ap (stage_along stage) is.whole
+    ∙ (λ i. option_and_then (λ next. stage_along next (is.between ++ is.last ∷ [])) (stage_after stage (is.origin i)))
+    ∙ (λ i. option_and_then (λ next. stage_along next (is.between ++ is.last ∷ [])) (starts i))
+    ∙ calls_along is.between is.last (recursion_from_All IsWithinJourney is.between is.calls) is.terminus
+
+-- the stage in which lines end that may be a whole schedule
+pub record IsWholeBy (lines : Lines) (stage : Stage) : Type 0 where
+  pub found : stage_of lines ≡ Some stage
+  pub may : may_end stage lines ≡ true
+
+-- the kinds of a schedule's lines lead to its end
+record LeadsToEnd (basic : List ℕ) (rest : Lines) : Type 0 where
+  pub final : Stage
+  pub along : stage_along after_basic rest ≡ Some final
+  pub may : may_end final (basic ∷ rest) ≡ true
+
+kinds_lead : (basic : List ℕ) (extra journey : Lines) → AreExtraDetails extra → IsJourney journey ⊎ ((journey ≡ []) × MayLackJourney basic)
+    → LeadsToEnd basic (extra ++ journey)
+kinds_lead basic extra journey (inl none) (inl is) =
+    subst (λ e. LeadsToEnd basic (e ++ journey)) (sym none) (record { final = after_journey; along = journey_along after_basic journey refl is; may = refl })
+kinds_lead basic extra journey (inl none) (inr lack) =
+    subst (λ e. LeadsToEnd basic (e ++ journey)) (sym none)
+    (subst (λ j. LeadsToEnd basic j) (sym lack.0) (record { final = after_basic; along = refl; may = test_by_lack basic lack.1 }))
+kinds_lead basic extra journey (inr one) (inl is) =
+    subst (λ e. LeadsToEnd basic (e ++ journey)) (sym one.1) (record {
+      final = after_journey;
+      along = (λ i. option_and_then (λ next. stage_along next journey) (stage_after after_basic (one.2 i))) ∙ journey_along after_details journey refl is;
+      may = refl;
+    })
+kinds_lead basic extra journey (inr one) (inr lack) =
+    subst (λ e. LeadsToEnd basic (e ++ journey)) (sym one.1) (subst (λ j. LeadsToEnd basic ((one.0 ∷ []) ++ j)) (sym lack.0) (record {
+      final = after_details;
+      along = λ i. option_and_then (λ next. stage_along next []) (stage_after after_basic (one.2 i));
+      may = test_by_lack basic lack.1;
+    }))
+
+extra_fields : (extra : Lines) → AreExtraDetails extra → AllByRecursion HasGoodFields extra
+extra_fields extra (inl none) = subst (AllByRecursion HasGoodFields) (sym none) tt
+extra_fields extra (inr one) = subst (AllByRecursion HasGoodFields) (sym one.1) (no_extra_fields one.0 one.2, tt)
+
+-- a schedule has a stage at which it may end
+pub stage_of_schedule : (lines : Lines) → IsSchedule lines → (stage : Stage) × IsWholeBy lines stage
+stage_of_schedule lines is = subst (λ l. (stage : Stage) × IsWholeBy l stage) (sym is.whole) (lead.final, record { found = found; may = lead.may })
+  where
+    records : AllByRecursion IsRecord (is.basic ∷ is.extra ++ is.journey)
+    records = recursion_from_All IsRecord (is.basic ∷ is.extra ++ is.journey) (subst (All IsRecord) is.whole is.records)
+
+    lead : LeadsToEnd is.basic (is.extra ++ is.journey)
+    lead = kinds_lead is.basic is.extra is.journey is.details is.journey_or_none
+
+    sound : (is_deletion is.basic ≡ true) ⊎ IsSoundJourney is.journey → IsSoundRest is.basic [] (is.extra ++ is.journey)
+    sound (inl deletion) = inl deletion
+    sound (inr good) = inr (
+      all_append HasGoodFields is.extra is.journey (extra_fields is.extra is.details) (recursion_from_All HasGoodFields is.journey good.fields),
+      subst (λ n. n ≤ 2) (sym (midnights_of_journey is.basic is.extra is.journey is.kind is.details)) good.falls,
+    )
+
+    found : stage_of (is.basic ∷ is.extra ++ is.journey) ≡ Some lead.final
+    found =
+        (λ i. cond ((first_line_iff_test is.basic).0 (record { is = records.0; kind = is.kind; fields = is.fields }) i)
+        (stage_from after_basic (is.basic ∷ []) (is.extra ++ is.journey)) None)
+        ∙ stage_from_along (is.extra ++ is.journey) after_basic is.basic [] lead.final records.1 (sound is.sound) lead.along
+
+-- ---- the laws
+
+-- lines are a schedule exactly where they have a stage in which it may end
+pub schedule_iff_stage : (lines : Lines) → IsSchedule lines ↔ ((stage : Stage) × IsWholeBy lines stage)
+schedule_iff_stage lines = (stage_of_schedule lines, λ whole. schedule_of_front whole.0 lines (front_of_stage lines whole.0 whole.1.found) whole.1.may)
+
+-- a schedule begins with some lines exactly where they have a stage
+pub begins_iff_stage : (basic : List ℕ) (rest : Lines) → BeginsSchedule (basic ∷ rest) ↔ ((stage : Stage) × (stage_of (basic ∷ rest) ≡ Some stage))
+begins_iff_stage basic rest = (
+  λ begins. let whole = stage_of_schedule ((basic ∷ rest) ++ begins.0) begins.1 in stage_of_front basic rest begins.0 whole.0 whole.1.found,
+  λ at. front_begins at.0 (basic ∷ rest) (front_of_stage (basic ∷ rest) at.0 at.1),
+)
+
+-- with no lines every schedule begins
+pub no_lines_begin : BeginsSchedule []
+no_lines_begin =
+    begins_shorter [] (witness basic_schedule ∷ []) (front_begins after_basic (witness basic_schedule ∷ []) (front_of_basic (witness basic_schedule) (record {
+      is = (record_iff_test (witness basic_schedule)).1 (witness_record basic_schedule);
+      kind = witness_kind basic_schedule;
+      fields = witness_fields basic_schedule;
+    })))
+
+-- with one more line: a schedule begins with them exactly where there is a next stage
+pub begins_more_iff : (basic : List ℕ) (rest : Lines) (stage : Stage) (line : List ℕ) → stage_of (basic ∷ rest) ≡ Some stage
+    → BeginsSchedule (basic ∷ rest ++ line ∷ []) ↔ ((next : Stage) × IsNextLine stage (basic ∷ rest) line next)
+begins_more_iff basic rest stage line at = (
+  λ begins.
+      let found = (begins_iff_stage basic (rest ++ line ∷ [])).0 begins in
+      (found.0, next_line_by_test stage (basic ∷ rest) line found.0 (sym (stage_of_more (basic ∷ rest) stage line at) ∙ found.1)),
+  λ told.
+      (begins_iff_stage basic (rest ++ line ∷ [])).1 (
+        told.0,
+        stage_of_more (basic ∷ rest) stage line at
+            ∙ test_by_next_line stage (basic ∷ rest) line told.0 told.1,
+      ),
+)
+
+-- with the lines so far a schedule begins, or with none do
+pub begins_schedule_or_not : (lines : Lines) → BeginsSchedule lines ⊎ ¬ BeginsSchedule lines
+begins_schedule_or_not [] = inl no_lines_begin
+begins_schedule_or_not (basic ∷ rest) = by (stage_of (basic ∷ rest)) refl
+  where
+    by : (found : Option Stage) → stage_of (basic ∷ rest) ≡ found → BeginsSchedule (basic ∷ rest) ⊎ ¬ BeginsSchedule (basic ∷ rest)
+    by None h = inr (λ begins. let at = (begins_iff_stage basic rest).0 begins in let bad : None ≡ Some at.0 = sym h ∙ at.1 in cc)
+    by (Some stage) h = inl ((begins_iff_stage basic rest).1 (stage, h))
+
+-- the lines are a schedule, or they are none
+pub schedule_or_not : (lines : Lines) → IsSchedule lines ⊎ ¬ IsSchedule lines
+schedule_or_not lines = by (stage_of lines) refl
+  where
+    by : (found : Option Stage) → stage_of lines ≡ found → IsSchedule lines ⊎ ¬ IsSchedule lines
+    by None h = inr (λ is. let whole = stage_of_schedule lines is in let bad : None ≡ Some whole.0 = sym h ∙ whole.1.found in cc)
+    by (Some stage) h = ended (may_end stage lines) refl
+      where
+        ended : (b : Bool) → may_end stage lines ≡ b → IsSchedule lines ⊎ ¬ IsSchedule lines
+        ended true may = inl (schedule_of_front stage lines (front_of_stage lines stage h) may)
+        ended false may = inr (λ is.
+            let whole = stage_of_schedule lines is in
+            let both_are : Some whole.0 ≡ Some stage = sym whole.1.found ∙ h in
+            let same : whole.0 ≡ stage = cc in
+            let bad : true ≡ false = sym whole.1.may ∙ ap (λ s. may_end s lines) same ∙ may in cc)
+
+-- ---- which kinds are in place
+
+-- a line whose kind leads to no stage is out of place: no schedule that begins with the lines so far has one of its kind next
+pub schedule_out_of_place : (basic : List ℕ) (rest : Lines) (stage : Stage) (line : List ℕ) → stage_of (basic ∷ rest) ≡ Some stage
+    → stage_after stage (kind_of line) ≡ None
+    → (next : List ℕ) → kind_of next ≡ kind_of line → ¬ BeginsSchedule (basic ∷ rest ++ next ∷ [])
+schedule_out_of_place basic rest stage line at none next same begins =
+    let told = (begins_more_iff basic rest stage next at).0 begins in
+    let bad : None ≡ Some told.0 = sym none ∙ ap (stage_after stage) (sym same) ∙ told.1.stage_is in cc
+
+-- of a kind that leads to a stage some line is next
+pub schedule_in_place : (basic : List ℕ) (rest : Lines) (stage : Stage) (kind : Kind) (next : Stage) → stage_of (basic ∷ rest) ≡ Some stage
+    → stage_after stage (Some kind) ≡ Some next
+    → BeginsSchedule (basic ∷ rest ++ witness kind ∷ [])
+schedule_in_place basic rest stage kind next at found =
+    front_begins next (basic ∷ rest ++ witness kind ∷ []) (witness_front stage (basic ∷ rest) kind next (front_of_stage (basic ∷ rest) stage at) found)
+
+-- ---- why a record is no next line
+
+-- its kind is out of place, or a field is not good, or it makes the third fall; the last two but in a deletion
+abbrev pub IsNoNextLine : Stage → Lines → List ℕ → Type 0
+IsNoNextLine stage lines line =
+    (stage_after stage (kind_of line) ≡ None)
+    ⊎ (((at : ℕ) × (leftmost_bad_field line ≡ Some at) × (is_deletion (first_record lines) ≡ false))
+    ⊎ (HasGoodFields line × (2 < midnights (lines ++ line ∷ [])) × (is_deletion (first_record lines) ≡ false)))
+
+-- why a record leads to no stage
+pub no_next_line : (stage : Stage) (lines : Lines) (line : List ℕ) → IsRecord line → next_stage stage lines line ≡ None → IsNoNextLine stage lines line
+no_next_line stage lines line is nowhere = by (stage_after stage (kind_of line)) refl
+  where
+    unsound : (next : Stage) → stage_after stage (kind_of line) ≡ Some next → is_sound_next lines line ≡ false
+    unsound next found = pick (is_sound_next lines line) refl
+      where
+        pick : (b : Bool) → is_sound_next lines line ≡ b → is_sound_next lines line ≡ false
+        pick true h = let bad : None ≡ Some next = sym nowhere ∙ test_by_next_line stage lines line next (record { is = is; sound = h; stage_is = found }) in cc
+        pick false h = h
+
+    told : (deletion good : Bool) (few : Bool) → (deletion || (good && few)) ≡ false → (deletion ≡ false) × ((good ≡ false) ⊎ ((good ≡ true) × (few ≡ false)))
+    told true good few h = (cc, inl cc)
+    told false true few h = (refl, inr (refl, h))
+    told false false few h = (refl, inl refl)
+
+    field : is_deletion (first_record lines) ≡ false → (bad : Option ℕ) → leftmost_bad_field line ≡ bad → is_none bad ≡ false → IsNoNextLine stage lines line
+    field kept None h none = cc
+    field kept (Some column) h none = inr (inl (column, h, kept))
+
+    split : (is_deletion (first_record lines) ≡ false)
+        × ((has_good_fields line ≡ false) ⊎ ((has_good_fields line ≡ true) × (nat_le (midnights (lines ++ line ∷ [])) 2 ≡ false)))
+        → IsNoNextLine stage lines line
+    split (kept, inl bad) = field kept (leftmost_bad_field line) refl bad
+    split (kept, inr good) = inr (inr (none_by_test (leftmost_bad_field line) good.0, leb-false (midnights (lines ++ line ∷ [])) 2 good.1, kept))
+
+    by : (after : Option Stage) → stage_after stage (kind_of line) ≡ after → IsNoNextLine stage lines line
+    by None h = inl h
+    by (Some next) h = split (told (is_deletion (first_record lines)) (has_good_fields line) (nat_le (midnights (lines ++ line ∷ [])) 2) (unsound next h))

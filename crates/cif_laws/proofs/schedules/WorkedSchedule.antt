@@ -1,0 +1,41 @@
+-- The worked schedule is a schedule.
+use Rattle.std.proofs.Common.{◌≡◌, ℕ, List, [], ◌∷◌, length, refl, inl, inr, true, lit≤}
+use Rattle.std.specs.List.{list_all}
+use Rattle.std.proofs.lemmas.List.Elements.{All-from_recursion}
+use Rattle.std.proofs.lemmas.List.Sums.{AllPass-from_list_all}
+use Rattle.docker_model.specs.records.Record.{IsRecord, is_printable}
+use Rattle.docker_model.specs.records.Field.{HasGoodFields}
+use Rattle.docker_model.specs.file.File.{IsSchedule, IsJourney, IsWithinJourney}
+use Rattle.cif_laws.proofs.records.Builders.{f2_basic, f2_origin, f2_terminus, f2_schedule}
+
+-- a record whose bytes compute
+pub record_by_test : (bytes : List ℕ) → length bytes ≡ 80 → list_all is_printable bytes ≡ true → IsRecord bytes
+record_by_test bytes size printable = (size, AllPass-from_list_all is_printable bytes printable)
+
+-- the worked journey is one
+pub f2_journey : IsJourney (f2_origin ∷ f2_terminus ∷ [])
+f2_journey = record {
+  first = f2_origin;
+  between = [];
+  last = f2_terminus;
+  whole = refl;
+  origin = refl;
+  calls = All-from_recursion IsWithinJourney [] tt;
+  terminus = refl;
+}
+
+-- the worked schedule is one
+pub f2_is_schedule : IsSchedule f2_schedule
+f2_is_schedule = record {
+  basic = f2_basic;
+  extra = [];
+  journey = f2_origin ∷ f2_terminus ∷ [];
+  whole = refl;
+  records = All-from_recursion IsRecord f2_schedule
+      (record_by_test f2_basic refl refl, (record_by_test f2_origin refl refl, (record_by_test f2_terminus refl refl, tt)));
+  kind = refl;
+  fields = refl;
+  details = inl refl;
+  journey_or_none = inl f2_journey;
+  sound = inr (record { fields = All-from_recursion HasGoodFields (f2_origin ∷ f2_terminus ∷ []) (refl, (refl, tt)); falls = lit≤ tt });
+}

@@ -1,0 +1,106 @@
+//! Laws of files, their texts, their faults and their changes. Each is the contract of a function with no body: it holds of all that it names.
+ghost use Rattle.std.specs.Prelude.{◌≡◌, ℕ, ◌+◌, ◌*◌, List, [], ◌∷◌, ◌++◌, ◌↔◌, ◌≤◌, ◌⊎◌, All, Contains, length};
+ghost use Rattle.std.specs.List.{AllPairs};
+ghost use Rattle.docker_model.specs.records.Record.{IsRecord};
+ghost use Rattle.docker_model.specs.file.Text.{IsTextOf, lines_of};
+ghost use Rattle.docker_model.specs.file.FileFault.{FileCause, FileFault, IsFileFault, IsFileText};
+ghost use Rattle.docker_model.specs.file.ScheduleFault.{IsScheduleFault};
+ghost use Rattle.docker_model.specs.file.FaultSoFar.{IsFaultSoFar};
+ghost use Rattle.docker_model.specs.file.Change.{Change, Body, put, schedule_body, changes, changes_of_record};
+ghost use Rattle.docker_model.specs.file.UnitChange.{changes_of_unit, changes_of_units, change_of_schedule};
+ghost use Rattle.docker_model.specs.state.State.{IsBodyOf};
+ghost use Rattle.docker_model.specs.file.File.{IsFile, IsSchedule, BeginsFile, BeginsSchedule, most_records};
+ghost use Rattle.cif_laws.specs.LawTerms.{BeginsWithin};
+
+/// For records, being a text of them and being split into them is one thing.
+pub fn text_of_records()
+    ensures { (records : List (List ℕ)) (text : List ℕ) → All IsRecord records
+        → IsTextOf records text ↔ (lines_of text ≡ records) }
+{}
+
+/// A text has at most one fault under a limit, and none where it is the text of a file within it.
+pub fn one_file_fault()
+    ensures one { (limit : ℕ) (text : List ℕ) (first second : FileFault)
+        → IsFileFault limit text first → IsFileFault limit text second → first ≡ second }
+    ensures none { (limit : ℕ) (text : List ℕ) (file : List (List ℕ)) (fault : FileFault)
+        → IsFileText limit text file → ¬ IsFileFault limit text fault }
+{}
+
+/// Every text is the text of a file within the limit, or it has a fault under it.
+pub fn file_or_fault()
+    ensures { (limit : ℕ) (text : List ℕ) → ((file : List (List ℕ)) × IsFileText limit text file)
+        ⊎ ((fault : FileFault) × IsFileFault limit text fault) }
+{}
+
+/// The lines that a change of a file keeps are a schedule, and what it puts agrees with its key.
+pub fn schedule_body_is_schedule()
+    ensures schedule { (file : List (List ℕ)) (change : Change) (lines : List (List ℕ))
+        → IsFile file → length file ≤ most_records → Contains (changes file) change
+        → change.act ≡ put (schedule_body lines) → IsSchedule lines }
+    ensures agrees { (file : List (List ℕ)) (change : Change) (body : Body)
+        → IsFile file → length file ≤ most_records → Contains (changes file) change
+        → change.act ≡ put body → IsBodyOf change.key body }
+{}
+
+/// The changes of a file are those of its units in order, numbered by records from 2, and a schedule makes one change, with all its lines.
+pub fn changes_by_units()
+    ensures units { (file : List (List ℕ)) (is : IsFile file)
+        → changes file ≡ changes_of_units 2 is.units }
+    ensures schedule { (number : ℕ) (basic : List ℕ) (others : List (List ℕ))
+        → IsSchedule (basic ∷ others)
+        → changes_of_unit number (basic ∷ others) ≡ change_of_schedule number basic others ∷ [] }
+{}
+
+/// Two changes of one record have different keys: of a record by itself, whatever follows it, and in a file.
+pub fn keys_of_record_differ()
+    ensures record { (number : ℕ) (line : List ℕ) (following : List (List ℕ))
+        → AllPairs (λ (first second : Change). ¬ (first.key ≡ second.key))
+        (changes_of_record number line following) }
+    ensures file { (file : List (List ℕ))
+        → AllPairs (λ (first second : Change). first.number ≡ second.number
+        → ¬ (first.key ≡ second.key)) (changes file) }
+{}
+
+/// Whether some file begins with some records is decided, and likewise whether some schedule begins with some lines, and whether they are one.
+pub fn begins_or_not()
+    ensures file { (records : List (List ℕ)) → BeginsFile records ⊎ ¬ BeginsFile records }
+    ensures schedule { (lines : List (List ℕ)) → BeginsSchedule lines ⊎ ¬ BeginsSchedule lines }
+    ensures whole_file { (records : List (List ℕ)) → IsFile records ⊎ ¬ IsFile records }
+    ensures whole_schedule { (lines : List (List ℕ)) → IsSchedule lines ⊎ ¬ IsSchedule lines }
+{}
+
+/// Behind lines with which a schedule begins, a record goes on with some schedule, or it is at fault: for one cause, and not both.
+pub fn schedule_goes_on_or_fault()
+    ensures either { (earlier : List (List ℕ)) (line : List ℕ)
+        → BeginsSchedule earlier → IsRecord line → BeginsSchedule (earlier ++ line ∷ [])
+        ⊎ ((cause : FileCause) × IsScheduleFault earlier line cause) }
+    ensures one { (earlier : List (List ℕ)) (line : List ℕ) (first second : FileCause)
+        → IsScheduleFault earlier line first → IsScheduleFault earlier line second
+        → first ≡ second }
+    ensures none { (earlier : List (List ℕ)) (line : List ℕ) (cause : FileCause)
+        → BeginsSchedule (earlier ++ line ∷ []) → ¬ IsScheduleFault earlier line cause }
+{}
+
+/// A fault that a text tells before its end stays the fault of every longer text. A text tells one at most.
+pub fn told_fault_stays()
+    ensures so_far { (limit : ℕ) (text more : List ℕ) (fault : FileFault)
+        → IsFaultSoFar limit text fault → IsFaultSoFar limit (text ++ more) fault }
+    ensures in_the_end { (limit : ℕ) (text more : List ℕ) (fault : FileFault)
+        → IsFaultSoFar limit text fault → IsFileFault limit (text ++ more) fault }
+    ensures one { (limit : ℕ) (text : List ℕ) (first second : FileFault)
+        → IsFaultSoFar limit text first → IsFaultSoFar limit text second → first ≡ second }
+{}
+
+/// Every text tells a fault, or some file begins with the lines that it tells, they are within the limit, and behind the last line feed stand at most 81 bytes; and not both.
+pub fn no_fault_among_told()
+    ensures either { (limit : ℕ) (text : List ℕ)
+        → ((fault : FileFault) × IsFaultSoFar limit text fault) ⊎ BeginsWithin limit text }
+    ensures none { (limit : ℕ) (text : List ℕ) (fault : FileFault)
+        → BeginsWithin limit text → ¬ IsFaultSoFar limit text fault }
+{}
+
+/// A text that tells no fault is short: it has at most 82 bytes for each record of the limit, and 81 more.
+pub fn text_without_fault_is_bounded()
+    ensures { (limit : ℕ) (text : List ℕ) → ((fault : FileFault) → ¬ IsFaultSoFar limit text fault)
+        → length text ≤ 82 * limit + 81 }
+{}

@@ -1,7 +1,0 @@
-pub mod Dates
-pub mod Columns
-pub mod RecordTests
-pub mod GoodFields
-pub mod RecordIdentity
-pub mod ScheduledTimes
-pub mod Builders

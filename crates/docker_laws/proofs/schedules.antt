@@ -1,3 +1,0 @@
-pub mod ScheduleStages
-pub mod ScheduleFronts
-pub mod ScheduleCauses

@@ -1,0 +1,55 @@
+-- The rows of an index at a place stand together: a piece of it whose rows are of the place, and outside which none is, are they.
+use Rattle.std.proofs.Common.{◌≡◌, ℕ, List, [], ◌∷◌, ◌++◌, map, refl, ap, ◌∙◌, Bool, true, false, cond, Contains, append-nil}
+use Rattle.std.specs.Prelude.{filter}
+use Rattle.std.specs.Str.{bytes_eq}
+use Rattle.std.proofs.lemmas.List.Elements.{filter-append}
+use Rattle.std.proofs.lemmas.Slice.Eq.{bytes_eq-Decides}
+use Rattle.docker_model.specs.file.Change.{schedule_key, association_key}
+use Rattle.docker_model.specs.state.Index.{CallingRow, LinkedRow, calling_keys, linked_keys}
+use Rattle.cif_laws.proofs.lists.Membership.{cons-Contains, cons-Contains-first}
+
+module _ {K : Type 0} (place : List ℕ) where
+  test : List ℕ × K → Bool
+  test row = bytes_eq row.0 place
+
+  all_kept : (rows : List (List ℕ × K)) → ((row : List ℕ × K) → Contains rows row → row.0 ≡ place) → filter test rows ≡ rows
+  unfolding test
+  all_kept [] each = refl
+  all_kept (row ∷ rows) each =
+      let here : bytes_eq row.0 place ≡ true = (bytes_eq-Decides row.0 place).1 (each row (cons-Contains-first row rows)) in
+      (λ i. cond (here i) (row ∷ filter test rows) (filter test rows))
+      ∙ ap (λ rest. row ∷ rest) (all_kept rows (λ other among. each other (cons-Contains row rows other among)))
+
+  none_kept : (rows : List (List ℕ × K)) → ((row : List ℕ × K) → Contains rows row → ¬ (row.0 ≡ place)) → filter test rows ≡ []
+  unfolding test
+  none_kept [] each = refl
+  none_kept (row ∷ rows) each = by (bytes_eq row.0 place) refl (none_kept rows (λ other among. each other (cons-Contains row rows other among)))
+    where
+      by : (b : Bool) → bytes_eq row.0 place ≡ b → filter test rows ≡ [] → cond b (row ∷ filter test rows) (filter test rows) ≡ []
+      by true h rest = absurd (each row (cons-Contains-first row rows) ((bytes_eq-Decides row.0 place).0 h))
+      by false h rest = rest
+
+  -- what stands at a place is a piece of the rows outside which nothing does
+  pub piece_is : (front rows back : List (List ℕ × K)) → ((row : List ℕ × K) → Contains front row → ¬ (row.0 ≡ place))
+      → ((row : List ℕ × K) → Contains rows row → row.0 ≡ place)
+      → ((row : List ℕ × K) → Contains back row → ¬ (row.0 ≡ place)) → filter (λ (row : List ℕ × K). bytes_eq row.0 place) ((front ++ rows) ++ back) ≡ rows
+  unfolding test
+  piece_is front rows back before here behind =
+      filter-append test (front ++ rows) back
+      ∙ (λ i. (filter-append test front rows ∙ (λ j. none_kept front before j ++ all_kept rows here j)) i ++ none_kept back behind i)
+      ∙ append-nil rows
+
+-- the same of the index of calls
+pub calling_piece : (place : List ℕ) (front rows back : List CallingRow) → ((row : CallingRow) → Contains front row → ¬ (row.0 ≡ place))
+    → ((row : CallingRow) → Contains rows row → row.0 ≡ place)
+    → ((row : CallingRow) → Contains back row → ¬ (row.0 ≡ place)) → calling_keys ((front ++ rows) ++ back) place ≡ map
+    (λ (row : CallingRow). schedule_key row.1) rows
+calling_piece place front rows back before here behind = ap (map (λ (row : CallingRow). schedule_key row.1)) (piece_is place front rows back before here behind)
+
+-- the same of the index of associations
+pub linked_piece : (place : List ℕ) (front rows back : List LinkedRow) → ((row : LinkedRow) → Contains front row → ¬ (row.0 ≡ place))
+    → ((row : LinkedRow) → Contains rows row → row.0 ≡ place)
+    → ((row : LinkedRow) → Contains back row → ¬ (row.0 ≡ place)) → linked_keys ((front ++ rows) ++ back) place ≡ map
+    (λ (row : LinkedRow). association_key row.1) rows
+linked_piece place front rows back before here behind =
+    ap (map (λ (row : LinkedRow). association_key row.1)) (piece_is place front rows back before here behind)

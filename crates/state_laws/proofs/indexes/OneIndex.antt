@@ -1,0 +1,161 @@
+-- A live table has one index of each kind, and one list of what each call walks.
+use Rattle.std.proofs.Common.{◌≡◌, List, ℕ, map, sym, ◌∙◌, Contains, refl, subst, [], ◌∷◌, ap, Some}
+use Rattle.std.specs.Prelude.{◌↔◌, filter}
+use Rattle.std.specs.Str.{bytes_eq}
+use Rattle.std.specs.List.{AllByRecursion}
+use Rattle.std.specs.declared.cmp.Ordering.{Ordering}
+use Rattle.std.specs.declared.cmp.Ordering.TheVariants.{Less, Equal}
+use Rattle.std.specs.Ordering.{on, ordering_then}
+use Rattle.std.specs.Cmp.{IsTotalOrder, then_total, on_total, tied_itself}
+use Rattle.std.specs.Cmp.Lexicographic.{nat_list_cmp_total}
+use Rattle.std.proofs.lemmas.Slice.Eq.{bytes_eq-Decides}
+use Rattle.docker_model.specs.file.Change.{Key, association_key, schedule_key, Body, association_body, schedule_body}
+use Rattle.docker_model.specs.state.Order.{bytes_cmp, IsBelow, IsStrictlyAscending}
+use Rattle.docker_model.specs.state.Op.{key_cmp, schedule_key_cmp, association_key_cmp}
+use Rattle.docker_model.specs.state.Table.{Table}
+use Rattle.docker_model.specs.state.Row.{Row, AreInKeyOrder}
+use Rattle.docker_model.specs.state.Index.{CallingRow, calling_cmp, LinkedRow, linked_cmp, IsCallingIndex, IsLinkedIndex, AreCalling, AreLinked, AreOfUid, calling_keys, linked_keys}
+use Rattle.cif_laws.proofs.orders.Ascending.{same_list, ascending_of, later_of}
+use Rattle.cif_laws.proofs.orders.Orders.{schedule_key_total, association_key_total, key_total}
+use Rattle.cif_laws.proofs.lists.Membership.{Contains-map, map-Contains}
+use Rattle.cif_laws.proofs.lists.FilteredMembers.{filter_back, filter_forth}
+use Rattle.cif_laws.proofs.lists.Later.{AllLater, later_weaker, later_filter, later_map}
+
+-- the order of the index of calls is total
+pub calling_total : IsTotalOrder calling_cmp
+calling_total = then_total (on_total (λ (r : CallingRow). r.0) nat_list_cmp_total) (on_total (λ (r : CallingRow). r.1) schedule_key_total)
+
+-- the order of the index of associations is total
+pub linked_total : IsTotalOrder linked_cmp
+linked_total = then_total (on_total (λ (r : LinkedRow). r.0) nat_list_cmp_total) (on_total (λ (r : LinkedRow). r.1) association_key_total)
+
+rows_total : IsTotalOrder (on (λ (row : Row). row.0) key_cmp)
+rows_total = on_total (λ (row : Row). row.0) key_total
+
+through : {P Q R : Type 0} → (P ↔ Q) → (R ↔ Q) → (P ↔ R)
+through one two = (λ p. two.1 (one.0 p), λ r. one.1 (two.0 r))
+
+-- a table has one index of calls
+pub one_calling_index : (live : Table) (a b : List CallingRow) → IsCallingIndex live a → IsCallingIndex live b → a ≡ b
+one_calling_index live a b one two =
+    same_list calling_total a b one.ascending two.ascending (λ row. through (one.members row.0 row.1) (two.members row.0 row.1))
+
+-- a table has one index of associations
+pub one_linked_index : (live : Table) (a b : List LinkedRow) → IsLinkedIndex live a → IsLinkedIndex live b → a ≡ b
+one_linked_index live a b one two = same_list linked_total a b one.ascending two.ascending (λ row. through (one.members row.0 row.1) (two.members row.0 row.1))
+
+-- a place has one list of calling rows
+pub one_calling : (live : Table) (place : List ℕ) (a b : List Row) → AreCalling live place a → AreCalling live place b → a ≡ b
+one_calling live place a b one two = same_list rows_total a b one.ascending two.ascending (λ row. through (one.members row.0 row.1) (two.members row.0 row.1))
+
+-- a place has one list of linked rows
+pub one_linked : (live : Table) (place : List ℕ) (a b : List Row) → AreLinked live place a → AreLinked live place b → a ≡ b
+one_linked live place a b one two = same_list rows_total a b one.ascending two.ascending (λ row. through (one.members row.0 row.1) (two.members row.0 row.1))
+
+-- a UID has one list of rows
+pub one_of_uid : (live : Table) (uid : List ℕ) (a b : List Row) → AreOfUid live uid a → AreOfUid live uid b → a ≡ b
+one_of_uid live uid a b one two = same_list rows_total a b one.ascending two.ascending (λ row. through (one.members row.0 row.1) (two.members row.0 row.1))
+
+-- ---- a list in order, as `AllLater` has it
+
+-- ---- what the indexes find
+
+-- of the rows of one place the second part ascends
+at_place_ascends : {K : Type 0} (cmp : K → K → Ordering) (wrap : K → Key) → ((a b : K) → cmp a b ≡ Less → key_cmp (wrap a) (wrap b) ≡ Less)
+    → (place : List ℕ) (index : List (List ℕ × K))
+    → AllLater (λ (a b : List ℕ × K). ordering_then (bytes_cmp a.0 b.0) (cmp a.1 b.1) ≡ Less) index
+    → IsStrictlyAscending key_cmp (map (λ (r : List ℕ × K). wrap r.1) (filter (λ (r : List ℕ × K). bytes_eq r.0 place) index))
+at_place_ascends {K} cmp wrap to place index up =
+    ascending_of key_cmp (map (λ (r : List ℕ × K). wrap r.1) (filter (λ (r : List ℕ × K). bytes_eq r.0 place) index))
+    (later_map (IsBelow key_cmp) (λ (r : List ℕ × K). wrap r.1) (filter (λ (r : List ℕ × K). bytes_eq r.0 place) index)
+    (later_weaker (λ (a b : List ℕ × K). ordering_then (bytes_cmp a.0 b.0) (cmp a.1 b.1) ≡ Less) (λ a b. IsBelow key_cmp (wrap a.1) (wrap b.1))
+    (filter (λ (r : List ℕ × K). bytes_eq r.0 place) index)
+    (λ a b in_a in_b below. to a.1 b.1 (behind a b in_a in_b below))
+    (later_filter (λ (a b : List ℕ × K). ordering_then (bytes_cmp a.0 b.0) (cmp a.1 b.1) ≡ Less) (λ r. bytes_eq r.0 place) index up)))
+  where
+    behind : (a b : List ℕ × K) → Contains (filter (λ (r : List ℕ × K). bytes_eq r.0 place) index) a
+        → Contains (filter (λ (r : List ℕ × K). bytes_eq r.0 place) index) b
+        → ordering_then (bytes_cmp a.0 b.0) (cmp a.1 b.1) ≡ Less → cmp a.1 b.1 ≡ Less
+    behind a b in_a in_b below =
+        let one : a.0 ≡ place = (bytes_eq-Decides a.0 place).0 (filter_back (λ (r : List ℕ × K). bytes_eq r.0 place) index a in_a).1 in
+        let two : b.0 ≡ place = (bytes_eq-Decides b.0 place).0 (filter_back (λ (r : List ℕ × K). bytes_eq r.0 place) index b in_b).1 in
+        let level : bytes_cmp a.0 b.0 ≡ Equal = (λ i. bytes_cmp (one i) (two i)) ∙ tied_itself nat_list_cmp_total place in
+        sym (λ i. ordering_then (level i) (cmp a.1 b.1)) ∙ below
+
+-- the keys of an index's rows of a place are found there, and no others
+found_at : {K : Type 0} (wrap : K → Key) (place : List ℕ) (index : List (List ℕ × K)) (key : Key)
+    → Contains (map (λ (r : List ℕ × K). wrap r.1) (filter (λ (r : List ℕ × K). bytes_eq r.0 place) index)) key
+    ↔ ((k : K) × Contains index (place, k) × (wrap k ≡ key))
+found_at {K} wrap place index key = (
+  λ among.
+      let found = Contains-map (λ (r : List ℕ × K). wrap r.1) (filter (λ (r : List ℕ × K). bytes_eq r.0 place) index) key among in
+      let passed = filter_back (λ (r : List ℕ × K). bytes_eq r.0 place) index found.0 found.1 in
+      let here : found.0.0 ≡ place = (bytes_eq-Decides found.0.0 place).0 passed.1 in
+      (found.0.1, subst (Contains index) (λ i. (here i, found.0.1)) passed.0, found.2),
+  λ made.
+      subst (Contains (map (λ (r : List ℕ × K). wrap r.1) (filter (λ (r : List ℕ × K). bytes_eq r.0 place) index))) made.2
+      (map-Contains (λ (r : List ℕ × K). wrap r.1) (filter (λ (r : List ℕ × K). bytes_eq r.0 place) index) (place, made.0)
+      (filter_forth (λ (r : List ℕ × K). bytes_eq r.0 place) index (place, made.0) made.1 ((bytes_eq-Decides place place).1 refl))),
+)
+
+order_of_keys : (rows : List Row) → IsStrictlyAscending key_cmp (map (λ (row : Row). row.0) rows) → AreInKeyOrder rows
+order_of_keys [] up = tt
+order_of_keys (row ∷ rows) up = (above rows up.0, order_of_keys rows up.1)
+  where
+    above : (others : List Row) → AllByRecursion (IsBelow key_cmp row.0) (map (λ (r : Row). r.0) others)
+        → AllByRecursion (IsBelow (on (λ (r : Row). r.0) key_cmp) row) others
+    above [] all = tt
+    above (other ∷ others) all = (all.0, above others all.1)
+
+module _ (live : Table) (place : List ℕ) where
+  -- rows are what calls at the place where their keys are those that the index finds, and they are live
+  pub calling_by_index : (index : List CallingRow) (rows : List Row) → IsCallingIndex live index → map (λ (row : Row). row.0) rows ≡ calling_keys index place
+      → ((key : Key) (body : Body) → Contains rows (key, body) → live key ≡ Some body) → AreCalling live place rows
+  calling_by_index index rows is keys each = record {
+    ascending =
+        order_of_keys rows (subst (IsStrictlyAscending key_cmp) (sym keys) (at_place_ascends schedule_key_cmp schedule_key (λ a b below. below) place index
+        (later_of calling_cmp index is.ascending)));
+    members = λ key body. (
+      λ among.
+          let in_keys : Contains (calling_keys index place) key = subst (λ ks. Contains ks key) keys
+          (map-Contains (λ (row : Row). row.0) rows (key, body) among) in
+          let found = (found_at schedule_key place index key).0 in_keys in
+          let made = (is.members place found.0).0 found.1 in
+          let body_is : Some body ≡ Some (schedule_body made.0) = sym (each key body among) ∙ ap live (sym found.2) ∙ made.1.is_live in
+          (found.0, made.0, sym found.2, (let e : body ≡ schedule_body made.0 = cc in e), made.1),
+      λ told.
+          let in_index : Contains index (place, told.0) = (is.members place told.0).1 (told.1, told.4) in
+          let in_keys : Contains (map (λ (row : Row). row.0) rows) (schedule_key told.0) = subst (λ ks. Contains ks (schedule_key told.0)) (sym keys)
+          ((found_at schedule_key place index (schedule_key told.0)).1 (told.0, in_index, refl)) in
+          let row = Contains-map (λ (row : Row). row.0) rows (schedule_key told.0) in_keys in
+          let body_is : Some row.0.1 ≡ Some (schedule_body told.1) = sym (each row.0.0 row.0.1 row.1) ∙ ap live row.2 ∙ told.4.is_live in
+          let same : row.0.1 ≡ body = (let e : row.0.1 ≡ schedule_body told.1 = cc in e) ∙ sym told.3 in
+          subst (Contains rows) (λ i. ((row.2 ∙ sym told.2) i, same i)) row.1,
+    );
+  }
+
+  -- live rows whose keys the index of associations finds at a place are the linked rows there
+  pub linked_by_index : (index : List LinkedRow) (rows : List Row) → IsLinkedIndex live index → map (λ (row : Row). row.0) rows ≡ linked_keys index place
+      → ((key : Key) (body : Body) → Contains rows (key, body) → live key ≡ Some body) → AreLinked live place rows
+  linked_by_index index rows is keys each = record {
+    ascending =
+        order_of_keys rows (subst (IsStrictlyAscending key_cmp) (sym keys) (at_place_ascends association_key_cmp association_key
+        (λ a b below. below) place index (later_of linked_cmp index is.ascending)));
+    members = λ key body. (
+      λ among.
+          let in_keys : Contains (linked_keys index place) key = subst (λ ks. Contains ks key) keys
+          (map-Contains (λ (row : Row). row.0) rows (key, body) among) in
+          let found = (found_at association_key place index key).0 in_keys in
+          let made = (is.members place found.0).0 found.1 in
+          let body_is : Some body ≡ Some (association_body made.0) = sym (each key body among) ∙ ap live (sym found.2) ∙ made.1.is_live in
+          (found.0, made.0, sym found.2, (let e : body ≡ association_body made.0 = cc in e), made.1),
+      λ told.
+          let in_index : Contains index (place, told.0) = (is.members place told.0).1 (told.1, told.4) in
+          let in_keys : Contains (map (λ (row : Row). row.0) rows) (association_key told.0) = subst (λ ks. Contains ks (association_key told.0)) (sym keys)
+          ((found_at association_key place index (association_key told.0)).1 (told.0, in_index, refl)) in
+          let row = Contains-map (λ (row : Row). row.0) rows (association_key told.0) in_keys in
+          let body_is : Some row.0.1 ≡ Some (association_body told.1) = sym (each row.0.0 row.0.1 row.1) ∙ ap live row.2 ∙ told.4.is_live in
+          let same : row.0.1 ≡ body = (let e : row.0.1 ≡ association_body told.1 = cc in e) ∙ sym told.3 in
+          subst (Contains rows) (λ i. ((row.2 ∙ sym told.2) i, same i)) row.1,
+    );
+  }

@@ -1,0 +1,157 @@
+-- The join of states with horizons is commutative and associative, and idempotent on valid states; two states have at most one.
+use Rattle.std.proofs.Common.{◌++◌, ◌≡◌, ◌∙◌, sym, ◌≤◌, subst, ℕ, arith, ap, List, Contains, inl, inr, ◌⊎◌, Some, None}
+use Rattle.std.specs.Prelude.{max, Option}
+use Rattle.std.proofs.Math.Nat.{max_comm, le-max_left, le-max_right, max-eq_left}
+use Rattle.std.proofs.lemmas.List.Elements.{Contains-append_cases, Contains-append_left}
+use Rattle.docker_model.specs.file.Change.{Key}
+use Rattle.docker_model.specs.state.Order.{IsAtMost}
+use Rattle.docker_model.specs.state.Stamp.{FileStamp, LedgerItem, IsFloor, IsKept}
+use Rattle.docker_model.specs.state.Op.{Entry, entry_cmp}
+use Rattle.docker_model.specs.state.Lapse.{lapse_entry, HasNotToLapse}
+use Rattle.docker_model.specs.state.State.{State, IsJoin, IsValid, IsGoodEntry}
+use Rattle.cif_laws.proofs.lists.Membership.{same_members_turned, same_members_rotated, Contains-map, member_of}
+use Rattle.cif_laws.proofs.orders.AtMost.{at_most_itself}
+use Rattle.cif_laws.proofs.orders.Orders.{entry_total}
+use Rattle.state_laws.proofs.states.Lapse.{max_most, entry_stays}
+use Rattle.state_laws.proofs.states.PlainTable.{one_per_key}
+use Rattle.state_laws.proofs.states.ReducedEntries.{IsReduced, reduced_twice}
+use Rattle.state_laws.proofs.states.ReducedMembers.{reduced_along, reduced_unique}
+
+-- ---- a join reduces what both states have
+
+-- a join reduces the items and the entries of both states
+pub join_reduced : (a b c : State) → IsJoin a b c → IsReduced (a.ledger ++ b.ledger) (a.entries ++ b.entries) c
+join_reduced a b c is = record {
+  floor = is.floor;
+  is_floor = is.is_floor;
+  ledger_ascends = is.ledger_ascends;
+  ledger = is.ledger;
+  entries_ascend = is.entries_ascend;
+  of_keys = is.entries;
+}
+
+-- a state under the greater horizon that reduces them is the join
+pub reduced_join : (a b c : State) → c.horizon ≡ max a.horizon b.horizon → IsReduced (a.ledger ++ b.ledger) (a.entries ++ b.entries) c → IsJoin a b c
+reduced_join a b c horizon is = record {
+  horizon = horizon;
+  floor = is.floor;
+  is_floor = is.is_floor;
+  ledger_ascends = is.ledger_ascends;
+  ledger = is.ledger;
+  entries_ascend = is.entries_ascend;
+  entries = is.of_keys;
+}
+
+-- the join of two states is that of the two in the other order
+pub join_commutes : (a b c : State) → IsJoin a b c → IsJoin b a c
+join_commutes a b c is =
+    reduced_join b a c (is.horizon ∙ max_comm a.horizon b.horizon)
+    (reduced_along (a.ledger ++ b.ledger) (b.ledger ++ a.ledger) (a.entries ++ b.entries) (b.entries ++ a.entries) (same_members_turned a.ledger b.ledger)
+    (same_members_turned a.entries b.entries) c (join_reduced a b c is))
+
+-- two states have one join
+pub join_unique : (a b c d : State) → IsJoin a b c → IsJoin a b d → c ≡ d
+join_unique a b c d is_c is_d =
+    reduced_unique (a.ledger ++ b.ledger) (a.entries ++ b.entries) c d (is_c.horizon ∙ sym is_d.horizon) (join_reduced a b c is_c) (join_reduced a b d is_d)
+
+-- ---- three states
+
+-- the horizon of a join is not below that of either
+pub horizon_left : (a b c : State) → IsJoin a b c → a.horizon ≤ c.horizon
+horizon_left a b c is = subst (λ h. a.horizon ≤ h) (sym is.horizon) (le-max_left a.horizon b.horizon)
+
+-- the horizon of a join is at least that of the second state
+pub horizon_right : (a b c : State) → IsJoin a b c → b.horizon ≤ c.horizon
+horizon_right a b c is = subst (λ h. b.horizon ≤ h) (sym is.horizon) (le-max_right a.horizon b.horizon)
+
+max_rotates : (a b c : ℕ) → max (max a b) c ≡ max (max b c) a
+max_rotates a b c =
+    let one = le-max_left a b in
+    let two = le-max_right a b in
+    let three = le-max_left (max a b) c in
+    let four = le-max_right (max a b) c in
+    let five = le-max_left b c in
+    let six = le-max_right b c in
+    let seven = le-max_left (max b c) a in
+    let eight = le-max_right (max b c) a in
+    let up : max (max a b) c ≤ max (max b c) a = max_most (max a b) c (max (max b c) a) (max_most a b (max (max b c) a) (omega arith) (omega arith))
+    (omega arith) in
+    let down : max (max b c) a ≤ max (max a b) c = max_most (max b c) a (max (max a b) c) (max_most b c (max (max a b) c) (omega arith) (omega arith))
+    (omega arith) in
+    omega arith
+
+-- three states have one join, whichever two are joined first
+pub join_associates : (a b c ab bc x y : State) → IsJoin a b ab → IsJoin ab c x → IsJoin b c bc → IsJoin a bc y → x ≡ y
+join_associates a b c ab bc x y is_ab is_x is_bc is_y =
+    let turn = join_commutes a bc y is_y in
+    let left = reduced_twice (a.ledger ++ b.ledger) c.ledger (a.entries ++ b.entries) c.entries ab x (join_reduced a b ab is_ab) (join_reduced ab c x is_x)
+    (horizon_left ab c x is_x) in
+    let right = reduced_twice (b.ledger ++ c.ledger) a.ledger (b.entries ++ c.entries) a.entries bc y (join_reduced b c bc is_bc) (join_reduced bc a y turn)
+    (horizon_left bc a y turn) in
+    let horizons : x.horizon ≡ y.horizon =
+    is_x.horizon ∙ ap (λ h. max h c.horizon) is_ab.horizon ∙ max_rotates a.horizon b.horizon c.horizon ∙ ap (λ h. max h a.horizon) (sym is_bc.horizon)
+    ∙ sym turn.horizon in
+    reduced_unique ((b.ledger ++ c.ledger) ++ a.ledger) ((b.entries ++ c.entries) ++ a.entries) x y horizons
+    (reduced_along ((a.ledger ++ b.ledger) ++ c.ledger) ((b.ledger ++ c.ledger) ++ a.ledger) ((a.entries ++ b.entries) ++ c.entries)
+    ((b.entries ++ c.entries) ++ a.entries)
+    (same_members_rotated a.ledger b.ledger c.ledger) (same_members_rotated a.entries b.entries c.entries) x left)
+    right
+
+-- ---- a state joined with itself
+
+one_of_two : {A : Type 0} (xs : List A) (x : A) → Contains (xs ++ xs) x → Contains xs x
+one_of_two xs x among = by (Contains-append_cases xs xs x among)
+  where
+    by : Contains xs x ⊎ Contains xs x → Contains xs x
+    by (inl here) = here
+    by (inr here) = here
+
+-- a valid state joined with itself is itself
+pub join_idempotent : (a : State) → IsValid a → IsJoin a a a
+join_idempotent a valid = record {
+  horizon = sym (max-eq_left {n = a.horizon} {m = a.horizon} (omega arith));
+  floor = valid.ledger.floor;
+  is_floor = doubled valid.ledger.floor valid.ledger.is_floor;
+  ledger_ascends = valid.ledger.ascending;
+  ledger = λ item. (
+    λ among. (Contains-append_left a.ledger a.ledger item among, member_of (λ i. IsKept valid.ledger.floor i.stamp) a.ledger item valid.ledger.kept among),
+    λ told. one_of_two a.ledger item told.0,
+  );
+  entries_ascend = valid.entries.1;
+  entries = λ key entry. (
+    λ among. (
+      entry,
+      record {
+        among = Contains-append_left a.entries a.entries (key, entry) among;
+        greatest = λ other inside.
+            subst (λ e. IsAtMost entry_cmp other e) (one_per_key a.entries valid.entries.1 key other entry (one_of_two a.entries (key, other) inside) among)
+            (at_most_itself entry_total other);
+      },
+      kept key entry among,
+      stays key entry among,
+    ),
+    λ told.
+        let there = one_of_two a.entries (key, told.0) told.1.among in
+        subst (λ e. Contains a.entries (key, e)) (sym (stays key told.0 there) ∙ told.3) there,
+  );
+}
+  where
+    stays : (key : Key) (entry : Entry) → Contains a.entries (key, entry) → lapse_entry a.horizon entry ≡ entry
+    stays key entry among =
+        entry_stays a.horizon entry (member_of (λ (pair : Key × Entry). HasNotToLapse a.horizon pair.1.op) a.entries (key, entry) valid.have_lapsed among)
+
+    doubled : (floor : Option FileStamp) → IsFloor a.ledger floor → IsFloor (a.ledger ++ a.ledger) floor
+    doubled None none = λ item among. none item (one_of_two a.ledger item among)
+    doubled (Some stamp) greatest = record {
+      full = greatest.full;
+      among = Contains-append_left a.ledger a.ledger greatest.full greatest.among;
+      is_full = greatest.is_full;
+      stamped = greatest.stamped;
+      greatest = λ item among. greatest.greatest item (one_of_two a.ledger item among);
+    }
+
+    kept : (key : Key) (entry : Entry) → Contains a.entries (key, entry) → IsKept valid.ledger.floor entry.stamp.file
+    kept key entry among =
+        let good = member_of (IsGoodEntry a.ledger) a.entries (key, entry) valid.entries.0 among in
+        let found = Contains-map (λ (item : LedgerItem). item.stamp) a.ledger entry.stamp.file good.stamp.in_ledger in
+        subst (λ s. IsKept valid.ledger.floor s) found.2 (member_of (λ i. IsKept valid.ledger.floor i.stamp) a.ledger found.0 valid.ledger.kept found.1)

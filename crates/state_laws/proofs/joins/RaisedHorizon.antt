@@ -1,0 +1,130 @@
+-- Setting a horizon: one that is not greater changes nothing, and what was joined before it was set is joined after. Without a horizon nothing lapses.
+use Rattle.std.proofs.Common.{◌≡◌, ℕ, ◌≤◌, List, [], ◌∷◌, Contains, subst, ap, sym, ◌∙◌, arith}
+use Rattle.std.specs.Prelude.{Option, ◌↔◌, max}
+use Rattle.std.proofs.Math.Nat.{le-max_left, max-eq_left, max-zero, zero-max}
+use Rattle.std.proofs.lemmas.List.Elements.{All-contains, recursion_from_All, All-from_recursion}
+use Rattle.std.specs.List.{AllByRecursion}
+use Rattle.docker_model.specs.file.Change.{Key}
+use Rattle.docker_model.specs.state.Order.{IsStrictlyAscending}
+use Rattle.docker_model.specs.state.Stamp.{FileStamp, LedgerItem, ledger_item_cmp, ledger_item_of}
+use Rattle.docker_model.specs.state.Op.{Op, deleted, lapsed, put_with, Entry}
+use Rattle.docker_model.specs.state.Lapse.{lapse_entry, HasNotToLapse}
+use Rattle.docker_model.specs.state.State.{State, AreAscending, HaveLapsed, IsValid, IsJoin, lapse_state, raise_horizon, without_horizon}
+use Rattle.docker_model.specs.state.Summary.{IsFloorOf, IsKeptFile, IsSummary, IsGreatestEntryOf}
+use Rattle.state_laws.proofs.states.PlainTable.{Keyed}
+use Rattle.state_laws.proofs.states.Lapse.{entry_twice, entry_stays, lapse_none}
+use Rattle.state_laws.proofs.states.LapsedGreatest.{lapsed_from, lapsed_to}
+use Rattle.state_laws.proofs.states.KeptEntries.{lapse_ascends, entries_stay}
+
+-- ---- what stays
+
+-- a state none of whose puts has to lapse under a horizon, with it
+pub lapsed_already : (horizon : ℕ) (state : State) → HaveLapsed horizon state.entries
+    → lapse_state horizon state ≡ record { horizon = horizon; ledger = state.ledger; entries = state.entries }
+lapsed_already horizon state all = λ i. record {
+  horizon = horizon;
+  ledger = state.ledger;
+  entries = entries_stay horizon state.entries (recursion_from_All (λ (entry : Keyed). HasNotToLapse horizon entry.1.op) state.entries all) i;
+}
+
+-- an entry of a valid state stays under its horizon
+pub entry_of_valid_stays : (state : State) (key : Key) (entry : Entry) → IsValid state → Contains state.entries (key, entry)
+    → lapse_entry state.horizon entry ≡ entry
+entry_of_valid_stays state key entry valid among =
+    entry_stays state.horizon entry (All-contains (λ (e : Keyed). HasNotToLapse state.horizon e.1.op) state.entries (key, entry) valid.have_lapsed among)
+
+-- a horizon that is not greater changes nothing
+pub not_greater : (horizon : ℕ) (state : State) → IsValid state → horizon ≤ state.horizon → raise_horizon horizon state ≡ state
+not_greater horizon state valid low = ap (λ h. lapse_state h state) (max-eq_left low) ∙ lapsed_already state.horizon state valid.have_lapsed
+
+-- a valid state is what it was before its horizon was set, with that set
+pub set_last : (state : State) → IsValid state → raise_horizon state.horizon (without_horizon state) ≡ state
+set_last state valid =
+    ap (λ h. lapse_state h (without_horizon state)) (zero-max state.horizon) ∙ lapsed_already state.horizon (without_horizon state) valid.have_lapsed
+
+-- ---- lapsing again
+
+-- a join, where the other's horizon is set last
+pub join_then_set : (a b c : State) → IsJoin a (without_horizon b) c → IsJoin a b (raise_horizon b.horizon c)
+join_then_set a b c is = record {
+  horizon = horizons;
+  floor = is.floor;
+  is_floor = is.is_floor;
+  ledger_ascends = is.ledger_ascends;
+  ledger = is.ledger;
+  entries_ascend = lapse_ascends (max c.horizon b.horizon) c.entries is.entries_ascend;
+  entries = λ key entry. (
+    λ among.
+        let before = lapsed_from (max c.horizon b.horizon) c.entries key entry among in
+        let told = (is.entries key before.0).0 before.1 in
+        (told.0, told.1, told.2, sym (twofold told.0) ∙ ap (lapse_entry (max c.horizon b.horizon)) told.3 ∙ before.2),
+    λ told.
+        let there = (is.entries key (lapse_entry c.horizon told.0)).1 (told.0, told.1, told.2, λ i. lapse_entry c.horizon told.0) in
+        subst (λ e. Contains (raise_horizon b.horizon c).entries (key, e)) (twofold told.0 ∙ told.3) (lapsed_to (max c.horizon b.horizon) c.entries key
+        (lapse_entry c.horizon told.0) there),
+  );
+}
+  where
+    horizons : max c.horizon b.horizon ≡ max a.horizon b.horizon
+    horizons = ap (λ h. max h b.horizon) (is.horizon ∙ max-zero a.horizon)
+
+    twofold : (entry : Entry) → lapse_entry (max c.horizon b.horizon) (lapse_entry c.horizon entry) ≡ lapse_entry (max c.horizon b.horizon) entry
+    twofold entry = entry_twice (max c.horizon b.horizon) c.horizon entry ∙ ap (λ h. lapse_entry h entry) (max-eq_left (le-max_left c.horizon b.horizon))
+
+-- without a horizon nothing has to lapse
+pub none_has_to : (op : Op) → HasNotToLapse 0 op
+none_has_to deleted = tt
+none_has_to lapsed = tt
+none_has_to (put_with body) = omega arith
+
+-- nor has any entry
+pub none_to_lapse : (entries : List Keyed) → HaveLapsed 0 entries
+none_to_lapse entries = All-from_recursion (λ (entry : Keyed). HasNotToLapse 0 entry.1.op) entries (each entries)
+  where
+    each : (xs : List Keyed) → AllByRecursion (λ (entry : Keyed). HasNotToLapse 0 entry.1.op) xs
+    each [] = tt
+    each (x ∷ xs) = (none_has_to x.1.op, each xs)
+
+-- the summary of files without a horizon, in the words of the greatest entries themselves
+pub record IsPlainSummary (files : List (List (List ℕ))) (state : State) : Type 0 where
+  pub no_horizon : state.horizon ≡ 0
+  pub floor : Option FileStamp
+  pub is_floor : IsFloorOf files floor
+  pub ledger_ascends : IsStrictlyAscending ledger_item_cmp state.ledger
+  pub ledger : (item : LedgerItem) → Contains state.ledger item ↔ ((file : List (List ℕ)) × IsKeptFile files floor file × (ledger_item_of file ≡ item))
+  pub entries_ascend : AreAscending state.entries
+  pub entries : (key : Key) (entry : Entry) → Contains state.entries (key, entry) ↔ IsGreatestEntryOf files floor key entry
+
+lapse_entry_none : (entry : Entry) → lapse_entry 0 entry ≡ entry
+lapse_entry_none entry = λ i. record { stamp = entry.stamp; op = lapse_none entry.op i }
+
+-- and it is the summary under no horizon
+pub plain_summary : (files : List (List (List ℕ))) (state : State) → IsPlainSummary files state ↔ IsSummary files 0 state
+plain_summary files state = (
+  λ is. record {
+    horizon_is = is.no_horizon;
+    floor = is.floor;
+    is_floor = is.is_floor;
+    ledger_ascends = is.ledger_ascends;
+    ledger = is.ledger;
+    entries_ascend = is.entries_ascend;
+    entries = λ key entry. (
+      λ among. (entry, (is.entries key entry).0 among, lapse_entry_none entry),
+      λ told. subst (λ e. Contains state.entries (key, e)) (sym (lapse_entry_none told.0) ∙ told.2) ((is.entries key told.0).1 told.1),
+    );
+  },
+  λ is. record {
+    no_horizon = is.horizon_is;
+    floor = is.floor;
+    is_floor = is.is_floor;
+    ledger_ascends = is.ledger_ascends;
+    ledger = is.ledger;
+    entries_ascend = is.entries_ascend;
+    entries = λ key entry. (
+      λ among.
+          let told = (is.entries key entry).0 among in
+          subst (λ e. IsGreatestEntryOf files is.floor key e) (sym (lapse_entry_none told.0) ∙ told.2) told.1,
+      λ best. (is.entries key entry).1 (entry, best, lapse_entry_none entry),
+    );
+  },
+)

@@ -1,0 +1,151 @@
+-- One more entry is offered: it is staged, or it isn't. What a state has at a key.
+use Rattle.std.proofs.Common.{◌≡◌, List, [], ◌∷◌, ◌++◌, refl, ap, sym, ◌∙◌, subst, inl, inr, ◌⊎◌, Some, None, Contains, arith}
+use Rattle.std.specs.Prelude.{Option, ◌↔◌, option_and_then}
+use Rattle.std.specs.declared.cmp.Ordering.TheVariants.{Less}
+use Rattle.std.specs.Ordering.{on}
+use Rattle.std.proofs.lemmas.List.Elements.{Contains-append_left, Contains-append_right, Contains-append_cases}
+use Rattle.docker_model.specs.file.Change.{Key}
+use Rattle.docker_model.specs.state.Order.{IsBelow}
+use Rattle.docker_model.specs.state.Stamp.{FileStamp, IsFloor, IsKept}
+use Rattle.docker_model.specs.state.Op.{Entry, entry_cmp, key_cmp}
+use Rattle.docker_model.specs.state.State.{State, without_horizon, AreAscending, IsValid, IsJoin, raise_horizon, entry_at}
+use Rattle.docker_model.specs.state.Staging.{IsGreaterThan, IsToStage, IsStaged, IsCommit}
+use Rattle.cif_laws.proofs.lists.BoolsAndOptions.{none_some}
+use Rattle.cif_laws.proofs.lists.Membership.{nil-Contains, Contains-single}
+use Rattle.cif_laws.proofs.orders.Ascending.{irreflexive, later_of, ascending_of}
+use Rattle.cif_laws.proofs.orders.Orders.{entry_total}
+use Rattle.state_laws.proofs.states.PlainTable.{Keyed, Found, NotFound, find_in, one_per_key}
+use Rattle.state_laws.proofs.joins.JoinValid.{join_is_valid}
+use Rattle.state_laws.proofs.joins.RaisedHorizon.{join_then_set, none_to_lapse}
+use Rattle.state_laws.proofs.states.OneJoin.{floor_unique}
+use Rattle.cif_laws.proofs.lists.Later.{later_append}
+use Rattle.state_laws.proofs.joins.StagedJoin.{commit_is_join}
+
+-- ---- what a state has at a key
+
+Some_is : {A : Type 0} (a b : A) → Some a ≡ Some b → a ≡ b
+Some_is a b h = cc
+
+-- the entry at a key is the one that stands among the entries
+pub entry_at_iff : (state : State) → AreAscending state.entries → (key : Key) (entry : Entry) → (entry_at state key ≡ Some entry) ↔ Contains state.entries
+    (key, entry)
+entry_at_iff state up key entry = by (find_in state.entries key)
+  where
+    by : Found state.entries key ⊎ NotFound state.entries key → (entry_at state key ≡ Some entry) ↔ Contains state.entries (key, entry)
+    by (inl (pair, found, here)) =
+        let at : entry_at state key ≡ Some pair.1 = ap (option_and_then (λ (e : Keyed). Some e.1)) found in (
+          λ is. subst (λ e. Contains state.entries (key, e)) (Some_is pair.1 entry (sym at ∙ is)) here,
+          λ among. at ∙ ap Some (one_per_key state.entries up key pair.1 entry here among),
+        )
+    by (inr (missing, none)) =
+        let at : entry_at state key ≡ None = ap (option_and_then (λ (e : Keyed). Some e.1)) missing in (
+          λ is. none_some entry (sym at ∙ is),
+          λ among. absurd (none entry among),
+        )
+
+-- whether an entry is to be staged, by what the state has at its key
+pub to_stage_by_get : (own : State) → AreAscending own.entries → (floor : Option FileStamp) (key : Key) (entry : Entry)
+    → IsToStage own floor key entry ↔ (IsKept floor entry.stamp.file × IsGreaterThan (entry_at own key) entry)
+to_stage_by_get own up floor key entry = by (entry_at own key) refl
+  where
+    by : (mine : Option Entry) → entry_at own key ≡ mine → IsToStage own floor key entry ↔ (IsKept floor entry.stamp.file × IsGreaterThan mine entry)
+    by None h = (
+      λ to. (to.kept, tt),
+      λ told. record { kept = told.0; greater = λ other among. none_some other (sym h ∙ (entry_at_iff own up key other).1 among) },
+    )
+    by (Some mine) h = (
+      λ to. (to.kept, to.greater mine ((entry_at_iff own up key mine).0 h)),
+      λ told. record {
+        kept = told.0;
+        greater = λ other among. subst (λ e. IsBelow entry_cmp e entry) (Some_is mine other (sym h ∙ (entry_at_iff own up key other).1 among)) told.1;
+      },
+    )
+
+-- ---- the steps
+
+-- at first nothing is staged
+pub nothing_staged : (own : State) (floor : Option FileStamp) → IsStaged own floor [] []
+nothing_staged own floor = record {
+  ascending = tt;
+  members = λ key entry. (λ among. absurd (nil-Contains (key, entry) among), λ told. absurd (nil-Contains (key, entry) told.0));
+}
+
+module _ (own : State) (floor : Option FileStamp) (offered staged : List (Key × Entry)) (key : Key) (entry : Entry)
+    (stages : IsStaged own floor offered staged) where
+  -- an entry that is to be staged goes behind
+  pub one_staged_more : ((other : Key × Entry) → Contains staged other → key_cmp other.0 key ≡ Less) → IsToStage own floor key entry
+      → IsStaged own floor (offered ++ (key, entry) ∷ []) (staged ++ (key, entry) ∷ [])
+  one_staged_more above to = record {
+    ascending = ascending_of (on (λ (e : Key × Entry). e.0) key_cmp) (staged ++ (key, entry) ∷ [])
+        (later_append (IsBelow (on (λ (e : Key × Entry). e.0) key_cmp)) staged ((key, entry) ∷ [])
+        (later_of (on (λ (e : Key × Entry). e.0) key_cmp) staged stages.ascending) (tt, tt)
+        (λ a b in_a in_b. subst (λ (e : Key × Entry). key_cmp a.0 e.0 ≡ Less) (Contains-single (key, entry) b in_b) (above a in_a)));
+    members = λ k e. (
+      λ among. forth k e (Contains-append_cases staged ((key, entry) ∷ []) (k, e) among),
+      λ told. back k e told.1 (Contains-append_cases offered ((key, entry) ∷ []) (k, e) told.0),
+    );
+  }
+    where
+      forth : (k : Key) (e : Entry) → Contains staged (k, e) ⊎ Contains {X = Key × Entry} ((key, entry) ∷ []) (k, e) → Contains (offered ++ (key, entry) ∷ [])
+          (k, e) × IsToStage own floor k e
+      forth k e (inl here) = let told = (stages.members k e).0 here in (Contains-append_left offered ((key, entry) ∷ []) (k, e) told.0, told.1)
+      forth k e (inr here) = (
+        Contains-append_right offered ((key, entry) ∷ []) (k, e) here,
+        subst (λ (v : Key × Entry). IsToStage own floor v.0 v.1) (Contains-single (key, entry) (k, e) here) to,
+      )
+
+      back : (k : Key) (e : Entry) → IsToStage own floor k e → Contains offered (k, e) ⊎ Contains {X = Key × Entry} ((key, entry) ∷ []) (k, e)
+          → Contains (staged ++ (key, entry) ∷ []) (k, e)
+      back k e to_stage (inl here) = Contains-append_left staged ((key, entry) ∷ []) (k, e) ((stages.members k e).1 (here, to_stage))
+      back k e to_stage (inr here) = Contains-append_right staged ((key, entry) ∷ []) (k, e) here
+
+  -- any other is left out
+  pub one_left_out : ¬ IsToStage own floor key entry → IsStaged own floor (offered ++ (key, entry) ∷ []) staged
+  one_left_out out = record {
+    ascending = stages.ascending;
+    members = λ k e. (
+      λ among. let told = (stages.members k e).0 among in (Contains-append_left offered ((key, entry) ∷ []) (k, e) told.0, told.1),
+      λ told. back k e told.1 (Contains-append_cases offered ((key, entry) ∷ []) (k, e) told.0),
+    );
+  }
+    where
+      back : (k : Key) (e : Entry) → IsToStage own floor k e → Contains offered (k, e) ⊎ Contains {X = Key × Entry} ((key, entry) ∷ []) (k, e)
+          → Contains staged (k, e)
+      back k e to_stage (inl here) = (stages.members k e).1 (here, to_stage)
+      back k e to_stage (inr here) =
+          absurd (out (subst (λ (v : Key × Entry). IsToStage own floor v.0 v.1) (sym (Contains-single (key, entry) (k, e) here)) to_stage))
+
+-- ---- the whole
+
+-- staging all entries of a received state under the floor of the union, and then committing, leaves the join with it as it was before its horizon was set
+pub staging_joins_before : (own received : State) (floor : Option FileStamp) (staged : List (Key × Entry)) (after : State) → IsValid own → IsValid received
+    → IsFloor (own.ledger ++ received.ledger) floor → IsStaged own floor received.entries staged → IsCommit own received.ledger staged after
+    → IsJoin own (without_horizon received) after
+staging_joins_before own received floor staged after valid valid_too is_floor stages commit =
+    let floors : floor ≡ commit.floor = floor_unique (own.ledger ++ received.ledger) (own.ledger ++ received.ledger)
+    (λ item. (λ x. x, λ x. x)) floor commit.floor is_floor commit.is_floor in
+    commit_is_join own received valid valid_too staged after commit (subst (λ f. IsStaged own f received.entries staged) floors stages)
+
+-- and then setting its horizon leaves the join with it
+pub staging_joins : (own received : State) (floor : Option FileStamp) (staged : List (Key × Entry)) (after : State) → IsValid own → IsValid received
+    → IsFloor (own.ledger ++ received.ledger) floor → IsStaged own floor received.entries staged → IsCommit own received.ledger staged after
+    → IsJoin own received (raise_horizon received.horizon after)
+staging_joins own received floor staged after valid valid_too is_floor stages commit =
+    join_then_set own received after (staging_joins_before own received floor staged after valid valid_too is_floor stages commit)
+
+-- what a commit leaves is valid
+pub commit_is_valid : (own received : State) (floor : Option FileStamp) (staged : List (Key × Entry)) (after : State) → IsValid own → IsValid received
+    → IsFloor (own.ledger ++ received.ledger) floor → IsStaged own floor received.entries staged → IsCommit own received.ledger staged after → IsValid after
+commit_is_valid own received floor staged after valid valid_too is_floor stages commit =
+    join_is_valid own (without_horizon received) after valid without
+    (staging_joins_before own received floor staged after valid valid_too is_floor stages commit)
+  where
+    without : IsValid (without_horizon received)
+    without = record { horizon = omega arith; ledger = valid_too.ledger; entries = valid_too.entries; have_lapsed = none_to_lapse received.entries }
+
+-- of its own entries a state stages nothing
+pub own_stages_nothing : (own : State) (floor : Option FileStamp) → IsStaged own floor own.entries []
+own_stages_nothing own floor = record {
+  ascending = tt;
+  members = λ key entry. (λ among. absurd (nil-Contains (key, entry) among), λ told. absurd (irreflexive entry_total entry (told.1.greater entry told.0)));
+}

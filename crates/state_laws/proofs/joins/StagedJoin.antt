@@ -1,0 +1,190 @@
+-- Staging each entry of a received state, and then committing, gives the join with that state as it was before its horizon was set.
+use Rattle.std.proofs.Common.{◌≡◌, ℕ, List, ◌++◌, ap, sym, ◌∙◌, subst, inl, inr, ◌⊎◌, Some, None, Contains}
+use Rattle.std.specs.Prelude.{Option}
+use Rattle.std.specs.declared.cmp.Ordering.TheVariants.{Equal}
+use Rattle.std.specs.Ordering.{ordering_reverse, ordering_then, nat_cmp}
+use Rattle.std.specs.Cmp.{on_total}
+use Rattle.std.proofs.Math.Nat.{max-zero}
+use Rattle.std.proofs.lemmas.List.Elements.{All-contains, Contains-append_left, Contains-append_right, Contains-append_cases}
+use Rattle.docker_model.specs.file.Change.{Key}
+use Rattle.docker_model.specs.state.Order.{IsAtMost, IsBelow}
+use Rattle.docker_model.specs.state.Stamp.{FileStamp, LedgerItem, file_stamp_cmp, IsKept}
+use Rattle.docker_model.specs.state.Op.{Entry, entry_cmp, op_cmp}
+use Rattle.docker_model.specs.state.Lapse.{lapse_entry}
+use Rattle.docker_model.specs.state.State.{State, without_horizon, IsJoin, IsValid, IsGoodEntry, IsGreatestAmong}
+use Rattle.docker_model.specs.state.Staging.{HasNoEntryOf, IsToStage, IsStaged, IsPutIn, IsCommit}
+use Rattle.cif_laws.proofs.orders.Orders.{entry_total, file_stamp_total, key_total, ledger_item_total}
+use Rattle.cif_laws.proofs.orders.Ascending.{same_list}
+use Rattle.state_laws.proofs.states.PlainTable.{Found, NotFound, find_in, one_per_key}
+use Rattle.cif_laws.proofs.orders.AtMost.{at_most_trans, at_most_itself, at_most_below, at_most_or, level}
+use Rattle.state_laws.proofs.states.OneJoin.{floor_unique}
+use Rattle.state_laws.proofs.states.ExactEntries.{exact_entry}
+
+-- the greater entry has the later file stamp, or the same
+stamp_up : (low high : Entry) → IsAtMost entry_cmp low high → IsAtMost file_stamp_cmp low.stamp.file high.stamp.file
+stamp_up low high up greater = up (λ i. ordering_then (ordering_then (greater i) (nat_cmp low.stamp.number high.stamp.number)) (op_cmp low.op high.op))
+
+-- so what is kept with the lower is kept with the higher
+pub kept_up : (floor : Option FileStamp) (low high : Entry) → IsAtMost entry_cmp low high → IsKept floor low.stamp.file → IsKept floor high.stamp.file
+kept_up None low high up kept = tt
+kept_up (Some floor) low high up kept = at_most_trans file_stamp_total floor low.stamp.file high.stamp.file kept (stamp_up low high up)
+
+module _ (own received : State) (valid : IsValid own) (valid_too : IsValid received) (staged : List (Key × Entry)) (after : State)
+    (commit : IsCommit own received.ledger staged after)
+    (stages : IsStaged own commit.floor received.entries staged) where
+  good_own : (key : Key) (entry : Entry) → Contains own.entries (key, entry) → IsGoodEntry own.ledger (key, entry)
+  good_own key entry among = All-contains (IsGoodEntry own.ledger) own.entries (key, entry) valid.entries.0 among
+
+  good_received : (key : Key) (entry : Entry) → Contains received.entries (key, entry) → IsGoodEntry received.ledger (key, entry)
+  good_received key entry among = All-contains (IsGoodEntry received.ledger) received.entries (key, entry) valid_too.entries.0 among
+
+  -- entries of one key that tie are equal
+  tied_equal : (key : Key) (one two : Entry) → Contains own.entries (key, one) → Contains received.entries (key, two) → entry_cmp one two ≡ Equal → one ≡ two
+  tied_equal key one two in_own in_received e = exact_entry key one two (good_own key one in_own).op (good_received key two in_received).op e
+
+  one_own : (key : Key) (one two : Entry) → Contains own.entries (key, one) → Contains own.entries (key, two) → one ≡ two
+  one_own key one two = one_per_key own.entries valid.entries.1 key one two
+
+  one_received : (key : Key) (one two : Entry) → Contains received.entries (key, one) → Contains received.entries (key, two) → one ≡ two
+  one_received key one two = one_per_key received.entries valid_too.entries.1 key one two
+
+  Best : Key → Entry → Type 0
+  Best key entry = IsGreatestAmong (own.entries ++ received.entries) key entry × IsKept commit.floor entry.stamp.file
+
+  -- what is staged is the greatest of its key, and kept
+  staged_best : (key : Key) (entry : Entry) → Contains staged (key, entry) → Best key entry
+  unfolding Best
+  staged_best key entry among =
+      let told = (stages.members key entry).0 among in (
+        record {
+          among = Contains-append_right own.entries received.entries (key, entry) told.0;
+          greatest = λ other here. under told.0 told.1 other (Contains-append_cases own.entries received.entries (key, other) here);
+        },
+        told.1.kept,
+      )
+    where
+      under : Contains received.entries (key, entry) → IsToStage own commit.floor key entry → (other : Entry) → Contains own.entries (key, other)
+          ⊎ Contains received.entries (key, other) → IsAtMost entry_cmp other entry
+      under offered to other (inl here) = at_most_below entry_cmp other entry (to.greater other here)
+      under offered to other (inr here) = subst (λ e. IsAtMost entry_cmp other e) (one_received key other entry here offered) (at_most_itself entry_total other)
+
+  -- an own entry that is kept is the greatest of its key where none is staged
+  own_best : (key : Key) (entry : Entry) → Contains own.entries (key, entry) → IsKept commit.floor entry.stamp.file → HasNoEntryOf staged key → Best key entry
+  unfolding Best
+  own_best key entry among kept none = (
+    record {
+      among = Contains-append_left own.entries received.entries (key, entry) among;
+      greatest = λ other here. under other (Contains-append_cases own.entries received.entries (key, other) here);
+    },
+    kept,
+  )
+    where
+      staged_too : (other : Entry) → Contains received.entries (key, other) → IsBelow entry_cmp entry other → Contains staged (key, other)
+      staged_too other here below = (stages.members key other).1 (
+        here,
+        record {
+          kept = kept_up commit.floor entry other (at_most_below entry_cmp entry other below) kept;
+          greater = λ mine inside. subst (λ e. IsBelow entry_cmp e other) (one_own key entry mine among inside) below;
+        },
+      )
+
+      by : (other : Entry) → Contains received.entries (key, other) → IsAtMost entry_cmp other entry ⊎ IsBelow entry_cmp entry other
+          → IsAtMost entry_cmp other entry
+      by other here (inl low) = low
+      by other here (inr below) = absurd (none other (staged_too other here below))
+
+      under : (other : Entry) → Contains own.entries (key, other) ⊎ Contains received.entries (key, other) → IsAtMost entry_cmp other entry
+      under other (inl here) = subst (λ e. IsAtMost entry_cmp other e) (one_own key other entry here among) (at_most_itself entry_total other)
+      under other (inr here) = by other here (at_most_or entry_total other entry)
+
+  forth : (key : Key) (entry : Entry) → IsPutIn own staged commit.floor key entry → Best key entry
+  forth key entry (inl here) = staged_best key entry here
+  forth key entry (inr told) = own_best key entry told.0 told.1 told.2
+
+  -- the greatest of a key that is kept is staged, or it is the state's own and none is staged
+  back : (key : Key) (entry : Entry) → Best key entry → IsPutIn own staged commit.floor key entry
+  unfolding Best
+  back key entry best = by (Contains-append_cases own.entries received.entries (key, entry) best.0.among)
+    where
+      -- where an own entry is the greatest, nothing greater is staged
+      none_staged : Contains own.entries (key, entry) → HasNoEntryOf staged key
+      none_staged here other inside =
+          let told = (stages.members key other).0 inside in
+          let up = best.0.greatest other (Contains-append_right own.entries received.entries (key, other) told.0) in
+          let below = told.1.greater entry here in
+          up (entry_total.antisymm other entry ∙ ap ordering_reverse below)
+
+      as_received : Contains received.entries (key, entry) → Found own.entries key ⊎ NotFound own.entries key
+          → IsPutIn own staged commit.floor key entry
+      as_received here (inr none) = inl ((stages.members key entry).1 (here, record { kept = best.1; greater = λ other inside. absurd (none.1 other inside) }))
+      as_received here (inl found) =
+          pick (best.0.greatest found.0.1 (Contains-append_left own.entries received.entries (key, found.0.1) found.2)) (at_most_or entry_total entry found.0.1)
+        where
+          pick : IsAtMost entry_cmp found.0.1 entry → IsAtMost entry_cmp entry found.0.1 ⊎ IsBelow entry_cmp found.0.1 entry
+              → IsPutIn own staged commit.floor key entry
+          pick low (inl high) =
+              let same = tied_equal key found.0.1 entry found.2 here (level entry_total found.0.1 entry low high) in
+              let mine = subst (λ e. Contains own.entries (key, e)) same found.2 in
+              inr (mine, best.1, none_staged mine)
+          pick low (inr below) = inl ((stages.members key entry).1 (
+            here,
+            record { kept = best.1; greater = λ other inside. subst (λ e. IsBelow entry_cmp e entry) (one_own key found.0.1 other found.2 inside) below },
+          ))
+
+      by : Contains own.entries (key, entry) ⊎ Contains received.entries (key, entry) → IsPutIn own staged commit.floor key entry
+      by (inl here) = inr (here, best.1, none_staged here)
+      by (inr here) = as_received here (find_in own.entries key)
+
+  -- so the commit leaves the join with the received state as it was before its horizon was set
+  pub commit_is_join : IsJoin own (without_horizon received) after
+  unfolding Best
+  commit_is_join = record {
+    horizon = commit.horizon ∙ sym (max-zero own.horizon);
+    floor = commit.floor;
+    is_floor = commit.is_floor;
+    ledger_ascends = commit.ledger_ascends;
+    ledger = commit.ledger;
+    entries_ascend = commit.entries_ascend;
+    entries = λ key entry. (
+      λ among.
+          let told = (commit.entries key entry).0 among in
+          let best = forth key told.0 told.1 in
+          (told.0, best.0, best.1, told.2),
+      λ told. (commit.entries key entry).1 (told.0, back key told.0 (told.1, told.2), told.3),
+    );
+  }
+
+-- a state, items and what is staged have one commit
+pub one_commit : (own : State) (items : List LedgerItem) (staged : List (Key × Entry)) (a b : State) → IsCommit own items staged a → IsCommit own items staged b
+    → a ≡ b
+one_commit own items staged a b one two =
+    let floors : one.floor ≡ two.floor = floor_unique (own.ledger ++ items) (own.ledger ++ items)
+    (λ item. (λ x. x, λ x. x)) one.floor two.floor one.is_floor two.is_floor in
+    let horizons : a.horizon ≡ b.horizon = one.horizon ∙ sym two.horizon in
+    let ledgers : a.ledger ≡ b.ledger = same_list ledger_item_total a.ledger b.ledger one.ledger_ascends two.ledger_ascends (λ item. (
+      λ among. let told = (one.ledger item).0 among in (two.ledger item).1 (told.0, subst (λ floor. IsKept floor item.stamp) floors told.1),
+      λ among. let told = (two.ledger item).0 among in (one.ledger item).1 (told.0, subst (λ floor. IsKept floor item.stamp) (sym floors) told.1),
+    )) in
+    let entries : a.entries ≡ b.entries = same_list
+    (on_total (λ (entry : Key × Entry). entry.0) key_total) a.entries b.entries one.entries_ascend two.entries_ascend (λ entry. (
+      λ among. (two.entries entry.0 entry.1).1 (moved entry.0 entry.1 one.floor two.floor a.horizon b.horizon floors horizons
+          ((one.entries entry.0 entry.1).0 among)),
+      λ among. (one.entries entry.0 entry.1).1 (moved entry.0 entry.1 two.floor one.floor b.horizon a.horizon (sym floors) (sym horizons)
+          ((two.entries entry.0 entry.1).0 among)),
+    )) in
+    λ i. record { horizon = horizons i; ledger = ledgers i; entries = entries i }
+  where
+    Told : Key → Entry → Option FileStamp → ℕ → Type 0
+    Told key entry floor horizon = (before : Entry) × IsPutIn own staged floor key before × (lapse_entry horizon before ≡ entry)
+
+    moved : (key : Key) (entry : Entry) (f g : Option FileStamp) (m n : ℕ) → f ≡ g → m ≡ n → Told key entry f m → Told key entry g n
+    moved key entry f g m n floors horizons told = subst (λ h. Told key entry g h) horizons (subst (λ floor. Told key entry floor m) floors told)
+
+-- and of offered entries one list is staged
+pub one_staged : (own : State) (floor : Option FileStamp) (offered a b : List (Key × Entry)) → IsStaged own floor offered a → IsStaged own floor offered b
+    → a ≡ b
+one_staged own floor offered a b one two =
+    same_list (on_total (λ (entry : Key × Entry). entry.0) key_total) a b one.ascending two.ascending (λ entry. (
+      λ among. (two.members entry.0 entry.1).1 ((one.members entry.0 entry.1).0 among),
+      λ among. (one.members entry.0 entry.1).1 ((two.members entry.0 entry.1).0 among),
+    ))

@@ -1,0 +1,105 @@
+-- The items and what is staged are a valid state, and a commit is the join with it.
+use Rattle.std.proofs.Common.{◌≡◌, List, ◌++◌, ◌∙◌, ap, subst, arith, inl, inr, ◌⊎◌, Contains}
+use Rattle.std.specs.Prelude.{Option}
+use Rattle.std.specs.Ordering.{ordering_reverse}
+use Rattle.std.proofs.Math.Nat.{max-zero}
+use Rattle.std.proofs.lemmas.List.Elements.{All-contains, Contains-append_left, Contains-append_right, Contains-append_cases}
+use Rattle.docker_model.specs.file.Change.{Key}
+use Rattle.docker_model.specs.state.Order.{IsAtMost}
+use Rattle.docker_model.specs.state.Stamp.{FileStamp, IsFloor, IsKept}
+use Rattle.docker_model.specs.state.Op.{Entry, entry_cmp}
+use Rattle.docker_model.specs.state.State.{State, AreAscending, IsValid, IsGoodEntry, IsJoin, IsGreatestAmong}
+use Rattle.docker_model.specs.state.Staging.{IsStaged, IsPutIn, IsCommit, staged_state}
+use Rattle.cif_laws.proofs.lists.Membership.{all_members}
+use Rattle.cif_laws.proofs.orders.Orders.{entry_total}
+use Rattle.state_laws.proofs.states.PlainTable.{one_per_key}
+use Rattle.cif_laws.proofs.orders.AtMost.{at_most_itself, at_most_below}
+use Rattle.state_laws.proofs.joins.RaisedHorizon.{none_to_lapse}
+use Rattle.state_laws.proofs.states.OneJoin.{floor_unique}
+
+-- what is staged of a valid state's entries is, with its items, a valid state
+pub staged_is_valid : (own received : State) (floor : Option FileStamp) (staged : List (Key × Entry)) → IsValid received
+    → IsStaged own floor received.entries staged
+    → IsValid (staged_state received.ledger staged)
+staged_is_valid own received floor staged valid stages = record {
+  horizon = omega arith;
+  ledger = valid.ledger;
+  entries = (
+    all_members (IsGoodEntry received.ledger) staged (λ entry among.
+        All-contains (IsGoodEntry received.ledger) received.entries entry valid.entries.0 ((stages.members entry.0 entry.1).0 among).0),
+    stages.ascending,
+  );
+  have_lapsed = none_to_lapse staged;
+}
+
+module _ (own received : State) (floor : Option FileStamp) (staged : List (Key × Entry)) (after : State) (up : AreAscending own.entries)
+    (is_floor : IsFloor (own.ledger ++ received.ledger) floor)
+    (stages : IsStaged own floor received.entries staged) (join : IsJoin own (staged_state received.ledger staged) after) where
+  Best : Key → Entry → Type 0
+  Best key entry = IsGreatestAmong (own.entries ++ staged) key entry × IsKept join.floor entry.stamp.file
+
+  floors : floor ≡ join.floor
+  floors = floor_unique (own.ledger ++ received.ledger) (own.ledger ++ received.ledger) (λ item. (λ x. x, λ x. x)) floor join.floor is_floor join.is_floor
+
+  -- a staged entry is above the state's own of its key
+  above : (key : Key) (mine entry : Entry) → Contains own.entries (key, mine) → Contains staged (key, entry) → ¬ IsAtMost entry_cmp entry mine
+  above key mine entry here there low = low (entry_total.antisymm entry mine ∙ ap ordering_reverse (((stages.members key entry).0 there).1.greater mine here))
+
+  forth : (key : Key) (entry : Entry) → Best key entry → IsPutIn own staged join.floor key entry
+  unfolding Best
+  forth key entry best = by (Contains-append_cases own.entries staged (key, entry) best.0.among)
+    where
+      by : Contains own.entries (key, entry) ⊎ Contains staged (key, entry) → IsPutIn own staged join.floor key entry
+      by (inl here) =
+          inr (
+            here,
+            best.1,
+            λ other there. above key entry other here there
+                (best.0.greatest other (Contains-append_right own.entries staged (key, other) there)),
+          )
+      by (inr there) = inl there
+
+  back : (key : Key) (entry : Entry) → IsPutIn own staged join.floor key entry → Best key entry
+  unfolding Best
+  back key entry (inl there) = (
+    record {
+      among = Contains-append_right own.entries staged (key, entry) there;
+      greatest = λ other inside.
+          under other (Contains-append_cases own.entries staged (key, other) inside);
+    },
+    subst (λ f. IsKept f entry.stamp.file) floors ((stages.members key entry).0 there).1.kept,
+  )
+    where
+      under : (other : Entry) → Contains own.entries (key, other) ⊎ Contains staged (key, other) → IsAtMost entry_cmp other entry
+      under other (inl here) = at_most_below entry_cmp other entry (((stages.members key entry).0 there).1.greater other here)
+      under other (inr too) =
+          subst (λ e. IsAtMost entry_cmp other e) (one_per_key staged stages.ascending key other entry too there) (at_most_itself entry_total other)
+  back key entry (inr told) = (
+    record {
+      among = Contains-append_left own.entries staged (key, entry) told.0;
+      greatest = λ other inside.
+          under other (Contains-append_cases own.entries staged (key, other) inside);
+    },
+    told.1,
+  )
+    where
+      under : (other : Entry) → Contains own.entries (key, other) ⊎ Contains staged (key, other) → IsAtMost entry_cmp other entry
+      under other (inl here) =
+          subst (λ e. IsAtMost entry_cmp other e) (one_per_key own.entries up key other entry here told.0) (at_most_itself entry_total other)
+      under other (inr there) = absurd (told.2 other there)
+
+  -- the join with what is staged is the commit
+  pub join_with_staged : IsCommit own received.ledger staged after
+  unfolding Best
+  join_with_staged = record {
+    horizon = join.horizon ∙ max-zero own.horizon;
+    floor = join.floor;
+    is_floor = join.is_floor;
+    ledger_ascends = join.ledger_ascends;
+    ledger = join.ledger;
+    entries_ascend = join.entries_ascend;
+    entries = λ key entry. (
+      λ among. let told = (join.entries key entry).0 among in (told.0, forth key told.0 (told.1, told.2), told.3),
+      λ told. let best = back key told.0 told.1 in (join.entries key entry).1 (told.0, best.0, best.1, told.2),
+    );
+  }

@@ -1,0 +1,17 @@
+pub mod PlainTable
+pub mod GreatestEntry
+pub mod OneJoin
+pub mod MomentOrder
+pub mod OnePlainTable
+pub mod Lapse
+pub mod KeptEntries
+pub mod LapsedGreatest
+pub mod ReducedEntries
+pub mod ReducedMembers
+pub mod SummaryReduced
+pub mod SummaryLaws
+pub mod SummaryValid
+pub mod TableLapsed
+pub mod LapsedPlainTable
+pub mod ExactEntries
+pub mod PlainLive

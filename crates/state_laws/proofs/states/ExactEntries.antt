@@ -1,0 +1,70 @@
+-- Well formed entries of one key that tie are equal.
+use Rattle.std.proofs.Common.{◌≡◌, ℕ, List, [], ◌∷◌, length, All, refl, ap, sym, ◌∙◌, arith, length-append}
+use Rattle.std.specs.List.{concat}
+use Rattle.std.specs.declared.cmp.Ordering.TheVariants.{Equal}
+use Rattle.std.specs.Ordering.{nat_cmp}
+use Rattle.std.proofs.lemmas.List.Elements.{All-head, All-tail}
+use Rattle.std.proofs.lemmas.Map.Lookups.{exact_bytes}
+use Rattle.docker_model.specs.records.Record.{IsRecord}
+use Rattle.docker_model.specs.file.Change.{Key, tiploc_key, association_key, schedule_key, Body, tiploc_body, association_body, schedule_body}
+use Rattle.docker_model.specs.state.Order.{bytes_cmp}
+use Rattle.docker_model.specs.state.Stamp.{stamp_cmp}
+use Rattle.docker_model.specs.state.Op.{Op, deleted, lapsed, put_with, Entry, entry_cmp, op_cmp, body_end, body_bytes, body_tag}
+use Rattle.docker_model.specs.state.State.{IsBodyOf, IsOpOf}
+use Rattle.cif_laws.proofs.orders.Orders.{then_equal, exact_stamp}
+use Rattle.cif_laws.proofs.lists.Fronts.{same_front}
+
+-- lists of records that join to the same bytes are equal
+pub same_lines : (xs ys : List (List ℕ)) → All IsRecord xs → All IsRecord ys → concat xs ≡ concat ys → xs ≡ ys
+same_lines [] [] good_x good_y same = refl
+same_lines [] (y ∷ ys) good_x good_y same =
+    let eighty : length y ≡ 80 = (All-head IsRecord y ys good_y).0 in
+    absurd (omega (arith, eighty, simp length-append at (ap length same)))
+same_lines (x ∷ xs) [] good_x good_y same =
+    let eighty : length x ≡ 80 = (All-head IsRecord x xs good_x).0 in
+    absurd (omega (arith, eighty, simp length-append at (ap length same)))
+same_lines (x ∷ xs) (y ∷ ys) good_x good_y same =
+    let parts = same_front x y (concat xs) (concat ys) ((All-head IsRecord x xs good_x).0 ∙ sym (All-head IsRecord y ys good_y).0) same in
+    let rest = same_lines xs ys (All-tail IsRecord x xs good_x) (All-tail IsRecord y ys good_y) parts.1 in
+    λ i. parts.0 i ∷ rest i
+
+-- bodies of one key that have the same bytes are equal
+same_body : (key : Key) (a b : Body) → IsBodyOf key a → IsBodyOf key b → body_bytes a ≡ body_bytes b → a ≡ b
+same_body (tiploc_key code) (tiploc_body a) (tiploc_body b) good_a good_b same = ap tiploc_body same
+same_body (tiploc_key code) (tiploc_body a) (association_body b) good_a good_b same = absurd good_b
+same_body (tiploc_key code) (tiploc_body a) (schedule_body b) good_a good_b same = absurd good_b
+same_body (tiploc_key code) (association_body a) b good_a good_b same = absurd good_a
+same_body (tiploc_key code) (schedule_body a) b good_a good_b same = absurd good_a
+same_body (association_key key) (association_body a) (association_body b) good_a good_b same = ap association_body same
+same_body (association_key key) (association_body a) (tiploc_body b) good_a good_b same = absurd good_b
+same_body (association_key key) (association_body a) (schedule_body b) good_a good_b same = absurd good_b
+same_body (association_key key) (tiploc_body a) b good_a good_b same = absurd good_a
+same_body (association_key key) (schedule_body a) b good_a good_b same = absurd good_a
+same_body (schedule_key key) (schedule_body a) (schedule_body b) good_a good_b same =
+    ap schedule_body (same_lines a b good_a.schedule.records good_b.schedule.records same)
+same_body (schedule_key key) (schedule_body a) (tiploc_body b) good_a good_b same = absurd good_b
+same_body (schedule_key key) (schedule_body a) (association_body b) good_a good_b same = absurd good_b
+same_body (schedule_key key) (tiploc_body a) b good_a good_b same = absurd good_a
+same_body (schedule_key key) (association_body a) b good_a good_b same = absurd good_a
+
+same_op : (key : Key) (a b : Op) → IsOpOf key a → IsOpOf key b → op_cmp a b ≡ Equal → a ≡ b
+same_op key deleted deleted good_a good_b tied = refl
+same_op key deleted lapsed good_a good_b tied = cc
+same_op key deleted (put_with b) good_a good_b tied = cc
+same_op key lapsed deleted good_a good_b tied = cc
+same_op key lapsed lapsed good_a good_b tied = refl
+same_op key lapsed (put_with b) good_a good_b tied = cc
+same_op key (put_with a) deleted good_a good_b tied = cc
+same_op key (put_with a) lapsed good_a good_b tied = cc
+same_op key (put_with a) (put_with b) good_a good_b tied =
+    let behind = then_equal (nat_cmp (body_end a) (body_end b)) _ tied in
+    let parts = then_equal (bytes_cmp (body_bytes a) (body_bytes b)) (nat_cmp (body_tag a) (body_tag b)) behind.1 in
+    ap put_with (same_body key a b good_a good_b (exact_bytes (body_bytes a) (body_bytes b) parts.0))
+
+-- entries of one key that tie are equal
+pub exact_entry : (key : Key) (a b : Entry) → IsOpOf key a.op → IsOpOf key b.op → entry_cmp a b ≡ Equal → a ≡ b
+exact_entry key a b good_a good_b tied =
+    let parts = then_equal (stamp_cmp a.stamp b.stamp) (op_cmp a.op b.op) tied in
+    let stamps = exact_stamp a.stamp b.stamp parts.0 in
+    let ops = same_op key a.op b.op good_a good_b parts.1 in
+    λ i. record { stamp = stamps i; op = ops i }

@@ -1,0 +1,80 @@
+-- The greatest entry of a key.
+use Rattle.std.proofs.Common.{List, Contains, ◌≡◌, ◌∷◌, subst, inl, inr, ◌⊎◌, ap, [], refl, Bool, true, false}
+use Rattle.std.specs.Ordering.{is_eq}
+use Rattle.docker_model.specs.file.Change.{Key}
+use Rattle.docker_model.specs.state.Order.{IsAtMost, IsBelow}
+use Rattle.docker_model.specs.state.Op.{Entry, entry_cmp, key_cmp}
+use Rattle.cif_laws.proofs.orders.Orders.{entry_total, same_key, other_key}
+use Rattle.cif_laws.proofs.lists.Membership.{Contains-cons, cons-Contains, cons-Contains-first, nil-Contains}
+use Rattle.cif_laws.proofs.orders.AtMost.{at_most_trans, at_most_or, at_most_below, at_most_itself}
+use Rattle.state_laws.proofs.states.PlainTable.{Keyed}
+
+-- ---- the greatest entry of a key
+
+-- no entry of the key is among these
+abbrev pub NoEntry : List Keyed → Key → Type 0
+NoEntry entries key = (entry : Entry) → ¬ Contains entries (key, entry)
+
+-- an entry of the key among these that none of them is above
+abbrev pub GreatestEntry : List Keyed → Key → Type 0
+GreatestEntry entries key = (entry : Entry) × Contains entries (key, entry) × ((other : Entry) → Contains entries (key, other) → IsAtMost entry_cmp other entry)
+
+-- with one more entry of the key
+greater_of : (first : Keyed) (entries : List Keyed) (key : Key) → first.0 ≡ key → NoEntry entries key ⊎ GreatestEntry entries key
+    → GreatestEntry (first ∷ entries) key
+greater_of first entries key same (inl none) =
+    let here : first ≡ (key, first.1) = (λ i. (same i, first.1)) in (
+      first.1,
+      subst (Contains (first ∷ entries)) here (cons-Contains-first first entries),
+      λ other among.
+          by other (Contains-cons first entries (key, other) among),
+    )
+  where
+    by : (other : Entry) → (first ≡ (key, other)) ⊎ Contains entries (key, other) → IsAtMost entry_cmp other first.1
+    by other (inl e) = subst (λ v. IsAtMost entry_cmp v first.1) (ap (λ (pair : Keyed). pair.1) e) (at_most_itself entry_total first.1)
+    by other (inr inside) = absurd (none other inside)
+greater_of first entries key same (inr best) = by (at_most_or entry_total first.1 best.0)
+  where
+    here : first ≡ (key, first.1)
+    here = λ i. (same i, first.1)
+
+    by : IsAtMost entry_cmp first.1 best.0 ⊎ IsBelow entry_cmp best.0 first.1 → GreatestEntry (first ∷ entries) key
+    by (inl low) = (best.0, cons-Contains first entries (key, best.0) best.1, λ other among. up other (Contains-cons first entries (key, other) among))
+      where
+        up : (other : Entry) → (first ≡ (key, other)) ⊎ Contains entries (key, other) → IsAtMost entry_cmp other best.0
+        up other (inl e) = subst (λ v. IsAtMost entry_cmp v best.0) (ap (λ (pair : Keyed). pair.1) e) low
+        up other (inr inside) = best.2 other inside
+    by (inr high) = (
+      first.1,
+      subst (Contains (first ∷ entries)) here (cons-Contains-first first entries),
+      λ other among.
+          up other (Contains-cons first entries (key, other) among),
+    )
+      where
+        up : (other : Entry) → (first ≡ (key, other)) ⊎ Contains entries (key, other) → IsAtMost entry_cmp other first.1
+        up other (inl e) = subst (λ v. IsAtMost entry_cmp v first.1) (ap (λ (pair : Keyed). pair.1) e) (at_most_itself entry_total first.1)
+        up other (inr inside) = at_most_trans entry_total other best.0 first.1 (best.2 other inside) (at_most_below entry_cmp best.0 first.1 high)
+
+still : (first : Keyed) (entries : List Keyed) (key : Key) → ¬ (first.0 ≡ key) → NoEntry entries key ⊎ GreatestEntry entries key → NoEntry (first ∷ entries) key
+    ⊎ GreatestEntry (first ∷ entries) key
+still first entries key apart (inl none) = inl (λ entry among. by entry (Contains-cons first entries (key, entry) among))
+  where
+    by : (entry : Entry) → (first ≡ (key, entry)) ⊎ Contains entries (key, entry) → ⊥
+    by entry (inl e) = apart (ap (λ (pair : Keyed). pair.0) e)
+    by entry (inr inside) = none entry inside
+still first entries key apart (inr best) =
+    inr (best.0, cons-Contains first entries (key, best.0) best.1, λ other among. by other (Contains-cons first entries (key, other) among))
+  where
+    by : (other : Entry) → (first ≡ (key, other)) ⊎ Contains entries (key, other) → IsAtMost entry_cmp other best.0
+    by other (inl e) = absurd (apart (ap (λ (pair : Keyed). pair.0) e))
+    by other (inr inside) = best.2 other inside
+
+-- a key has a greatest entry among some, or none
+pub greatest_in : (entries : List Keyed) (key : Key) → NoEntry entries key ⊎ GreatestEntry entries key
+greatest_in [] key = inl (λ entry among. nil-Contains (key, entry) among)
+greatest_in (first ∷ entries) key = by (is_eq (key_cmp first.0 key)) refl (greatest_in entries key)
+  where
+    by : (b : Bool) → is_eq (key_cmp first.0 key) ≡ b → NoEntry entries key ⊎ GreatestEntry entries key → NoEntry (first ∷ entries) key ⊎ GreatestEntry
+        (first ∷ entries) key
+    by true h rest = inr (greater_of first entries key (same_key first.0 key h) rest)
+    by false h rest = still first entries key (other_key first.0 key h) rest

@@ -1,0 +1,43 @@
+-- The lapse of the greatest is the greatest of the lapses.
+use Rattle.std.proofs.Common.{◌≡◌, ℕ, List, map, Contains, subst, ap}
+use Rattle.docker_model.specs.file.Change.{Key}
+use Rattle.docker_model.specs.state.Order.{IsAtMost}
+use Rattle.docker_model.specs.state.Op.{Op, op_cmp, Entry, entry_cmp}
+use Rattle.docker_model.specs.state.Lapse.{lapse, lapse_entry, lapse_keyed, lapse_entries}
+use Rattle.docker_model.specs.state.State.{IsGreatestAmong}
+use Rattle.cif_laws.proofs.lists.Membership.{Contains-map, map-Contains}
+use Rattle.state_laws.proofs.states.Lapse.{lapse_keeps_order, lapse_entry_keeps_order}
+
+-- the lapsed entries of a key are the lapses of its entries
+pub lapsed_from : (horizon : ℕ) (entries : List (Key × Entry)) (key : Key) (entry : Entry) → Contains (lapse_entries horizon entries) (key, entry)
+    → (before : Entry) × Contains entries (key, before) × (lapse_entry horizon before ≡ entry)
+lapsed_from horizon entries key entry among =
+    let found = Contains-map (lapse_keyed horizon) entries (key, entry) among in
+    let same : found.0.0 ≡ key = ap (λ (pair : Key × Entry). pair.0) found.2 in
+    (found.0.1, subst (λ k. Contains entries (k, found.0.1)) same found.1, ap (λ (pair : Key × Entry). pair.1) found.2)
+
+-- an entry among these lapses to one among the lapsed
+pub lapsed_to : (horizon : ℕ) (entries : List (Key × Entry)) (key : Key) (entry : Entry) → Contains entries (key, entry)
+    → Contains (lapse_entries horizon entries) (key, lapse_entry horizon entry)
+lapsed_to horizon entries key entry among = map-Contains (lapse_keyed horizon) entries (key, entry) among
+
+-- the greatest entry of a key lapses to the greatest
+pub greatest_lapses : (horizon : ℕ) (entries : List (Key × Entry)) (key : Key) (entry : Entry) → IsGreatestAmong entries key entry
+    → IsGreatestAmong (lapse_entries horizon entries) key (lapse_entry horizon entry)
+greatest_lapses horizon entries key entry best = record {
+  among = lapsed_to horizon entries key entry best.among;
+  greatest = λ other among.
+      let found = lapsed_from horizon entries key other among in
+      subst (λ e. IsAtMost entry_cmp e (lapse_entry horizon entry)) found.2 (lapse_entry_keeps_order horizon found.0 entry (best.greatest found.0 found.1));
+}
+
+-- of ops alone
+pub greatest_op_lapses : (horizon : ℕ) (ops : List Op) (op : Op) → Contains ops op → ((other : Op) → Contains ops other → IsAtMost op_cmp other op)
+    → Contains (map (lapse horizon) ops) (lapse horizon op) × ((other : Op) → Contains (map (lapse horizon) ops) other
+    → IsAtMost op_cmp other (lapse horizon op))
+greatest_op_lapses horizon ops op among greatest = (
+  map-Contains (lapse horizon) ops op among,
+  λ other inside.
+      let found = Contains-map (lapse horizon) ops other inside in
+      subst (λ o. IsAtMost op_cmp o (lapse horizon op)) found.2 (lapse_keeps_order horizon found.0 op (greatest found.0 found.1)),
+)

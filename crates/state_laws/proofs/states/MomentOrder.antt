@@ -1,0 +1,128 @@
+-- A set of files with distinct moments has a moment order, and so a plain table, which is the live table of its summary.
+use Rattle.std.proofs.Common.{◌≡◌, ℕ, List, [], ◌∷◌, Contains, subst, inl, inr, ◌⊎◌, refl, ap, sym, ◌∙◌}
+use Rattle.std.specs.List.{AllByRecursion}
+use Rattle.std.specs.declared.cmp.Ordering.{Ordering}
+use Rattle.std.specs.declared.cmp.Ordering.TheVariants.{Less, Equal, Greater}
+use Rattle.std.specs.Ordering.{on, ordering_reverse}
+use Rattle.docker_model.specs.state.Order.{IsBelow, IsStrictlyAscending}
+use Rattle.docker_model.specs.state.Stamp.{moment_of, moment_cmp}
+use Rattle.docker_model.specs.state.Table.{IsInMomentOrder}
+use Rattle.docker_model.specs.state.Summary.{HaveDistinctMoments}
+use Rattle.cif_laws.proofs.orders.Orders.{moment_total, exact_moment}
+use Rattle.cif_laws.proofs.lists.Membership.{Contains-cons, cons-Contains, cons-Contains-first, nil-Contains}
+
+abbrev File : Type 0
+File = List (List ℕ)
+
+-- the file put in its place
+abbrev put_in_place : Ordering → File → File → List File → List File → List File
+put_in_place Less file first rest below = file ∷ first ∷ rest
+put_in_place Equal file first rest below = first ∷ rest
+put_in_place Greater file first rest below = first ∷ below
+
+abbrev insert_file : File → List File → List File
+insert_file file [] = file ∷ []
+insert_file file (first ∷ rest) = put_in_place (moment_cmp (moment_of file) (moment_of first)) file first rest (insert_file file rest)
+
+abbrev Above : File → List File → Type 0
+Above file files = AllByRecursion (IsBelow (on moment_of moment_cmp) file) files
+
+above_weaker : (low high : File) (files : List File) → IsBelow (on moment_of moment_cmp) low high → Above high files → Above low files
+above_weaker low high [] below all = tt
+above_weaker low high (file ∷ files) below all =
+    (moment_total.trans (moment_of low) (moment_of high) (moment_of file) below all.0, above_weaker low high files below all.1)
+
+insert_above : (low file : File) (files : List File) → IsBelow (on moment_of moment_cmp) low file → Above low files → Above low (insert_file file files)
+insert_above low file [] below all = (below, tt)
+insert_above low file (first ∷ rest) below all = by (moment_cmp (moment_of file) (moment_of first)) (insert_above low file rest below all.1)
+  where
+    by : (o : Ordering) → Above low (insert_file file rest) → Above low (put_in_place o file first rest (insert_file file rest))
+    by Less inside = (below, all)
+    by Equal inside = all
+    by Greater inside = (all.0, inside)
+
+insert_ascends : (file : File) (files : List File) → IsStrictlyAscending (on moment_of moment_cmp) files → IsStrictlyAscending (on moment_of moment_cmp)
+    (insert_file file files)
+insert_ascends file [] up = (tt, tt)
+insert_ascends file (first ∷ rest) up = by (moment_cmp (moment_of file) (moment_of first)) refl (insert_ascends file rest up.1)
+  where
+    by : (o : Ordering) → moment_cmp (moment_of file) (moment_of first) ≡ o → IsStrictlyAscending (on moment_of moment_cmp) (insert_file file rest)
+        → IsStrictlyAscending (on moment_of moment_cmp) (put_in_place o file first rest (insert_file file rest))
+    by Less h inside = ((h, above_weaker file first rest h up.0), up)
+    by Equal h inside = up
+    by Greater h inside =
+        (insert_above first file rest (moment_total.antisymm (moment_of first) (moment_of file) ∙ ap ordering_reverse h) up.0, inside)
+
+insert_has : (file : File) (files : List File) (other : File) → Contains (insert_file file files) other → (file ≡ other) ⊎ Contains files other
+insert_has file [] other among = Contains-cons file [] other among
+insert_has file (first ∷ rest) other among = by (moment_cmp (moment_of file) (moment_of first)) (insert_has file rest other) among
+  where
+    put_back : (file ≡ other) ⊎ Contains rest other → (file ≡ other) ⊎ Contains (first ∷ rest) other
+    put_back (inl same) = inl same
+    put_back (inr inside) = inr (cons-Contains first rest other inside)
+
+    head : (Contains (insert_file file rest) other → (file ≡ other) ⊎ Contains rest other) → (first ≡ other) ⊎ Contains (insert_file file rest) other
+        → (file ≡ other) ⊎ Contains (first ∷ rest) other
+    head inner (inl same) = inr (subst (Contains (first ∷ rest)) same (cons-Contains-first first rest))
+    head inner (inr inside) = put_back (inner inside)
+
+    by : (o : Ordering) → (Contains (insert_file file rest) other → (file ≡ other) ⊎ Contains rest other)
+        → Contains (put_in_place o file first rest (insert_file file rest)) other → (file ≡ other) ⊎ Contains (first ∷ rest) other
+    by Less inner here = Contains-cons file (first ∷ rest) other here
+    by Equal inner here = inr here
+    by Greater inner here = head inner (Contains-cons first (insert_file file rest) other here)
+
+insert_keeps : (file : File) (files : List File) (other : File) → Contains files other → Contains (insert_file file files) other
+insert_keeps file [] other among = absurd (nil-Contains other among)
+insert_keeps file (first ∷ rest) other among =
+    by (moment_cmp (moment_of file) (moment_of first)) (insert_keeps file rest other) (Contains-cons first rest other among)
+  where
+    by : (o : Ordering) → (Contains rest other → Contains (insert_file file rest) other) → (first ≡ other) ⊎ Contains rest other
+        → Contains (put_in_place o file first rest (insert_file file rest)) other
+    by Less inner here = cons-Contains file (first ∷ rest) other among
+    by Equal inner here = among
+    by Greater inner (inl same) = subst (Contains (first ∷ insert_file file rest)) same (cons-Contains-first first (insert_file file rest))
+    by Greater inner (inr inside) = cons-Contains first (insert_file file rest) other (inner inside)
+
+insert_puts : (file : File) (files : List File) → ((other : File) → Contains files other → moment_of file ≡ moment_of other → file ≡ other)
+    → Contains (insert_file file files) file
+insert_puts file [] distinct = cons-Contains-first file []
+insert_puts file (first ∷ rest) distinct =
+    by (moment_cmp (moment_of file) (moment_of first)) refl (insert_puts file rest (λ other inside. distinct other (cons-Contains first rest other inside)))
+  where
+    by : (o : Ordering) → moment_cmp (moment_of file) (moment_of first) ≡ o → Contains (insert_file file rest) file
+        → Contains (put_in_place o file first rest (insert_file file rest)) file
+    by Less h inner = cons-Contains-first file (first ∷ rest)
+    by Equal h inner =
+        let same = distinct first (cons-Contains-first first rest) (exact_moment (moment_of file) (moment_of first) h) in
+        subst (Contains (first ∷ rest)) (sym same) (cons-Contains-first first rest)
+    by Greater h inner = cons-Contains first (insert_file file rest) file inner
+
+-- the files in their order
+pub moment_order : (files : List File) → HaveDistinctMoments files → (ordered : List File) × IsInMomentOrder files ordered
+moment_order [] distinct = ([], record { same = λ file. (λ among. among, λ among. among); ascending = tt })
+moment_order (file ∷ files) distinct =
+    put_in (moment_order files (λ first second in_first in_second. distinct first second (cons-Contains file files first in_first)
+    (cons-Contains file files second in_second)))
+  where
+    put_in : (ordered : List File) × IsInMomentOrder files ordered → (ordered : List File) × IsInMomentOrder (file ∷ files) ordered
+    put_in told = (
+      insert_file file told.0,
+      record {
+        same = λ other. (
+          λ among. back other (insert_has file told.0 other among),
+          λ among. there other (Contains-cons file files other among),
+        );
+        ascending = insert_ascends file told.0 told.1.ascending;
+      },
+    )
+      where
+        back : (other : File) → (file ≡ other) ⊎ Contains told.0 other → Contains (file ∷ files) other
+        back other (inl same) = subst (Contains (file ∷ files)) same (cons-Contains-first file files)
+        back other (inr inside) = cons-Contains file files other ((told.1.same other).0 inside)
+
+        there : (other : File) → (file ≡ other) ⊎ Contains files other → Contains (insert_file file told.0) other
+        there other (inl same) =
+            subst (Contains (insert_file file told.0)) same (insert_puts file told.0 (λ third inside.
+            distinct file third (cons-Contains-first file files) (cons-Contains file files third ((told.1.same third).0 inside))))
+        there other (inr inside) = insert_keeps file told.0 other ((told.1.same other).1 inside)

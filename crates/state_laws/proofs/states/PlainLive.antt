@@ -1,0 +1,38 @@
+-- The live table of a summary is the plain table of its files, lapsed under the horizon, where their moments are distinct.
+use Rattle.std.proofs.Common.{◌≡◌, ℕ, List, refl, ◌∙◌, Some, None, arith}
+use Rattle.std.specs.Prelude.{Option, option_and_then}
+use Rattle.docker_model.specs.file.Change.{Key, Body}
+use Rattle.docker_model.specs.state.Table.{Table, empty_table, after_files, from_last_full, IsPlainTable}
+use Rattle.docker_model.specs.state.Lapse.{unlapsed, lapse_table}
+use Rattle.docker_model.specs.state.State.{State, live_table}
+use Rattle.docker_model.specs.state.Summary.{HaveDistinctMoments, IsSummary}
+use Rattle.state_laws.proofs.states.MomentOrder.{moment_order}
+use Rattle.state_laws.proofs.states.TableLapsed.{body_stays}
+use Rattle.state_laws.proofs.states.LapsedPlainTable.{live_is_plain}
+
+-- under no horizon a table is as it was
+pub lapse_table_none : (table : Table) (key : Key) → lapse_table 0 table key ≡ table key
+lapse_table_none table key = by (table key)
+  where
+    by : (found : Option Body) → option_and_then (unlapsed 0) found ≡ found
+    by None = refl
+    by (Some body) = body_stays 0 body (omega arith)
+
+-- the live table of a summary is the lapsed plain table
+pub live_is_lapsed_plain : (files : List (List (List ℕ))) (horizon : ℕ) (state : State) (table : Table) → IsSummary files horizon state
+    → IsPlainTable files table → live_table state ≡ lapse_table horizon table
+live_is_lapsed_plain files horizon state table summary plain = λ i key. live_is_plain files horizon state table summary plain key i
+
+-- where the moments are distinct, there is a plain table; without a horizon it is the live table
+pub live_table_is_plain : (files : List (List (List ℕ))) (state : State) → IsSummary files 0 state → HaveDistinctMoments files
+    → IsPlainTable files (live_table state)
+live_table_is_plain files state summary distinct =
+    let order = moment_order files distinct in
+    let plain : IsPlainTable files (after_files empty_table (from_last_full order.0)) = record { ordered = order.0; order = order.1; is = λ other. refl } in
+    record {
+      ordered = order.0;
+      order = order.1;
+      is = λ key.
+          live_is_plain files 0 state (after_files empty_table (from_last_full order.0)) summary plain key
+          ∙ lapse_table_none (after_files empty_table (from_last_full order.0)) key;
+    }

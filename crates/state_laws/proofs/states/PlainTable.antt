@@ -1,0 +1,416 @@
+-- Where the files of a set have distinct moments, the live table of its summary is its plain table.
+use Rattle.std.proofs.Common.{cond, ◌≡◌, List, Contains, ◌⊎◌, ◌∷◌, subst, inl, inr, ap, sym, ◌∙◌, Bool, true, false, [], refl, ℕ, map, ◌++◌, ◌<◌, Some, None}
+use Rattle.std.specs.Prelude.{fold, ◌==◌, ◌||◌, Option, ◌↔◌, find, option_and_then}
+use Rattle.std.specs.List.{AllByRecursion, flat_map, list_any}
+use Rattle.std.specs.declared.cmp.Ordering.{Ordering}
+use Rattle.std.specs.declared.cmp.Ordering.TheVariants.{Less, Equal, Greater}
+use Rattle.std.specs.Ordering.{is_eq, nat_cmp, ordering_then, on, ordering_reverse}
+use Rattle.std.specs.Cmp.{tied_itself}
+use Rattle.std.proofs.lemmas.Bool.{lt-ltb, eqb-true, eq-eqb}
+use Rattle.docker_model.specs.file.Change.{Key, Change, changes}
+use Rattle.docker_model.specs.state.Order.{IsBelow, bytes_cmp, IsStrictlyAscending, IsAtMost}
+use Rattle.docker_model.specs.state.Stamp.{stamp_cmp, file_stamp_of, moment_of, moment_cmp, file_stamp_cmp, ledger_item_of, IsFull, FileStamp, LedgerItem, IsFloor, IsKept}
+use Rattle.docker_model.specs.state.Op.{Entry, key_cmp, body_of}
+use Rattle.docker_model.specs.state.Table.{Table, after_change, after_file, after_files, is_full, from_last_full, IsInMomentOrder}
+use Rattle.docker_model.specs.state.State.{State, live_table}
+use Rattle.docker_model.specs.state.Summary.{entry_of, IsEntryOf}
+use Rattle.cif_laws.proofs.orders.Orders.{same_key, other_key, file_stamp_total, key_total}
+use Rattle.cif_laws.proofs.lists.Membership.{Contains-cons, cons-Contains-first, cons-Contains, below_by_recursion, nil-Contains, Contains-map, map-Contains, flat_map-Contains, Contains-flat_map}
+use Rattle.cif_laws.proofs.orders.Ascending.{irreflexive}
+use Rattle.cif_laws.proofs.lists.Later.{AllLater, later_append_all, later_map_weaker}
+use Rattle.cif_laws.proofs.lists.AllOf.{all_append, all_map, all_weaker}
+use Rattle.cif_laws.proofs.files.ChangeOrder.{Apart, changes_apart}
+use Rattle.cif_laws.proofs.orders.AtMost.{less_not_greater, at_most_trans}
+
+-- ---- tables as the last of a list of entries
+
+-- a key with its entry
+abbrev pub Keyed : Type 0
+Keyed = Key × Entry
+
+-- what an entry makes of a table
+abbrev pub step : Table → Keyed → Table
+step table entry key = cond (is_eq (key_cmp entry.0 key)) (body_of entry.1.op) (table key)
+
+-- a later entry of the same key has a greater stamp
+abbrev pub Ascends : Keyed → Keyed → Type 0
+Ascends first second = first.0 ≡ second.0 → IsBelow stamp_cmp first.1.stamp second.1.stamp
+
+-- what the entries make of a table at a key: nothing, or the body of the last entry of the key, which is the greatest
+abbrev pub NoneThere : List Keyed → Table → Key → Type 0
+NoneThere entries table key = ((entry : Entry) → ¬ Contains entries (key, entry)) × (fold step table entries key ≡ table key)
+
+-- the entry that the table has at the key: the last of those of the key
+abbrev pub LastThere : List Keyed → Table → Key → Type 0
+LastThere entries table key =
+    (entry : Entry) × Contains entries (key, entry) × (fold step table entries key ≡ body_of entry.op)
+    × ((other : Entry) → Contains entries (key, other) → (other ≡ entry) ⊎ IsBelow stamp_cmp other.stamp entry.stamp)
+
+first_alone : (entry : Keyed) (entries : List Keyed) (table : Table) (key : Key) (b : Bool) → is_eq (key_cmp entry.0 key) ≡ b
+    → NoneThere entries (step table entry) key → NoneThere (entry ∷ entries) table key ⊎ LastThere (entry ∷ entries) table key
+first_alone entry entries table key true h none =
+    let same : entry ≡ (key, entry.1) = (λ i. (same_key entry.0 key h i, entry.1)) in
+    inr (
+      entry.1,
+      subst (Contains (entry ∷ entries)) same (cons-Contains-first entry entries),
+      none.1 ∙ (λ i. cond (h i) (body_of entry.1.op) (table key)),
+      λ other among. only other (Contains-cons entry entries (key, other) among),
+    )
+  where
+    only : (other : Entry) → (entry ≡ (key, other)) ⊎ Contains entries (key, other) → (other ≡ entry.1) ⊎ IsBelow stamp_cmp other.stamp entry.1.stamp
+    only other (inl e) = inl (sym (ap (λ (pair : Keyed). pair.1) e))
+    only other (inr inside) = absurd (none.0 other inside)
+first_alone entry entries table key false h none =
+    inl (λ other among. no other (Contains-cons entry entries (key, other) among), none.1 ∙ (λ i. cond (h i) (body_of entry.1.op) (table key)))
+  where
+    no : (other : Entry) → (entry ≡ (key, other)) ⊎ Contains entries (key, other) → ⊥
+    no other (inl e) = other_key entry.0 key h (ap (λ (pair : Keyed). pair.0) e)
+    no other (inr inside) = none.0 other inside
+
+not_first : (entry : Keyed) (entries : List Keyed) (table : Table) (key : Key) → AllByRecursion (Ascends entry) entries
+    → LastThere entries (step table entry) key → LastThere (entry ∷ entries) table key
+not_first entry entries table key above last =
+    (last.0, cons-Contains entry entries (key, last.0) last.1, last.2, λ other among. by other (Contains-cons entry entries (key, other) among))
+  where
+    by : (other : Entry) → (entry ≡ (key, other)) ⊎ Contains entries (key, other) → (other ≡ last.0) ⊎ IsBelow stamp_cmp other.stamp last.0.stamp
+    by other (inl e) =
+        let below = below_by_recursion (Ascends entry) entries (key, last.0) above last.1 (ap (λ (pair : Keyed). pair.0) e) in
+        inr (subst (λ (pair : Keyed). IsBelow stamp_cmp pair.1.stamp last.0.stamp) e below)
+    by other (inr inside) = last.3 other inside
+
+-- at a key the table has what it had before, or the last entry of the key
+pub last_there : (entries : List Keyed) (table : Table) (key : Key) → AllLater Ascends entries → NoneThere entries table key ⊎ LastThere entries table key
+last_there [] table key up = inl (λ entry among. nil-Contains (key, entry) among, refl)
+last_there (entry ∷ entries) table key up = by (last_there entries (step table entry) key up.1)
+  where
+    by : NoneThere entries (step table entry) key ⊎ LastThere entries (step table entry) key → NoneThere (entry ∷ entries) table key ⊎ LastThere
+        (entry ∷ entries) table key
+    by (inl none) = first_alone entry entries table key (is_eq (key_cmp entry.0 key)) refl none
+    by (inr last) = inr (not_first entry entries table key up.0 last)
+
+-- ---- the entries of files
+
+-- a change of a file as a key with its entry
+abbrev pub entry_of_change : List (List ℕ) → Change → Keyed
+entry_of_change file change = (change.key, entry_of file change)
+
+-- the entries of a file's changes
+abbrev pub entries_of : List (List ℕ) → List Keyed
+entries_of file = map (entry_of_change file) (changes file)
+
+-- the entries of the changes of files in order
+abbrev pub entries_along : List (List (List ℕ)) → List Keyed
+entries_along files = flat_map entries_of files
+
+fold_entries : (file : List (List ℕ)) (table : Table) (cs : List Change) → fold after_change table cs ≡ fold step table (map (entry_of_change file) cs)
+fold_entries file table [] = refl
+fold_entries file table (change ∷ cs) = fold_entries file (after_change table change) cs
+
+fold_append : (table : Table) (xs ys : List Keyed) → fold step table (xs ++ ys) ≡ fold step (fold step table xs) ys
+fold_append table [] ys = refl
+fold_append table (x ∷ xs) ys = fold_append (step table x) xs ys
+
+-- the table after files is that after their entries, one by one
+pub after_files_is : (table : Table) (files : List (List (List ℕ))) → after_files table files ≡ fold step table (entries_along files)
+after_files_is table [] = refl
+after_files_is table (file ∷ files) =
+    after_files_is (after_file table file) files
+    ∙ (λ i. fold step (fold_entries file table (changes file) i) (entries_along files))
+    ∙ sym (fold_append table (entries_of file) (entries_along files))
+
+number_below : (m n : ℕ) → m < n → nat_cmp m n ≡ Less
+number_below m n below = λ i. cond (lt-ltb m n below i) Less (cond (m == n) Equal Greater)
+
+within_file : (file : List (List ℕ)) (first second : Change) → Apart first second → Ascends (entry_of_change file first) (entry_of_change file second)
+within_file file first second (inl below) same =
+    (λ i. ordering_then (tied_itself file_stamp_total (file_stamp_of file) i) (number_below first.number second.number below i))
+within_file file first second (inr apart) same = absurd (apart same)
+
+-- of a file that comes later
+abbrev IsLaterThan : List (List ℕ) → Keyed → Type 0
+IsLaterThan file entry = IsBelow moment_cmp (moment_of file) entry.1.stamp.file.moment
+
+later_entries : (file later : List (List ℕ)) → IsBelow (on moment_of moment_cmp) file later → (cs : List Change) → AllByRecursion (IsLaterThan file)
+    (map (entry_of_change later) cs)
+later_entries file later below [] = tt
+later_entries file later below (change ∷ cs) = (below, later_entries file later below cs)
+
+later_along : (file : List (List ℕ)) (files : List (List (List ℕ))) → AllByRecursion (IsBelow (on moment_of moment_cmp) file) files
+    → AllByRecursion (IsLaterThan file) (entries_along files)
+later_along file [] all = tt
+later_along file (later ∷ files) all =
+    all_append (IsLaterThan file) (entries_of later) (entries_along files) (later_entries file later all.0 (changes later)) (later_along file files all.1)
+
+across_files : (file : List (List ℕ)) (change : Change) (second : Keyed) → IsLaterThan file second → Ascends (entry_of_change file change) second
+across_files file change second below same =
+    λ i. ordering_then (ordering_then (below i) (bytes_cmp (file_stamp_of file).reference second.1.stamp.file.reference))
+    (nat_cmp change.number second.1.stamp.number)
+
+-- the entries of files in moment order ascend by stamp
+pub entries_ascend : (files : List (List (List ℕ))) → IsStrictlyAscending (on moment_of moment_cmp) files → AllLater Ascends (entries_along files)
+entries_ascend [] up = tt
+entries_ascend (file ∷ files) up =
+    later_append_all Ascends (entries_of file) (entries_along files)
+    (later_map_weaker (entry_of_change file) Apart Ascends (within_file file) (changes file) (changes_apart 1 file))
+    (entries_ascend files up.1)
+    (all_map (entry_of_change file) (λ x. AllByRecursion (Ascends x) (entries_along files)) (changes file)
+    (each (changes file)))
+  where
+    each : (cs : List Change) → AllByRecursion (λ change. AllByRecursion (Ascends (entry_of_change file change)) (entries_along files)) cs
+    each [] = tt
+    each (change ∷ cs) = (
+      all_weaker (IsLaterThan file) (Ascends (entry_of_change file change))
+          (across_files file change) (entries_along files) (later_along file files up.0),
+      each cs,
+    )
+
+-- ---- the files that are kept are the last full extract and those after it
+
+abbrev CmpStamps : List (List ℕ) → List (List ℕ) → Ordering
+CmpStamps first second = file_stamp_cmp (file_stamp_of first) (file_stamp_of second)
+
+-- a file of an earlier moment has a lower file stamp
+stamp_below : (first second : List (List ℕ)) → IsBelow (on moment_of moment_cmp) first second → CmpStamps first second ≡ Less
+stamp_below first second below = λ i. ordering_then (below i) (bytes_cmp (file_stamp_of first).reference (file_stamp_of second).reference)
+
+any_is : (files : List (List (List ℕ))) → list_any is_full files ≡ true → (file : List (List ℕ)) × Contains files file × (is_full file ≡ true)
+any_is [] h = cc
+any_is (file ∷ files) h = by (is_full file) refl (any_is files)
+  where
+    by : (b : Bool) → is_full file ≡ b → (list_any is_full files ≡ true → (found : List (List ℕ)) × Contains files found × (is_full found ≡ true))
+        → (found : List (List ℕ)) × Contains (file ∷ files) found × (is_full found ≡ true)
+    by true full rest = (file, cons-Contains-first file files, full)
+    by false full rest =
+        let found = rest (sym (λ i. full i || list_any is_full files) ∙ h) in
+        (found.0, cons-Contains file files found.0 found.1, found.2)
+
+or_false : (a b : Bool) → (a || b) ≡ false → (a ≡ false) × (b ≡ false)
+or_false true b h = cc
+or_false false b h = (refl, h)
+
+none_is : (files : List (List (List ℕ))) → list_any is_full files ≡ false → (file : List (List ℕ)) → Contains files file → is_full file ≡ false
+none_is [] h file among = absurd (nil-Contains file among)
+none_is (first ∷ files) h file among =
+    let parts = or_false (is_full first) (list_any is_full files) h in
+    by parts.0 (none_is files parts.1 file) (Contains-cons first files file among)
+  where
+    by : is_full first ≡ false → (Contains files file → is_full file ≡ false) → (first ≡ file) ⊎ Contains files file → is_full file ≡ false
+    by none rest (inl same) = subst (λ f. is_full f ≡ false) same none
+    by none rest (inr inside) = rest inside
+
+abbrev Ascending : List (List (List ℕ)) → Type 0
+Ascending files = IsStrictlyAscending (on moment_of moment_cmp) files
+
+-- no full extract among the files is above the file
+abbrev NoneAbove : List (List (List ℕ)) → List (List ℕ) → Type 0
+NoneAbove files file = (other : List (List ℕ)) → Contains files other → is_full other ≡ true → ¬ (CmpStamps other file ≡ Greater)
+
+-- some full extract among the files is above the file
+abbrev SomeAbove : List (List (List ℕ)) → List (List ℕ) → Type 0
+SomeAbove files file = (other : List (List ℕ)) × Contains files other × (is_full other ≡ true) × (CmpStamps file other ≡ Less)
+
+-- what is kept is there, and no full extract is above it
+abbrev KeptThere : List (List (List ℕ)) → List (List ℕ) → Type 0
+KeptThere files file = Contains files file × NoneAbove files file
+
+none_above_head : (first : List (List ℕ)) (files : List (List (List ℕ))) (file : List (List ℕ)) → AllByRecursion (IsBelow (on moment_of moment_cmp) first) files
+    → Contains files file → NoneAbove files file → NoneAbove (first ∷ files) file
+none_above_head first files file above among none other there full = by (Contains-cons first files other there)
+  where
+    by : (first ≡ other) ⊎ Contains files other → ¬ (CmpStamps other file ≡ Greater)
+    by (inl same) =
+        let below = stamp_below first file (below_by_recursion (IsBelow (on moment_of moment_cmp) first) files file above among) in
+        less_not_greater (CmpStamps other file) (subst (λ f. CmpStamps f file ≡ Less) same below)
+    by (inr inside) = none other inside full
+
+-- where no later file is full, every file is kept
+all_kept : (first : List (List ℕ)) (files : List (List (List ℕ))) (file : List (List ℕ)) → AllByRecursion (IsBelow (on moment_of moment_cmp) first) files
+    → list_any is_full files ≡ false → Contains (first ∷ files) file → NoneAbove (first ∷ files) file
+all_kept first files file above none among other there full = by (Contains-cons first files other there) (Contains-cons first files file among)
+  where
+    no_full : Contains files other → ⊥
+    no_full inside = let told = none_is files none other inside in cc
+
+    by : (first ≡ other) ⊎ Contains files other → (first ≡ file) ⊎ Contains files file → ¬ (CmpStamps other file ≡ Greater)
+    by (inr inside) here = absurd (no_full inside)
+    by (inl same) (inl same_file) =
+        let tied : CmpStamps other file ≡ Equal = subst (λ f. CmpStamps other f ≡ Equal) (sym same ∙ same_file)
+        (tied_itself file_stamp_total (file_stamp_of other)) in
+        λ greater. cc
+    by (inl same) (inr inside) =
+        let below = stamp_below first file (below_by_recursion (IsBelow (on moment_of moment_cmp) first) files file above inside) in
+        less_not_greater (CmpStamps other file) (subst (λ f. CmpStamps f file ≡ Less) same below)
+
+kept_in : (files : List (List (List ℕ))) → Ascending files → (file : List (List ℕ)) → Contains (from_last_full files) file → KeptThere files file
+kept_in [] up file among = absurd (nil-Contains file among)
+kept_in (first ∷ files) up file among = by (list_any is_full files) refl (kept_in files up.1 file)
+  where
+    by : (b : Bool) → list_any is_full files ≡ b → (Contains (from_last_full files) file → KeptThere files file) → KeptThere (first ∷ files) file
+    by true h rest =
+        let inside = rest (subst (λ v. Contains (cond v (from_last_full files) (first ∷ files)) file) h among) in
+        (cons-Contains first files file inside.0, none_above_head first files file up.0 inside.0 inside.1)
+    by false h rest =
+        let inside = subst (λ v. Contains (cond v (from_last_full files) (first ∷ files)) file) h among in
+        (inside, all_kept first files file up.0 h inside)
+
+kept_or_dropped : (files : List (List (List ℕ))) → Ascending files → (file : List (List ℕ)) → Contains files file → Contains (from_last_full files) file
+    ⊎ SomeAbove files file
+kept_or_dropped [] up file among = absurd (nil-Contains file among)
+kept_or_dropped (first ∷ files) up file among = by (list_any is_full files) refl (kept_or_dropped files up.1 file) (Contains-cons first files file among)
+  where
+    goal : Bool → Type 0
+    goal b = Contains (cond b (from_last_full files) (first ∷ files)) file ⊎ SomeAbove (first ∷ files) file
+
+    by : (b : Bool) → list_any is_full files ≡ b → (Contains files file → Contains (from_last_full files) file ⊎ SomeAbove files file)
+        → (first ≡ file) ⊎ Contains files file → Contains (cond (list_any is_full files) (from_last_full files) (first ∷ files)) file ⊎ SomeAbove
+        (first ∷ files) file
+    by false h rest where_ = inl (subst (λ v. Contains (cond v (from_last_full files) (first ∷ files)) file) (sym h) among)
+    by true h rest (inl same) =
+        let full = any_is files h in
+        let below = stamp_below first full.0 (below_by_recursion (IsBelow (on moment_of moment_cmp) first) files full.0 up.0 full.1) in
+        inr (full.0, cons-Contains first files full.0 full.1, full.2, subst (λ f. CmpStamps f full.0 ≡ Less) same below)
+    by true h rest (inr inside) = deeper (rest inside)
+      where
+        deeper : Contains (from_last_full files) file ⊎ SomeAbove files file
+            → Contains (cond (list_any is_full files) (from_last_full files) (first ∷ files)) file ⊎ SomeAbove (first ∷ files) file
+        deeper (inl kept) = inl (subst (λ v. Contains (cond v (from_last_full files) (first ∷ files)) file) (sym h) kept)
+        deeper (inr above) = inr (above.0, cons-Contains first files above.0 above.1, above.2, above.3)
+
+-- the last full extract and the files behind it stay in moment order
+pub suffix_ascends : (files : List (List (List ℕ))) → Ascending files → Ascending (from_last_full files)
+suffix_ascends [] up = tt
+suffix_ascends (first ∷ files) up = by (list_any is_full files) (suffix_ascends files up.1)
+  where
+    by : (b : Bool) → Ascending (from_last_full files) → Ascending (cond b (from_last_full files) (first ∷ files))
+    by true rest = rest
+    by false rest = up
+
+-- ---- what is kept under the floor
+
+full_item : (file : List (List ℕ)) → is_full file ≡ true → IsFull (ledger_item_of file)
+full_item file full = eqb-true (ledger_item_of file).indicator 70 full
+
+kept_by_floor : (files ordered : List (List (List ℕ))) → ((file : List (List ℕ)) → Contains ordered file ↔ Contains files file)
+    → (floor : Option FileStamp) → IsFloor (map ledger_item_of files) floor → (file : List (List ℕ)) → KeptThere ordered file
+    → IsKept floor (file_stamp_of file)
+kept_by_floor files ordered same None is file kept = tt
+kept_by_floor files ordered same (Some stamp) is file kept =
+    let found = Contains-map ledger_item_of files is.full is.among in
+    let full : is_full found.0 ≡ true = eq-eqb (ledger_item_of found.0).indicator 70 (ap (λ (item : LedgerItem). item.indicator) found.2 ∙ is.is_full) in
+    let stamp_is : file_stamp_of found.0 ≡ stamp = ap (λ (item : LedgerItem). item.stamp) found.2 ∙ is.stamped in
+    subst (λ s. IsAtMost file_stamp_cmp s (file_stamp_of file)) stamp_is (kept.1 found.0 ((same found.0).1 found.1) full)
+
+not_dropped : (files ordered : List (List (List ℕ))) → ((file : List (List ℕ)) → Contains ordered file ↔ Contains files file)
+    → (floor : Option FileStamp) → IsFloor (map ledger_item_of files) floor → (file : List (List ℕ)) → IsKept floor (file_stamp_of file)
+    → ¬ SomeAbove ordered file
+not_dropped files ordered same None is file kept above =
+    is (ledger_item_of above.0) (map-Contains ledger_item_of files above.0 ((same above.0).0 above.1)) (full_item above.0 above.2)
+not_dropped files ordered same (Some stamp) is file kept above =
+    let high = is.greatest (ledger_item_of above.0) (map-Contains ledger_item_of files above.0 ((same above.0).0 above.1)) (full_item above.0 above.2) in
+    at_most_trans file_stamp_total (file_stamp_of above.0) stamp (file_stamp_of file) high kept
+    (file_stamp_total.antisymm (file_stamp_of above.0) (file_stamp_of file) ∙ ap ordering_reverse above.3)
+
+-- ---- entries of the kept files
+
+module _ (files ordered : List (List (List ℕ))) (order : IsInMomentOrder files ordered) (floor : Option FileStamp)
+    (is_floor : IsFloor (map ledger_item_of files) floor) where
+  -- an entry of a kept file is one of those from the last full extract on
+  pub in_entries : (key : Key) (entry : Entry) → IsEntryOf files floor key entry → Contains (entries_along (from_last_full ordered)) (key, entry)
+  in_entries key entry made =
+      let there = (order.same made.file).1 made.kept.among in
+      let kept : Contains (from_last_full ordered) made.file = by (kept_or_dropped ordered order.ascending made.file there) in
+      let pair : entry_of_change made.file made.change ≡ (key, entry) = (λ i. (made.key_is i, made.entry_is i)) in
+      flat_map-Contains entries_of (from_last_full ordered) made.file (key, entry) kept
+      (subst (Contains (entries_of made.file)) pair (map-Contains (entry_of_change made.file) (changes made.file) made.change made.among))
+    where
+      by : Contains (from_last_full ordered) made.file ⊎ SomeAbove ordered made.file → Contains (from_last_full ordered) made.file
+      by (inl kept) = kept
+      by (inr above) = absurd (not_dropped files ordered order.same floor is_floor made.file made.kept.kept above)
+
+  -- an entry from the last full extract on is of a kept file
+  pub out_entries : (key : Key) (entry : Entry) → Contains (entries_along (from_last_full ordered)) (key, entry) → IsEntryOf files floor key entry
+  out_entries key entry among =
+      let found = Contains-flat_map entries_of (from_last_full ordered) (key, entry) among in
+      let change = Contains-map (entry_of_change found.0) (changes found.0) (key, entry) found.2 in
+      let kept = kept_in ordered order.ascending found.0 found.1 in
+      record {
+        file = found.0;
+        kept = record { among = (order.same found.0).0 kept.0; kept = kept_by_floor files ordered order.same floor is_floor found.0 kept };
+        change = change.0;
+        among = change.1;
+        key_is = ap (λ (pair : Keyed). pair.0) change.2;
+        entry_is = ap (λ (pair : Keyed). pair.1) change.2;
+      }
+
+-- ---- the entry of a key in a state
+
+-- the entry of the key that a search finds
+abbrev pub Found : List Keyed → Key → Type 0
+Found entries key = (pair : Keyed) × (find (λ entry. is_eq (key_cmp entry.0 key)) entries ≡ Some pair) × Contains entries (key, pair.1)
+
+-- a search finds no entry of the key
+abbrev pub NotFound : List Keyed → Key → Type 0
+NotFound entries key = (find (λ entry. is_eq (key_cmp entry.0 key)) entries ≡ None) × ((entry : Entry) → ¬ Contains entries (key, entry))
+
+-- a search finds the entry of a key, or there is none
+pub find_in : (entries : List Keyed) (key : Key) → Found entries key ⊎ NotFound entries key
+find_in [] key = inr (refl, λ entry among. nil-Contains (key, entry) among)
+find_in (first ∷ entries) key = by (is_eq (key_cmp first.0 key)) refl (find_in entries key)
+  where
+    test : Keyed → Bool
+    test entry = is_eq (key_cmp entry.0 key)
+
+    by : (b : Bool) → is_eq (key_cmp first.0 key) ≡ b → Found entries key ⊎ NotFound entries key → Found (first ∷ entries) key ⊎ NotFound (first ∷ entries) key
+    by true h rest =
+        let same : first ≡ (key, first.1) = (λ i. (same_key first.0 key h i, first.1)) in
+        inl (
+          first,
+          (λ i. cond (h i) (Some first) (find (λ entry. is_eq (key_cmp entry.0 key)) entries)),
+          subst (Contains (first ∷ entries)) same
+              (cons-Contains-first first entries),
+        )
+    by false h (inl found) =
+        inl (
+          found.0,
+          (λ i. cond (h i) (Some first) (find (λ entry. is_eq (key_cmp entry.0 key)) entries)) ∙ found.1,
+          cons-Contains first entries
+              (key, found.0.1) found.2,
+        )
+    by false h (inr none) =
+        inr (
+          (λ i. cond (h i) (Some first) (find (λ entry. is_eq (key_cmp entry.0 key)) entries)) ∙ none.0,
+          λ entry among.
+              no entry (Contains-cons first entries (key, entry) among),
+        )
+      where
+        no : (entry : Entry) → (first ≡ (key, entry)) ⊎ Contains entries (key, entry) → ⊥
+        no entry (inl e) = other_key first.0 key h (ap (λ (pair : Keyed). pair.0) e)
+        no entry (inr inside) = none.1 entry inside
+
+-- entries in key order have one of each key
+pub one_per_key : (entries : List Keyed) → IsStrictlyAscending (on (λ (entry : Keyed). entry.0) key_cmp) entries → (key : Key) (first second : Entry)
+    → Contains entries (key, first) → Contains entries (key, second) → first ≡ second
+one_per_key [] up key first second in_first in_second = absurd (nil-Contains (key, first) in_first)
+one_per_key (entry ∷ entries) up key first second in_first in_second =
+    by (one_per_key entries up.1 key first second) (Contains-cons entry entries (key, first) in_first) (Contains-cons entry entries (key, second) in_second)
+  where
+    not_both_here : (other third : Entry) → entry ≡ (key, third) → ¬ Contains entries (key, other)
+    not_both_here other third e inside =
+        let below : key_cmp entry.0 key ≡ Less = below_by_recursion (λ later. key_cmp entry.0 later.0 ≡ Less) entries (key, other) up.0 inside in
+        irreflexive key_total key (subst (λ k. key_cmp k key ≡ Less) (ap (λ (pair : Keyed). pair.0) e) below)
+
+    by : (Contains entries (key, first) → Contains entries (key, second) → first ≡ second) → (entry ≡ (key, first)) ⊎ Contains entries (key, first)
+        → (entry ≡ (key, second)) ⊎ Contains entries (key, second) → first ≡ second
+    by rest (inl e) (inl f) = sym (ap (λ (pair : Keyed). pair.1) e) ∙ ap (λ (pair : Keyed). pair.1) f
+    by rest (inl e) (inr inside) = absurd (not_both_here second first e inside)
+    by rest (inr inside) (inl f) = absurd (not_both_here first second f inside)
+    by rest (inr inside) (inr within) = rest inside within
+
+-- what the live table has where an entry is found
+pub live_at : (state : State) (key : Key) (pair : Keyed) → find (λ entry. is_eq (key_cmp entry.0 key)) state.entries ≡ Some pair
+    → live_table state key ≡ body_of pair.1.op
+live_at state key pair h = λ i. option_and_then (λ (entry : Entry). body_of entry.op) (option_and_then (λ (entry : Keyed). Some entry.1) (h i))
+
+-- it has nothing where none is found
+pub live_none : (state : State) (key : Key) → find (λ entry. is_eq (key_cmp entry.0 key)) state.entries ≡ None → live_table state key ≡ None
+live_none state key h = λ i. option_and_then (λ (entry : Entry). body_of entry.op) (option_and_then (λ (entry : Keyed). Some entry.1) (h i))

@@ -1,0 +1,229 @@
+-- What is kept of items and entries, lapsed under a horizon: reducing in two steps, the first under a horizon that is not greater, is reducing at once.
+use Rattle.std.proofs.Common.{◌≡◌, ℕ, ◌≤◌, List, ◌++◌, Contains, subst, inl, inr, ◌⊎◌, ap, sym, ◌∙◌, Some, None}
+use Rattle.std.specs.Prelude.{Option, ◌↔◌}
+use Rattle.std.proofs.Math.Nat.{max-eq_left}
+use Rattle.std.proofs.lemmas.List.Elements.{Contains-append_left, Contains-append_right, Contains-append_cases}
+use Rattle.docker_model.specs.file.Change.{Key}
+use Rattle.docker_model.specs.state.Order.{IsAtMost, IsStrictlyAscending}
+use Rattle.docker_model.specs.state.Stamp.{FileStamp, LedgerItem, file_stamp_cmp, ledger_item_cmp, IsFull, IsFloor, IsKept}
+use Rattle.docker_model.specs.state.Op.{lapsed, Entry, entry_cmp}
+use Rattle.docker_model.specs.state.Lapse.{lapse, lapse_entry, HasNotToLapse}
+use Rattle.docker_model.specs.state.State.{State, AreAscending, IsGreatestAmong}
+use Rattle.cif_laws.proofs.orders.Orders.{file_stamp_total, entry_total}
+use Rattle.cif_laws.proofs.orders.AtMost.{at_most_trans, at_most_itself}
+use Rattle.state_laws.proofs.states.PlainTable.{Keyed, one_per_key}
+use Rattle.state_laws.proofs.states.GreatestEntry.{NoEntry, GreatestEntry, greatest_in}
+use Rattle.state_laws.proofs.states.Lapse.{lapse_entry_keeps_order, entry_twice, entry_stays}
+use Rattle.state_laws.proofs.states.KeptEntries.{kept_up, lapse_below, level_lapsed, lapses_or_not}
+
+-- the entry of the key that is kept of these entries: the greatest, lapsed under a horizon
+abbrev pub KeptOf : List Keyed → Option FileStamp → ℕ → Key → Entry → Type 0
+KeptOf entries floor horizon key entry =
+    (greatest : Entry) × IsGreatestAmong entries key greatest × IsKept floor greatest.stamp.file × (lapse_entry horizon greatest ≡ entry)
+
+-- the state keeps of these items and entries what is kept under their floor, and of each key the greatest, lapsed under its horizon
+pub record IsReduced (items : List LedgerItem) (entries : List Keyed) (state : State) : Type 0 where
+  pub floor : Option FileStamp
+  pub is_floor : IsFloor items floor
+  pub ledger_ascends : IsStrictlyAscending ledger_item_cmp state.ledger
+  pub ledger : (item : LedgerItem) → Contains state.ledger item ↔ (Contains items item × IsKept floor item.stamp)
+  pub entries_ascend : AreAscending state.entries
+  pub of_keys : (key : Key) (entry : Entry) → Contains state.entries (key, entry) ↔ KeptOf entries floor state.horizon key entry
+
+module _ (items more : List LedgerItem) (entries others : List Keyed) (once twice : State) (first : IsReduced items entries once)
+    (second : IsReduced (once.ledger ++ more) (once.entries ++ others) twice)
+    (rises : once.horizon ≤ twice.horizon) where
+  -- ---- the ledger, as without a horizon
+  Top : LedgerItem → Type 0
+  Top item = (top : LedgerItem) × Contains (once.ledger ++ more) top × IsFull top × IsAtMost file_stamp_cmp item.stamp top.stamp
+
+  top_of : (item : LedgerItem) → Contains (items ++ more) item → IsFull item → Top item
+  unfolding Top
+  top_of item among full = by (Contains-append_cases items more item among)
+    where
+      under : (floor : Option FileStamp) → IsFloor items floor → ((i : LedgerItem) → Contains items i → IsKept floor i.stamp → Contains once.ledger i)
+          → Contains items item → Top item
+      under None none there here = absurd (none item here full)
+      under (Some stamp) greatest there here =
+          let kept : IsAtMost file_stamp_cmp stamp greatest.full.stamp = subst (λ s. IsAtMost file_stamp_cmp stamp s) (sym greatest.stamped)
+          (at_most_itself file_stamp_total stamp) in (
+            greatest.full,
+            Contains-append_left once.ledger more greatest.full (there greatest.full greatest.among kept),
+            greatest.is_full,
+            subst (λ s. IsAtMost file_stamp_cmp item.stamp s) (sym greatest.stamped) (greatest.greatest item here full),
+          )
+
+      by : Contains items item ⊎ Contains more item → Top item
+      by (inl here) = under first.floor first.is_floor (λ i inside kept. (first.ledger i).1 (inside, kept)) here
+      by (inr here) = (item, Contains-append_right once.ledger more item here, full, at_most_itself file_stamp_total item.stamp)
+
+  back_to : (item : LedgerItem) → Contains (once.ledger ++ more) item → Contains (items ++ more) item
+  back_to item among = by (Contains-append_cases once.ledger more item among)
+    where
+      by : Contains once.ledger item ⊎ Contains more item → Contains (items ++ more) item
+      by (inl here) = Contains-append_left items more item ((first.ledger item).0 here).0
+      by (inr here) = Contains-append_right items more item here
+
+  whole_floor : (floor : Option FileStamp) → IsFloor (once.ledger ++ more) floor → IsFloor (items ++ more) floor
+  unfolding Top
+  whole_floor None none = λ item among full. let top = top_of item among full in none top.0 top.1 top.2
+  whole_floor (Some stamp) greatest = record {
+    full = greatest.full;
+    among = back_to greatest.full greatest.among;
+    is_full = greatest.is_full;
+    stamped = greatest.stamped;
+    greatest =
+        λ item among full. let top = top_of item among full in at_most_trans file_stamp_total item.stamp top.0.stamp stamp top.3
+        (greatest.greatest top.0 top.1 top.2);
+  }
+
+  kept_down : (low high : Option FileStamp) → IsFloor items low → IsFloor (items ++ more) high → (stamp : FileStamp) → IsKept high stamp → IsKept low stamp
+  kept_down None high one whole stamp kept = tt
+  kept_down (Some low) None one whole stamp kept = absurd (whole one.full (Contains-append_left items more one.full one.among) one.is_full)
+  kept_down (Some low) (Some high) one whole stamp kept =
+      at_most_trans file_stamp_total low high stamp
+      (subst (λ s. IsAtMost file_stamp_cmp s high) one.stamped (whole.greatest one.full (Contains-append_left items more one.full one.among) one.is_full)) kept
+
+  kept_first : (stamp : FileStamp) → IsKept second.floor stamp → IsKept first.floor stamp
+  kept_first stamp kept = kept_down first.floor second.floor first.is_floor (whole_floor second.floor second.is_floor) stamp kept
+
+  ledger_in : (item : LedgerItem) → Contains (items ++ more) item → IsKept second.floor item.stamp → Contains (once.ledger ++ more) item
+  ledger_in item among kept = by (Contains-append_cases items more item among)
+    where
+      by : Contains items item ⊎ Contains more item → Contains (once.ledger ++ more) item
+      by (inl here) = Contains-append_left once.ledger more item ((first.ledger item).1 (here, kept_first item.stamp kept))
+      by (inr here) = Contains-append_right once.ledger more item here
+
+  -- ---- the entries of a key
+  module _ (key : Key) where
+    Whole : Type 0
+    Whole = (best : Entry) × IsGreatestAmong (entries ++ others) key best
+
+    -- what stands in the second step is at most the greatest of all
+    under_best : (best : Entry) → IsGreatestAmong (entries ++ others) key best → (other : Entry) → Contains (once.entries ++ others) (key, other)
+        → IsAtMost entry_cmp other best
+    under_best best is other among = by (Contains-append_cases once.entries others (key, other) among)
+      where
+        by : Contains once.entries (key, other) ⊎ Contains others (key, other) → IsAtMost entry_cmp other best
+        by (inr here) = is.greatest other (Contains-append_right entries others (key, other) here)
+        by (inl here) =
+            let told = (first.of_keys key other).0 here in
+            at_most_trans entry_total other told.0 best
+            (subst (λ e. IsAtMost entry_cmp e told.0) told.3 (lapse_below once.horizon told.0))
+            (is.greatest told.0 (Contains-append_left entries others (key, told.0) told.1.among))
+
+    -- the greatest of all, where it is kept, stands lapsed in the first step, or among the others
+    stands : (best : Entry) → IsGreatestAmong (entries ++ others) key best → IsKept second.floor best.stamp.file
+        → Contains once.entries (key, lapse_entry once.horizon best) ⊎ Contains others (key, best)
+    stands best is kept = by (Contains-append_cases entries others (key, best) is.among)
+      where
+        by : Contains entries (key, best) ⊎ Contains others (key, best) → Contains once.entries (key, lapse_entry once.horizon best) ⊎ Contains others
+            (key, best)
+        by (inr here) = inr here
+        by (inl here) = inl ((first.of_keys key (lapse_entry once.horizon best)).1 (
+          best,
+          record { among = here; greatest = λ other inside. is.greatest other (Contains-append_left entries others (key, other) inside) },
+          kept_first best.stamp.file kept,
+          λ i. lapse_entry once.horizon best,
+        ))
+
+    -- both steps, and one: what the greatest lapse to is one entry
+    same_lapse : (best top : Entry) → IsGreatestAmong (entries ++ others) key best → IsGreatestAmong (once.entries ++ others) key top
+        → IsKept second.floor best.stamp.file → IsKept second.floor top.stamp.file → lapse_entry twice.horizon best ≡ lapse_entry twice.horizon top
+    same_lapse best top is_best is_top kept_best kept_top = by (stands best is_best kept_best)
+      where
+        -- the greatest of all stands there as it is
+        itself : Contains (once.entries ++ others) (key, best) → lapse_entry twice.horizon best ≡ lapse_entry twice.horizon top
+        itself there =
+            one_per_key twice.entries second.entries_ascend key (lapse_entry twice.horizon best) (lapse_entry twice.horizon top)
+            ((second.of_keys key (lapse_entry twice.horizon best)).1 (
+              best,
+              record { among = there; greatest = under_best best is_best },
+              kept_best,
+              λ i.
+                  lapse_entry twice.horizon best,
+            ))
+            ((second.of_keys key (lapse_entry twice.horizon top)).1 (top, is_top, kept_top, λ i. lapse_entry twice.horizon top))
+
+        -- it has lapsed there, and so has what is between
+        between : lapse once.horizon best.op ≡ lapsed → Contains once.entries (key, lapse_entry once.horizon best)
+            → lapse_entry twice.horizon best ≡ lapse_entry twice.horizon top
+        between has there =
+            let twofold : lapse_entry twice.horizon (lapse_entry once.horizon best) ≡ lapse_entry twice.horizon best =
+            entry_twice twice.horizon once.horizon best ∙ ap (λ h. lapse_entry h best) (max-eq_left rises) in
+            let gone : lapse twice.horizon best.op ≡ lapsed = sym (ap (λ (e : Entry). e.op) twofold) ∙ ap (lapse twice.horizon) has in
+            let low : IsAtMost entry_cmp (lapse_entry twice.horizon best) (lapse_entry twice.horizon top) =
+            subst (λ e. IsAtMost entry_cmp e (lapse_entry twice.horizon top)) twofold
+            (lapse_entry_keeps_order twice.horizon (lapse_entry once.horizon best) top
+            (is_top.greatest (lapse_entry once.horizon best) (Contains-append_left once.entries others (key, lapse_entry once.horizon best) there))) in
+            let high : IsAtMost entry_cmp (lapse_entry twice.horizon top) (lapse_entry twice.horizon best) =
+            lapse_entry_keeps_order twice.horizon top best (under_best best is_best top is_top.among) in
+            sym (level_lapsed (lapse_entry twice.horizon top) (lapse_entry twice.horizon best) gone high low)
+
+        stayed : (lapse once.horizon best.op ≡ lapsed) ⊎ HasNotToLapse once.horizon best.op → Contains once.entries (key, lapse_entry once.horizon best)
+            → lapse_entry twice.horizon best ≡ lapse_entry twice.horizon top
+        stayed (inl has) there = between has there
+        stayed (inr has_not) there =
+            itself (Contains-append_left once.entries others (key, best)
+            (subst (λ e. Contains once.entries (key, e)) (entry_stays once.horizon best has_not) there))
+
+        by : Contains once.entries (key, lapse_entry once.horizon best) ⊎ Contains others (key, best)
+            → lapse_entry twice.horizon best ≡ lapse_entry twice.horizon top
+        by (inl there) = stayed (lapses_or_not once.horizon best.op) there
+        by (inr there) = itself (Contains-append_right once.entries others (key, best) there)
+
+    forth : (entry : Entry) → KeptOf (once.entries ++ others) second.floor twice.horizon key entry
+        → KeptOf (entries ++ others) second.floor twice.horizon key entry
+    forth entry told = by (greatest_in (entries ++ others) key)
+      where
+        some : (e : Entry) × Contains (entries ++ others) (key, e)
+        some = from (Contains-append_cases once.entries others (key, told.0) told.1.among)
+          where
+            from : Contains once.entries (key, told.0) ⊎ Contains others (key, told.0) → (e : Entry) × Contains (entries ++ others) (key, e)
+            from (inl here) = let was = (first.of_keys key told.0).0 here in (was.0, Contains-append_left entries others (key, was.0) was.1.among)
+            from (inr here) = (told.0, Contains-append_right entries others (key, told.0) here)
+
+        by : NoEntry (entries ++ others) key ⊎ GreatestEntry (entries ++ others) key → KeptOf (entries ++ others) second.floor twice.horizon key entry
+        by (inl none) = absurd (none some.0 some.1)
+        by (inr best) =
+            let is : IsGreatestAmong (entries ++ others) key best.0 = record { among = best.1; greatest = best.2 } in
+            let kept = kept_up second.floor told.0 best.0 (under_best best.0 is told.0 told.1.among) told.2 in
+            (best.0, is, kept, same_lapse best.0 told.0 is told.1 kept told.2 ∙ told.3)
+
+    back : (entry : Entry) → KeptOf (entries ++ others) second.floor twice.horizon key entry
+        → KeptOf (once.entries ++ others) second.floor twice.horizon key entry
+    back entry told = by (greatest_in (once.entries ++ others) key) (stands told.0 told.1 told.2)
+      where
+        with_top : (below : Entry) → IsKept second.floor below.stamp.file → Contains (once.entries ++ others) (key, below)
+            → GreatestEntry (once.entries ++ others) key → KeptOf (once.entries ++ others) second.floor twice.horizon key entry
+        with_top below kept there top =
+            let is : IsGreatestAmong (once.entries ++ others) key top.0 = record { among = top.1; greatest = top.2 } in
+            let kept_top = kept_up second.floor below top.0 (top.2 below there) kept in
+            (top.0, is, kept_top, sym (same_lapse told.0 top.0 told.1 is told.2 kept_top) ∙ told.3)
+
+        by : NoEntry (once.entries ++ others) key ⊎ GreatestEntry (once.entries ++ others) key → Contains once.entries (key, lapse_entry once.horizon told.0)
+            ⊎ Contains others (key, told.0)
+            → KeptOf (once.entries ++ others) second.floor twice.horizon key entry
+        by (inl none) (inl there) =
+            absurd (none (lapse_entry once.horizon told.0) (Contains-append_left once.entries others (key, lapse_entry once.horizon told.0) there))
+        by (inl none) (inr there) = absurd (none told.0 (Contains-append_right once.entries others (key, told.0) there))
+        by (inr top) (inl there) =
+            with_top (lapse_entry once.horizon told.0) told.2 (Contains-append_left once.entries others (key, lapse_entry once.horizon told.0) there) top
+        by (inr top) (inr there) = with_top told.0 told.2 (Contains-append_right once.entries others (key, told.0) there) top
+
+  -- reducing in two steps is reducing at once
+  pub reduced_twice : IsReduced (items ++ more) (entries ++ others) twice
+  reduced_twice = record {
+    floor = second.floor;
+    is_floor = whole_floor second.floor second.is_floor;
+    ledger_ascends = second.ledger_ascends;
+    ledger = λ item. (
+      λ among. let told = (second.ledger item).0 among in (back_to item told.0, told.1),
+      λ told. (second.ledger item).1 (ledger_in item told.0 told.1, told.1),
+    );
+    entries_ascend = second.entries_ascend;
+    of_keys = λ key entry. (
+      λ among. forth key entry ((second.of_keys key entry).0 among),
+      λ told. (second.of_keys key entry).1 (back key entry told),
+    );
+  }

@@ -1,0 +1,149 @@
+-- A summary of files reduces their items and the entries of their changes.
+use Rattle.std.proofs.Common.{◌≡◌, ℕ, List, map, Contains, subst, inl, inr, ◌⊎◌, ap, sym, ◌∙◌, Some, None}
+use Rattle.std.specs.Prelude.{Option}
+use Rattle.std.specs.Ordering.{ordering_reverse, ordering_then, nat_cmp}
+use Rattle.docker_model.specs.file.Change.{Key, changes}
+use Rattle.docker_model.specs.state.Order.{IsBelow, IsAtMost}
+use Rattle.docker_model.specs.state.Stamp.{FileStamp, LedgerItem, file_stamp_cmp, ledger_item_of, IsKept}
+use Rattle.docker_model.specs.state.Op.{Entry, entry_cmp, op_cmp}
+use Rattle.docker_model.specs.state.Lapse.{lapse_entry}
+use Rattle.docker_model.specs.state.State.{State, IsGreatestAmong}
+use Rattle.docker_model.specs.state.Summary.{IsSummary, IsEntryOf, IsGreatestEntryOf, entry_of}
+use Rattle.cif_laws.proofs.orders.Orders.{file_stamp_total}
+use Rattle.cif_laws.proofs.orders.AtMost.{at_most_trans, at_most_below, at_most_or}
+use Rattle.cif_laws.proofs.lists.Membership.{Contains-flat_map, flat_map-Contains, Contains-map, map-Contains}
+use Rattle.state_laws.proofs.states.PlainTable.{Keyed, entry_of_change, entries_of, entries_along}
+use Rattle.state_laws.proofs.states.ReducedEntries.{IsReduced}
+
+-- a file, as its records
+abbrev pub File : Type 0
+File = List (List ℕ)
+
+-- what is not kept is at most what is
+pub below_kept : (floor : Option FileStamp) (low high : Entry) → IsKept floor high.stamp.file → IsKept floor low.stamp.file ⊎ IsAtMost entry_cmp low high
+below_kept None low high kept = inl tt
+below_kept (Some floor) low high kept = by (at_most_or file_stamp_total floor low.stamp.file)
+  where
+    strictly : IsBelow file_stamp_cmp low.stamp.file floor → IsAtMost file_stamp_cmp high.stamp.file low.stamp.file
+        ⊎ IsBelow file_stamp_cmp low.stamp.file high.stamp.file → IsBelow file_stamp_cmp low.stamp.file high.stamp.file
+    strictly below (inl over) =
+        absurd (at_most_trans file_stamp_total floor high.stamp.file low.stamp.file kept over (file_stamp_total.antisymm floor low.stamp.file
+        ∙ ap ordering_reverse below))
+    strictly below (inr strict) = strict
+
+    by : IsAtMost file_stamp_cmp floor low.stamp.file ⊎ IsBelow file_stamp_cmp low.stamp.file floor → IsKept (Some floor) low.stamp.file
+        ⊎ IsAtMost entry_cmp low high
+    by (inl up) = inl up
+    by (inr down) =
+        let below = strictly down (at_most_or file_stamp_total high.stamp.file low.stamp.file) in
+        inr (at_most_below entry_cmp low high (λ i. ordering_then (ordering_then (below i) (nat_cmp low.stamp.number high.stamp.number))
+        (op_cmp low.op high.op)))
+
+module _ (files : List File) (floor : Option FileStamp) (key : Key) where
+  -- an entry that a kept file makes is among all entries, and kept
+  pub entry_in : (entry : Entry) → IsEntryOf files floor key entry → Contains (entries_along files) (key, entry) × IsKept floor entry.stamp.file
+  entry_in entry made =
+      let pair : entry_of_change made.file made.change ≡ (key, entry) = (λ i. (made.key_is i, made.entry_is i)) in (
+        flat_map-Contains entries_of files made.file (key, entry) made.kept.among
+            (subst (Contains (entries_of made.file)) pair (map-Contains (entry_of_change made.file) (changes made.file) made.change made.among)),
+        subst (λ (e : Entry). IsKept floor e.stamp.file) made.entry_is made.kept.kept,
+      )
+
+  -- an entry of the files that is kept is one of a kept file
+  pub entry_out : (entry : Entry) → Contains (entries_along files) (key, entry) → IsKept floor entry.stamp.file → IsEntryOf files floor key entry
+  entry_out entry among kept =
+      let found = Contains-flat_map entries_of files (key, entry) among in
+      let change = Contains-map (entry_of_change found.0) (changes found.0) (key, entry) found.2 in
+      let is : entry_of found.0 change.0 ≡ entry = ap (λ (pair : Keyed). pair.1) change.2 in
+      record {
+        file = found.0;
+        kept = record { among = found.1; kept = subst (λ (e : Entry). IsKept floor e.stamp.file) (sym is) kept };
+        change = change.0;
+        among = change.1;
+        key_is = ap (λ (pair : Keyed). pair.0) change.2;
+        entry_is = is;
+      }
+
+  -- the greatest of the kept files is the greatest of all, and kept
+  pub greatest_forth : (entry : Entry) → IsGreatestEntryOf files floor key entry → IsGreatestAmong (entries_along files) key entry
+      × IsKept floor entry.stamp.file
+  greatest_forth entry best =
+      let there = entry_in entry best.is in
+      (record { among = there.0; greatest = λ other among. by other among (below_kept floor other entry there.1) }, there.1)
+    where
+      by : (other : Entry) → Contains (entries_along files) (key, other) → IsKept floor other.stamp.file ⊎ IsAtMost entry_cmp other entry
+          → IsAtMost entry_cmp other entry
+      by other among (inl kept) = best.greatest other (entry_out other among kept)
+      by other among (inr low) = low
+
+  -- the greatest entry of a key, kept, is the greatest that a kept file makes
+  pub greatest_back : (entry : Entry) → IsGreatestAmong (entries_along files) key entry → IsKept floor entry.stamp.file
+      → IsGreatestEntryOf files floor key entry
+  greatest_back entry best kept = record {
+    is = entry_out entry best.among kept;
+    greatest = λ other made. best.greatest other (entry_in other made).0;
+  }
+
+-- a summary reduces its files' items and entries
+pub summary_reduced : (files : List File) (horizon : ℕ) (state : State) → IsSummary files horizon state → IsReduced (map ledger_item_of files)
+    (entries_along files) state
+summary_reduced files horizon state summary = record {
+  floor = summary.floor;
+  is_floor = summary.is_floor;
+  ledger_ascends = summary.ledger_ascends;
+  ledger = λ item. (
+    λ among.
+        let found = (summary.ledger item).0 among in (
+          subst (Contains (map ledger_item_of files)) found.2 (map-Contains ledger_item_of files found.0 found.1.among),
+          subst (λ (i : LedgerItem). IsKept summary.floor i.stamp) found.2 found.1.kept,
+        ),
+    λ told.
+        let found = Contains-map ledger_item_of files item told.0 in
+        (summary.ledger item).1 (
+          found.0,
+          record { among = found.1; kept = subst (λ (i : LedgerItem). IsKept summary.floor i.stamp) (sym found.2) told.1 },
+          found.2,
+        ),
+  );
+  entries_ascend = summary.entries_ascend;
+  of_keys = λ key entry. (
+    λ among.
+        let told = (summary.entries key entry).0 among in
+        let best = greatest_forth files summary.floor key told.0 told.1 in
+        (told.0, best.0, best.1, subst (λ h. lapse_entry h told.0 ≡ entry) (sym summary.horizon_is) told.2),
+    λ told. (summary.entries key entry).1 (
+      told.0,
+      greatest_back files summary.floor key told.0 told.1 told.2,
+      subst (λ h. lapse_entry h told.0 ≡ entry) summary.horizon_is told.3,
+    ),
+  );
+}
+
+-- what reduces them under a horizon is the summary
+pub reduced_summary : (files : List File) (horizon : ℕ) (state : State) → state.horizon ≡ horizon → IsReduced (map ledger_item_of files)
+    (entries_along files) state → IsSummary files horizon state
+reduced_summary files horizon state horizon_is is = record {
+  horizon_is = horizon_is;
+  floor = is.floor;
+  is_floor = is.is_floor;
+  ledger_ascends = is.ledger_ascends;
+  ledger = λ item. (
+    λ among.
+        let told = (is.ledger item).0 among in
+        let found = Contains-map ledger_item_of files item told.0 in
+        (found.0, record { among = found.1; kept = subst (λ (i : LedgerItem). IsKept is.floor i.stamp) (sym found.2) told.1 }, found.2),
+    λ found. (is.ledger item).1 (
+      subst (Contains (map ledger_item_of files)) found.2 (map-Contains ledger_item_of files found.0 found.1.among),
+      subst (λ (i : LedgerItem). IsKept is.floor i.stamp) found.2 found.1.kept,
+    ),
+  );
+  entries_ascend = is.entries_ascend;
+  entries = λ key entry. (
+    λ among.
+        let told = (is.of_keys key entry).0 among in
+        (told.0, greatest_back files is.floor key told.0 told.1 told.2, subst (λ h. lapse_entry h told.0 ≡ entry) horizon_is told.3),
+    λ told.
+        let best = greatest_forth files is.floor key told.0 told.1 in
+        (is.of_keys key entry).1 (told.0, best.0, best.1, subst (λ h. lapse_entry h told.0 ≡ entry) (sym horizon_is) told.2),
+  );
+}

@@ -1,0 +1,77 @@
+-- A table under a horizon: it has the bodies whose end number is not below it. The live table of a lapsed state is the lapsed live table.
+use Rattle.std.proofs.Common.{◌≡◌, ℕ, ◌<◌, ◌≤◌, List, [], ◌∷◌, inl, inr, ◌⊎◌, refl, ap, sym, ◌∙◌, Bool, true, false, cond, Some, None}
+use Rattle.std.specs.Prelude.{Option, find, option_and_then}
+use Rattle.std.specs.Ordering.{is_eq}
+use Rattle.std.proofs.lemmas.Bool.{lt-ltb, le-ltb}
+use Rattle.docker_model.specs.file.Change.{Key, Body}
+use Rattle.docker_model.specs.state.Op.{key_cmp, body_end, Op, deleted, lapsed, put_with, body_of, Entry}
+use Rattle.docker_model.specs.state.Table.{Table}
+use Rattle.docker_model.specs.state.Lapse.{lapse, lapse_keyed, lapse_entries, unlapsed, lapse_table}
+use Rattle.docker_model.specs.state.State.{State, live_table, lapse_state}
+use Rattle.state_laws.proofs.states.Lapse.{below_or, put_lapses, put_stays}
+use Rattle.state_laws.proofs.states.PlainTable.{Keyed}
+
+-- ---- a body lapses or stays
+
+-- a body whose end is below the horizon goes
+pub body_gone : (horizon : ℕ) (body : Body) → body_end body < horizon → unlapsed horizon body ≡ None
+body_gone horizon body below = λ i. cond (lt-ltb (body_end body) horizon below i) None (Some body)
+
+-- any other body stays
+pub body_stays : (horizon : ℕ) (body : Body) → horizon ≤ body_end body → unlapsed horizon body ≡ Some body
+body_stays horizon body above = λ i. cond (le-ltb (body_end body) horizon above i) None (Some body)
+
+-- what a table has, it has under a horizon that its end number is not below
+pub live_stays : (horizon : ℕ) (table : Table) (key : Key) (body : Body) → table key ≡ Some body → horizon ≤ body_end body
+    → lapse_table horizon table key ≡ Some body
+live_stays horizon table key body is above = ap (option_and_then (unlapsed horizon)) is ∙ body_stays horizon body above
+
+-- and what it has under a horizon, it has
+pub was_live : (horizon : ℕ) (table : Table) (key : Key) (body : Body) → lapse_table horizon table key ≡ Some body → table key ≡ Some body
+was_live horizon table key body is = by (table key) is
+  where
+    by : (found : Option Body) → option_and_then (unlapsed horizon) found ≡ Some body → found ≡ Some body
+    by None none = cc
+    by (Some here) some = which (below_or horizon here)
+      where
+        which : (body_end here < horizon) ⊎ (horizon ≤ body_end here) → Some here ≡ Some body
+        which (inl below) = let gone = body_gone horizon here below in cc
+        which (inr above) = sym (body_stays horizon here above) ∙ some
+
+-- ---- the live table of a state
+
+-- the body of a lapsed op is the lapsed body
+pub body_lapses : (horizon : ℕ) (op : Op) → body_of (lapse horizon op) ≡ option_and_then (unlapsed horizon) (body_of op)
+body_lapses horizon deleted = refl
+body_lapses horizon lapsed = refl
+body_lapses horizon (put_with body) = by (below_or horizon body)
+  where
+    by : (body_end body < horizon) ⊎ (horizon ≤ body_end body) → body_of (lapse horizon (put_with body)) ≡ unlapsed horizon body
+    by (inl below) = ap body_of (put_lapses horizon body below) ∙ sym (body_gone horizon body below)
+    by (inr above) = ap body_of (put_stays horizon body above) ∙ sym (body_stays horizon body above)
+
+-- what stands at a key, as a body
+abbrev pub body_in : Option Keyed → Option Body
+body_in found = option_and_then (λ (entry : Entry). body_of entry.op) (option_and_then (λ (entry : Keyed). Some entry.1) found)
+
+found_lapsed : (horizon : ℕ) (entries : List Keyed) (key : Key)
+    → body_in (find (λ entry. is_eq (key_cmp entry.0 key)) (lapse_entries horizon entries)) ≡ option_and_then (unlapsed horizon)
+    (body_in (find (λ entry. is_eq (key_cmp entry.0 key)) entries))
+found_lapsed horizon [] key = refl
+found_lapsed horizon (first ∷ entries) key = by (is_eq (key_cmp first.0 key)) (found_lapsed horizon entries key)
+  where
+    by : (b : Bool)
+        → body_in (find (λ entry. is_eq (key_cmp entry.0 key)) (lapse_entries horizon entries)) ≡ option_and_then (unlapsed horizon)
+        (body_in (find (λ entry. is_eq (key_cmp entry.0 key)) entries))
+        → body_in (cond b (Some (lapse_keyed horizon first)) (find (λ entry. is_eq (key_cmp entry.0 key)) (lapse_entries horizon entries)))
+        ≡ option_and_then (unlapsed horizon) (body_in (cond b (Some first) (find (λ entry. is_eq (key_cmp entry.0 key)) entries)))
+    by true rest = body_lapses horizon first.1.op
+    by false rest = rest
+
+-- at a key the live table of a lapsed state is the lapsed live table
+pub live_lapsed_at : (horizon : ℕ) (state : State) (key : Key) → live_table (lapse_state horizon state) key ≡ lapse_table horizon (live_table state) key
+live_lapsed_at horizon state key = found_lapsed horizon state.entries key
+
+-- the live table of a lapsed state is the lapsed live table
+pub live_lapsed : (horizon : ℕ) (state : State) → live_table (lapse_state horizon state) ≡ lapse_table horizon (live_table state)
+live_lapsed horizon state = λ i key. live_lapsed_at horizon state key i

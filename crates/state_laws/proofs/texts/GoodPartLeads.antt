@@ -1,0 +1,255 @@
+-- A good part leads on: from a part of a text of a state to the next.
+use Rattle.std.proofs.Common.{refl, arith, ◌≡◌, ℕ, ap, sym, subst, [], ◌++◌, ◌∙◌, append-nil, ◌<◌, ◌^◌, List, ◌∷◌, length, append_assoc, length-append, inl, inr, ◌≤◌}
+use Rattle.std.specs.List.{flat_map, concat}
+use Rattle.std.specs.Int.{w16, to_be_bytes, from_be_bytes, w64, w32}
+use Rattle.std.proofs.lemmas.Grind.{flat_map-append}
+use Rattle.docker_model.specs.records.Record.{IsTextOfLength}
+use Rattle.docker_model.specs.records.Date.{IsDay}
+use Rattle.docker_model.specs.file.Change.{Key, tiploc_key, association_key, schedule_key, Body, tiploc_body, association_body, ScheduleKey}
+use Rattle.docker_model.specs.state.Stamp.{LedgerItem, Stamp}
+use Rattle.docker_model.specs.state.Op.{key_tag, lapsed, deleted, put_with, body_end}
+use Rattle.docker_model.specs.state.State.{IsGoodItem, State, IsGoodKey, IsLedger, IsStampIn, IsAssociationOf}
+use Rattle.docker_model.specs.state.StateText.{dks_1, mark, dks_2, Format, head_text, item_bytes, ledger_text, entries_text, key_bytes, stamp_bytes, put_bytes, IsHorizonOf, IsOpByte, TellsOp}
+use Rattle.docker_model.specs.state.StatePart.{before_mark, before_ledger_count, before_horizon, AreGood, text_before, before_item, IsAboveItems, RaisesFloor, before_entry_count, before_tag, before_key, IsTag, in_entry, IsAboveEntries, key_width, before_stamp, before_op, key_text, before_body, IsLineCount, before_line, AreLinesUpTo, HaveNotToLapse}
+use Rattle.docker_model.specs.state.StateFault.{StateCause, bad_item, bad_order, bad_floor, IsBadItem, bad_body, IsBadKey}
+use Rattle.state_laws.specs.TextStage.{after_items, after_entries, with_entry, after_lines}
+use Rattle.state_laws.proofs.texts.StateReadBack.{read_16, item_read, item_width, key_read, key_width_is, stamp_read, stamp_width}
+use Rattle.state_laws.proofs.texts.TextStages.{Leads, one_step, then_leads}
+use Rattle.state_laws.proofs.texts.TextsBefore.{after_items_text, read_64, after_entries_text, entry_done_text, after_lines_text, read_32}
+
+-- the steps
+step_mark_1 : Leads dks_1 before_mark (before_ledger_count 0)
+step_mark_1 = one_step dks_1 before_mark (before_ledger_count 0) (mark dks_1) refl (omega arith) (λ cause bad. bad.1 refl) refl refl
+
+step_mark_2 : Leads dks_2 before_mark before_horizon
+step_mark_2 = one_step dks_2 before_mark before_horizon (mark dks_2) refl (omega arith) (λ cause bad. bad.1 refl) refl refl
+
+day_read : (horizon : ℕ) → IsDay horizon → from_be_bytes w16 (to_be_bytes w16 horizon) ≡ horizon
+day_read horizon day = read_16 horizon (omega arith)
+
+step_horizon : (horizon : ℕ) → IsDay horizon → Leads dks_2 before_horizon (before_ledger_count horizon)
+step_horizon horizon day =
+    one_step dks_2 before_horizon (before_ledger_count horizon) (to_be_bytes w16 horizon) refl (omega arith)
+    (λ cause bad. bad.1 (subst IsDay (sym (day_read horizon day)) day)) (ap before_ledger_count (day_read horizon day)) refl
+
+-- mark and horizon lead to the ledger
+pub horizon_leads : (format : Format) → AreGood format before_horizon → Leads format before_mark before_horizon
+horizon_leads dks_1 good = absurd good
+horizon_leads dks_2 good = step_mark_2
+
+-- mark and horizon lead to the count of items
+pub head_leads : (format : Format) (horizon : ℕ) → IsHorizonOf format horizon → Leads format before_mark (before_ledger_count horizon)
+head_leads dks_1 horizon none = subst (λ h. Leads dks_1 before_mark (before_ledger_count h)) (sym none) step_mark_1
+head_leads dks_2 horizon day = then_leads dks_2 before_mark before_horizon (before_ledger_count horizon) step_mark_2 (step_horizon horizon day)
+
+-- the text behind the count of items
+pub count_of_ledger : (format : Format) (horizon count : ℕ) → text_before format (after_items horizon count []) ≡ text_before format
+    (before_ledger_count horizon) ++ to_be_bytes w64 count
+count_of_ledger format horizon count =
+    after_items_text format horizon count [] (omega arith) ∙ append-nil (head_text format horizon ++ to_be_bytes w64 count)
+    ∙ ap (λ xs. xs ++ to_be_bytes w64 count) (sym (append-nil (head_text format horizon)))
+
+-- a count of items leads to the items
+pub step_ledger_count : (format : Format) (horizon : ℕ) (count : ℕ) → count < 2 ^ 64 → Leads format (before_ledger_count horizon) (after_items horizon count [])
+step_ledger_count format horizon count fits =
+    one_step format (before_ledger_count horizon) (after_items horizon count []) (to_be_bytes w64 count) refl (omega arith) (λ cause bad. bad)
+    (ap (λ n. after_items horizon n []) (read_64 count fits)) (count_of_ledger format horizon count)
+
+-- the text behind a good item
+pub item_text : (format : Format) (horizon : ℕ) → (count : ℕ) (ledger : List LedgerItem) (item : LedgerItem) → length ledger < count
+    → text_before format (after_items horizon count (ledger ++ item ∷ [])) ≡ text_before format (before_item horizon count ledger) ++ item_bytes item
+item_text format horizon count ledger item below =
+    let size = length-append ledger (item ∷ []) in
+    let front = head_text format horizon ++ to_be_bytes w64 count in
+    after_items_text format horizon count (ledger ++ item ∷ []) (omega arith)
+    ∙ ap (λ xs. front ++ xs) (flat_map-append item_bytes ledger (item ∷ []) ∙ ap (λ xs. flat_map item_bytes ledger ++ xs) (append-nil (item_bytes item)))
+    ∙ sym (append_assoc front (flat_map item_bytes ledger) (item_bytes item))
+    ∙ ap (λ xs. xs ++ item_bytes item) (sym (append-nil (ledger_text format horizon count ledger)))
+
+-- a good item above those before it, which does not raise the floor, is not bad
+pub no_bad_item : (ledger : List LedgerItem) (item : LedgerItem) (cause : StateCause) → IsGoodItem item → IsAboveItems ledger item → ¬ RaisesFloor ledger item
+    → ¬ IsBadItem ledger item cause
+no_bad_item ledger item bad_item good above floor bad = bad good
+no_bad_item ledger item bad_order good above floor bad = bad.1 above
+no_bad_item ledger item bad_floor good above floor bad = floor bad.2
+no_bad_item ledger item _ good above floor bad = bad
+
+-- such an item leads on
+pub step_item : (format : Format) (horizon : ℕ) → (count : ℕ) (ledger : List LedgerItem) (item : LedgerItem) → length ledger < count → IsGoodItem item
+    → IsAboveItems ledger item → ¬ RaisesFloor ledger item
+    → Leads format (before_item horizon count ledger) (after_items horizon count (ledger ++ item ∷ []))
+step_item format horizon count ledger item below good above floor =
+    one_step format (before_item horizon count ledger) (after_items horizon count (ledger ++ item ∷ [])) (item_bytes item) (item_width item good) (omega arith)
+    (λ cause bad. no_bad_item ledger item cause good above floor (subst (λ it. IsBadItem ledger it cause) (item_read item good) bad))
+    (ap (λ it. after_items horizon count (ledger ++ it ∷ [])) (item_read item good))
+    (item_text format horizon count ledger item below)
+
+-- a count of entries leads to the entries
+pub step_entry_count : (format : Format) (horizon : ℕ) → (count : ℕ) (ledger : List LedgerItem) → count < 2 ^ 64
+    → Leads format (before_entry_count horizon ledger) (after_entries count (record { horizon = horizon; ledger = ledger; entries = [] }))
+step_entry_count format horizon count ledger fits =
+    one_step format (before_entry_count horizon ledger) (after_entries count (record { horizon = horizon; ledger = ledger; entries = [] }))
+    (to_be_bytes w64 count) refl (omega arith) (λ cause bad. bad)
+    (ap (λ n. after_entries n (record { horizon = horizon; ledger = ledger; entries = [] })) (read_64 count fits))
+    (
+    after_entries_text format count (record { horizon = horizon; ledger = ledger; entries = [] }) (omega arith)
+    ∙ append-nil (ledger_text format horizon (length ledger) ledger ++ to_be_bytes w64 count)
+    ∙ ap (λ xs. xs ++ to_be_bytes w64 count) (sym (append-nil (ledger_text format horizon (length ledger) ledger)))
+    )
+
+-- the text of a part with one part more
+pub part_more : (format : Format) → (count : ℕ) (state : State) (old part : List ℕ) → entries_text format count state ++ (old ++ part) ≡
+    (entries_text format count state ++ old) ++ part
+part_more format count state old part = sym (append_assoc (entries_text format count state) old part)
+
+-- a tag leads to its key
+pub step_tag : (format : Format) → (count : ℕ) (state : State) (tag : ℕ) → IsTag tag → Leads format (in_entry count state before_tag)
+    (in_entry count state (before_key tag))
+step_tag format count state tag is =
+    one_step format (in_entry count state before_tag) (in_entry count state (before_key tag)) (tag ∷ []) refl (omega arith) (λ cause bad. bad.1 is) refl
+    (part_more format count state [] (tag ∷ []))
+
+-- a good key above those before it is not bad
+pub no_bad_key : (state : State) (key : Key) (cause : StateCause) → IsGoodKey key → IsAboveEntries state key → ¬ IsBadKey state key cause
+no_bad_key state key bad_body good above bad = bad good
+no_bad_key state key bad_order good above bad = bad.1 above
+no_bad_key state key _ good above bad = bad
+
+-- a key has bytes
+pub key_some : (key : Key) → 0 < key_width (key_tag key)
+key_some (tiploc_key code) = omega arith
+key_some (association_key key) = omega arith
+key_some (schedule_key key) = omega arith
+
+-- such a key leads to its stamp
+pub step_key : (format : Format) → (count : ℕ) (state : State) (key : Key) → IsGoodKey key → IsAboveEntries state key
+    → Leads format (in_entry count state (before_key (key_tag key))) (in_entry count state (before_stamp key))
+step_key format count state key good above =
+    one_step format (in_entry count state (before_key (key_tag key))) (in_entry count state (before_stamp key)) (key_bytes key) (key_width_is key good)
+    (key_some key)
+    (λ cause bad. no_bad_key state key cause good above (subst (λ k. IsBadKey state k cause) (key_read key good) bad))
+    (ap (λ k. in_entry count state (before_stamp k)) (key_read key good))
+    (part_more format count state (key_tag key ∷ []) (key_bytes key))
+
+-- a stamp whose file stands in the ledger leads to its op
+pub step_stamp : (format : Format) → (count : ℕ) (state : State) (key : Key) (stamp : Stamp) → IsLedger state.ledger → IsStampIn state.ledger stamp
+    → Leads format (in_entry count state (before_stamp key)) (in_entry count state (before_op key stamp))
+step_stamp format count state key stamp ledger is =
+    one_step format (in_entry count state (before_stamp key)) (in_entry count state (before_op key stamp)) (stamp_bytes stamp)
+    (stamp_width state.ledger stamp ledger is) (omega arith)
+    (λ cause bad. bad.1 (subst (IsStampIn state.ledger) (sym (stamp_read state.ledger stamp ledger is)) is))
+    (ap (λ s. in_entry count state (before_op key s)) (stamp_read state.ledger stamp ledger is))
+    (part_more format count state (key_text key) (stamp_bytes stamp))
+
+-- the ops that a format tells
+zero_told : (format : Format) → IsOpByte format 0
+zero_told dks_1 = inl refl
+zero_told dks_2 = inl refl
+
+one_told : (format : Format) → IsOpByte format 1
+one_told dks_1 = inr refl
+one_told dks_2 = inr (inl refl)
+
+two_told : (format : Format) → TellsOp format lapsed → IsOpByte format 2
+two_told dks_1 told = absurd told
+two_told dks_2 told = inr (inr refl)
+
+-- the op of a deletion leads behind the entry
+pub step_deleted : (format : Format) → (count : ℕ) (state : State) (key : Key) (stamp : Stamp) → length state.entries < count
+    → Leads format (in_entry count state (before_op key stamp)) (after_entries count (with_entry state key stamp deleted))
+step_deleted format count state key stamp below =
+    one_step format (in_entry count state (before_op key stamp)) (after_entries count (with_entry state key stamp deleted)) (0 ∷ []) refl (omega arith)
+    (λ cause bad. bad.1 (zero_told format)) refl
+    (entry_done_text format count state key stamp deleted below ∙ part_more format count state (key_text key ++ stamp_bytes stamp) (0 ∷ []))
+
+-- the op of a lapsed entry leads behind it, where the format tells it
+pub step_lapsed : (format : Format) → (count : ℕ) (state : State) (key : Key) (stamp : Stamp) → TellsOp format lapsed → length state.entries < count
+    → Leads format (in_entry count state (before_op key stamp)) (after_entries count (with_entry state key stamp lapsed))
+step_lapsed format count state key stamp told below =
+    one_step format (in_entry count state (before_op key stamp)) (after_entries count (with_entry state key stamp lapsed)) (2 ∷ []) refl (omega arith)
+    (λ cause bad. bad.1 (two_told format told)) refl
+    (entry_done_text format count state key stamp lapsed below ∙ part_more format count state (key_text key ++ stamp_bytes stamp) (2 ∷ []))
+
+-- the op of a put leads to its body
+pub step_put : (format : Format) → (count : ℕ) (state : State) (key : Key) (stamp : Stamp) → Leads format (in_entry count state (before_op key stamp))
+    (in_entry count state (before_body key stamp))
+step_put format count state key stamp =
+    one_step format (in_entry count state (before_op key stamp)) (in_entry count state (before_body key stamp)) (1 ∷ []) refl (omega arith)
+    (λ cause bad. bad.1 (one_told format)) refl
+    (part_more format count state (key_text key ++ stamp_bytes stamp) (1 ∷ []))
+
+-- a body behind an op
+pub body_text : (format : Format) → (count : ℕ) (state : State) (key : Key) (stamp : Stamp) (body : Body) → length state.entries < count
+    → text_before format (after_entries count (with_entry state key stamp (put_with body))) ≡
+    (entries_text format count state ++ (key_text key ++ stamp_bytes stamp ++ 1 ∷ [])) ++ put_bytes body
+body_text format count state key stamp body below =
+    entry_done_text format count state key stamp (put_with body) below
+    ∙ ap (λ xs. entries_text format count state ++ xs) (sym (append_assoc (key_text key ++ stamp_bytes stamp) (1 ∷ []) (put_bytes body)))
+    ∙ part_more format count state (key_text key ++ stamp_bytes stamp ++ 1 ∷ []) (put_bytes body)
+
+-- the body of a TIPLOC leads behind the entry
+pub step_tiploc : (format : Format) → (count : ℕ) (state : State) (code : List ℕ) (stamp : Stamp) (bytes : List ℕ) → length state.entries < count
+    → IsTextOfLength 63 bytes
+    → Leads format (in_entry count state (before_body (tiploc_key code) stamp))
+    (after_entries count (with_entry state (tiploc_key code) stamp (put_with (tiploc_body bytes))))
+step_tiploc format count state code stamp bytes below is =
+    one_step format (in_entry count state (before_body (tiploc_key code) stamp))
+    (after_entries count (with_entry state (tiploc_key code) stamp (put_with (tiploc_body bytes)))) bytes is.0 (omega arith)
+    (λ cause bad. bad.1 is) refl (body_text format count state (tiploc_key code) stamp (tiploc_body bytes) below)
+
+-- the line of an association that has not to lapse leads behind the entry
+pub step_association : (format : Format) → (count : ℕ) (state : State) (key : _) (stamp : Stamp) (line : List ℕ) → length state.entries < count
+    → IsAssociationOf key line → state.horizon ≤ body_end (association_body line)
+    → Leads format (in_entry count state (before_body (association_key key) stamp))
+    (after_entries count (with_entry state (association_key key) stamp (put_with (association_body line))))
+step_association format count state key stamp line below is stays =
+    one_step format (in_entry count state (before_body (association_key key) stamp))
+    (after_entries count (with_entry state (association_key key) stamp (put_with (association_body line)))) line is.is_record.0 (omega arith)
+    (λ cause bad. bad.1 (is, stays)) refl (body_text format count state (association_key key) stamp (association_body line) below)
+
+-- the number of lines
+pub count_text : (format : Format) → (count : ℕ) (state : State) (key : ScheduleKey) (stamp : Stamp) (n : ℕ) → length state.entries < count
+    → text_before format (after_lines count state key stamp n []) ≡ text_before format
+    (in_entry count state (before_body (schedule_key key) stamp)) ++ to_be_bytes w32 n
+count_text format count state key stamp n below =
+    let head = key_text (schedule_key key) ++ stamp_bytes stamp in
+    after_lines_text format count state key stamp n [] below (omega arith)
+    ∙ ap (λ xs. entries_text format count state ++ xs) (append-nil (head ++ 1 ∷ to_be_bytes w32 n) ∙ sym (append_assoc head (1 ∷ []) (to_be_bytes w32 n)))
+    ∙ part_more format count state (head ++ 1 ∷ []) (to_be_bytes w32 n)
+
+-- the number of a schedule's lines leads to the lines
+pub step_count : (format : Format) → (count : ℕ) (state : State) (key : ScheduleKey) (stamp : Stamp) (n : ℕ) → length state.entries < count → IsLineCount n
+    → Leads format (in_entry count state (before_body (schedule_key key) stamp)) (after_lines count state key stamp n [])
+step_count format count state key stamp n below is =
+    let high = is.1 in
+    let read = read_32 n (omega arith) in
+    one_step format (in_entry count state (before_body (schedule_key key) stamp)) (after_lines count state key stamp n []) (to_be_bytes w32 n) refl
+    (omega arith)
+    (λ cause bad. bad.1 (subst IsLineCount (sym read) is)) (ap (λ m. after_lines count state key stamp m []) read)
+    (count_text format count state key stamp n below)
+
+concat-append : (xs ys : List (List ℕ)) → concat (xs ++ ys) ≡ concat xs ++ concat ys
+concat-append [] ys = refl
+concat-append (x ∷ xs) ys = ap (λ zs. x ++ zs) (concat-append xs ys) ∙ sym (append_assoc x (concat xs) (concat ys))
+
+-- the text behind a schedule's line
+pub line_text : (format : Format) → (count : ℕ) (state : State) (key : ScheduleKey) (stamp : Stamp) (n : ℕ) (lines : List (List ℕ)) (line : List ℕ)
+    → length state.entries < count → length lines < n
+    → text_before format (after_lines count state key stamp n (lines ++ line ∷ [])) ≡ text_before format
+    (in_entry count state (before_line key stamp n lines)) ++ line
+line_text format count state key stamp n lines line below more =
+    let size = length-append lines (line ∷ []) in
+    let head = key_text (schedule_key key) ++ stamp_bytes stamp ++ 1 ∷ to_be_bytes w32 n in
+    after_lines_text format count state key stamp n (lines ++ line ∷ []) below (omega arith)
+    ∙ ap (λ xs. entries_text format count state ++ (head ++ xs)) (concat-append lines (line ∷ []) ∙ ap (λ xs. concat lines ++ xs) (append-nil line))
+    ∙ ap (λ xs. entries_text format count state ++ xs) (sym (append_assoc head (concat lines) line))
+    ∙ part_more format count state (head ++ concat lines) line
+
+-- a good line of a schedule leads on
+pub step_line : (format : Format) → (count : ℕ) (state : State) (key : ScheduleKey) (stamp : Stamp) (n : ℕ) (lines : List (List ℕ)) (line : List ℕ)
+    → length state.entries < count → length lines < n
+    → length line ≡ 80 → AreLinesUpTo key n (lines ++ line ∷ []) → HaveNotToLapse state (lines ++ line ∷ [])
+    → Leads format (in_entry count state (before_line key stamp n lines)) (after_lines count state key stamp n (lines ++ line ∷ []))
+step_line format count state key stamp n lines line below more size is stays =
+    one_step format (in_entry count state (before_line key stamp n lines)) (after_lines count state key stamp n (lines ++ line ∷ [])) line size (omega arith)
+    (λ cause bad. bad.1 (is, stays)) refl (line_text format count state key stamp n lines line below more)

@@ -1,0 +1,133 @@
+-- A ledger with a good item more is a ledger.
+use Rattle.std.proofs.Common.{◌≡◌, subst, List, [], ◌∷◌, ◌++◌, refl, sym, inl, inr, ◌⊎◌, arith, All, Contains, Some, None}
+use Rattle.std.specs.Prelude.{Option}
+use Rattle.std.specs.List.{AllByRecursion}
+use Rattle.std.specs.Ordering.{ordering_then, nat_cmp}
+use Rattle.std.specs.declared.cmp.Ordering.{Ordering}
+use Rattle.std.specs.declared.cmp.Ordering.TheVariants.{Less, Greater}
+use Rattle.std.proofs.lemmas.List.Elements.{All-from_recursion, recursion_from_All, Contains-append_cases, Contains-append_left, Contains-append_right}
+use Rattle.docker_model.specs.state.Order.{IsBelow, IsAtMost, bytes_cmp, IsStrictlyAscending}
+use Rattle.docker_model.specs.state.Stamp.{LedgerItem, file_stamp_cmp, ledger_item_cmp, FileStamp, IsFloor, IsKept, IsFull}
+use Rattle.docker_model.specs.state.State.{IsGoodItem, IsLedger}
+use Rattle.docker_model.specs.state.StatePart.{IsAboveItems, RaisesFloor}
+use Rattle.cif_laws.proofs.orders.Orders.{file_stamp_total}
+use Rattle.cif_laws.proofs.lists.Membership.{below_by_recursion, Contains-single as in_single, nil-Contains}
+use Rattle.cif_laws.proofs.orders.AtMost.{at_most_itself, at_most_trans, at_most_or}
+use Rattle.cif_laws.proofs.lists.AllOf.{all_append, all_weaker}
+use Rattle.cif_laws.proofs.lists.Decisions.{Decided, nat_decided}
+use Rattle.cif_laws.proofs.orders.Ascending.{ascending_last}
+
+-- an item below another has a stamp that is not above
+pub stamps_below : (first second : LedgerItem) → IsBelow ledger_item_cmp first second → IsAtMost file_stamp_cmp first.stamp second.stamp
+stamps_below first second below above =
+    by (ordering_then (nat_cmp first.indicator second.indicator) (bytes_cmp first.last_reference second.last_reference))
+    (subst (λ o. ordering_then o (ordering_then (nat_cmp first.indicator second.indicator) (bytes_cmp first.last_reference second.last_reference))
+    ≡ Less) above below)
+  where
+    by : (o : Ordering) → ordering_then Greater o ≡ Less → ⊥
+    by o e = cc
+
+-- a ledger with a good item more
+module _ (ledger : List LedgerItem) (item : LedgerItem) (is : IsLedger ledger) (good : IsGoodItem item) (above : IsAboveItems ledger item)
+    (floor : ¬ RaisesFloor ledger item) where
+  above_each : AllByRecursion (λ earlier. IsBelow ledger_item_cmp earlier item) ledger
+  above_each = recursion_from_All (λ earlier. IsBelow ledger_item_cmp earlier item) ledger above
+
+  at_most_last : (other : LedgerItem) → Contains ledger other → IsAtMost file_stamp_cmp other.stamp item.stamp
+  at_most_last other among = stamps_below other item (below_by_recursion (λ earlier. IsBelow ledger_item_cmp earlier item) ledger other above_each among)
+
+  each_good : All IsGoodItem (ledger ++ item ∷ [])
+  each_good =
+      All-from_recursion IsGoodItem (ledger ++ item ∷ []) (all_append IsGoodItem ledger (item ∷ []) (recursion_from_All IsGoodItem ledger is.each) (good, tt))
+
+  each_ascends : IsStrictlyAscending ledger_item_cmp (ledger ++ item ∷ [])
+  each_ascends = ascending_last ledger_item_cmp ledger item is.ascending above_each
+
+  -- where the item is of no full extract the floor stays
+  same_floor : ¬ IsFull item → (at : Option FileStamp) → IsFloor ledger at → IsFloor (ledger ++ item ∷ []) at
+  same_floor other None none = λ it among full. by it full (Contains-append_cases ledger (item ∷ []) it among)
+    where
+      by : (it : LedgerItem) → IsFull it → Contains ledger it ⊎ Contains (item ∷ []) it → ⊥
+      by it full (inl inside) = none it inside full
+      by it full (inr last) = other (subst IsFull (sym (in_single item it last)) full)
+  same_floor other (Some stamp) greatest = record {
+    full = greatest.full;
+    among = Contains-append_left ledger (item ∷ []) greatest.full greatest.among;
+    is_full = greatest.is_full;
+    stamped = greatest.stamped;
+    greatest = λ it among full. by it full (Contains-append_cases ledger (item ∷ []) it among);
+  }
+    where
+      by : (it : LedgerItem) → IsFull it → Contains ledger it ⊎ Contains (item ∷ []) it → IsAtMost file_stamp_cmp it.stamp stamp
+      by it full (inl inside) = greatest.greatest it inside full
+      by it full (inr last) = absurd (other (subst IsFull (sym (in_single item it last)) full))
+
+  kept_last : (at : Option FileStamp) → IsFloor ledger at → IsKept at item.stamp
+  kept_last None none = tt
+  kept_last (Some stamp) greatest = subst (λ s. IsAtMost file_stamp_cmp s item.stamp) greatest.stamped (at_most_last greatest.full greatest.among)
+
+  -- where it is of a full extract, it makes the floor
+  floor_at_last : IsFull item → IsFloor (ledger ++ item ∷ []) (Some item.stamp)
+  floor_at_last full = record {
+    full = item;
+    among = Contains-append_right ledger (item ∷ []) item (0, omega arith, refl);
+    is_full = full;
+    stamped = refl;
+    greatest = λ it among is_full. by it (Contains-append_cases ledger (item ∷ []) it among);
+  }
+    where
+      by : (it : LedgerItem) → Contains ledger it ⊎ Contains (item ∷ []) it → IsAtMost file_stamp_cmp it.stamp item.stamp
+      by it (inl inside) = at_most_last it inside
+      by it (inr last) = subst (λ i. IsAtMost file_stamp_cmp i.stamp item.stamp) (in_single item it last) (at_most_itself file_stamp_total item.stamp)
+
+kept_each : (ledger : List LedgerItem) (item : LedgerItem) → IsStrictlyAscending ledger_item_cmp ledger → ¬ RaisesFloor ledger item → IsFull item
+    → AllByRecursion (λ (it : LedgerItem). IsAtMost file_stamp_cmp item.stamp it.stamp) ledger
+kept_each [] item up floor full = tt
+kept_each (first ∷ ledger) item up floor full = (
+  low,
+  all_weaker (IsBelow ledger_item_cmp first) (λ (it : LedgerItem). IsAtMost file_stamp_cmp item.stamp it.stamp)
+      (λ it below. at_most_trans file_stamp_total item.stamp first.stamp it.stamp low (stamps_below first it below)) ledger up.0,
+)
+  where
+    by : IsAtMost file_stamp_cmp item.stamp first.stamp ⊎ IsBelow file_stamp_cmp first.stamp item.stamp → IsAtMost file_stamp_cmp item.stamp first.stamp
+    by (inl most) = most
+    by (inr below) = absurd (floor (full, below))
+
+    low : IsAtMost file_stamp_cmp item.stamp first.stamp
+    low = by (at_most_or file_stamp_total item.stamp first.stamp)
+
+-- a ledger with a good item more is a ledger
+pub one_item_more : (ledger : List LedgerItem) (item : LedgerItem) → IsLedger ledger → IsGoodItem item → IsAboveItems ledger item → ¬ RaisesFloor ledger item
+    → IsLedger (ledger ++ item ∷ [])
+one_item_more ledger item is good above floor = by (nat_decided item.indicator 70)
+  where
+    by : Decided (item.indicator ≡ 70) → IsLedger (ledger ++ item ∷ [])
+    by (inl full) = record {
+      each = each_good ledger item is good above floor;
+      ascending = each_ascends ledger item is good above floor;
+      floor = Some item.stamp;
+      is_floor = floor_at_last ledger item is good above floor full;
+      kept = All-from_recursion (λ (it : LedgerItem). IsAtMost file_stamp_cmp item.stamp it.stamp) (ledger ++ item ∷ [])
+          (all_append (λ (it : LedgerItem). IsAtMost file_stamp_cmp item.stamp it.stamp) ledger (item ∷ []) (kept_each ledger item is.ascending floor full)
+          (at_most_itself file_stamp_total item.stamp, tt));
+    }
+    by (inr other) = record {
+      each = each_good ledger item is good above floor;
+      ascending = each_ascends ledger item is good above floor;
+      floor = is.floor;
+      is_floor = same_floor ledger item is good above floor other is.floor is.is_floor;
+      kept = All-from_recursion (λ (it : LedgerItem). IsKept is.floor it.stamp) (ledger ++ item ∷ [])
+          (all_append (λ (it : LedgerItem). IsKept is.floor it.stamp) ledger (item ∷ [])
+          (recursion_from_All (λ (it : LedgerItem). IsKept is.floor it.stamp) ledger is.kept)
+          (kept_last ledger item is good above floor is.floor is.is_floor, tt));
+    }
+
+-- no items are a ledger
+pub no_items : IsLedger []
+no_items = record {
+  each = All-from_recursion IsGoodItem [] tt;
+  ascending = tt;
+  floor = None;
+  is_floor = λ item among. absurd (nil-Contains item among);
+  kept = All-from_recursion (λ (it : LedgerItem). IsKept None it.stamp) [] tt;
+}

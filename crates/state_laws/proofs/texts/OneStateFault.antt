@@ -1,0 +1,187 @@
+-- A text has one state fault at most, and none where it is a state's.
+use Rattle.std.proofs.Common.{◌≡◌, ℕ, ◌+◌, ◌≤◌, List, [], ◌∷◌, ◌++◌, length, refl, ap, sym, ◌∙◌, subst, inl, inr, arith, append_assoc, append-nil, length-append}
+use Rattle.docker_model.specs.file.Change.{Key}
+use Rattle.docker_model.specs.state.Stamp.{LedgerItem}
+use Rattle.docker_model.specs.state.State.{State}
+use Rattle.docker_model.specs.state.StateText.{item_in, key_in, Format, state_text}
+use Rattle.docker_model.specs.state.StatePart.{EntryPart, before_tag, before_key, before_stamp, before_op, before_body, before_line, Before, before_mark, before_horizon, before_ledger_count, before_item, before_entry_count, in_entry, at_end, items_before, text_before, width}
+use Rattle.docker_model.specs.state.StateFault.{StateCause, bad_item, bad_order, bad_floor, bad_body, StateFault, IsBadItem, IsBadKey, IsBadEntryPart, IsBadPart, HasBadPart, IsLong, IsShort, HasTail, IsStateFault, IsStateText}
+use Rattle.cif_laws.proofs.lists.Fronts.{same_front}
+use Rattle.state_laws.proofs.texts.TextsApart.{same_end, IsStopped, one_stop, stop_of_bad, stop_of_long, stop_of_short, stop_at_end}
+
+-- a bad part has one cause
+one_item_cause : (ledger : List LedgerItem) (item : LedgerItem) (first second : StateCause) → IsBadItem ledger item first → IsBadItem ledger item second
+    → first ≡ second
+one_item_cause ledger item bad_item bad_item one two = refl
+one_item_cause ledger item bad_item bad_order one two = absurd (one two.0)
+one_item_cause ledger item bad_item bad_floor one two = absurd (one two.0)
+one_item_cause ledger item bad_order bad_item one two = absurd (two one.0)
+one_item_cause ledger item bad_order bad_order one two = refl
+one_item_cause ledger item bad_order bad_floor one two = absurd (one.1 two.1)
+one_item_cause ledger item bad_floor bad_item one two = absurd (two one.0)
+one_item_cause ledger item bad_floor bad_order one two = absurd (two.1 one.1)
+one_item_cause ledger item bad_floor bad_floor one two = refl
+one_item_cause ledger item bad_item _ one two = absurd two
+one_item_cause ledger item bad_order _ one two = absurd two
+one_item_cause ledger item bad_floor _ one two = absurd two
+one_item_cause ledger item _ _ one two = absurd one
+
+one_key_cause : (state : State) (key : Key) (first second : StateCause) → IsBadKey state key first → IsBadKey state key second → first ≡ second
+one_key_cause state key bad_body bad_body one two = refl
+one_key_cause state key bad_body bad_order one two = absurd (one two.0)
+one_key_cause state key bad_order bad_body one two = absurd (two one.0)
+one_key_cause state key bad_order bad_order one two = refl
+one_key_cause state key bad_body _ one two = absurd two
+one_key_cause state key bad_order _ one two = absurd two
+one_key_cause state key _ _ one two = absurd one
+
+one_part_cause : (format : Format) → (state : State) (part : EntryPart) (bytes : List ℕ) (first second : StateCause)
+    → IsBadEntryPart format state part bytes first → IsBadEntryPart format state part bytes second → first ≡ second
+one_part_cause format state before_tag bytes first second one two = one.0 ∙ sym two.0
+one_part_cause format state (before_key tag) bytes first second one two = one_key_cause state (key_in tag bytes) first second one two
+one_part_cause format state (before_stamp key) bytes first second one two = one.0 ∙ sym two.0
+one_part_cause format state (before_op key stamp) bytes first second one two = one.0 ∙ sym two.0
+one_part_cause format state (before_body key stamp) bytes first second one two = one.0 ∙ sym two.0
+one_part_cause format state (before_line key stamp count lines) bytes first second one two = one.0 ∙ sym two.0
+
+one_cause : (format : Format) → (before : Before) (bytes : List ℕ) (first second : StateCause) → IsBadPart format before bytes first
+    → IsBadPart format before bytes second → first ≡ second
+one_cause format before_mark bytes first second one two = one.0 ∙ sym two.0
+one_cause format before_horizon bytes first second one two = one.0 ∙ sym two.0
+one_cause format (before_ledger_count horizon) bytes first second one two = absurd one
+one_cause format (before_item horizon count ledger) bytes first second one two = one_item_cause ledger (item_in bytes) first second one two
+one_cause format (before_entry_count horizon ledger) bytes first second one two = absurd one
+one_cause format (in_entry count state part) bytes first second one two = one_part_cause format state part bytes first second one two
+one_cause format (at_end state) bytes first second one two = absurd one
+
+-- two faults of one kind
+fault_is : (first second : StateFault) → first.at ≡ second.at → first.cause ≡ second.cause → first ≡ second
+fault_is first second ats causes = λ i. record { at = ats i; cause = causes i }
+
+bad_and_bad : (format : Format) → (limit : ℕ) (text : List ℕ) (first second : StateFault) → HasBadPart format limit text first
+    → HasBadPart format limit text second → first ≡ second
+bad_and_bad format limit text first second one two =
+    let same = one_stop format limit text one.before two.before (stop_of_bad format limit text first one) (stop_of_bad format limit text second two) in
+    let behind = same_front (text_before format one.before) (text_before format two.before) (one.bytes ++ one.rest) (two.bytes ++ two.rest)
+    (ap (λ before. length (text_before format before)) same)
+    (sym (append_assoc (text_before format one.before) one.bytes one.rest) ∙ sym one.whole ∙ two.whole
+    ∙ append_assoc (text_before format two.before) two.bytes two.rest) in
+    let parts = same_front one.bytes two.bytes one.rest two.rest (one.size ∙ ap width same ∙ sym two.size) behind.1 in
+    let bad = subst (λ bytes. IsBadPart format two.before bytes first.cause) parts.0
+    (subst (λ before. IsBadPart format before one.bytes first.cause) same one.bad) in
+    fault_is first second (one.item_at ∙ ap (λ before. length (items_before format before)) same ∙ sym two.item_at)
+    (one_cause format two.before two.bytes first.cause second.cause bad two.bad)
+
+bad_and_long : (format : Format) → (limit : ℕ) (text : List ℕ) (first second : StateFault) → HasBadPart format limit text first
+    → IsLong format limit text second → ⊥
+bad_and_long format limit text first second one two =
+    let same = one_stop format limit text one.before two.before (stop_of_bad format limit text first one) (stop_of_long format limit text second two) in
+    let sizes = ap (λ before. length (text_before format before) + width before) same in
+    let low = one.below_limit in
+    let high = two.needs in
+    omega arith
+
+bad_and_short : (format : Format) → (limit : ℕ) (text : List ℕ) (first second : StateFault) → HasBadPart format limit text first
+    → IsShort format limit text second → ⊥
+bad_and_short format limit text first second one two =
+    let same = one_stop format limit text one.before two.before (stop_of_bad format limit text first one) (stop_of_short format limit text second two) in
+    let sizes = ap (λ before. length (text_before format before)) same in
+    let widths = ap width same in
+    let here = ap length one.whole in
+    let parts = length-append (text_before format one.before ++ one.bytes) one.rest in
+    let front = length-append (text_before format one.before) one.bytes in
+    let size = one.size in
+    let there = ap length two.whole ∙ length-append (text_before format two.before) two.rest in
+    let ends = two.ends in
+    omega arith
+
+-- nothing is at fault at the end of a state but what follows
+end_and_bad : (format : Format) → (limit : ℕ) (text : List ℕ) (state : State) (fault : StateFault) → IsStopped format limit text (at_end state)
+    → HasBadPart format limit text fault → ⊥
+end_and_bad format limit text state fault stopped one =
+    subst (λ before. IsBadPart format before one.bytes fault.cause) (one_stop format limit text one.before (at_end state)
+    (stop_of_bad format limit text fault one) stopped) one.bad
+
+end_and_long : (format : Format) → (limit : ℕ) (text : List ℕ) (state : State) (fault : StateFault) → IsStopped format limit text (at_end state)
+    → IsLong format limit text fault → ⊥
+end_and_long format limit text state fault stopped one =
+    let same = one_stop format limit text one.before (at_end state) (stop_of_long format limit text fault one) stopped in
+    let widths : width one.before ≡ 0 = ap width same in
+    let needs = one.needs in
+    let reaches = one.reaches in
+    omega arith
+
+end_and_short : (format : Format) → (limit : ℕ) (text : List ℕ) (state : State) (fault : StateFault) → IsStopped format limit text (at_end state)
+    → IsShort format limit text fault → ⊥
+end_and_short format limit text state fault stopped one =
+    let same = one_stop format limit text one.before (at_end state) (stop_of_short format limit text fault one) stopped in
+    let widths : width one.before ≡ 0 = ap width same in
+    let ends = one.ends in
+    omega arith
+
+stop_of_tail : (format : Format) → (limit : ℕ) (text : List ℕ) (fault : StateFault) (has : HasTail format limit text fault)
+    → IsStopped format limit text (at_end has.state)
+stop_of_tail format limit text fault has = stop_at_end format limit text has.state (has.next ∷ has.rest) has.valid has.whole has.within
+
+long_and_short : (format : Format) → (limit : ℕ) (text : List ℕ) (first second : StateFault) → IsLong format limit text first → IsShort format limit text second
+    → ⊥
+long_and_short format limit text first second one two = let there = one.there in let within = two.within in omega arith
+
+short_and_short : (format : Format) → (limit : ℕ) (text : List ℕ) (first second : StateFault) → IsShort format limit text first
+    → IsShort format limit text second → first ≡ second
+short_and_short format limit text first second one two =
+    let same = one_stop format limit text one.before two.before (stop_of_short format limit text first one) (stop_of_short format limit text second two) in
+    fault_is first second (one.item_at ∙ ap (λ before. length (items_before format before)) same ∙ sym two.item_at) (one.cause ∙ sym two.cause)
+
+tail_and_tail : (format : Format) → (limit : ℕ) (text : List ℕ) (first second : StateFault) → HasTail format limit text first → HasTail format limit text second
+    → first ≡ second
+tail_and_tail format limit text first second one two =
+    let same = same_end one.state two.state (one_stop format limit text (at_end one.state) (at_end two.state) (stop_of_tail format limit text first one)
+    (stop_of_tail format limit text second two)) in
+    fault_is first second (one.end_at ∙ ap (λ state. length (state_text format state)) same ∙ sym two.end_at) (one.cause ∙ sym two.cause)
+
+-- a text has one state fault at most
+pub one_fault : (format : Format) → (limit : ℕ) (text : List ℕ) (first second : StateFault) → IsStateFault format limit text first
+    → IsStateFault format limit text second → first ≡ second
+one_fault format limit text first second (inl one) (inl two) = bad_and_bad format limit text first second one two
+one_fault format limit text first second (inl one) (inr (inl two)) = absurd (bad_and_long format limit text first second one two)
+one_fault format limit text first second (inl one) (inr (inr (inl two))) = absurd (bad_and_short format limit text first second one two)
+one_fault format limit text first second (inl one) (inr (inr (inr two))) =
+    absurd (end_and_bad format limit text two.state first (stop_of_tail format limit text second two) one)
+one_fault format limit text first second (inr (inl one)) (inl two) = absurd (bad_and_long format limit text second first two one)
+one_fault format limit text first second (inr (inl one)) (inr (inl two)) = fault_is first second (one.limit_at ∙ sym two.limit_at) (one.cause ∙ sym two.cause)
+one_fault format limit text first second (inr (inl one)) (inr (inr (inl two))) = absurd (long_and_short format limit text first second one two)
+one_fault format limit text first second (inr (inl one)) (inr (inr (inr two))) =
+    absurd (end_and_long format limit text two.state first (stop_of_tail format limit text second two) one)
+one_fault format limit text first second (inr (inr (inl one))) (inl two) = absurd (bad_and_short format limit text second first two one)
+one_fault format limit text first second (inr (inr (inl one))) (inr (inl two)) = absurd (long_and_short format limit text second first two one)
+one_fault format limit text first second (inr (inr (inl one))) (inr (inr (inl two))) = short_and_short format limit text first second one two
+one_fault format limit text first second (inr (inr (inl one))) (inr (inr (inr two))) =
+    absurd (end_and_short format limit text two.state first (stop_of_tail format limit text second two) one)
+one_fault format limit text first second (inr (inr (inr one))) (inl two) =
+    absurd (end_and_bad format limit text one.state second (stop_of_tail format limit text first one) two)
+one_fault format limit text first second (inr (inr (inr one))) (inr (inl two)) =
+    absurd (end_and_long format limit text one.state second (stop_of_tail format limit text first one) two)
+one_fault format limit text first second (inr (inr (inr one))) (inr (inr (inl two))) =
+    absurd (end_and_short format limit text one.state second (stop_of_tail format limit text first one) two)
+one_fault format limit text first second (inr (inr (inr one))) (inr (inr (inr two))) = tail_and_tail format limit text first second one two
+
+-- a state's text within the limit has none
+pub no_fault_of_state : (format : Format) → (limit : ℕ) (text : List ℕ) (state : State) (fault : StateFault) → IsStateText format limit text state
+    → ¬ IsStateFault format limit text fault
+no_fault_of_state format limit text state fault is found = by found
+  where
+    stopped : IsStopped format limit text (at_end state)
+    stopped =
+        stop_at_end format limit text state [] is.valid (is.is ∙ sym (append-nil (state_text format state))) (subst (λ xs. length xs ≤ limit) is.is is.within)
+
+    by : IsStateFault format limit text fault → ⊥
+    by (inl one) = end_and_bad format limit text state fault stopped one
+    by (inr (inl one)) = end_and_long format limit text state fault stopped one
+    by (inr (inr (inl one))) = end_and_short format limit text state fault stopped one
+    by (inr (inr (inr one))) =
+        let same = same_end one.state state (one_stop format limit text (at_end one.state) (at_end state) (stop_of_tail format limit text fault one) stopped) in
+        let sizes = ap (λ s. length (state_text format s)) same in
+        let here = ap length is.is in
+        let there = ap length one.whole ∙ length-append (state_text format one.state) (one.next ∷ one.rest) in
+        omega arith

@@ -1,0 +1,147 @@
+-- The tests of the parts of a state text are decided.
+use Rattle.std.proofs.Common.{◌≡◌, ℕ, ◌-◌, ◌^◌, List, [], ◌∷◌, length, map, subst, inl, inr, ◌⊎◌, true, Contains}
+use Rattle.std.specs.Prelude.{slice_index}
+use Rattle.std.specs.Int.{w32, from_be_bytes}
+use Rattle.docker_model.specs.records.Record.{association, is_printable, column, IsTextOfLength}
+use Rattle.docker_model.specs.records.Date.{last_day}
+use Rattle.docker_model.specs.records.Field.{is_stp_letter, IsTiploc}
+use Rattle.docker_model.specs.file.File.{first_record}
+use Rattle.docker_model.specs.file.Change.{Key, tiploc_key, association_key, schedule_key, AssociationKey, ScheduleKey, association_named, schedule_named, association_body, schedule_body}
+use Rattle.docker_model.specs.state.Order.{IsBelow}
+use Rattle.docker_model.specs.state.Stamp.{FileStamp, Stamp, LedgerItem, file_stamp_cmp, ledger_item_cmp}
+use Rattle.docker_model.specs.state.Op.{key_cmp, body_end}
+use Rattle.docker_model.specs.state.State.{State, IsGoodItem, IsGoodKey, IsGoodAssociationKey, IsGoodScheduleKey, IsAssociationOf, IsStampIn}
+use Rattle.docker_model.specs.state.StateText.{Format, dks_1, dks_2, IsOpByte}
+use Rattle.docker_model.specs.state.StatePart.{IsTag, IsLineCount, IsAboveItems, IsAboveEntries, RaisesFloor, AreLinesUpTo, HaveNotToLapse}
+use Rattle.docker_model.specs.state.StateFault.{IsBodyPart}
+use Rattle.cif_laws.proofs.orders.Orders.{file_stamp_total, exact_file_stamp, key_total, exact_key}
+use Rattle.cif_laws.proofs.lists.Membership.{Contains-cons, cons-Contains, cons-Contains-first, nil-Contains}
+use Rattle.cif_laws.proofs.lists.Decisions.{Decided, both_decided, either_decided, not_decided, decided_along, bool_decided, nat_decided, le_decided, lt_decided, All_decided, less_decided, same_decided}
+use Rattle.cif_laws.proofs.schedules.ScheduleFronts.{record_decided, has_kind_decided, good_fields_decided, schedule_decided, begins_decided}
+
+text_of_length_decided : (n : ℕ) (bytes : List ℕ) → Decided (IsTextOfLength n bytes)
+text_of_length_decided n bytes =
+    both_decided (nat_decided (length bytes) n) (All_decided (λ b. is_printable b ≡ true) (λ b. bool_decided (is_printable b)) bytes)
+
+tiploc_decided : (code : List ℕ) → Decided (IsTiploc code)
+tiploc_decided code = both_decided (text_of_length_decided 7 code) (not_decided (nat_decided (slice_index code 0) 32))
+
+-- a ledger item is good or not
+pub good_item_decided : (item : LedgerItem) → Decided (IsGoodItem item)
+good_item_decided item =
+    decided_along (λ h. record { day = h.0; minute = h.1.0; reference = h.1.1.0; indicator = h.1.1.1.0; last_reference = h.1.1.1.1 })
+    (λ good. (good.day, (good.minute, (good.reference, (good.indicator, good.last_reference)))))
+    (both_decided (le_decided item.stamp.moment.day last_day) (both_decided (lt_decided item.stamp.moment.minute 1440)
+    (both_decided (text_of_length_decided 7 item.stamp.reference) (both_decided (either_decided (nat_decided item.indicator 70) (nat_decided item.indicator 85))
+    (text_of_length_decided 7 item.last_reference)))))
+
+-- an item is above those before it or not
+pub above_items_decided : (ledger : List LedgerItem) (item : LedgerItem) → Decided (IsAboveItems ledger item)
+above_items_decided ledger item = All_decided (λ earlier. IsBelow ledger_item_cmp earlier item) (λ earlier. less_decided (ledger_item_cmp earlier item)) ledger
+
+-- an item raises the floor or not
+pub raises_floor_decided : (ledger : List LedgerItem) (item : LedgerItem) → Decided (RaisesFloor ledger item)
+raises_floor_decided [] item = inr (λ h. h)
+raises_floor_decided (first ∷ ledger) item = both_decided (nat_decided item.indicator 70) (less_decided (file_stamp_cmp first.stamp item.stamp))
+
+-- a number is a tag or not
+pub tag_decided : (tag : ℕ) → Decided (IsTag tag)
+tag_decided tag = by (nat_decided tag 1) (nat_decided tag 2) (nat_decided tag 3)
+  where
+    by : Decided (tag ≡ 1) → Decided (tag ≡ 2) → Decided (tag ≡ 3) → Decided (IsTag tag)
+    by (inl one) b c = inl (inl one)
+    by (inr a) (inl two) c = inl (inr (inl two))
+    by (inr a) (inr b) (inl three) = inl (inr (inr three))
+    by (inr a) (inr b) (inr c) = inr none
+      where
+        none : IsTag tag → ⊥
+        none (inl one) = a one
+        none (inr (inl two)) = b two
+        none (inr (inr three)) = c three
+
+association_key_decided : (key : AssociationKey) → Decided (IsGoodAssociationKey key)
+association_key_decided key =
+    decided_along (λ h. record { base = h.0; associated = h.1.0; start = h.1.1.0; location = h.1.1.1.0; suffix = h.1.1.1.1.0; indicator = h.1.1.1.1.1 })
+    (λ good. (good.base, (good.associated, (good.start, (good.location, (good.suffix, good.indicator))))))
+    (both_decided (text_of_length_decided 6 key.base) (both_decided (text_of_length_decided 6 key.associated) (both_decided (le_decided key.start last_day)
+    (both_decided (tiploc_decided key.location) (both_decided (bool_decided (is_printable key.suffix)) (bool_decided (is_stp_letter key.indicator)))))))
+
+schedule_key_decided : (key : ScheduleKey) → Decided (IsGoodScheduleKey key)
+schedule_key_decided key =
+    decided_along (λ h. record { uid = h.0; runs_from = h.1.0; indicator = h.1.1 }) (λ good. (good.uid, (good.runs_from, good.indicator)))
+    (both_decided (text_of_length_decided 6 key.uid) (both_decided (le_decided key.runs_from last_day) (bool_decided (is_stp_letter key.indicator))))
+
+-- a key is good or not
+pub good_key_decided : (key : Key) → Decided (IsGoodKey key)
+good_key_decided (tiploc_key code) = tiploc_decided code
+good_key_decided (association_key key) = association_key_decided key
+good_key_decided (schedule_key key) = schedule_key_decided key
+
+-- a key is above those before it or not
+pub above_entries_decided : (state : State) (key : Key) → Decided (IsAboveEntries state key)
+above_entries_decided state key = All_decided (λ entry. IsBelow key_cmp entry.0 key) (λ entry. less_decided (key_cmp entry.0 key)) state.entries
+
+contains_decided : (xs : List FileStamp) (x : FileStamp) → Decided (Contains xs x)
+contains_decided [] x = inr (nil-Contains x)
+contains_decided (y ∷ xs) x = by (same_decided file_stamp_total exact_file_stamp y x) (contains_decided xs x)
+  where
+    neither : ¬ (y ≡ x) → ¬ Contains xs x → (y ≡ x) ⊎ Contains xs x → ⊥
+    neither apart out (inl same) = apart same
+    neither apart out (inr inside) = out inside
+
+    by : Decided (y ≡ x) → Decided (Contains xs x) → Decided (Contains (y ∷ xs) x)
+    by (inl same) rest = inl (subst (λ z. Contains (y ∷ xs) z) same (cons-Contains-first y xs))
+    by (inr apart) (inl inside) = inl (cons-Contains y xs x inside)
+    by (inr apart) (inr out) = inr (λ among. neither apart out (Contains-cons y xs x among))
+
+-- a stamp's file stands in the ledger or not
+pub stamp_in_decided : (ledger : List LedgerItem) (stamp : Stamp) → Decided (IsStampIn ledger stamp)
+stamp_in_decided ledger stamp =
+    decided_along (λ h. record { in_ledger = h.0; low = h.1.0; high = h.1.1 }) (λ is. (is.in_ledger, (is.low, is.high)))
+    (both_decided (contains_decided (map (λ (item : LedgerItem). item.stamp) ledger) stamp.file)
+    (both_decided (le_decided 2 stamp.number) (lt_decided stamp.number (2 ^ 32 - 1))))
+
+-- a byte is one of an op or not
+pub op_byte_decided : (format : Format) (byte : ℕ) → Decided (IsOpByte format byte)
+op_byte_decided dks_1 byte = either_decided (nat_decided byte 0) (nat_decided byte 1)
+op_byte_decided dks_2 byte = either_decided (nat_decided byte 0) (either_decided (nat_decided byte 1) (nat_decided byte 2))
+
+same_key_decided : (first second : Key) → Decided (first ≡ second)
+same_key_decided = same_decided key_total exact_key
+
+association_decided : (key : AssociationKey) (line : List ℕ) → Decided (IsAssociationOf key line)
+association_decided key line =
+    decided_along (λ h. record { is_record = h.0; kind = h.1.0; fields = h.1.1.0; new = h.1.1.1.0; key_is = h.1.1.1.1 })
+    (λ is. (is.is_record, (is.kind, (is.fields, (is.new, is.key_is)))))
+    (both_decided (record_decided line) (both_decided (has_kind_decided association line) (both_decided (good_fields_decided line)
+    (both_decided (nat_decided (column 3 line) 78) (same_key_decided (association_named line) (association_key key))))))
+
+-- a number is one of lines or not
+pub line_count_decided : (count : ℕ) → Decided (IsLineCount count)
+line_count_decided count = both_decided (lt_decided 0 count) (lt_decided count (2 ^ 32 - 1))
+
+-- a body is good or not
+pub body_part_decided : (state : State) (key : Key) (bytes : List ℕ) → Decided (IsBodyPart state key bytes)
+body_part_decided state (tiploc_key code) bytes = text_of_length_decided 63 bytes
+body_part_decided state (association_key key) bytes =
+    both_decided (association_decided key bytes) (le_decided state.horizon (body_end (association_body bytes)))
+body_part_decided state (schedule_key key) bytes = line_count_decided (from_be_bytes w32 bytes)
+
+implied_decided : {P Q : Type 0} → Decided P → Decided Q → Decided (P → Q)
+implied_decided p (inl q) = inl (λ h. q)
+implied_decided (inl p) (inr none) = inr (λ f. none (f p))
+implied_decided (inr never) (inr none) = inl (λ p. absurd (never p))
+
+-- lines are those of a schedule so far or not
+pub lines_decided : (key : ScheduleKey) (count : ℕ) (lines : List (List ℕ)) → Decided (AreLinesUpTo key count lines)
+lines_decided key count lines =
+    decided_along (λ h. record { lines_of = record { begin = h.0; new = h.1.0; key_is = h.1.1.0 }; complete = h.1.1.1 })
+    (λ are. (are.lines_of.begin, (are.lines_of.new, (are.lines_of.key_is, are.complete))))
+    (both_decided (begins_decided lines) (both_decided (nat_decided (column 3 (first_record lines)) 78)
+    (both_decided (same_key_decided (schedule_named (first_record lines)) (schedule_key key))
+    (implied_decided (nat_decided (length lines) count) (schedule_decided lines)))))
+
+-- they are, and have not to lapse, or not
+pub lines_here_decided : (state : State) (key : ScheduleKey) (count : ℕ) (lines : List (List ℕ))
+    → Decided (AreLinesUpTo key count lines × HaveNotToLapse state lines)
+lines_here_decided state key count lines = both_decided (lines_decided key count lines) (le_decided state.horizon (body_end (schedule_body lines)))

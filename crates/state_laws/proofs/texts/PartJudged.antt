@@ -1,0 +1,296 @@
+-- A part of a state's text is bad, or what comes after it is good and has its bytes.
+use Rattle.std.proofs.Common.{◌≡◌, ℕ, ◌-◌, ◌<◌, ◌≤◌, ◌^◌, List, [], ◌∷◌, ◌++◌, length, refl, ap, sym, ◌∙◌, subst, inl, inr, ◌⊎◌, arith, true, false, cond, nat_le, append-nil, length-append}
+use Rattle.std.specs.Prelude.{slice_index}
+use Rattle.std.specs.Int.{w16, w32, w64, to_be_bytes, from_be_bytes}
+use Rattle.std.proofs.lemmas.Nat.{be_bytes_2}
+use Rattle.std.proofs.lemmas.Bool.Decides.{leb_tells}
+use Rattle.std.specs.Cmp.Lexicographic.{nat_list_cmp_total}
+use Rattle.std.proofs.lemmas.Map.Lookups.{exact_bytes}
+use Rattle.docker_model.specs.records.Date.{IsDay, last_day}
+use Rattle.docker_model.specs.file.Change.{Key, tiploc_key, association_key, schedule_key, ScheduleKey, tiploc_body, association_body, schedule_body}
+use Rattle.docker_model.specs.state.Stamp.{Stamp, LedgerItem}
+use Rattle.docker_model.specs.state.Op.{Op, deleted, lapsed, put_with}
+use Rattle.docker_model.specs.state.Lapse.{HasNotToLapse}
+use Rattle.docker_model.specs.state.State.{IsGoodItem, IsGoodKey, IsStampIn, IsScheduleOf, State, IsOpOf}
+use Rattle.docker_model.specs.state.StateText.{stamp_bytes, item_in, key_in, stamp_in, Format, dks_1, dks_2, head_text, mark, entries_text, IsOpByte, TellsOp, IsToldState}
+use Rattle.docker_model.specs.state.StatePart.{EntryPart, before_tag, before_key, before_stamp, before_op, before_body, before_line, key_text, part_width, key_width, IsTag, IsLineCount, IsAboveItems, RaisesFloor, AreLinesOf, AreLinesUpTo, Before, before_mark, before_horizon, before_ledger_count, before_item, before_entry_count, in_entry, at_end, items_before, text_before, width, HaveNotToLapse, IsAboveEntries, IsKeyHere, IsStampHere, IsPartHere, AreGood}
+use Rattle.docker_model.specs.state.StateFault.{StateCause, bad_mark, bad_item, bad_order, bad_floor, bad_tag, bad_stamp, bad_body, bad_horizon, IsBadPart, IsBodyPart}
+use Rattle.state_laws.specs.TextStage.{after_entries, with_entry, after_lines, advance}
+use Rattle.state_laws.proofs.texts.TextsBefore.{after_entries_text, entry_done_text}
+use Rattle.state_laws.proofs.texts.GoodPartLeads.{count_of_ledger, item_text, body_text, count_text, line_text, part_more}
+use Rattle.cif_laws.proofs.lists.Decisions.{Decided, le_decided, same_decided}
+use Rattle.state_laws.proofs.texts.StateBytes.{AreBytes, small_at, four_bytes, eight_bytes, eight_fit, item_written, stamp_written, key_written, tag_of_key, single}
+use Rattle.state_laws.proofs.texts.PartDecisions.{good_item_decided, above_items_decided, raises_floor_decided, tag_decided, good_key_decided, stamp_in_decided, above_entries_decided, op_byte_decided, body_part_decided, lines_here_decided}
+use Rattle.state_laws.proofs.texts.LedgerGrown.{one_item_more, no_items}
+use Rattle.state_laws.proofs.texts.StateGrown.{good_after_items, good_after_entries, tells_deleted, tells_put, no_entries, one_entry_more}
+
+-- a part is bad, or what comes after it is good and has its bytes
+abbrev pub Good : (format : Format) → Before → List ℕ → Type 0
+Good format before bytes =
+    AreGood format (advance format before bytes) × (text_before format (advance format before bytes) ≡ text_before format before ++ bytes)
+
+-- the part is bad, or what comes after it is good and has its bytes
+abbrev pub Judged : (format : Format) → Before → List ℕ → Type 0
+Judged format before bytes = ((cause : StateCause) × IsBadPart format before bytes cause) ⊎ Good format before bytes
+
+same_bytes_decided : (first second : List ℕ) → Decided (first ≡ second)
+same_bytes_decided = same_decided nat_list_cmp_total exact_bytes
+
+judge_mark : (format : Format) (bytes : List ℕ) → Judged format before_mark bytes
+judge_mark dks_1 bytes = by (same_bytes_decided bytes (mark dks_1))
+  where
+    by : Decided (bytes ≡ mark dks_1) → Judged dks_1 before_mark bytes
+    by (inl same) = inr (refl, sym same)
+    by (inr other) = inl (bad_mark, (refl, other))
+judge_mark dks_2 bytes = by (same_bytes_decided bytes (mark dks_2))
+  where
+    by : Decided (bytes ≡ mark dks_2) → Judged dks_2 before_mark bytes
+    by (inl same) = inr (tt, sym same)
+    by (inr other) = inl (bad_mark, (refl, other))
+
+two_bytes : (bytes : List ℕ) → length bytes ≡ 2 → AreBytes bytes → to_be_bytes w16 (from_be_bytes w16 bytes) ≡ bytes
+two_bytes bytes size small = be_bytes_2 bytes _ size (small_at bytes small) refl
+
+judge_horizon : (format : Format) (bytes : List ℕ) → AreGood format before_horizon → length bytes ≡ 2 → AreBytes bytes → Judged format before_horizon bytes
+judge_horizon dks_1 bytes good size small = absurd good
+judge_horizon dks_2 bytes good size small = by (le_decided (from_be_bytes w16 bytes) last_day)
+  where
+    by : Decided (IsDay (from_be_bytes w16 bytes)) → Judged dks_2 before_horizon bytes
+    by (inl day) = inr (day, append-nil (head_text dks_2 (from_be_bytes w16 bytes)) ∙ ap (λ xs. mark dks_2 ++ xs) (two_bytes bytes size small))
+    by (inr late) = inl (bad_horizon, (refl, late))
+
+judge_item : (format : Format) (horizon : ℕ) → (count : ℕ) (ledger : List LedgerItem) (bytes : List ℕ) → AreGood format (before_item horizon count ledger)
+    → length bytes ≡ 19 → AreBytes bytes → Judged format (before_item horizon count ledger) bytes
+judge_item format horizon count ledger bytes good size small =
+    by (good_item_decided (item_in bytes)) (above_items_decided ledger (item_in bytes)) (raises_floor_decided ledger (item_in bytes))
+  where
+    by : Decided (IsGoodItem (item_in bytes)) → Decided (IsAboveItems ledger (item_in bytes)) → Decided (RaisesFloor ledger (item_in bytes))
+        → Judged format (before_item horizon count ledger) bytes
+    by (inr bad) above raises = inl (bad_item, bad)
+    by (inl fine) (inr low) raises = inl (bad_order, (fine, low))
+    by (inl fine) (inl above) (inl high) = inl (bad_floor, (fine, above, high))
+    by (inl fine) (inl above) (inr not_high) =
+        let longer = length-append ledger (item_in bytes ∷ []) in
+        let below = good.2 in
+        inr (
+          good_after_items format horizon count (ledger ++ item_in bytes ∷ []) good.0 (one_item_more ledger (item_in bytes) good.1 fine above not_high)
+              (omega arith) good.3,
+          item_text format horizon count ledger (item_in bytes) good.2 ∙ ap (λ xs. text_before format (before_item horizon count ledger) ++ xs)
+              (item_written bytes size small),
+        )
+
+judge_ledger_count : (format : Format) (horizon : ℕ) (bytes : List ℕ) → AreGood format (before_ledger_count horizon) → length bytes ≡ 8 → AreBytes bytes
+    → Judged format (before_ledger_count horizon) bytes
+judge_ledger_count format horizon bytes good size small =
+    inr (
+      good_after_items format horizon (from_be_bytes w64 bytes) [] good no_items (omega arith) (eight_fit bytes small),
+      count_of_ledger format horizon (from_be_bytes w64 bytes) ∙ ap (λ xs. text_before format (before_ledger_count horizon) ++ xs)
+          (eight_bytes bytes size small),
+    )
+
+judge_entry_count : (format : Format) (horizon : ℕ) → (ledger : List LedgerItem) (bytes : List ℕ) → AreGood format (before_entry_count horizon ledger)
+    → length bytes ≡ 8 → AreBytes bytes → Judged format (before_entry_count horizon ledger) bytes
+judge_entry_count format horizon ledger bytes good size small =
+    inr (
+      good_after_entries format (from_be_bytes w64 bytes) (record { horizon = horizon; ledger = ledger; entries = [] })
+          (no_entries format horizon ledger good.0 good.1) good.2 (omega arith) (eight_fit bytes small),
+      after_entries_text format (from_be_bytes w64 bytes) (record { horizon = horizon; ledger = ledger; entries = [] }) (omega arith) ∙ append-nil _
+          ∙ (λ i. sym (append-nil (items_before format (before_entry_count horizon ledger))) i ++ eight_bytes bytes size small i),
+    )
+
+-- a state that the format tells, with room for an entry more
+abbrev pub StateHere : (format : Format) → ℕ → State → Type 0
+StateHere format count state = IsToldState format state × (length state.ledger < 2 ^ 64) × (length state.entries < count) × (count < 2 ^ 64)
+
+-- a good entry leads to a good place behind it
+pub entry_done : (format : Format) → (count : ℕ) (state : State) (key : Key) (stamp : Stamp) (op : Op) → StateHere format count state
+    → IsStampHere state key stamp → IsOpOf key op → HasNotToLapse state.horizon op → TellsOp format op
+    → AreGood format (after_entries count (with_entry state key stamp op))
+entry_done format count state key stamp op told here of stays tells =
+    let longer = length-append state.entries ((key, record { stamp = stamp; op = op }) ∷ []) in
+    let below = told.2 in
+    good_after_entries format count (with_entry state key stamp op) (one_entry_more format state key stamp op told.0 here of stays tells) told.1
+    (omega arith) told.3
+
+-- good lines lead to a good place behind them
+pub good_after_lines : (format : Format) → (count : ℕ) (state : State) (key : ScheduleKey) (stamp : Stamp) (n : ℕ) (lines : List (List ℕ))
+    → StateHere format count state → IsStampHere state (schedule_key key) stamp
+    → IsLineCount n → length lines ≤ n → (lines ≡ []) ⊎ (AreLinesUpTo key n lines × HaveNotToLapse state lines)
+    → AreGood format (after_lines count state key stamp n lines)
+good_after_lines format count state key stamp n lines told here counted within are = by (leb_tells n (length lines)) are
+  where
+    done : Before
+    done = after_entries count (with_entry state (schedule_key key) stamp (put_with (schedule_body lines)))
+
+    schedule_of : length lines ≡ n → AreLinesUpTo key n lines → IsScheduleOf key lines
+    schedule_of all up = record {
+      schedule = up.complete all;
+      few = subst (λ m. m < 2 ^ 32 - 1) (sym all) counted.1;
+      new = up.lines_of.new;
+      key_is = up.lines_of.key_is;
+    }
+
+    lines_so_far : (lines ≡ []) ⊎ (AreLinesUpTo key n lines × HaveNotToLapse state lines) → (lines ≡ []) ⊎ (AreLinesOf key lines × HaveNotToLapse state lines)
+    lines_so_far (inl none) = inl none
+    lines_so_far (inr up) = inr (up.0.lines_of, up.1)
+
+    by : ((nat_le n (length lines) ≡ true) × (n ≤ length lines)) ⊎ ((nat_le n (length lines) ≡ false) × (length lines < n))
+        → (lines ≡ []) ⊎ (AreLinesUpTo key n lines × HaveNotToLapse state lines)
+        → AreGood format (after_lines count state key stamp n lines)
+    by (inl all) (inl none) = let some = counted.0 in let size = ap length none in let enough = all.1 in absurd (omega arith)
+    by (inl all) (inr up) =
+        let enough = all.1 in
+        subst (λ b. AreGood format (cond b (after_entries count (with_entry state (schedule_key key) stamp (put_with (schedule_body lines))))
+        (in_entry count state (before_line key stamp n lines)))) (sym all.0)
+        (entry_done format count state (schedule_key key) stamp (put_with (schedule_body lines)) told here (schedule_of (omega arith) up.0) up.1
+        (tells_put format (schedule_body lines)))
+    by (inr more) up =
+        subst (λ b. AreGood format (cond b (after_entries count (with_entry state (schedule_key key) stamp (put_with (schedule_body lines))))
+        (in_entry count state (before_line key stamp n lines)))) (sym more.0)
+        (told.0, told.1, told.2, told.3, (here, counted, more.1, lines_so_far up))
+
+judge_tag : (format : Format) → (count : ℕ) (state : State) (bytes : List ℕ) → StateHere format count state → length bytes ≡ 1
+    → Judged format (in_entry count state before_tag) bytes
+judge_tag format count state bytes told size = by (tag_decided (slice_index bytes 0))
+  where
+    by : Decided (IsTag (slice_index bytes 0)) → Judged format (in_entry count state before_tag) bytes
+    by (inl is) =
+        inr (
+          (told.0, told.1, told.2, told.3, is),
+          part_more format count state [] (slice_index bytes 0 ∷ [])
+              ∙ ap (λ xs. text_before format (in_entry count state before_tag) ++ xs) (single bytes size),
+        )
+    by (inr bad) = inl (bad_tag, (refl, bad))
+
+judge_key : (format : Format) → (count : ℕ) (state : State) (tag : ℕ) (bytes : List ℕ) → StateHere format count state → IsTag tag → length bytes ≡ key_width tag
+    → AreBytes bytes → Judged format (in_entry count state (before_key tag)) bytes
+judge_key format count state tag bytes told is size small = by (good_key_decided (key_in tag bytes)) (above_entries_decided state (key_in tag bytes))
+  where
+    by : Decided (IsGoodKey (key_in tag bytes)) → Decided (IsAboveEntries state (key_in tag bytes))
+        → Judged format (in_entry count state (before_key tag)) bytes
+    by (inr bad) above = inl (bad_body, bad)
+    by (inl fine) (inr low) = inl (bad_order, (fine, low))
+    by (inl fine) (inl above) =
+        inr (
+          (told.0, told.1, told.2, told.3, (fine, above)),
+          (λ i. entries_text format count state ++ (tag_of_key tag bytes is i ∷ key_written tag bytes is size small i))
+              ∙ part_more format count state (tag ∷ []) bytes,
+        )
+
+judge_stamp : (format : Format) → (count : ℕ) (state : State) (key : Key) (bytes : List ℕ) → StateHere format count state → IsKeyHere state key
+    → length bytes ≡ 15 → AreBytes bytes → Judged format (in_entry count state (before_stamp key)) bytes
+judge_stamp format count state key bytes told here size small = by (stamp_in_decided state.ledger (stamp_in bytes))
+  where
+    by : Decided (IsStampIn state.ledger (stamp_in bytes)) → Judged format (in_entry count state (before_stamp key)) bytes
+    by (inl is) =
+        inr (
+          (told.0, told.1, told.2, told.3, (here, is)),
+          ap (λ xs. entries_text format count state ++ (key_text key ++ xs)) (stamp_written bytes size small)
+              ∙ part_more format count state (key_text key) bytes,
+        )
+    by (inr bad) = inl (bad_stamp, (refl, bad))
+
+-- the op that a byte tells
+op_of_byte : (format : Format) (byte : ℕ) → IsOpByte format byte → (byte ≡ 0) ⊎ (byte ≡ 1) ⊎ ((byte ≡ 2) × TellsOp format lapsed)
+op_of_byte dks_1 byte (inl e) = inl e
+op_of_byte dks_1 byte (inr e) = inr (inl e)
+op_of_byte dks_2 byte (inl e) = inl e
+op_of_byte dks_2 byte (inr (inl e)) = inr (inl e)
+op_of_byte dks_2 byte (inr (inr e)) = inr (inr (e, tt))
+
+judge_op : (format : Format) → (count : ℕ) (state : State) (key : Key) (stamp : Stamp) (bytes : List ℕ) → StateHere format count state
+    → IsStampHere state key stamp → length bytes ≡ 1 → Judged format (in_entry count state (before_op key stamp)) bytes
+judge_op format count state key stamp bytes told here size = by (op_byte_decided format (slice_index bytes 0))
+  where
+    front : List ℕ
+    front = key_text key ++ stamp_bytes stamp
+
+    byte_of : (op : ℕ) → slice_index bytes 0 ≡ op → bytes ≡ op ∷ []
+    byte_of op e = sym (single bytes size) ∙ ap (λ b. b ∷ []) e
+
+    by : Decided (IsOpByte format (slice_index bytes 0)) → Judged format (in_entry count state (before_op key stamp)) bytes
+    by (inr bad) = inl (bad_body, (refl, bad))
+    by (inl is) = op (op_of_byte format (slice_index bytes 0) is)
+      where
+        op : (slice_index bytes 0 ≡ 0) ⊎ (slice_index bytes 0 ≡ 1) ⊎ ((slice_index bytes 0 ≡ 2) × TellsOp format lapsed)
+            → Judged format (in_entry count state (before_op key stamp)) bytes
+        op (inl e) = subst (Judged format (in_entry count state (before_op key stamp))) (sym (byte_of 0 e))
+            (inr (
+              entry_done format count state key stamp deleted told here tt tt (tells_deleted format),
+              entry_done_text format count state key stamp deleted told.2 ∙ part_more format count state (key_text key ++ stamp_bytes stamp) (0 ∷ []),
+            ))
+        op (inr (inl e)) = subst (Judged format (in_entry count state (before_op key stamp))) (sym (byte_of 1 e))
+            (inr ((told.0, told.1, told.2, told.3, here), part_more format count state (key_text key ++ stamp_bytes stamp) (1 ∷ [])))
+        op (inr (inr e)) = subst (Judged format (in_entry count state (before_op key stamp))) (sym (byte_of 2 e.0))
+            (inr (
+              entry_done format count state key stamp lapsed told here tt tt e.1,
+              entry_done_text format count state key stamp lapsed told.2 ∙ part_more format count state (key_text key ++ stamp_bytes stamp) (2 ∷ []),
+            ))
+
+-- a TIPLOC has not to lapse
+tiploc_stays : {format : Format} (state : State) → IsToldState format state → state.horizon ≤ 65535
+tiploc_stays state told = let day = told.valid.horizon in omega arith
+
+judge_body : (format : Format) → (count : ℕ) (state : State) (key : Key) (stamp : Stamp) (bytes : List ℕ) → StateHere format count state
+    → IsStampHere state key stamp → length bytes ≡ width (in_entry count state (before_body key stamp)) → AreBytes bytes
+    → Judged format (in_entry count state (before_body key stamp)) bytes
+judge_body format count state key stamp bytes told here size small = by key here size (body_part_decided state key bytes)
+  where
+    by : (key : Key) → IsStampHere state key stamp → length bytes ≡ width (in_entry count state (before_body key stamp)) → Decided (IsBodyPart state key bytes)
+        → Judged format (in_entry count state (before_body key stamp)) bytes
+    by key at wide (inr bad) = inl (bad_body, (refl, bad))
+    by (tiploc_key code) at wide (inl fine) =
+        inr (
+          entry_done format count state (tiploc_key code) stamp (put_with (tiploc_body bytes)) told at fine (tiploc_stays state told.0)
+              (tells_put format (tiploc_body bytes)),
+          body_text format count state (tiploc_key code) stamp (tiploc_body bytes) told.2,
+        )
+    by (association_key key) at wide (inl fine) =
+        inr (
+          entry_done format count state (association_key key) stamp (put_with (association_body bytes)) told at fine.0 fine.1
+              (tells_put format (association_body bytes)),
+          body_text format count state (association_key key) stamp (association_body bytes) told.2,
+        )
+    by (schedule_key key) at wide (inl fine) =
+        inr (
+          good_after_lines format count state key stamp (from_be_bytes w32 bytes) [] told at fine (omega arith) (inl refl),
+          count_text format count state key stamp (from_be_bytes w32 bytes) told.2
+              ∙ ap (λ xs. text_before format (in_entry count state (before_body (schedule_key key) stamp)) ++ xs) (four_bytes bytes wide small),
+        )
+
+judge_line : (format : Format) → (count : ℕ) (state : State) (key : ScheduleKey) (stamp : Stamp) (n : ℕ) (lines : List (List ℕ)) (bytes : List ℕ)
+    → StateHere format count state → IsPartHere state (before_line key stamp n lines)
+    → Judged format (in_entry count state (before_line key stamp n lines)) bytes
+judge_line format count state key stamp n lines bytes told here = by (lines_here_decided state key n (lines ++ bytes ∷ []))
+  where
+    by : Decided (AreLinesUpTo key n (lines ++ bytes ∷ []) × HaveNotToLapse state (lines ++ bytes ∷ []))
+        → Judged format (in_entry count state (before_line key stamp n lines)) bytes
+    by (inl are) =
+        let longer = length-append lines (bytes ∷ []) in
+        let more = here.2 in
+        inr (
+          good_after_lines format count state key stamp n (lines ++ bytes ∷ []) told here.0 here.1 (omega arith) (inr are),
+          line_text format count state key stamp n lines bytes told.2 here.2,
+        )
+    by (inr bad) = inl (bad_body, (refl, bad))
+
+judge_part : (format : Format) → (count : ℕ) (state : State) (part : EntryPart) (bytes : List ℕ) → StateHere format count state → IsPartHere state part
+    → length bytes ≡ part_width part → AreBytes bytes → Judged format (in_entry count state part) bytes
+judge_part format count state before_tag bytes told here size small = judge_tag format count state bytes told size
+judge_part format count state (before_key tag) bytes told here size small = judge_key format count state tag bytes told here size small
+judge_part format count state (before_stamp key) bytes told here size small = judge_stamp format count state key bytes told here size small
+judge_part format count state (before_op key stamp) bytes told here size small = judge_op format count state key stamp bytes told here size
+judge_part format count state (before_body key stamp) bytes told here size small = judge_body format count state key stamp bytes told here size small
+judge_part format count state (before_line key stamp n lines) bytes told here size small = judge_line format count state key stamp n lines bytes told here
+
+-- each part of bytes of the right width is judged
+pub judge : (format : Format) → (before : Before) (bytes : List ℕ) → AreGood format before → 0 < width before → length bytes ≡ width before → AreBytes bytes
+    → Judged format before bytes
+judge format before_mark bytes good some size small = judge_mark format bytes
+judge format before_horizon bytes good some size small = judge_horizon format bytes good size small
+judge format (before_ledger_count horizon) bytes good some size small = judge_ledger_count format horizon bytes good size small
+judge format (before_item horizon count ledger) bytes good some size small = judge_item format horizon count ledger bytes good size small
+judge format (before_entry_count horizon ledger) bytes good some size small = judge_entry_count format horizon ledger bytes good size small
+judge format (in_entry count state part) bytes good some size small =
+    judge_part format count state part bytes (good.0, good.1, good.2, good.3) good.4 size small
+judge format (at_end state) bytes good some size small = absurd (omega arith)

@@ -1,0 +1,287 @@
+-- Whatever stands before a part of a text of a state, the parts before lead to it.
+use Rattle.std.proofs.Common.{List, ◌∷◌, ◌++◌, ◌≡◌, [], refl, ap, sym, ◌∙◌, subst, Contains, Some, None, ℕ, ◌<◌, ◌≤◌, length, arith, append_assoc, append-nil, length-append, inl, inr, ◌^◌, ◌⊎◌}
+use Rattle.std.specs.Prelude.{Option}
+use Rattle.std.specs.List.{AllByRecursion}
+use Rattle.std.specs.Ordering.{ordering_reverse, on}
+use Rattle.std.specs.declared.cmp.Ordering.{Ordering}
+use Rattle.std.specs.declared.cmp.Ordering.TheVariants.{Less, Equal, Greater}
+use Rattle.std.proofs.lemmas.List.Elements.{recursion_from_All, All-from_recursion, Contains-append_right}
+use Rattle.docker_model.specs.records.Record.{columns, IsRecord}
+use Rattle.docker_model.specs.records.Field.{HasNewTransaction}
+use Rattle.docker_model.specs.file.File.{IsSchedule, BeginsSchedule, first_record}
+use Rattle.docker_model.specs.file.Change.{schedule_key, ScheduleKey, schedule_named, Key, tiploc_key, association_key, Body, tiploc_body, association_body, schedule_body}
+use Rattle.docker_model.specs.state.Order.{IsBelow}
+use Rattle.docker_model.specs.state.Stamp.{LedgerItem, ledger_item_cmp, FileStamp, file_stamp_cmp, IsFloor, IsKept, Stamp}
+use Rattle.docker_model.specs.state.Op.{readable_end, key_tag, put_with, body_end, Entry, Op, deleted, lapsed, key_cmp}
+use Rattle.docker_model.specs.state.Lapse.{HasNotToLapse}
+use Rattle.docker_model.specs.state.State.{IsGoodItem, IsLedger, State, IsScheduleOf, IsBodyOf, IsGoodEntry, AreAscending}
+use Rattle.docker_model.specs.state.StateText.{Format, TellsOp, IsHorizonOf, IsToldState}
+use Rattle.docker_model.specs.state.StatePart.{IsAboveItems, RaisesFloor, AreLinesUpTo, HaveNotToLapse, IsTag, before_key, in_entry, before_stamp, IsKeyHere, before_op, IsStampHere, before_body, IsAboveEntries, before_mark, before_entry_count, EntryPart, before_tag, before_line, AreLinesOf, IsPartHere, Before, before_horizon, before_ledger_count, before_item, at_end, AreGood}
+use Rattle.state_laws.specs.TextStage.{after_items, after_lines, after_entries, with_entry}
+use Rattle.cif_laws.proofs.orders.Orders.{file_stamp_total, exact_file_stamp}
+use Rattle.cif_laws.proofs.lists.Membership.{cons-Contains-first}
+use Rattle.state_laws.proofs.texts.TextStages.{Leads, no_step, then_leads}
+use Rattle.state_laws.proofs.texts.TextsBefore.{more_items, more_lines, more_entries, all_lines, all_items, all_entries}
+use Rattle.state_laws.proofs.texts.GoodPartLeads.{step_item, step_line, step_tag, step_key, step_stamp, step_put, step_tiploc, step_association, step_count, step_deleted, step_lapsed, head_leads, step_ledger_count, step_entry_count, horizon_leads}
+use Rattle.cif_laws.proofs.lists.AllOf.{all_behind, all_front}
+use Rattle.cif_laws.proofs.orders.Ascending.{below_next}
+
+-- an item of a ledger is good, above those before it, and raises no floor
+pub item_good : (before : List LedgerItem) (item : LedgerItem) (later : List LedgerItem) → IsLedger (before ++ item ∷ later) → IsGoodItem item
+item_good before item later is = (all_behind IsGoodItem before (item ∷ later) (recursion_from_All IsGoodItem (before ++ item ∷ later) is.each)).0
+
+-- an item of a ledger is above those before it
+pub item_above : (before : List LedgerItem) (item : LedgerItem) (later : List LedgerItem) → IsLedger (before ++ item ∷ later) → IsAboveItems before item
+item_above before item later is =
+    All-from_recursion (λ earlier. IsBelow ledger_item_cmp earlier item) before (below_next ledger_item_cmp before item later is.ascending)
+
+-- an item of a ledger does not raise the floor
+pub item_floor : (before : List LedgerItem) (item : LedgerItem) (later : List LedgerItem) → IsLedger (before ++ item ∷ later) → ¬ RaisesFloor before item
+item_floor [] item later is raises = raises
+item_floor (first ∷ before) item later is raises =
+    by is.floor is.is_floor (recursion_from_All (λ it. IsKept is.floor it.stamp) (first ∷ before ++ item ∷ later) is.kept).0
+  where
+    among : Contains ((first ∷ before) ++ item ∷ later) item
+    among = Contains-append_right (first ∷ before) (item ∷ later) item (cons-Contains-first item later)
+
+    not_above : (stamp : FileStamp) (o : Ordering) → file_stamp_cmp stamp first.stamp ≡ o → ¬ (o ≡ Greater) → ¬ (file_stamp_cmp item.stamp stamp ≡ Greater) → ⊥
+    not_above stamp Less told low high =
+        high (file_stamp_total.antisymm item.stamp stamp ∙ ap ordering_reverse (file_stamp_total.trans stamp first.stamp item.stamp told raises.1))
+    not_above stamp Equal told low high =
+        high (file_stamp_total.antisymm item.stamp stamp
+        ∙ ap ordering_reverse (subst (λ s. file_stamp_cmp s item.stamp ≡ Less) (sym (exact_file_stamp stamp first.stamp told)) raises.1))
+    not_above stamp Greater told low high = low refl
+
+    by : (floor : Option FileStamp) → IsFloor ((first ∷ before) ++ item ∷ later) floor → IsKept floor first.stamp → ⊥
+    by None none kept = none item among raises.0
+    by (Some stamp) greatest kept = not_above stamp (file_stamp_cmp stamp first.stamp) refl kept (greatest.greatest item among raises.0)
+
+-- the items of a ledger
+pub items_lead : (format : Format) (horizon : ℕ) → (count : ℕ) (before later : List LedgerItem) → IsLedger (before ++ later) → length (before ++ later) ≤ count
+    → Leads format (after_items horizon count before) (after_items horizon count (before ++ later))
+items_lead format horizon count before [] is within = no_step format _ _ (ap (after_items horizon count) (sym (append-nil before)))
+items_lead format horizon count before (item ∷ later) is within =
+    let size = length-append before (item ∷ later) in
+    let below : length before < count = omega arith in
+    let grouped = append_assoc before (item ∷ []) later in
+    let rest = items_lead format horizon count (before ++ item ∷ []) later (subst IsLedger (sym grouped) is)
+    (subst (λ xs. length xs ≤ count) (sym grouped) within) in
+    then_leads format _ _ _ (no_step format _ _ (more_items horizon count before below))
+    (then_leads format _ _ _ (step_item format horizon count before item below (item_good before item later is) (item_above before item later is)
+    (item_floor before item later is))
+    (then_leads format _ _ _ rest (no_step format _ _ (ap (after_items horizon count) grouped))))
+
+-- the fronts of the lines of a schedule
+pub begins_front : (front rest : List (List ℕ)) → BeginsSchedule (front ++ rest) → BeginsSchedule front
+begins_front front rest begins = (rest ++ begins.0, subst IsSchedule (append_assoc front rest begins.0) begins.1)
+
+first_of_front : (front rest : List (List ℕ)) → 0 < length front → first_record (front ++ rest) ≡ first_record front
+first_of_front [] rest some = absurd (omega arith)
+first_of_front (line ∷ front) rest some = refl
+
+lines_front : (key : ScheduleKey) (n : ℕ) (front rest : List (List ℕ)) → 0 < length front → AreLinesUpTo key n (front ++ rest) → length (front ++ rest) ≤ n
+    → AreLinesUpTo key n front
+lines_front key n front rest some are within =
+    let same = first_of_front front rest some in
+    record {
+      lines_of = record {
+        begin = begins_front front rest are.lines_of.begin;
+        new = subst HasNewTransaction same are.lines_of.new;
+        key_is = subst (λ line. schedule_named line ≡ schedule_key key) same are.lines_of.key_is;
+      };
+      complete = λ whole. by rest within whole are.complete;
+    }
+  where
+    by : (more : List (List ℕ)) → length (front ++ more) ≤ n → length front ≡ n → (length (front ++ more) ≡ n → IsSchedule (front ++ more)) → IsSchedule front
+    by [] low whole done = subst IsSchedule (append-nil front) (done (ap length (append-nil front) ∙ whole))
+    by (line ∷ more) low whole done = let size = length-append front (line ∷ more) in absurd (omega arith)
+
+-- lines of which the first has not to lapse
+front_stays : (state : State) (front rest : List (List ℕ)) → 0 < length front → HaveNotToLapse state (front ++ rest) → HaveNotToLapse state front
+front_stays state front rest some stays = subst (λ line. state.horizon ≤ readable_end (columns 16 21 line)) (first_of_front front rest some) stays
+
+line_size : (lines : List (List ℕ)) (line : List ℕ) (more : List (List ℕ)) → BeginsSchedule (lines ++ line ∷ more) → length line ≡ 80
+line_size lines line more begins =
+    let all = recursion_from_All IsRecord ((lines ++ line ∷ more) ++ begins.0) begins.1.records in
+    (all_behind IsRecord lines (line ∷ more) (all_front IsRecord (lines ++ line ∷ more) begins.0 all)).0.0
+
+-- the lines of a schedule lead behind the entry
+pub lines_lead : (format : Format) → (count : ℕ) (state : State) (key : ScheduleKey) (stamp : Stamp) (n : ℕ) (lines more : List (List ℕ))
+    → length state.entries < count
+    → AreLinesUpTo key n (lines ++ more) → HaveNotToLapse state (lines ++ more) → length (lines ++ more) ≤ n
+    → Leads format (after_lines count state key stamp n lines) (after_lines count state key stamp n (lines ++ more))
+lines_lead format count state key stamp n lines [] below are stays within =
+    no_step format _ _ (ap (after_lines count state key stamp n) (sym (append-nil lines)))
+lines_lead format count state key stamp n lines (line ∷ more) below are stays within =
+    let size = length-append lines (line ∷ more) in
+    let one = length-append lines (line ∷ []) in
+    let to_come : length lines < n = omega arith in
+    let grouped = append_assoc lines (line ∷ []) more in
+    let are_grouped = subst (AreLinesUpTo key n) (sym grouped) are in
+    let stays_grouped = subst (HaveNotToLapse state) (sym grouped) stays in
+    let within_grouped = subst (λ xs. length xs ≤ n) (sym grouped) within in
+    let rest = lines_lead format count state key stamp n (lines ++ line ∷ []) more below are_grouped stays_grouped within_grouped in
+    then_leads format _ _ _ (no_step format _ _ (more_lines count state key stamp n lines to_come))
+    (then_leads format _ _ _ (step_line format count state key stamp n lines line below to_come (line_size lines line more are.lines_of.begin)
+    (lines_front key n (lines ++ line ∷ []) more (omega arith) are_grouped within_grouped)
+    (front_stays state (lines ++ line ∷ []) more (omega arith) stays_grouped))
+    (then_leads format _ _ _ rest (no_step format _ _ (ap (after_lines count state key stamp n) grouped))))
+
+is_tag : (key : Key) → IsTag (key_tag key)
+is_tag (tiploc_key code) = inl refl
+is_tag (association_key key) = inr (inl refl)
+is_tag (schedule_key key) = inr (inr refl)
+
+-- the parts of an entry
+tag_leads : (format : Format) → (count : ℕ) (state : State) (tag : ℕ) → length state.entries < count → IsTag tag → Leads format (after_entries count state)
+    (in_entry count state (before_key tag))
+tag_leads format count state tag below is = then_leads format _ _ _ (no_step format _ _ (more_entries count state below)) (step_tag format count state tag is)
+
+key_leads : (format : Format) → (count : ℕ) (state : State) (key : Key) → length state.entries < count → IsKeyHere state key
+    → Leads format (after_entries count state) (in_entry count state (before_stamp key))
+key_leads format count state key below here =
+    then_leads format _ _ _ (tag_leads format count state (key_tag key) below (is_tag key)) (step_key format count state key here.0 here.1)
+
+stamp_leads : (format : Format) → (count : ℕ) (state : State) (key : Key) (stamp : Stamp) → length state.entries < count → IsLedger state.ledger
+    → IsStampHere state key stamp
+    → Leads format (after_entries count state) (in_entry count state (before_op key stamp))
+stamp_leads format count state key stamp below ledger here =
+    then_leads format _ _ _ (key_leads format count state key below here.0) (step_stamp format count state key stamp ledger here.1)
+
+put_leads : (format : Format) → (count : ℕ) (state : State) (key : Key) (stamp : Stamp) → length state.entries < count → IsLedger state.ledger
+    → IsStampHere state key stamp
+    → Leads format (after_entries count state) (in_entry count state (before_body key stamp))
+put_leads format count state key stamp below ledger here =
+    then_leads format _ _ _ (stamp_leads format count state key stamp below ledger here) (step_put format count state key stamp)
+
+some_lines : (lines : List (List ℕ)) → IsSchedule lines → 0 < length lines
+some_lines lines is = let size = ap length is.whole in omega arith
+
+whole_lines : (key : ScheduleKey) (lines : List (List ℕ)) → IsScheduleOf key lines → AreLinesUpTo key (length lines) lines
+whole_lines key lines is = record {
+  lines_of = record { begin = ([], subst IsSchedule (sym (append-nil lines)) is.schedule); new = is.new; key_is = is.key_is };
+  complete = λ whole. is.schedule;
+}
+
+body_leads : (format : Format) → (count : ℕ) (state : State) (key : Key) (stamp : Stamp) (body : Body) → length state.entries < count → IsBodyOf key body
+    → state.horizon ≤ body_end body
+    → Leads format (in_entry count state (before_body key stamp)) (after_entries count (with_entry state key stamp (put_with body)))
+body_leads format count state (tiploc_key code) stamp (tiploc_body bytes) below is stays = step_tiploc format count state code stamp bytes below is
+body_leads format count state (association_key key) stamp (association_body line) below is stays =
+    step_association format count state key stamp line below is stays
+body_leads format count state (schedule_key key) stamp (schedule_body lines) below is stays =
+    then_leads format _ _ _ (step_count format count state key stamp (length lines) below (some_lines lines is.schedule, is.few))
+    (then_leads format _ _ _ (lines_lead format count state key stamp (length lines) [] lines below (whole_lines key lines is) stays (omega arith))
+    (no_step format _ _ (all_lines count state key stamp lines)))
+body_leads format count state (tiploc_key code) stamp (association_body line) below is stays = absurd is
+body_leads format count state (tiploc_key code) stamp (schedule_body lines) below is stays = absurd is
+body_leads format count state (association_key key) stamp (tiploc_body bytes) below is stays = absurd is
+body_leads format count state (association_key key) stamp (schedule_body lines) below is stays = absurd is
+body_leads format count state (schedule_key key) stamp (tiploc_body bytes) below is stays = absurd is
+body_leads format count state (schedule_key key) stamp (association_body line) below is stays = absurd is
+
+-- an entry that the format tells, under a horizon
+abbrev pub IsToldEntry : Format → ℕ → List LedgerItem → Key × Entry → Type 0
+IsToldEntry format horizon ledger entry = IsGoodEntry ledger entry × HasNotToLapse horizon entry.1.op × TellsOp format entry.1.op
+
+entry_leads : (format : Format) → (count : ℕ) (state : State) (key : Key) (stamp : Stamp) (op : Op) → length state.entries < count → IsLedger state.ledger
+    → IsToldEntry format state.horizon state.ledger (key, record { stamp = stamp; op = op }) → IsAboveEntries state key
+    → Leads format (after_entries count state) (after_entries count (with_entry state key stamp op))
+entry_leads format count state key stamp deleted below ledger told above =
+    then_leads format _ _ _ (stamp_leads format count state key stamp below ledger ((told.0.key, above), told.0.stamp))
+    (step_deleted format count state key stamp below)
+entry_leads format count state key stamp lapsed below ledger told above =
+    then_leads format _ _ _ (stamp_leads format count state key stamp below ledger ((told.0.key, above), told.0.stamp))
+    (step_lapsed format count state key stamp told.2 below)
+entry_leads format count state key stamp (put_with body) below ledger told above =
+    then_leads format _ _ _ (put_leads format count state key stamp below ledger ((told.0.key, above), told.0.stamp))
+    (body_leads format count state key stamp body below told.0.op told.1)
+
+-- the entries of a state
+abbrev state_of : (horizon : ℕ) → List LedgerItem → List (Key × Entry) → State
+state_of horizon ledger entries = record { horizon = horizon; ledger = ledger; entries = entries }
+
+-- the entries of a state lead on, one by one
+pub entries_lead : (format : Format) (horizon : ℕ) → (count : ℕ) (ledger : List LedgerItem) (before later : List (Key × Entry)) → IsLedger ledger
+    → AllByRecursion (IsToldEntry format horizon ledger) later → AreAscending (before ++ later)
+    → length (before ++ later) ≤ count → Leads format (after_entries count (record { horizon = horizon; ledger = ledger; entries = before }))
+    (after_entries count (record { horizon = horizon; ledger = ledger; entries = before ++ later }))
+entries_lead format horizon count ledger before [] is good up within =
+    no_step format _ _ (ap (λ entries. after_entries count (state_of horizon ledger entries)) (sym (append-nil before)))
+entries_lead format horizon count ledger before (entry ∷ later) is good up within =
+    let size = length-append before (entry ∷ later) in
+    let grouped = append_assoc before (entry ∷ []) later in
+    let above = All-from_recursion (λ (e : Key × Entry). IsBelow key_cmp e.0 entry.0) before
+    (below_next (on (λ (e : Key × Entry). e.0) key_cmp) before entry later up) in
+    let rest = entries_lead format horizon count ledger (before ++ entry ∷ []) later is good.1 (subst AreAscending (sym grouped) up)
+    (subst (λ xs. length xs ≤ count) (sym grouped) within) in
+    then_leads format _ _ _ (entry_leads format count (state_of horizon ledger before) entry.0 entry.1.stamp entry.1.op (omega arith) is good.0 above)
+    (then_leads format _ _ _ rest (no_step format _ _ (ap (λ entries. after_entries count (state_of horizon ledger entries)) grouped)))
+
+-- the ledger of a state, and its entries so far
+ledger_leads : (format : Format) (horizon : ℕ) → (count : ℕ) (ledger : List LedgerItem) → IsHorizonOf format horizon → IsLedger ledger → count < 2 ^ 64
+    → length ledger ≤ count → Leads format before_mark (after_items horizon count ledger)
+ledger_leads format horizon count ledger is_horizon is fits within =
+    then_leads format _ _ _ (head_leads format horizon is_horizon) (then_leads format _ _ _ (step_ledger_count format horizon count fits)
+    (items_lead format horizon count [] ledger is within))
+
+entry_count_leads : (format : Format) (horizon : ℕ) → (ledger : List LedgerItem) → IsHorizonOf format horizon → IsLedger ledger → length ledger < 2 ^ 64
+    → Leads format before_mark (before_entry_count horizon ledger)
+entry_count_leads format horizon ledger is_horizon is fits =
+    then_leads format _ _ _ (ledger_leads format horizon (length ledger) ledger is_horizon is fits (omega arith))
+    (no_step format _ _ (all_items horizon ledger))
+
+-- the entries of a state that the format tells
+told_entries : (format : Format) (horizon : ℕ) (ledger : List LedgerItem) (entries : List (Key × Entry)) → AllByRecursion (IsGoodEntry ledger) entries
+    → AllByRecursion (λ (entry : Key × Entry). HasNotToLapse horizon entry.1.op) entries
+    → AllByRecursion (λ (entry : Key × Entry). TellsOp format entry.1.op) entries
+    → AllByRecursion (IsToldEntry format horizon ledger) entries
+told_entries format horizon ledger [] good stay told = tt
+told_entries format horizon ledger (entry ∷ entries) good stay told =
+    ((good.0, stay.0, told.0), told_entries format horizon ledger entries good.1 stay.1 told.1)
+
+state_leads : (format : Format) → (count : ℕ) (state : State) → IsToldState format state → length state.ledger < 2 ^ 64 → count < 2 ^ 64
+    → length state.entries ≤ count → Leads format before_mark (after_entries count state)
+state_leads format count state told items fits within =
+    let all = told_entries format state.horizon state.ledger state.entries (recursion_from_All (IsGoodEntry state.ledger) state.entries told.valid.entries.0)
+    (recursion_from_All (λ (entry : Key × Entry). HasNotToLapse state.horizon entry.1.op) state.entries told.valid.have_lapsed)
+    (recursion_from_All (λ (entry : Key × Entry). TellsOp format entry.1.op) state.entries told.ops) in
+    then_leads format _ _ _ (entry_count_leads format state.horizon state.ledger told.horizon told.valid.ledger items)
+    (then_leads format _ _ _ (step_entry_count format state.horizon count state.ledger fits)
+    (entries_lead format state.horizon count state.ledger [] state.entries told.valid.ledger all told.valid.entries.1 within))
+
+part_leads : (format : Format) → (count : ℕ) (state : State) (part : EntryPart) → length state.entries < count → IsLedger state.ledger → IsPartHere state part
+    → Leads format (after_entries count state) (in_entry count state part)
+part_leads format count state before_tag below ledger here = no_step format _ _ (more_entries count state below)
+part_leads format count state (before_key tag) below ledger here = tag_leads format count state tag below here
+part_leads format count state (before_stamp key) below ledger here = key_leads format count state key below here
+part_leads format count state (before_op key stamp) below ledger here = stamp_leads format count state key stamp below ledger here
+part_leads format count state (before_body key stamp) below ledger here = put_leads format count state key stamp below ledger here
+part_leads format count state (before_line key stamp n lines) below ledger here =
+    then_leads format _ _ _ (put_leads format count state (schedule_key key) stamp below ledger here.0)
+    (then_leads format _ _ _ (step_count format count state key stamp n below here.1)
+    (then_leads format _ _ _ (by here.3) (no_step format _ _ (more_lines count state key stamp n lines here.2))))
+  where
+    by : (lines ≡ []) ⊎ (AreLinesOf key lines × HaveNotToLapse state lines) → Leads format (after_lines count state key stamp n [])
+        (after_lines count state key stamp n lines)
+    by (inl none) = no_step format _ _ (ap (after_lines count state key stamp n) (sym none))
+    by (inr are) =
+        let more = here.2 in
+        lines_lead format count state key stamp n [] lines below (record { lines_of = are.0; complete = λ whole. absurd (omega arith) }) are.1 (omega arith)
+
+-- what is good before a part is reached from the beginning
+pub reach : (format : Format) (before : Before) → AreGood format before → Leads format before_mark before
+reach format before_mark good = no_step format _ _ refl
+reach format before_horizon good = horizon_leads format good
+reach format (before_ledger_count horizon) good = head_leads format horizon good
+reach format (before_item horizon count ledger) good =
+    let below = good.2 in
+    then_leads format _ _ _ (ledger_leads format horizon count ledger good.0 good.1 good.3 (omega arith))
+    (no_step format _ _ (more_items horizon count ledger good.2))
+reach format (before_entry_count horizon ledger) good = entry_count_leads format horizon ledger good.0 good.1 good.2
+reach format (in_entry count state part) good =
+    let below = good.2 in
+    then_leads format _ _ _ (state_leads format count state good.0 good.1 good.3 (omega arith))
+    (part_leads format count state part good.2 good.0.valid.ledger good.4)
+reach format (at_end state) good =
+    then_leads format _ _ _ (state_leads format (length state.entries) state good.0 good.1 good.2 (omega arith)) (no_step format _ _ (all_entries state))

@@ -1,0 +1,106 @@
+-- A state that a format tells, with a good entry more.
+use Rattle.std.proofs.Common.{ℕ, arith, List, [], ◌∷◌, ◌++◌, All, ◌≡◌, ◌<◌, ◌≤◌, ◌^◌, length, sym, subst, inl, inr, ◌⊎◌, true, false, cond, nat_le}
+use Rattle.std.specs.Ordering.{on}
+use Rattle.std.proofs.lemmas.List.Elements.{All-from_recursion, recursion_from_All}
+use Rattle.std.proofs.lemmas.Bool.Decides.{leb_tells}
+use Rattle.docker_model.specs.records.Date.{IsDay}
+use Rattle.docker_model.specs.file.Change.{Body, Key}
+use Rattle.docker_model.specs.state.Order.{IsBelow}
+use Rattle.docker_model.specs.state.Stamp.{LedgerItem, Stamp}
+use Rattle.docker_model.specs.state.Op.{deleted, put_with, Entry, key_cmp, Op}
+use Rattle.docker_model.specs.state.Lapse.{HasNotToLapse}
+use Rattle.docker_model.specs.state.State.{IsLedger, IsGoodEntry, IsValid, State, IsOpOf}
+use Rattle.docker_model.specs.state.StateText.{Format, dks_1, dks_2, IsHorizonOf, TellsOp, IsToldState}
+use Rattle.docker_model.specs.state.StatePart.{IsStampHere, before_item, before_entry_count, AreGood, in_entry, at_end, before_tag}
+use Rattle.state_laws.specs.TextStage.{with_entry, after_items, after_entries}
+use Rattle.cif_laws.proofs.lists.AllOf.{all_append}
+use Rattle.cif_laws.proofs.orders.Ascending.{ascending_last}
+
+-- a horizon that a format tells is a day
+pub horizon_day : (format : Format) (horizon : ℕ) → IsHorizonOf format horizon → IsDay horizon
+horizon_day dks_1 horizon none = omega (arith, none)
+horizon_day dks_2 horizon day = day
+
+-- each format tells a deletion and a put
+pub tells_deleted : (format : Format) → TellsOp format deleted
+tells_deleted dks_1 = tt
+tells_deleted dks_2 = tt
+
+-- each format tells a put
+pub tells_put : (format : Format) (body : Body) → TellsOp format (put_with body)
+tells_put dks_1 body = tt
+tells_put dks_2 body = tt
+
+-- a state of no entries is valid
+pub valid_without : (horizon : ℕ) (ledger : List LedgerItem) → IsDay horizon → IsLedger ledger
+    → IsValid (record { horizon = horizon; ledger = ledger; entries = [] })
+valid_without horizon ledger day is = record {
+  horizon = day;
+  ledger = is;
+  entries = (All-from_recursion (IsGoodEntry ledger) [] tt, tt);
+  have_lapsed = All-from_recursion (λ (entry : Key × Entry). HasNotToLapse horizon entry.1.op) [] tt;
+}
+
+-- a ledger without entries is a state that the format tells
+pub no_entries : (format : Format) (horizon : ℕ) (ledger : List LedgerItem) → IsHorizonOf format horizon → IsLedger ledger
+    → IsToldState format (record { horizon = horizon; ledger = ledger; entries = [] })
+no_entries format horizon ledger is_horizon is = record {
+  valid = valid_without horizon ledger (horizon_day format horizon is_horizon) is;
+  horizon = is_horizon;
+  ops = All-from_recursion (λ (entry : Key × Entry). TellsOp format entry.1.op) [] tt;
+}
+
+-- what holds of each entry holds of each and of one more
+one_more : (P : Key × Entry → Type 0) (entries : List (Key × Entry)) (entry : Key × Entry) → All P entries → P entry → All P (entries ++ entry ∷ [])
+one_more P entries entry all last =
+    All-from_recursion P (entries ++ entry ∷ []) (all_append P entries (entry ∷ []) (recursion_from_All P entries all) (last, tt))
+
+-- a valid state with a good entry more is valid
+pub valid_more : (state : State) (key : Key) (stamp : Stamp) (op : Op) → IsValid state → IsStampHere state key stamp → IsOpOf key op
+    → HasNotToLapse state.horizon op → IsValid (with_entry state key stamp op)
+valid_more state key stamp op valid here of stays = record {
+  horizon = valid.horizon;
+  ledger = valid.ledger;
+  entries = (
+    one_more (IsGoodEntry state.ledger) state.entries (key, entry) valid.entries.0 (record { key = here.0.0; stamp = here.1; op = of }),
+    ascending_last (on (λ (e : Key × Entry). e.0) key_cmp) state.entries (key, entry) valid.entries.1
+        (recursion_from_All (λ (e : Key × Entry). IsBelow key_cmp e.0 key) state.entries here.0.1),
+  );
+  have_lapsed = one_more (λ (e : Key × Entry). HasNotToLapse state.horizon e.1.op) state.entries (key, entry) valid.have_lapsed stays;
+}
+  where
+    entry : Entry
+    entry = record { stamp = stamp; op = op }
+
+-- a state that the format tells, with a good entry more that it tells, is one
+pub one_entry_more : (format : Format) (state : State) (key : Key) (stamp : Stamp) (op : Op) → IsToldState format state → IsStampHere state key stamp
+    → IsOpOf key op
+    → HasNotToLapse state.horizon op → TellsOp format op → IsToldState format (with_entry state key stamp op)
+one_entry_more format state key stamp op told here of stays tells = record {
+  valid = valid_more state key stamp op told.valid here of stays;
+  horizon = told.horizon;
+  ops = one_more (λ (e : Key × Entry). TellsOp format e.1.op) state.entries (key, record { stamp = stamp; op = op }) told.ops tells;
+}
+
+-- what comes after good parts is good
+pub good_after_items : (format : Format) (horizon : ℕ) → (count : ℕ) (ledger : List LedgerItem) → IsHorizonOf format horizon → IsLedger ledger
+    → length ledger ≤ count → count < 2 ^ 64 → AreGood format (after_items horizon count ledger)
+good_after_items format horizon count ledger is_horizon is within fits = by (leb_tells count (length ledger))
+  where
+    by : ((nat_le count (length ledger) ≡ true) × (count ≤ length ledger)) ⊎ ((nat_le count (length ledger) ≡ false) × (length ledger < count))
+        → AreGood format (after_items horizon count ledger)
+    by (inl told) =
+        subst (λ b. AreGood format (cond b (before_entry_count horizon ledger) (before_item horizon count ledger))) (sym told.0) (is_horizon, is, omega arith)
+    by (inr told) =
+        subst (λ b. AreGood format (cond b (before_entry_count horizon ledger) (before_item horizon count ledger))) (sym told.0) (is_horizon, is, told.1, fits)
+
+-- what comes after the entries of a state that the format tells is good
+pub good_after_entries : (format : Format) → (count : ℕ) (state : State) → IsToldState format state → length state.ledger < 2 ^ 64
+    → length state.entries ≤ count → count < 2 ^ 64 → AreGood format (after_entries count state)
+good_after_entries format count state valid items within fits = by (leb_tells count (length state.entries))
+  where
+    by : ((nat_le count (length state.entries) ≡ true) × (count ≤ length state.entries))
+        ⊎ ((nat_le count (length state.entries) ≡ false) × (length state.entries < count))
+        → AreGood format (after_entries count state)
+    by (inl told) = subst (λ b. AreGood format (cond b (at_end state) (in_entry count state before_tag))) (sym told.0) (valid, items, omega arith)
+    by (inr told) = subst (λ b. AreGood format (cond b (at_end state) (in_entry count state before_tag))) (sym told.0) (valid, items, told.1, fits, tt)

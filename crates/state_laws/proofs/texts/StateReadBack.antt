@@ -1,0 +1,192 @@
+-- The bytes of an item, a key and a stamp are read back, and have their width.
+use Rattle.std.proofs.Common.{◌≡◌, ℕ, suc, ◌+◌, ◌-◌, ◌<◌, ◌^◌, List, [], ◌∷◌, ◌++◌, length, take, drop, refl, ap, ◌∙◌, subst, arith, append_assoc, length-append, Contains}
+use Rattle.std.specs.Prelude.{slice_index, slice_range}
+use Rattle.std.specs.Int.{w16, w32, to_be_bytes, from_be_bytes}
+use Rattle.std.proofs.lemmas.Nat.{from_be_bytes-to_be_bytes_2, from_be_bytes-to_be_bytes_4}
+use Rattle.std.proofs.lemmas.List.{take_at, take_all, get_or-append_right}
+use Rattle.docker_model.specs.file.Change.{Key, tiploc_key, association_key, schedule_key, AssociationKey, ScheduleKey}
+use Rattle.docker_model.specs.state.Stamp.{FileStamp, Stamp, LedgerItem}
+use Rattle.docker_model.specs.state.Op.{key_tag}
+use Rattle.docker_model.specs.state.State.{IsGoodItem, IsGoodKey, IsGoodAssociationKey, IsGoodScheduleKey, IsLedger, IsStampIn}
+use Rattle.docker_model.specs.state.StateText.{file_stamp_bytes, item_bytes, key_bytes, stamp_bytes, file_stamp_in, item_in, key_in, stamp_in, association_key_in, schedule_key_in}
+use Rattle.docker_model.specs.state.StatePart.{key_width}
+use Rattle.cif_laws.proofs.lists.Membership.{Contains-map}
+
+-- what stands behind a front
+pub drop_past : (xs ys : List ℕ) (n k : ℕ) → length xs ≡ n → drop (n + k) (xs ++ ys) ≡ drop k ys
+drop_past [] ys n k size = ap (λ j. drop j ys) (omega arith)
+drop_past (x ∷ xs) ys n k size =
+    let up : n + k ≡ suc ((n - 1) + k) = omega arith in
+    ap (λ j. drop j (x ∷ xs ++ ys)) up ∙ drop_past xs ys (n - 1) k (omega arith)
+
+-- a file stamp that a header can give
+record IsGoodFileStamp (stamp : FileStamp) : Type 0 where
+  day : stamp.moment.day < 2 ^ 16
+  minute : stamp.moment.minute < 2 ^ 16
+  reference : length stamp.reference ≡ 7
+
+good_stamp : (item : LedgerItem) → IsGoodItem item → IsGoodFileStamp item.stamp
+good_stamp item good = let low = good.day in let minute = good.minute in record { day = omega arith; minute = omega arith; reference = good.reference.0 }
+
+-- a number in two bytes is read back
+pub read_16 : (n : ℕ) → n < 2 ^ 16 → from_be_bytes w16 (to_be_bytes w16 n) ≡ n
+read_16 = from_be_bytes-to_be_bytes_2
+
+file_stamp_read : (stamp : FileStamp) (rest : List ℕ) → IsGoodFileStamp stamp → file_stamp_in (file_stamp_bytes stamp ++ rest) ≡ stamp
+file_stamp_read stamp rest good =
+    let day : from_be_bytes w16 (slice_range (file_stamp_bytes stamp ++ rest) 0 2) ≡ stamp.moment.day = read_16 stamp.moment.day good.day in
+    let minute : from_be_bytes w16 (slice_range (file_stamp_bytes stamp ++ rest) 2 4) ≡ stamp.moment.minute = read_16 stamp.moment.minute good.minute in
+    let reference : slice_range (file_stamp_bytes stamp ++ rest) 4 11 ≡ stamp.reference = take_at stamp.reference rest 7 good.reference in
+    λ i. record { moment = record { day = day i; minute = minute i }; reference = reference i }
+
+-- a good ledger item is read back
+pub item_read : (item : LedgerItem) → IsGoodItem item → item_in (item_bytes item) ≡ item
+item_read item good =
+    let size = good.reference.0 in
+    let stamp : file_stamp_in (item_bytes item) ≡ item.stamp = file_stamp_read item.stamp (item.indicator ∷ item.last_reference) (good_stamp item good) in
+    let indicator : slice_index (item_bytes item) 11 ≡ item.indicator = get_or-append_right item.stamp.reference
+    (item.indicator ∷ item.last_reference) 7 7 0 size (omega arith) in
+    let last : slice_range (item_bytes item) 12 19 ≡ item.last_reference =
+    ap (take 7) (drop_past item.stamp.reference (item.indicator ∷ item.last_reference) 7 1 size)
+    ∙ take_all 7 item.last_reference (let last_size = good.last_reference.0 in omega arith) in
+    λ i. record { stamp = stamp i; indicator = indicator i; last_reference = last i }
+
+-- a good ledger item has 19 bytes
+pub item_width : (item : LedgerItem) → IsGoodItem item → length (item_bytes item) ≡ 19
+item_width item good =
+    let size = good.reference.0 in
+    let last_size = good.last_reference.0 in
+    let joined = length-append item.stamp.reference (item.indicator ∷ item.last_reference) in
+    omega arith
+
+stamp_of_ledger : (ledger : List LedgerItem) (stamp : Stamp) → IsLedger ledger → IsStampIn ledger stamp → IsGoodFileStamp stamp.file
+stamp_of_ledger ledger stamp is in_it =
+    let found = Contains-map (λ (item : LedgerItem). item.stamp) ledger stamp.file in_it.in_ledger in
+    subst IsGoodFileStamp found.2 (good_stamp found.0 (of_all found.0 found.1))
+  where
+    of_all : (item : LedgerItem) → Contains ledger item → IsGoodItem item
+    of_all item among = subst IsGoodItem among.2 (is.each among.0 item among.1)
+
+-- a stamp in a ledger is read back
+pub stamp_read : (ledger : List LedgerItem) (stamp : Stamp) → IsLedger ledger → IsStampIn ledger stamp → stamp_in (stamp_bytes stamp) ≡ stamp
+stamp_read ledger stamp is in_it =
+    let good = stamp_of_ledger ledger stamp is in_it in
+    let high = in_it.high in
+    let file : file_stamp_in (stamp_bytes stamp) ≡ stamp.file = file_stamp_read stamp.file (to_be_bytes w32 stamp.number) good in
+    let number : from_be_bytes w32 (slice_range (stamp_bytes stamp) 11 15) ≡ stamp.number =
+    ap (λ bytes. from_be_bytes w32 (take 4 bytes)) (drop_past stamp.file.reference (to_be_bytes w32 stamp.number) 7 0 good.reference)
+    ∙ from_be_bytes-to_be_bytes_4 stamp.number (omega arith) in
+    λ i. record { file = file i; number = number i }
+
+-- a stamp in a ledger has 15 bytes
+pub stamp_width : (ledger : List LedgerItem) (stamp : Stamp) → IsLedger ledger → IsStampIn ledger stamp → length (stamp_bytes stamp) ≡ 15
+stamp_width ledger stamp is in_it =
+    let good = stamp_of_ledger ledger stamp is in_it in
+    let size = good.reference in
+    let joined = length-append stamp.file.reference (to_be_bytes w32 stamp.number) in
+    omega arith
+
+association_bytes : AssociationKey → List ℕ
+association_bytes key = key.base ++ (key.associated ++ (to_be_bytes w16 key.start ++ (key.location ++ (key.suffix ∷ key.indicator ∷ []))))
+
+association_bytes_are : (key : AssociationKey) → key_bytes (association_key key) ≡ association_bytes key
+unfolding association_bytes
+association_bytes_are key =
+    let end = key.suffix ∷ key.indicator ∷ [] in
+    append_assoc (key.base ++ key.associated ++ to_be_bytes w16 key.start) key.location end
+    ∙ append_assoc (key.base ++ key.associated) (to_be_bytes w16 key.start) (key.location ++ end)
+    ∙ append_assoc key.base key.associated (to_be_bytes w16 key.start ++ (key.location ++ end))
+
+association_read : (key : AssociationKey) → IsGoodAssociationKey key → association_key_in (association_bytes key) ≡ association_key key
+unfolding association_bytes
+association_read key good =
+    let size_base = good.base.0 in
+    let size_associated = good.associated.0 in
+    let size_location = good.location.0.0 in
+    let day = good.start in
+    let end = key.suffix ∷ key.indicator ∷ [] in
+    let behind_start = key.location ++ end in
+    let behind_associated = to_be_bytes w16 key.start ++ behind_start in
+    let behind_base = key.associated ++ behind_associated in
+    let base : slice_range (association_bytes key) 0 6 ≡ key.base = take_at key.base behind_base 6 size_base in
+    let associated : slice_range (association_bytes key) 6 12 ≡ key.associated =
+    ap (take 6) (drop_past key.base behind_base 6 0 size_base) ∙ take_at key.associated behind_associated 6 size_associated in
+    let from_start : (k : ℕ) → drop (6 + (6 + k)) (association_bytes key) ≡ drop k behind_associated =
+    λ k. drop_past key.base behind_base 6 (6 + k) size_base ∙ drop_past key.associated behind_associated 6 k size_associated in
+    let start : from_be_bytes w16 (slice_range (association_bytes key) 12 14) ≡ key.start = ap (λ bytes. from_be_bytes w16 (take 2 bytes)) (from_start 0)
+    ∙ read_16 key.start (omega arith) in
+    let location : slice_range (association_bytes key) 14 21 ≡ key.location = ap (take 7) (from_start 2) ∙ take_at key.location end 7 size_location in
+    let at_end : (k : ℕ) → slice_index (association_bytes key) (21 + k) ≡ slice_index end k =
+    λ k. get_or-append_right key.base behind_base 6 (21 + k) 0 size_base (omega arith)
+    ∙ ap (λ n. slice_index behind_base n) (by_six k) ∙ get_or-append_right key.associated behind_associated 6 (15 + k) 0 size_associated (omega arith)
+    ∙ ap (λ n. slice_index behind_associated n) (by_nine k) ∙ get_or-append_right key.location end 7 (7 + k) 0 size_location (omega arith)
+    ∙ ap (λ n. slice_index end n) (by_seven k) in
+    let suffix : slice_index (association_bytes key) 21 ≡ key.suffix = at_end 0 in
+    let indicator : slice_index (association_bytes key) 22 ≡ key.indicator = at_end 1 in
+    λ i. association_key (record {
+      base = base i;
+      associated = associated i;
+      start = start i;
+      location = location i;
+      suffix = suffix i;
+      indicator = indicator i;
+    })
+  where
+    by_six : (k : ℕ) → 21 + k - 6 ≡ 15 + k
+    by_six k = omega arith
+
+    by_nine : (k : ℕ) → 15 + k - 6 ≡ suc (suc (7 + k))
+    by_nine k = omega arith
+
+    by_seven : (k : ℕ) → 7 + k - 7 ≡ k
+    by_seven k = omega arith
+
+schedule_bytes : ScheduleKey → List ℕ
+schedule_bytes key = key.uid ++ (to_be_bytes w16 key.runs_from ++ (key.indicator ∷ []))
+
+schedule_bytes_are : (key : ScheduleKey) → key_bytes (schedule_key key) ≡ schedule_bytes key
+unfolding schedule_bytes
+schedule_bytes_are key = append_assoc key.uid (to_be_bytes w16 key.runs_from) (key.indicator ∷ [])
+
+schedule_read : (key : ScheduleKey) → IsGoodScheduleKey key → schedule_key_in (schedule_bytes key) ≡ schedule_key key
+unfolding schedule_bytes
+schedule_read key good =
+    let size = good.uid.0 in
+    let day = good.runs_from in
+    let behind = to_be_bytes w16 key.runs_from ++ (key.indicator ∷ []) in
+    let uid : slice_range (schedule_bytes key) 0 6 ≡ key.uid = take_at key.uid behind 6 size in
+    let runs_from : from_be_bytes w16 (slice_range (schedule_bytes key) 6 8) ≡ key.runs_from =
+    ap (λ bytes. from_be_bytes w16 (take 2 bytes)) (drop_past key.uid behind 6 0 size) ∙ read_16 key.runs_from (omega arith) in
+    let indicator : slice_index (schedule_bytes key) 8 ≡ key.indicator = get_or-append_right key.uid behind 6 8 0 size (omega arith) in
+    λ i. schedule_key (record { uid = uid i; runs_from = runs_from i; indicator = indicator i })
+
+-- a good key is read back
+pub key_read : (key : Key) → IsGoodKey key → key_in (key_tag key) (key_bytes key) ≡ key
+key_read (tiploc_key code) good = refl
+key_read (association_key key) good = ap association_key_in (association_bytes_are key) ∙ association_read key good
+key_read (schedule_key key) good = ap schedule_key_in (schedule_bytes_are key) ∙ schedule_read key good
+
+association_sized : (key : AssociationKey) → IsGoodAssociationKey key → length (association_bytes key) ≡ 23
+unfolding association_bytes
+association_sized key good =
+    let size_base = good.base.0 in
+    let size_associated = good.associated.0 in
+    let size_location = good.location.0.0 in
+    let end = key.suffix ∷ key.indicator ∷ [] in
+    let one = length-append key.base (key.associated ++ (to_be_bytes w16 key.start ++ (key.location ++ end))) in
+    let two = length-append key.associated (to_be_bytes w16 key.start ++ (key.location ++ end)) in
+    let three = length-append key.location end in
+    omega arith
+
+schedule_sized : (key : ScheduleKey) → IsGoodScheduleKey key → length (schedule_bytes key) ≡ 9
+unfolding schedule_bytes
+schedule_sized key good =
+    let size = good.uid.0 in
+    let one = length-append key.uid (to_be_bytes w16 key.runs_from ++ (key.indicator ∷ [])) in
+    omega arith
+
+-- a good key has the width of its tag
+pub key_width_is : (key : Key) → IsGoodKey key → length (key_bytes key) ≡ key_width (key_tag key)
+key_width_is (tiploc_key code) good = good.0.0
+key_width_is (association_key key) good = ap length (association_bytes_are key) ∙ association_sized key good
+key_width_is (schedule_key key) good = ap length (schedule_bytes_are key) ∙ schedule_sized key good

@@ -1,0 +1,207 @@
+-- Every text is that of a state within the limit, or has a state fault: a walk over its parts.
+use Rattle.std.proofs.Common.{◌≡◌, ℕ, zero, suc, ◌+◌, ◌<◌, ◌≤◌, List, [], ◌∷◌, ◌++◌, length, take, drop, refl, ap, sym, ◌∙◌, subst, inl, inr, ◌⊎◌, arith, append_assoc, append-nil, length-append, All}
+use Rattle.std.proofs.lemmas.List.{take-append-drop, length-take-le}
+use Rattle.std.proofs.lemmas.List.Elements.{recursion_from_All}
+use Rattle.docker_model.specs.file.Change.{tiploc_key, association_key, schedule_key}
+use Rattle.docker_model.specs.state.State.{State}
+use Rattle.docker_model.specs.state.StateText.{Format, state_text}
+use Rattle.docker_model.specs.state.StatePart.{EntryPart, before_tag, before_key, before_stamp, before_op, before_body, before_line, part_width, key_width, IsTag, Before, before_mark, before_horizon, before_ledger_count, before_item, before_entry_count, in_entry, at_end, items_before, text_before, width, IsPartHere, AreGood}
+use Rattle.docker_model.specs.state.StateFault.{too_short, has_tail, too_long, StateFault, IsStateFault, IsStateText}
+use Rattle.state_laws.specs.TextStage.{advance}
+use Rattle.cif_laws.proofs.lists.AllOf.{all_front, all_behind}
+use Rattle.cif_laws.proofs.lists.Decisions.{Decided, le_decided}
+use Rattle.state_laws.proofs.texts.StateBytes.{AreBytes}
+use Rattle.state_laws.proofs.texts.PartJudged.{Judged, judge}
+
+-- where a part is next, and where none is
+key_width_some : (tag : ℕ) → IsTag tag → 0 < key_width tag
+key_width_some tag (inl e) = subst (λ t. 0 < key_width t) (sym e) (omega arith)
+key_width_some tag (inr (inl e)) = subst (λ t. 0 < key_width t) (sym e) (omega arith)
+key_width_some tag (inr (inr e)) = subst (λ t. 0 < key_width t) (sym e) (omega arith)
+
+part_some : (state : State) (part : EntryPart) → IsPartHere state part → 0 < part_width part
+part_some state before_tag here = omega arith
+part_some state (before_key tag) here = key_width_some tag here
+part_some state (before_stamp key) here = omega arith
+part_some state (before_op key stamp) here = omega arith
+part_some state (before_body (tiploc_key code) stamp) here = omega arith
+part_some state (before_body (association_key key) stamp) here = omega arith
+part_some state (before_body (schedule_key key) stamp) here = omega arith
+part_some state (before_line key stamp n lines) here = omega arith
+
+-- what is good is the end of a state, or has a next part
+pub end_or_part : (format : Format) → (before : Before) → AreGood format before → ((state : State) × (before ≡ at_end state)) ⊎ (0 < width before)
+end_or_part format before_mark good = inr (omega arith)
+end_or_part format before_horizon good = inr (omega arith)
+end_or_part format (before_ledger_count horizon) good = inr (omega arith)
+end_or_part format (before_item horizon count ledger) good = inr (omega arith)
+end_or_part format (before_entry_count horizon ledger) good = inr (omega arith)
+end_or_part format (in_entry count state part) good = inr (part_some state part good.4)
+end_or_part format (at_end state) good = inl (state, refl)
+
+-- the walk
+abbrev pub Answer : (format : Format) → ℕ → List ℕ → Type 0
+Answer format limit text = ((state : State) × IsStateText format limit text state) ⊎ ((fault : StateFault) × IsStateFault format limit text fault)
+
+record Walked (format : Format) (limit : ℕ) (text : List ℕ) (before : Before) (rest : List ℕ) : Type 0 where
+  good : AreGood format before
+  small : AreBytes rest
+  whole : text ≡ text_before format before ++ rest
+  within : length (text_before format before) ≤ limit
+
+at_the_end : (format : Format) → (limit : ℕ) (text : List ℕ) (state : State) (rest : List ℕ) → Walked format limit text (at_end state) rest
+    → Answer format limit text
+at_the_end format limit text state [] told =
+    let whole : text ≡ state_text format state = told.whole ∙ append-nil (state_text format state ++ []) ∙ append-nil (state_text format state) in
+    inl (
+      state,
+      record {
+        valid = told.good;
+        is = whole;
+        within = subst (λ xs. length xs ≤ limit)
+            (sym (told.whole ∙ append-nil (state_text format state ++ []))) told.within;
+      },
+    )
+at_the_end format limit text state (byte ∷ rest) told =
+    let whole : text ≡ state_text format state ++ byte ∷ rest = told.whole ∙ ap (λ xs. xs ++ byte ∷ rest) (append-nil (state_text format state)) in
+    inr (
+      record { at = length (state_text format state); cause = has_tail },
+      inr (inr (inr (record {
+        state = state;
+        valid = told.good;
+        next = byte;
+        rest = rest;
+        whole = whole;
+        within = subst (λ xs. length xs ≤ limit) (append-nil (state_text format state)) told.within;
+        cause = refl;
+        end_at = refl;
+      }))),
+    )
+
+not_whole : (format : Format) → (limit : ℕ) (text : List ℕ) (before : Before) (rest : List ℕ) → Walked format limit text before rest
+    → length rest < width before → Answer format limit text
+not_whole format limit text before rest told ends = by (le_decided (length text) limit)
+  where
+    by : Decided (length text ≤ limit) → Answer format limit text
+    by (inl within) =
+        inr (
+          record { at = length (items_before format before); cause = too_short },
+          inr (inr (inl (record {
+            before = before;
+            good = told.good;
+            rest = rest;
+            whole = told.whole;
+            ends = ends;
+            within = within;
+            cause = refl;
+            item_at = refl;
+          }))),
+        )
+    by (inr above) =
+        let sizes = ap length told.whole ∙ length-append (text_before format before) rest in
+        let there : limit < length text = omega arith in
+        inr (
+          record { at = limit; cause = too_long },
+          inr (inl (record {
+            before = before;
+            good = told.good;
+            rest = rest;
+            whole = told.whole;
+            reaches = told.within;
+            needs = omega arith;
+            there = there;
+            cause = refl;
+            limit_at = refl;
+          })),
+        )
+
+one_part : (format : Format) → (limit : ℕ) (text : List ℕ) (before : Before) (rest : List ℕ) → Walked format limit text before rest → 0 < width before
+    → width before ≤ length rest
+    → ((after : Before) (more : List ℕ) → Walked format limit text after more → length more < length rest → Answer format limit text) → Answer format limit text
+one_part format limit text before rest told some enough go_on = by (le_decided (length (text_before format before) + width before) limit)
+  where
+    part : List ℕ
+    part = take (width before) rest
+
+    more : List ℕ
+    more = drop (width before) rest
+
+    split : part ++ more ≡ rest
+    split = take-append-drop (width before) rest
+
+    size : length part ≡ width before
+    size = length-take-le (width before) rest enough
+
+    small : AreBytes (part ++ more)
+    small = subst AreBytes (sym split) told.small
+
+    whole : text ≡ text_before format before ++ part ++ more
+    whole = told.whole ∙ ap (λ xs. text_before format before ++ xs) (sym split) ∙ sym (append_assoc (text_before format before) part more)
+
+    judged : length (text_before format before) + width before ≤ limit → Judged format before part → Answer format limit text
+    judged below (inl bad) =
+        inr (
+          record { at = length (items_before format before); cause = bad.0 },
+          inl (record {
+            before = before;
+            good = told.good;
+            bytes = part;
+            rest = more;
+            whole = whole;
+            size = size;
+            below_limit = below;
+            bad = bad.1;
+            item_at = refl;
+          }),
+        )
+    judged below (inr fine) =
+        let sizes = ap length fine.1 ∙ length-append (text_before format before) part in
+        let wide = size in
+        let parts = ap length (sym split) ∙ length-append part more in
+        go_on (advance format before part) more
+        (record { good = fine.0; small = all_behind (λ b. b < 256) part more small; whole = whole ∙ ap (λ xs. xs ++ more) (sym fine.1); within = omega arith })
+        (omega arith)
+
+    by : Decided (length (text_before format before) + width before ≤ limit) → Answer format limit text
+    by (inl below) = judged below (judge format before part told.good some size (all_front (λ b. b < 256) part more small))
+    by (inr above) =
+        let sizes = ap length told.whole ∙ length-append (text_before format before) rest in
+        let needs : limit < length (text_before format before) + width before = omega arith in
+        inr (
+          record { at = limit; cause = too_long },
+          inr (inl (record {
+            before = before;
+            good = told.good;
+            rest = rest;
+            whole = told.whole;
+            reaches = told.within;
+            needs = needs;
+            there = omega arith;
+            cause = refl;
+            limit_at = refl;
+          })),
+        )
+
+one_step_on : (format : Format) → (limit : ℕ) (text : List ℕ) (before : Before) (rest : List ℕ) → Walked format limit text before rest
+    → ((after : Before) (more : List ℕ) → Walked format limit text after more → length more < length rest → Answer format limit text) → Answer format limit text
+one_step_on format limit text before rest told go_on = by (end_or_part format before told.good)
+  where
+    with_part : 0 < width before → Decided (width before ≤ length rest) → Answer format limit text
+    with_part some (inl enough) = one_part format limit text before rest told some enough go_on
+    with_part some (inr short) = not_whole format limit text before rest told (omega arith)
+
+    by : ((state : State) × (before ≡ at_end state)) ⊎ (0 < width before) → Answer format limit text
+    by (inl end) = at_the_end format limit text end.0 rest (subst (λ b. Walked format limit text b rest) end.1 told)
+    by (inr some) = with_part some (le_decided (width before) (length rest))
+
+walk : (format : Format) → (limit : ℕ) (text : List ℕ) (steps : ℕ) (before : Before) (rest : List ℕ) → Walked format limit text before rest
+    → length rest ≤ steps → Answer format limit text
+walk format limit text zero before rest told few = one_step_on format limit text before rest told (λ after more further less. absurd (omega arith))
+walk format limit text (suc steps) before rest told few =
+    one_step_on format limit text before rest told (λ after more further less. walk format limit text steps after more further (omega arith))
+
+-- a text of bytes is that of a state within the limit, or has a state fault
+pub text_or_fault : (format : Format) → (limit : ℕ) (text : List ℕ) → All (λ b. b < 256) text → Answer format limit text
+text_or_fault format limit text small =
+    walk format limit text (length text) before_mark text
+    (record { good = tt; small = recursion_from_All (λ b. b < 256) text small; whole = refl; within = omega arith }) (omega arith)

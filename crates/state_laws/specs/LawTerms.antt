@@ -1,0 +1,17 @@
+-- Relations that several clauses of the laws state.
+use Rattle.std.specs.Prelude.{◌==◌, List, ◌++◌, Option, option_map, find}
+use Rattle.docker_model.specs.file.Change.{Key}
+use Rattle.docker_model.specs.state.Stamp.{FileStamp, LedgerItem, IsFloor}
+use Rattle.docker_model.specs.state.Op.{Entry}
+use Rattle.docker_model.specs.state.State.{State, IsValid}
+use Rattle.docker_model.specs.state.Staging.{IsStaged, IsCommit}
+
+-- the file stamp of the first full item of a ledger, if there is one
+abbrev pub first_full_stamp : List LedgerItem → Option FileStamp
+first_full_stamp ledger = option_map (λ (item : LedgerItem). item.stamp) (find (λ (item : LedgerItem). item.indicator == 70) ledger)
+
+-- it holds of valid states where each entry of the one received was staged under the floor of the union, and then committed
+abbrev pub HoldsOnceCommitted : State → State → Option FileStamp → List (Key × Entry) → State → Type 0 → Type 0
+HoldsOnceCommitted own received floor staged after Fact =
+    IsValid own → IsValid received → IsFloor (own.ledger ++ received.ledger) floor → IsStaged own floor received.entries staged
+    → IsCommit own received.ledger staged after → Fact

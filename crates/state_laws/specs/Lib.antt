@@ -1,0 +1,2 @@
+pub mod TextStage
+pub mod LawTerms

@@ -1,0 +1,50 @@
+//! Laws of the two indexes of a live table. Each is the contract of a function with no body: it holds of all that it names.
+ghost use Rattle.std.specs.Prelude.{◌≡◌, ℕ, List, ◌↔◌, Contains};
+ghost use Rattle.std.specs.List.{flat_map};
+ghost use Rattle.docker_model.specs.state.Order.{IsStrictlyAscending};
+ghost use Rattle.docker_model.specs.state.State.{State, IsJoin, live_table, AreAscending};
+ghost use Rattle.docker_model.specs.state.Table.{Table};
+ghost use Rattle.docker_model.specs.state.Lapse.{lapse_table};
+ghost use Rattle.docker_model.specs.state.Row.{Row, AreRowsOf};
+ghost use Rattle.docker_model.specs.state.Index.{CallingRow, LinkedRow, calling_cmp, linked_cmp, calls_of, links_of, IsCallingIndex, IsLinkedIndex, IsFromEither, IsCallingFromEither, IsLinkedFromEither, AreCalling, AreLinked, AreOfUid};
+
+/// A live table has one index of each kind, and one list of each walk. What its rows give, sorted and each once, are the indexes.
+pub fn one_index()
+    ensures calling { (live : Table) (first second : List CallingRow)
+        → IsCallingIndex live first → IsCallingIndex live second → first ≡ second }
+    ensures linked { (live : Table) (first second : List LinkedRow)
+        → IsLinkedIndex live first → IsLinkedIndex live second → first ≡ second }
+    ensures calls { (live : Table) (place : List ℕ) (first second : List Row)
+        → AreCalling live place first → AreCalling live place second → first ≡ second }
+    ensures links { (live : Table) (place : List ℕ) (first second : List Row)
+        → AreLinked live place first → AreLinked live place second → first ≡ second }
+    ensures of_uid { (live : Table) (uid : List ℕ) (first second : List Row)
+        → AreOfUid live uid first → AreOfUid live uid second → first ≡ second }
+    ensures calling_made { (live : Table) (rows : List Row) (index : List CallingRow)
+        → AreRowsOf live rows → IsStrictlyAscending calling_cmp index
+        → ((row : CallingRow) → Contains index row
+        ↔ Contains (flat_map (λ (r : Row). calls_of r.0 r.1) rows) row)
+        → IsCallingIndex live index }
+    ensures linked_made { (live : Table) (rows : List Row) (index : List LinkedRow)
+        → AreRowsOf live rows → IsStrictlyAscending linked_cmp index
+        → ((row : LinkedRow) → Contains index row
+        ↔ Contains (flat_map (λ (r : Row). links_of r.0 r.1) rows) row) → IsLinkedIndex live index }
+{}
+
+/// The indexes of a join from those of the two states: the rows of either whose keys have in the join what they have there. After a horizon was set they are those rows whose keys have what they had.
+pub fn index_of_join()
+    ensures either { (own other joined : State) → AreAscending own.entries
+        → AreAscending other.entries → IsJoin own other joined → IsFromEither (live_table own)
+        (live_table other) (live_table joined) }
+    ensures lapsed { (horizon : ℕ) (live : Table)
+        → IsFromEither live live (lapse_table horizon live) }
+    ensures calling { (one two live : Table) (first second index : List CallingRow)
+        → IsFromEither one two live → IsCallingIndex one first → IsCallingIndex two second
+        → IsStrictlyAscending calling_cmp index → ((row : CallingRow) → Contains index row
+        ↔ IsCallingFromEither one two live first second row) → IsCallingIndex live index }
+    ensures linked { (one two live : Table) (first second index : List LinkedRow)
+        → IsFromEither one two live → IsLinkedIndex one first → IsLinkedIndex two second
+        → IsStrictlyAscending linked_cmp index
+        → ((row : LinkedRow) → Contains index row
+        ↔ IsLinkedFromEither one two live first second row) → IsLinkedIndex live index }
+{}

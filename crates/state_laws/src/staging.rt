@@ -1,0 +1,66 @@
+//! Laws of receiving from the stream: what is staged, and what a commit leaves. Each is the contract of a function with no body: it holds of all that it names.
+ghost use Rattle.std.specs.Prelude.{◌≡◌, ◌+◌, List, [], ◌∷◌, ◌++◌, ◌↔◌, Contains, Option, Some};
+ghost use Rattle.docker_model.specs.file.Change.{Key};
+ghost use Rattle.docker_model.specs.state.Stamp.{LedgerItem, FileStamp, IsFloor, IsKept};
+ghost use Rattle.docker_model.specs.state.Op.{Entry, key_cmp};
+ghost use Rattle.docker_model.specs.state.State.{State, AreAscending, IsValid, IsJoin, raise_horizon, without_horizon, entry_at};
+ghost use Rattle.std.specs.declared.cmp.Ordering.TheVariants.{Less};
+ghost use Rattle.docker_model.specs.state.Staging.{IsGreaterThan, IsToStage, IsStaged, IsCommit, staged_state};
+ghost use Rattle.state_laws.specs.LawTerms.{HoldsOnceCommitted};
+
+/// Staging all entries of a received state under the floor of the union, then committing, and then setting its horizon leaves the join. The commit itself is the join with the state of the items and what is staged, without a horizon.
+pub fn staging_and_commit_is_join()
+    ensures join { (own received : State) (floor : Option FileStamp) (staged : List (Key × Entry))
+        (after : State)
+        → HoldsOnceCommitted own received floor staged after
+        (IsJoin own received (raise_horizon received.horizon after)) }
+    ensures before_horizon { (own received : State) (floor : Option FileStamp)
+        (staged : List (Key × Entry)) (after : State)
+        → HoldsOnceCommitted own received floor staged after
+        (IsJoin own (without_horizon received) after) }
+    ensures stays_valid { (own received : State) (floor : Option FileStamp)
+        (staged : List (Key × Entry)) (after : State)
+        → HoldsOnceCommitted own received floor staged after (IsValid after) }
+    ensures valid { (own received : State) (floor : Option FileStamp) (staged : List (Key × Entry))
+        → IsValid received → IsStaged own floor received.entries staged
+        → IsValid (staged_state received.ledger staged) }
+    ensures by_join { (own received : State) (floor : Option FileStamp)
+        (staged : List (Key × Entry)) (after : State) → AreAscending own.entries
+        → IsFloor (own.ledger ++ received.ledger) floor → IsStaged own floor received.entries staged
+        → IsJoin own (staged_state received.ledger staged) after
+        → IsCommit own received.ledger staged after }
+    ensures one_staged { (own : State) (floor : Option FileStamp)
+        (offered first second : List (Key × Entry)) → IsStaged own floor offered first
+        → IsStaged own floor offered second → first ≡ second }
+    ensures one_commit { (own : State) (items : List LedgerItem) (staged : List (Key × Entry))
+        (first second : State) → IsCommit own items staged first → IsCommit own items staged second
+        → first ≡ second }
+{}
+
+/// The horizon of a state that is read may be set last: on the state without it, or on the join with that.
+pub fn horizon_is_set_last()
+    ensures state { (state : State) → IsValid state
+        → raise_horizon state.horizon (without_horizon state) ≡ state }
+    ensures join { (own received joined : State) → IsJoin own (without_horizon received) joined
+        → IsJoin own received (raise_horizon received.horizon joined) }
+{}
+
+/// What is staged, offer by offer: none at first, and an offered entry where it is kept and greater than what the state has at its key.
+pub fn offers_are_staged()
+    ensures none { (own : State) (floor : Option FileStamp) → IsStaged own floor [] [] }
+    ensures test { (own : State) → AreAscending own.entries → (floor : Option FileStamp) (key : Key)
+        (entry : Entry) → IsToStage own floor key entry
+        ↔ (IsKept floor entry.stamp.file × IsGreaterThan (entry_at own key) entry) }
+    ensures staged { (own : State) (floor : Option FileStamp) (offered staged : List (Key × Entry))
+        (key : Key) (entry : Entry) → IsStaged own floor offered staged
+        → ((other : Key × Entry) → Contains staged other → key_cmp other.0 key ≡ Less)
+        → IsToStage own floor key entry → IsStaged own floor (offered ++ (key, entry) ∷ [])
+        (staged ++ (key, entry) ∷ []) }
+    ensures left_out { (own : State) (floor : Option FileStamp)
+        (offered staged : List (Key × Entry)) (key : Key) (entry : Entry)
+        → IsStaged own floor offered staged → ¬ IsToStage own floor key entry
+        → IsStaged own floor (offered ++ (key, entry) ∷ []) staged }
+    ensures own { (own : State) (floor : Option FileStamp) → IsStaged own floor own.entries [] }
+    ensures entry { (state : State) → AreAscending state.entries → (key : Key) (entry : Entry)
+        → (entry_at state key ≡ Some entry) ↔ Contains state.entries (key, entry) }
+{}

@@ -1,0 +1,111 @@
+//! Laws of states: summaries, joins, horizons, and the table of a summary. Each is the contract of a function with no body: it holds of all that it names.
+ghost use Rattle.std.specs.Prelude.{◌≡◌, ℕ, ◌+◌, List, ◌++◌, ◌↔◌, ◌≤◌, All, Contains, Option, length, map, max};
+ghost use Rattle.docker_model.specs.file.Change.{Key};
+ghost use Rattle.docker_model.specs.state.Stamp.{FileStamp, IsFloor};
+ghost use Rattle.docker_model.specs.state.Lapse.{lapse, lapse_entry, lapse_entries, lapse_table};
+ghost use Rattle.docker_model.specs.state.Order.{IsAtMost};
+ghost use Rattle.docker_model.specs.state.Op.{Op, op_cmp, Entry};
+ghost use Rattle.docker_model.specs.state.State.{State, IsGreatestAmong, raise_horizon, IsValid, IsJoin, live_table};
+ghost use Rattle.docker_model.specs.records.Date.{IsDay};
+ghost use Rattle.docker_model.specs.state.Summary.{IsSummary, HaveDistinctMoments};
+ghost use Rattle.docker_model.specs.state.Table.{Table, IsPlainTable};
+ghost use Rattle.docker_model.specs.file.File.{IsFile, most_records};
+ghost use Rattle.state_laws.specs.LawTerms.{first_full_stamp};
+
+/// A set of files has under each horizon at most one summary, whatever list the set is given as.
+pub fn one_summary()
+    ensures { (files others : List (List (List ℕ)))
+        → ((file : List (List ℕ)) → Contains files file ↔ Contains others file) → (horizon : ℕ)
+        (one two : State) → IsSummary files horizon one → IsSummary others horizon two → one ≡ two }
+{}
+
+/// The join of the summaries of two sets of files, each under a horizon, is the summary of their union under the greater.
+pub fn join_of_summaries()
+    ensures { (files others : List (List (List ℕ))) (g h : ℕ) (one two joined : State)
+        → IsSummary files g one → IsSummary others h two → IsJoin one two joined
+        → IsSummary (files ++ others) (max g h) joined }
+{}
+
+/// Where the files of a set have distinct moments, the live table of its summary is its plain table, lapsed under the horizon.
+pub fn live_table_of_summary()
+    ensures none { (files : List (List (List ℕ))) (state : State)
+        → IsSummary files 0 state → HaveDistinctMoments files
+        → IsPlainTable files (live_table state) }
+    ensures lapsed { (files : List (List (List ℕ))) (horizon : ℕ) (state : State) (table : Table)
+        → IsSummary files horizon state → IsPlainTable files table
+        → live_table state ≡ lapse_table horizon table }
+{}
+
+/// A set of files with distinct moments has one plain table.
+pub fn one_plain_table()
+    ensures some { (files : List (List (List ℕ))) → HaveDistinctMoments files
+        → (table : Table) × IsPlainTable files table }
+    ensures one { (files : List (List (List ℕ))) (one two : Table)
+        → IsPlainTable files one → IsPlainTable files two → one ≡ two }
+{}
+
+/// The join of states with horizons is commutative and associative, and idempotent on valid states; two states have at most one.
+pub fn laws_of_join()
+    ensures commutative { (a b c : State) → IsJoin a b c → IsJoin b a c }
+    ensures associative { (a b c ab bc left right : State) → IsJoin a b ab → IsJoin ab c left
+        → IsJoin b c bc → IsJoin a bc right → left ≡ right }
+    ensures idempotent { (a : State) → IsValid a → IsJoin a a a }
+    ensures one { (a b c d : State) → IsJoin a b c → IsJoin a b d → c ≡ d }
+{}
+
+/// The join of two valid states is valid.
+pub fn join_is_valid()
+    ensures { (first second joined : State) → IsValid first → IsValid second
+        → IsJoin first second joined → IsValid joined }
+{}
+
+/// The ledger of a valid state has one floor: the file stamp of its first full item, or none where no item is full.
+pub fn floor_of_ledger()
+    ensures one { (state : State) (first second : Option FileStamp)
+        → IsValid state → IsFloor state.ledger first → IsFloor state.ledger second
+        → first ≡ second }
+    ensures first { (state : State) → IsValid state
+        → IsFloor state.ledger (first_full_stamp state.ledger) }
+{}
+
+/// The summary of files under a horizon is a valid state, where each file has at most 4,294,967,294 records.
+pub fn summary_is_valid()
+    ensures { (files : List (List (List ℕ))) (horizon : ℕ) (state : State)
+        → IsDay horizon → All IsFile files → All (λ file. length file ≤ most_records) files
+        → IsSummary files horizon state → IsValid state }
+{}
+
+/// The lapse keeps the order of ops, so that the lapse of the greatest is the greatest of the lapses. Lapsing again changes nothing, lapsing under two horizons is lapsing under the greater, and without a horizon nothing lapses.
+pub fn laws_of_lapse()
+    ensures order { (horizon : ℕ) (first second : Op) → IsAtMost op_cmp first second
+        → IsAtMost op_cmp (lapse horizon first) (lapse horizon second) }
+    ensures again { (horizon : ℕ) (op : Op) → lapse horizon (lapse horizon op) ≡ lapse horizon op }
+    ensures twice { (second first : ℕ) (op : Op)
+        → lapse second (lapse first op) ≡ lapse (max second first) op }
+    ensures none { (op : Op) → lapse 0 op ≡ op }
+    ensures greatest { (horizon : ℕ) (ops : List Op) (op : Op)
+        → Contains ops op → ((other : Op) → Contains ops other → IsAtMost op_cmp other op)
+        → Contains (map (lapse horizon) ops) (lapse horizon op)
+        × ((other : Op) → Contains (map (lapse horizon) ops) other
+        → IsAtMost op_cmp other (lapse horizon op)) }
+    ensures of_key { (horizon : ℕ) (entries : List (Key × Entry)) (key : Key) (entry : Entry)
+        → IsGreatestAmong entries key entry
+        → IsGreatestAmong (lapse_entries horizon entries) key (lapse_entry horizon entry) }
+{}
+
+/// A valid state with a greater horizon set is valid, and one that is not greater changes nothing: no entry of a valid state lapses under its own horizon.
+pub fn laws_of_setting()
+    ensures valid { (horizon : ℕ) (state : State) → IsDay horizon → IsValid state
+        → IsValid (raise_horizon horizon state) }
+    ensures not_greater { (horizon : ℕ) (state : State) → IsValid state → horizon ≤ state.horizon
+        → raise_horizon horizon state ≡ state }
+    ensures stays { (state : State) (key : Key) (entry : Entry)
+        → IsValid state → Contains state.entries (key, entry)
+        → lapse_entry state.horizon entry ≡ entry }
+{}
+
+/// A horizon set on a summary gives the summary under the greater horizon.
+pub fn setting_on_summary()
+    ensures { (files : List (List (List ℕ))) (g h : ℕ) (state : State)
+        → IsSummary files g state → IsSummary files (max g h) (raise_horizon h state) }
+{}
