@@ -1,5 +1,5 @@
 -- What a read takes from the bytes that a source has left, and a write adds to those a sink took.
--- A device that can't tell its bytes has None in their place.
+-- A device that can't name its bytes has None in their place.
 use Rattle.std.specs.Prelude.{◌≡◌, ℕ, ◌-◌, ◌<◌, min, List, [], ◌++◌, length, take, replicate, ⊤, Option, None, Some, option_map}
 use Rattle.std.specs.List.{concat}
 
@@ -39,7 +39,7 @@ pub record Store : Type 0 where
 abbrev pub room_left : Store → ℕ
 room_left store = store.room - length store.taken
 
--- a device that fails at one call: the device within, how many calls there are up to that one, 0 behind it, and how often it failed
+-- a device that fails at one call: the device within, how many calls are left up to that one, 0 after it, and how often it failed
 pub record Fused (D : Type 0) : Type 0 where
   pub device : D
   pub calls : ℕ

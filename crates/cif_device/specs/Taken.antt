@@ -7,7 +7,7 @@ use Rattle.cif_device.specs.Device.{Reads}
 abbrev pub Taking : Type 0 → Type 0 → Type 1
 Taking T Terms = T → Terms → List ℕ → Type 0
 
--- what says that a taker refused a piece behind a text that it had taken, for a fault
+-- what says that a taker had taken a text and then refused a piece, for a fault
 abbrev pub Refusing : Type 0 → Type 0 → Type 0 → Type 1
 Refusing T Terms Fault = T → Terms → List ℕ → List ℕ → Fault → Type 0
 
@@ -17,18 +17,18 @@ pub record IsTaking {T Terms : Type 0} (takes : Taking T Terms) (taker : T) : Ty
   pub text : List ℕ
   pub taken : takes taker terms text
 
--- this holds behind each text that the taker may have taken
+-- this holds after each text that the taker may have taken
 abbrev pub BehindEach : {T Terms : Type 0} → Taking T Terms → T → (Terms → List ℕ → Type 0) → Type 0
 BehindEach {Terms = Terms} takes taker holds = (terms : Terms) (text : List ℕ) → takes taker terms text → holds terms text
 
--- a source lost so many bytes, and the taker has taken them behind the text
+-- a source lost this many bytes, and the taker has taken them after the text
 pub record HasFed {T Terms : Type 0} (takes : Taking T Terms) (count : ℕ) (terms : Terms) (text : List ℕ) (old new : Option (List ℕ)) (taker : T) : Type 0 where
   pub bytes : List ℕ
   pub size : length bytes ≡ count
   pub lost : Reads old bytes new
   pub taken : takes taker terms (text ++ bytes)
 
--- a source lost what was taken behind the text, and one piece more, of at most so many bytes
+-- a source lost what was taken after the text, and one piece more, of at most this many bytes
 pub record LosesOnePieceMore {T Terms : Type 0} (takes : Taking T Terms) (most : ℕ) (terms : Terms) (text : List ℕ) (old new : Option (List ℕ)) : Type 0 where
   pub bytes : List ℕ
   pub piece : List ℕ
@@ -37,7 +37,7 @@ pub record LosesOnePieceMore {T Terms : Type 0} (takes : Taking T Terms) (most :
   pub taker : T
   pub taken : takes taker terms (text ++ bytes)
 
--- a source lost what was taken behind the text and one piece more, which was refused for the fault
+-- a source lost what was taken after the text and one piece more, which was refused for the fault
 pub record HasRefused {T Terms Fault : Type 0} (takes : Taking T Terms) (refuses : Refusing T Terms Fault) (most : ℕ) (terms : Terms) (text : List ℕ)
     (old new : Option (List ℕ)) (taker : T) (fault : Fault) : Type 0 where
   pub more : LosesOnePieceMore takes most terms text old new

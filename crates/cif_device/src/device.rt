@@ -29,7 +29,7 @@ impl<T: Drop> From<AllocFailed<T>> for Memory {
 
 /// A device that bytes are read from.
 pub trait Source {
-    // The bytes that are left, or None where the device can't tell them, as a file can't.
+    // The bytes that are left, or None if the device can't name them, as a file can't.
     ghost left: { Self → Option (List ℕ) };
 
     // How often it has failed so far.
@@ -54,13 +54,13 @@ pub trait Source {
 
 /// A device that bytes are written to.
 pub trait Sink {
-    // The bytes that it took, or None where the device can't tell them, as a file can't.
+    // The bytes that it took, or None if the device can't name them, as a file can't.
     ghost taken: { Self → Option (List ℕ) };
 
     // How often it has failed so far.
     ghost failures: { Self → ℕ };
 
-    /// Writes the first bytes of the piece and answers how many they are, at least one where the
+    /// Writes the first bytes of the piece and answers how many they are, at least one if the
     /// piece has any.
     fn write(&mut self, piece: &[u8]) -> Result<usize, Failed>
         requires { failures self.old < 2 ^ 64 - 1 }

@@ -31,7 +31,7 @@ pub trait Taker {
     // It has taken this text, under these terms, and refused nothing.
     ghost takes: { Self → Terms → List ℕ → Type 0 };
 
-    // What it is once it has refused a piece behind a text, and what the fault says of both.
+    // What it is once it has refused a piece after a text, and what the fault says of both.
     ghost refuses: { Self → Terms → List ℕ → List ℕ → Self.Fault → Type 0 };
 
     /// Takes the next bytes of the text.
@@ -46,8 +46,8 @@ pub trait Taker {
         → length text < 2 ^ 64 };
 }
 
-/// Feeds a taker all that a source has left, in pieces of at most 65,536 bytes, and answers how many bytes they were. Nothing is read behind the piece that the
-/// taker refuses, and it ends over each source: of one that never ends some piece is refused, for what is taken has a bound.
+/// Feeds a taker all that a source has left, in pieces of at most 65,536 bytes, and returns their number. Nothing is read after the piece that the
+/// taker refuses. It terminates for every source: what a taker accepts has a bound, so some piece of an endless source is refused.
 pub fn feed_all<S: Source, T: Taker>(
     alloc: Global,
     source: &mut S,

@@ -6,7 +6,7 @@ use crate::device::{Failed, Sink, Source};
 use crate::memory::{Bytes, Kept};
 use std::marker::Model;
 
-/// A device in memory, of which at most one byte passes at a call, and which fails at one call alone.
+/// A device in memory that passes at most one byte a call, and fails at exactly one call.
 #[derive(Debug, Drop)]
 pub struct Fuse<D> {
     device: D,
@@ -27,7 +27,7 @@ impl<D> Model for Fuse<D> {
 }
 
 impl<D> Fuse<D> {
-    /// Passes the bytes of this device, one at a call, and fails at the call of this number alone, counted from 1.
+    /// Passes the bytes of this device, one a call, and fails only at the call with this number, counted from 1.
     pub fn new(device: D, call: u64) -> Self
         requires { 0 < call }
         ensures device { result.device ≡ device }
@@ -48,7 +48,7 @@ impl<D> Fuse<D> {
         &self.device
     }
 
-    /// Counts a call, and tells whether it is the one that fails.
+    /// Counts a call. Whether it is the one that fails.
     fn blows(&mut self) -> bool
         ensures blows { IsTrue result ↔ (self.old.calls ≡ 1) }
         ensures counted { self.new ≡ record self.old { calls = self.old.calls - 1 } }

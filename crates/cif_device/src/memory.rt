@@ -25,7 +25,7 @@ impl<'a> Model for Bytes<'a> {
 }
 
 impl<'a> Bytes<'a> {
-    /// A source of these bytes, at most `step` of them at a read.
+    /// A source of these bytes, with at most `step` of them a read.
     pub fn new(bytes: &'a [u8], step: usize) -> Self
         requires { 0 < step }
         ensures left { result.left ≡ bytes.now }
@@ -67,7 +67,7 @@ impl Source for Bytes<'_> {
     }
 }
 
-/// A sink that keeps what it takes, in room that is reserved once. It fails only where it is full.
+/// A sink that keeps what it takes, in room that is reserved once. It fails only if it is full.
 #[derive(Debug, Drop)]
 pub struct Kept {
     bytes: Vec<u8>,
@@ -92,7 +92,7 @@ impl Model for Kept {
 }
 
 impl Kept {
-    /// An empty sink with room for so many bytes. `Memory` where the allocator refuses that room.
+    /// An empty sink with room for this many bytes. `Memory` if the allocator refuses that room.
     pub fn new(alloc: Global, room: usize) -> Result<Kept, Memory>
         ensures empty { IfOk result (λ kept. kept.taken ≡ []) }
         ensures room { IfOk result (λ kept. kept.room ≡ room) }

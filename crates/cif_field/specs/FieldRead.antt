@@ -6,11 +6,11 @@ use Rattle.docker_model.specs.records.Clock.{public_time}
 use Rattle.docker_model.specs.records.Field.{is_deletion}
 use Rattle.docker_model.specs.records.PrintedTime.{spaces, time_text}
 
--- the bytes of so many columns of a line, from the first one on
+-- the bytes in this many columns of a line, from the first one on
 abbrev pub field_at : ℕ → ℕ → List ℕ → List ℕ
 field_at first width line = columns first (first - 1 + width) line
 
--- what an association or a basic schedule tells, unless its transaction is a deletion
+-- what a field of an association or a basic schedule says, unless the transaction is a deletion
 abbrev pub unless_deleted : {A : Type 0} → List ℕ → A → Option A
 unless_deleted line told = if is_deletion line then None else Some told
 

@@ -37,7 +37,7 @@ impl Model for Day {
 
 impl Day {
     /// The day of six digits YYMMDD, as in a basic schedule (BS): the years 60 to 99 are 1960 to 1999, and 00 to 59 are 2000 to 2059.
-    /// None where a byte is no digit or the calendar has no such day.
+    /// None if a byte is no digit or the calendar has no such day.
     pub fn from_yymmdd(field: &[u8; 6]) -> Option<Day>
         ensures some { IsSome result ↔ IsTrue (is_date field.now) }
         ensures value { IfSome result (λ day. day ≡ date_number field.now) }
@@ -50,7 +50,7 @@ impl Day {
     }
 
     /// The day of six digits DDMMYY, as a header (HD) has its date of extract, with the same years.
-    /// None where a byte is no digit or the calendar has no such day.
+    /// None if a byte is no digit or the calendar has no such day.
     pub fn from_ddmmyy(field: &[u8; 6]) -> Option<Day>
         ensures some { IsSome result ↔ IsTrue (is_date_day_first field.now) }
         ensures value { IfSome result (λ day. day ≡ date_number_day_first field.now) }
@@ -62,7 +62,7 @@ impl Day {
         day_of(year, two_digits(field, 2), two_digits(field, 0))
     }
 
-    /// The day that `iso` writes so, as YYYY-MM-DD. None of any other text.
+    /// The day that `iso` writes so, as YYYY-MM-DD. None for any other text.
     pub fn from_iso(text: &str) -> Option<Day>
         ensures value { IfSome result (λ day. text.now ≡ day_text day) }
         ensures read { (day : ℕ) → day ≤ last_day → text.now ≡ day_text day → result ≡ Some day }
@@ -78,7 +78,7 @@ impl Day {
         }
     }
 
-    /// The day so many days after 1960-01-01. None above 36524.
+    /// The day with this number: days after 1960-01-01. None above 36524.
     pub fn from_number(number: u16) -> Option<Day>
         ensures { SomeIff result (number ≤ last_day) number }
     {
@@ -127,7 +127,7 @@ impl Day {
         ((self.number + 4) % 7) as u8
     }
 
-    /// The day so many days later, or earlier where `days` is negative. None before 1960-01-01 and after 2059-12-31.
+    /// The day this many days later, or earlier if `days` is negative. None before 1960-01-01 and after 2059-12-31.
     pub fn plus(&self, days: i32) -> Option<Day>
         ensures some { IsSome result ↔ IsBetween (pos 0) (pos last_day) (pos self.now +ℤ days) }
         ensures value { IfSome result (λ day. pos day ≡ pos self.now +ℤ days) }

@@ -24,7 +24,7 @@ impl Model for Days {
 }
 
 impl Days {
-    /// The weekdays of seven marks. None where a byte is neither `0` nor `1`.
+    /// The weekdays of seven marks. None if a byte is neither `0` nor `1`.
     pub fn from_field(field: &[u8; 7]) -> Option<Days>
         ensures some { IsSome result ↔ IsTrue (is_days field.now) }
         ensures value { IfSome result (λ days. days ≡ field.now) }

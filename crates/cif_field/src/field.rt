@@ -41,7 +41,7 @@ impl Line {
         Time::from_present(self.field(first))
     }
 
-    /// The scheduled time in the five columns from one on, none where they are blank.
+    /// The scheduled time in the five columns from one on, none if they are blank.
     pub fn scheduled_time(&self, first: usize) -> Option<Time>
         requires from { 0 < first }
         requires within { first ≤ 76 }
@@ -51,7 +51,7 @@ impl Line {
         Time::from_scheduled(self.field(first))
     }
 
-    /// The public time in the four columns from one on, a whole minute, none where they are blank or `0000`.
+    /// The public time in the four columns from one on, a whole minute, none if they are blank or `0000`.
     pub fn public_time(&self, first: usize) -> Option<Time>
         requires from { 0 < first }
         requires within { first ≤ 77 }
@@ -87,7 +87,7 @@ impl Line {
         }
     }
 
-    /// The end date in the six columns from one on, none where the transaction is a deletion.
+    /// The end date in the six columns from one on, none if the transaction is a deletion.
     pub fn end_unless_deleted(&self, first: usize) -> Option<Until>
         requires from { 0 < first }
         requires within { first ≤ 75 }
@@ -101,7 +101,7 @@ impl Line {
         Until::from_field(self.field(first))
     }
 
-    /// The days run in the seven columns from one on, none where the transaction is a deletion.
+    /// The days run in the seven columns from one on, none if the transaction is a deletion.
     pub fn days_unless_deleted(&self, first: usize) -> Option<Days>
         requires from { 0 < first }
         requires within { first ≤ 74 }

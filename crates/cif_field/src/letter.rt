@@ -13,7 +13,7 @@ pub enum Extract {
 }
 
 impl Extract {
-    /// The extract that `F` or `U` stands for. None of any other byte.
+    /// The extract that `F` or `U` stands for. None for any other byte.
     pub fn from_letter(letter: u8) -> Option<Extract>
         ensures some { IsSome result ↔ IsTrue (is_update_indicator (letter ∷ [])) }
         ensures value { IfSome result (λ extract. extract_letter extract ≡ letter) }
@@ -48,7 +48,7 @@ pub enum Transaction {
 }
 
 impl Transaction {
-    /// The transaction that `N`, `D` or `R` stands for. None of any other byte.
+    /// The transaction that `N`, `D` or `R` stands for. None for any other byte.
     pub fn from_letter(letter: u8) -> Option<Transaction>
         ensures some { IsSome result ↔ IsTrue (is_transaction (letter ∷ [])) }
         ensures value { IfSome result (λ transaction. transaction_letter transaction ≡ letter) }
@@ -88,7 +88,7 @@ pub enum Stp {
 }
 
 impl Stp {
-    /// The STP indicator that `C`, `N`, `O` or `P` stands for. None of any other byte.
+    /// The STP indicator that `C`, `N`, `O` or `P` stands for. None for any other byte.
     pub fn from_letter(letter: u8) -> Option<Stp>
         ensures some { IsSome result ↔ IsTrue (is_stp_letter letter) }
         ensures value { IfSome result (λ stp. stp_letter stp ≡ letter) }

@@ -29,7 +29,7 @@ impl Model for Time {
 }
 
 impl Time {
-    /// The scheduled time of a field HHMM, from `0000` to `2359`, and behind it `H` for half a minute or a space. None of any other field, a blank one too.
+    /// The scheduled time of a field HHMM, from `0000` to `2359`, followed by `H` for half a minute or a space. None for any other field, a blank one too.
     pub fn from_field(field: &[u8; 5]) -> Option<Time>
         ensures some { IsSome result ↔ IsTrue (is_present_time field.now) }
         ensures value { IfSome result (λ time. time ≡ half_minutes field.now) }
@@ -46,7 +46,7 @@ impl Time {
         }
     }
 
-    /// The scheduled time of a field, none where it is blank. Nothing of a field that is neither.
+    /// The scheduled time of a field: `Some(None)` if it is blank, None if it is neither.
     #[tactic(auto, using(crate::proofs::Times::scheduled_times))]
     pub fn scheduled(field: &[u8; 5]) -> Option<Option<Time>>
         ensures some { is_some result ≡ is_scheduled_time field.now }
@@ -61,7 +61,7 @@ impl Time {
         }
     }
 
-    /// The scheduled time of a field, none where it is blank.
+    /// The scheduled time of a field, none if it is blank.
     #[tactic(auto, using(crate::proofs::Times::scheduled_times))]
     pub(crate) fn from_scheduled(field: &[u8; 5]) -> Option<Time>
         requires good { is_scheduled_time field.now ≡ true }
@@ -85,7 +85,7 @@ impl Time {
         }
     }
 
-    /// The public time of a field HHMM, which is a whole minute; none where the field is blank or `0000`.
+    /// The public time of a field HHMM, which is a whole minute; none if the field is blank or `0000`.
     pub(crate) fn from_public(field: &[u8; 4]) -> Option<Time>
         requires good { is_public_time field.now ≡ true }
         ensures value { result ≡ public_half_minutes field.now }
@@ -130,7 +130,7 @@ impl Time {
     }
 }
 
-/// The minute of the day, 0 to 1439, that a field tells which begins HHMM. None where its first four bytes are no time from `0000` to `2359`.
+/// The minute of the day, 0 to 1439, in a field that begins HHMM. None if its first four bytes are no time from `0000` to `2359`.
 pub fn clock(field: &[u8]) -> Option<u16>
     requires { 4 ≤ length field.now }
     ensures some { IsSome result ↔ IsTrue (is_clock field.now) }

@@ -27,7 +27,7 @@ impl Model for Tiploc {
 }
 
 impl Tiploc {
-    /// The TIPLOC of a text of one to seven bytes, each printable and no space, padded with spaces to seven. None of any other text.
+    /// The TIPLOC of a text of one to seven bytes, each printable and no space, padded with spaces to seven. None for any other text.
     pub fn from_text(text: &str) -> Option<Tiploc>
         ensures some { IsSome result ↔ IsTiplocText text.now }
         ensures value { IfSome result (λ tiploc.
@@ -42,7 +42,7 @@ impl Tiploc {
         Some(Tiploc { bytes })
     }
 
-    /// The TIPLOC of a field. None where its first byte is a space, or a byte is not printable.
+    /// The TIPLOC of a field. None if its first byte is a space, or a byte is not printable.
     pub fn from_field(field: &[u8; 7]) -> Option<Tiploc>
         ensures some { IsSome result ↔ IsTiploc field.now }
         ensures value { IfSome result (λ tiploc. tiploc ≡ field.now) }

@@ -25,7 +25,7 @@ impl Model for Uid {
 }
 
 impl Uid {
-    /// The UID of a field. None where a byte is not printable.
+    /// The UID of a field. None if a byte is not printable.
     pub fn from_field(field: &[u8; 6]) -> Option<Uid>
         ensures some { IsSome result ↔ IsTextOfLength 6 field.now }
         ensures value { IfSome result (λ uid. uid ≡ field.now) }

@@ -1,4 +1,4 @@
--- What a reader tells of a file whose trailer was read.
+-- What a reader returns of a file whose trailer was read.
 use Rattle.std.specs.Prelude.{◌≡◌, ℕ, List, [], length, slice_index_or}
 use Rattle.docker_model.specs.file.Change.{changes}
 use Rattle.cif_file.specs.declared.ended.Ended.{Ended}
@@ -9,7 +9,7 @@ use Rattle.cif_file.specs.KeeperRead.{Keeps}
 use Rattle.cif_file.specs.MadeChanges.{file_of_parts}
 use Rattle.cif_file.specs.FileRead.{FileRead, FileCounted}
 
--- the header and the number of these records are told, and their changes were kept
+-- the header and the number of these records are returned, and their changes were kept
 pub record IsEnded {K : Type 0} (keeps : Keeps K) (records : List (List ℕ)) (ended : Ended K) : Type 0 where
   pub header_is : ended.header ≡ slice_index_or records 0 []
   pub count_is : ended.records ≡ length records

@@ -17,7 +17,7 @@ pub record TakesFile {K : Type 0} (keeps : Keeps K) (reading : Reading K) (limit
   pub few : limit ≤ most_records
   pub sound : (fault : model.FileFault) → ¬ IsFaultSoFar limit text fault
 
--- a text that a reading has taken is bounded: it has at most 82 bytes for each record of the limit, and 81 behind them
+-- a text that a reading has taken is bounded: it has at most 82 bytes for each record of the limit, and 81 after them
 pub taken_is_bounded : {K : Type 0} (keeps : Keeps K) (reading : Reading K) (limit : ℕ) (text : List ℕ) → TakesFile keeps reading limit text
     → length text < 2 ^ 64
 taken_is_bounded keeps reading limit text has =
@@ -25,7 +25,7 @@ taken_is_bounded keeps reading limit text has =
     let few = has.few in
     omega (arith, most, few)
 
--- the fault is told of a text and a piece behind it, at a record that the text doesn't tell; memory was wanting only where it may be
+-- the fault is of a text and the piece after it, at a record that the text by itself doesn't complete; memory ran out only if it may
 pub record RefusesPiece (wants : Type 0) (limit : ℕ) (text piece : List ℕ) (fault : FileFault) : Type 0 where
   pub told : IsFaultTold limit (text ++ piece) fault
   pub later : lines_told text < fault.number

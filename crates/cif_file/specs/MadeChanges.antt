@@ -12,7 +12,7 @@ pub record HasMade (made : Made) (changes : List Change) : Type 0 where
   pub changes_are : map change_meant made.changes.items ≡ changes
   pub noted : HasNoted (items_put changes) made.notes
 
--- these changes were made behind those that were
+-- these changes were made after those that were
 abbrev pub Makes : Made → List Change → Made → Type 0
 Makes old more new = (before : List Change) → HasMade old before → HasMade new (before ++ more)
 
@@ -24,7 +24,7 @@ file_of_parts parts = record {
   changes_made = map change_meant parts.changes.items;
 }
 
--- the parts are those of a file that was read, and the places that its changes name are noted
+-- the parts belong to a file that was read, and the places that its changes name are noted
 pub record ArePartsOfFile (parts : FileParts) : Type 0 where
   pub read : IsRead (file_of_parts parts)
   pub noted : HasNoted (items_put (map change_meant parts.changes.items)) parts.notes

@@ -33,35 +33,35 @@ pub record HasCounted {K : Type 0} (keeps : Keeps K) (state : Records K) (limit 
   pub within : length records ≤ limit
   pub has : HasRecords keeps state.front records
 
--- a record is at fault behind these, for this cause
+-- a record is at fault after these, for this cause
 pub record IsCauseNext (limit : ℕ) (records : Lines) (line : List ℕ) (cause : model.FileCause) : Type 0 where
   pub place : law.Place
   pub at : IsPlaceOf records place
   pub here : (limit ≤ length records) ⊎ (next_place place line ≡ None)
   pub is : cause_of limit (length records) place line ≡ cause
 
--- a cause that was told of a record; memory was wanting only where it may be, within the limit, and for a record that goes on
+-- a cause that was answered for a record; memory ran out only if it may, within the limit, and for a record that goes on
 abbrev pub IsCauseBehind : Type 0 → ℕ → Lines → List ℕ → Option model.FileCause → Type 0
 IsCauseBehind wants limit records line None = wants × (length records < limit) × GoesOnWith records line
 IsCauseBehind wants limit records line (Some cause) = IsCauseNext limit records line cause
 
--- a fault that was told of the record behind these
+-- a fault that was answered for the record after these
 pub record IsFaultNext (wants : Type 0) (limit : ℕ) (records : Lines) (line : List ℕ) (fault : FileFault) : Type 0 where
   pub number : fault.number ≡ length records + 1
   pub cause : IsCauseBehind wants limit records line (cause_meant fault.cause)
 
--- a fault that was told of a record of more than 81 bytes behind these
+-- a fault that was answered for a record of more than 81 bytes after these
 pub record IsLongNext (limit : ℕ) (records : Lines) (fault : FileFault) : Type 0 where
   pub number : fault.number ≡ length records + 1
   pub place : law.Place
   pub at : IsPlaceOf records place
   pub cause : cause_meant fault.cause ≡ Some (cause_of_long limit (length records) place)
 
--- behind these records, which are no file, the end was told
+-- after these records, which are no file, the text ended
 abbrev pub IsNoEndOf : Lines → FileFault → Type 0
 IsNoEndOf records fault = (fault.number ≡ length records + 1) × (cause_meant fault.cause ≡ Some no_end) × (¬ IsFile records)
 
--- a cause that was told of a line, within the limit
+-- a cause that was answered for a line, within the limit
 abbrev pub RefusesWithin : {K : Type 0} → Keeps K → Type 0 → Front K → List ℕ → FileCause → Type 0
 RefusesWithin keeps wants front line cause =
     (limit : ℕ) (records : Lines) → HasRecords keeps front records → length records < limit → IsCauseBehind wants limit records line (cause_meant cause)
@@ -70,7 +70,7 @@ RefusesWithin keeps wants front line cause =
 abbrev pub CountsNext : {K : Type 0} → Keeps K → Records K → List ℕ → Records K → Type 0
 CountsNext keeps old line new = (limit : ℕ) (records : Lines) → HasCounted keeps old limit records → HasCounted keeps new limit (records ++ line ∷ [])
 
--- a fault that was told of the line
+-- a fault that was answered for the line
 abbrev pub FaultsNext : {K : Type 0} → Keeps K → Type 0 → Records K → List ℕ → FileFault → Type 0
 FaultsNext keeps wants state line fault = (limit : ℕ) (records : Lines) → HasCounted keeps state limit records → IsFaultNext wants limit records line fault
 
@@ -78,23 +78,23 @@ FaultsNext keeps wants state line fault = (limit : ℕ) (records : Lines) → Ha
 abbrev pub EndsCounted : {K : Type 0} → Keeps K → Records K → Ended K → Type 0
 EndsCounted keeps state ended = (limit : ℕ) (records : Lines) → HasCounted keeps state limit records → IsFile records × IsEnded keeps records ended
 
--- they are none, which is told behind them
+-- they are none, which is answered after them
 abbrev pub EndsUnended : {K : Type 0} → Keeps K → Records K → FileFault → Type 0
 EndsUnended keeps state fault = (limit : ℕ) (records : Lines) → HasCounted keeps state limit records → IsNoEndOf records fault
 
--- no fault was told: the lines that are told were taken, and the line behind them is open
+-- there was no fault: every complete line was taken, and the line after them is unfinished
 pub record IsReading {K : Type 0} (keeps : Keeps K) (reading : Reading K) (limit : ℕ) (text : List ℕ) : Type 0 where
   pub counted : HasCounted keeps reading.records limit (told_lines text)
   pub partial_is : reading.partial.items ≡ open_line text
   pub short : length (open_line text) ≤ 81
 
--- the text is one of a file of at most so many records, of which this is told
+-- the text is one of a file of at most this many records, and this is returned of it
 pub record IsEndedText {K : Type 0} (keeps : Keeps K) (limit : ℕ) (text : List ℕ) (ended : Ended K) : Type 0 where
   pub records : Lines
   pub is_text : IsFileText limit text records
   pub of_records : IsEnded keeps records ended
 
--- what was read is the text of a file, of which this is told
+-- what was read is the text of a file, and this is returned of it
 abbrev pub EndsBy : {K : Type 0} → Keeps K → Reading K → Ended K → Type 0
 EndsBy keeps reading ended = (limit : ℕ) (text : List ℕ) → IsReading keeps reading limit text → IsEndedText keeps limit text ended
 
@@ -105,7 +105,7 @@ pub record WantsMemoryAt (limit : ℕ) (records : Lines) (number : ℕ) : Type 0
   pub within : number ≤ limit
   pub sound : BeginsFile (take number records)
 
--- the cause that a fault tells is that of the first record at fault which is told; or memory was wanting at a record whose line feed came, and none up to it
+-- the fault's cause is the cause of the first complete record at fault; or memory ran out at a record whose line feed came, and none up to it
 -- is at fault
 abbrev pub IsToldSoFar : ℕ → List ℕ → ℕ → Option model.FileCause → Type 0
 IsToldSoFar limit text number None = WantsMemoryAt limit (told_lines text) number
@@ -141,32 +141,32 @@ pub record WasFed (parser : ParserState) : Type 0 where
   pub text : List ℕ
   pub read : HasRead parser limit text
 
--- the text is one of a file of at most so many records, and what was read tells of those
+-- the text is one of a file of at most this many records, and what was read is made of those
 pub record IsOfFileText (file : FileRead) (limit : ℕ) (text : List ℕ) : Type 0 where
   pub records : List (List ℕ)
   pub is_text : IsFileText limit text records
   pub of_records : IsOfRecords file records
 
--- the text is one of a file of at most so many records, and the counts are those of the file
+-- the text is one of a file of at most this many records, and the counts are the file's
 pub record IsCountOfFileText (count : FileCounted) (limit : ℕ) (text : List ℕ) : Type 0 where
   pub records : List (List ℕ)
   pub is_text : IsFileText limit text records
   pub of_records : IsCountOfRecords count records
 
--- the parser told this fault
+-- the parser answered this fault
 abbrev pub HasFailed : ParserState → FileFault → Type 0
 HasFailed parser fault = parser.fault ≡ Some fault
 
--- the parser told no fault
+-- the parser answered no fault
 abbrev pub HasNotFailed : ParserState → Type 0
 HasNotFailed parser = (fault : FileFault) → ¬ HasFailed parser fault
 
--- no text that was read tells the record of the fault; and it is no want of memory but where memory may be wanting
+-- no text that was read before completes the record of the fault; and it is out of memory only if memory may run out
 abbrev pub IsLater : {K : Type 0} → Keeps K → Type 0 → Reading K → FileFault → Type 0
 IsLater keeps wants reading fault =
     (limit : ℕ) (text : List ℕ) → IsReading keeps reading limit text → (lines_told text < fault.number) × (fault.cause ≡ Memory → wants)
 
--- the same of a parser that told no fault: the record is none of those that the texts before this call told
+-- and so for a parser that answered no fault: no text before this call completes the record
 abbrev pub NamesLater : ParserState → FileFault → Type 0
 NamesLater parser fault = HasNotFailed parser → (limit : ℕ) (text : List ℕ) → HasRead parser limit text → lines_told text < fault.number
 
@@ -174,7 +174,7 @@ NamesLater parser fault = HasNotFailed parser → (limit : ℕ) (text : List ℕ
 abbrev pub IsLast : {K : Type 0} → Keeps K → Reading K → FileFault → Type 0
 IsLast keeps reading fault = fault.cause ≡ Memory → (limit : ℕ) (text : List ℕ) → IsReading keeps reading limit text → fault.number ≡ length (lines_of text)
 
--- the same of a parser that told no fault
+-- and so for a parser that answered no fault
 abbrev pub NamesLast : ParserState → FileFault → Type 0
 NamesLast parser fault =
     HasNotFailed parser → fault.cause ≡ Memory → (limit : ℕ) (text : List ℕ) → HasRead parser limit text → fault.number ≡ length (lines_of text)
@@ -185,16 +185,16 @@ NamesLast parser fault =
 abbrev pub GoesOn : (ℕ → List ℕ → Type 0) → List ℕ → (ℕ → List ℕ → Type 0) → Type 0
 GoesOn before bytes after = (limit : ℕ) (text : List ℕ) → before limit text → after limit (text ++ bytes)
 
--- with these bytes behind it the text tells this fault
+-- with these bytes after it the text has this fault
 abbrev pub TellsFault : (ℕ → List ℕ → Type 0) → List ℕ → FileFault → Type 0
 TellsFault before bytes fault = (limit : ℕ) (text : List ℕ) → before limit text → IsFaultTold limit (text ++ bytes) fault
 
--- it tells none
+-- it has none
 abbrev pub TellsNoFault : (ℕ → List ℕ → Type 0) → List ℕ → Type 0
 TellsNoFault before bytes =
     (limit : ℕ) (text : List ℕ) → before limit text → (fault : model.FileFault) → ¬ IsFaultSoFar limit (text ++ bytes) fault
 
--- the text is that of a file, which this is
+-- the text is a file's, and this is the file
 abbrev pub EndsAs : (ℕ → List ℕ → Type 0) → FileRead → Type 0
 EndsAs read file = (limit : ℕ) (text : List ℕ) → read limit text → IsOfFileText file limit text
 

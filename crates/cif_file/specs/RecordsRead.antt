@@ -46,7 +46,7 @@ pub record IsOpen {K : Type 0} (keeps : Keeps K) (opened : Opened) (keeper : K) 
   pub progress_is : HasLines (progress_meant opened.progress) lines
   pub kept : keeps keeper (with_new_first lines) (changes before)
 
--- the place of the code is that of the records, and the changes were made
+-- the place that the code has is the records' place, and the changes were made
 abbrev pub IsKept : {K : Type 0} → Keeps K → FileStage → K → law.Place → Lines → Type 0
 IsKept keeps BeforeHeader keeper place records = (place ≡ before_header) × keeps keeper [] (changes records)
 IsKept keeps BetweenUnits keeper place records = (place ≡ between_units) × keeps keeper [] (changes records)
@@ -80,16 +80,16 @@ pub record IsNoNext (records : Lines) (line : List ℕ) (cause : fault.FileCause
 abbrev pub GoesOnWith : Lines → List ℕ → Type 0
 GoesOnWith records line = (next : law.Place) × IsPlaceOf (records ++ line ∷ []) next
 
--- a cause that was told; memory was wanting only where it may be, and for a line that goes on
+-- a cause that was answered; memory ran out only if it may, and for a line that goes on
 abbrev pub IsNoNextCause : Type 0 → Lines → List ℕ → Option fault.FileCause → Type 0
 IsNoNextCause wants records line None = wants × GoesOnWith records line
 IsNoNextCause wants records line (Some cause) = IsNoNext records line cause
 
--- the lines are a whole schedule, as far as its progress tells
+-- the lines are a whole schedule, as its progress says
 abbrev pub IsWholeBy : Opened → Type 0
 IsWholeBy opened = (lines : Lines) → HasLines (progress_meant opened.progress) lines → IsSchedule lines
 
--- the records end in lines of a schedule that goes on with this one, and then stands as told
+-- the records end in lines of a schedule that goes on with this one, and then stands so
 pub record StandsBefore {K : Type 0} (keeps : Keeps K) (front : Front K) (opened : Opened) (line : List ℕ) (records : Lines) : Type 0 where
   pub is : IsRecord line
   pub follows : follows_basic (kind_of line) ≡ true
@@ -106,7 +106,7 @@ pub record StandsBefore {K : Type 0} (keeps : Keeps K) (front : Front K) (opened
   pub goes_on : BeginsSchedule (lines ++ line ∷ [])
   pub kept : keeps front.keeper (with_new_first lines) (changes before)
 
--- a schedule that is being read has the line behind those that it had
+-- a schedule that is being read has the line after those that it had
 abbrev pub GoesOnTo : Opened → List ℕ → FileStage → Type 0
 GoesOnTo old line BeforeHeader = ⊥
 GoesOnTo old line BetweenUnits = ⊥
@@ -115,21 +115,21 @@ GoesOnTo old line AfterEnd = ⊥
 
 -- ---- what the reader does with a line
 
--- it has the line behind the records that it had
+-- it has the line after the records that it had
 abbrev pub TakesLine : {K : Type 0} → Keeps K → Front K → List ℕ → Front K → Type 0
 TakesLine keeps old line new = (records : Lines) → HasRecords keeps old records → HasRecords keeps new (records ++ line ∷ [])
 
--- the same of a line whose number counts those records and it
+-- and so for a line whose number counts those records and it
 abbrev pub TakesNext : {K : Type 0} → Keeps K → Front K → ℕ → List ℕ → Front K → Type 0
 TakesNext keeps old number line new =
     (records : Lines) → HasRecords keeps old records → number ≡ length records + 1 → HasRecords keeps new (records ++ line ∷ [])
 
--- the same of a line that begins anew behind whole units
+-- and so for a line that begins a unit after whole units
 abbrev pub BeginsAnew : {K : Type 0} → Keeps K → Front K → ℕ → List ℕ → Front K → Type 0
 BeginsAnew keeps old number line new =
     (records : Lines) → IsOver keeps old records → number ≡ length records + 1 → HasRecords keeps new (records ++ line ∷ [])
 
--- it told this cause of a line, which is why the line does not go on with the records that it has
+-- it answered this cause for a line, which is why the line does not go on with the records that it has
 abbrev pub RefusesLine : {K : Type 0} → Keeps K → Type 0 → Front K → List ℕ → FileCause → Type 0
 RefusesLine keeps wants front line cause = (records : Lines) → HasRecords keeps front records → IsNoNextCause wants records line (cause_meant cause)
 

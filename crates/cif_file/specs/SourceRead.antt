@@ -13,7 +13,7 @@ use Rattle.cif_file.specs.FileRead.{FileRead, FileCounted}
 use Rattle.cif_file.specs.KeeperRead.{Keeps}
 use Rattle.cif_file.specs.ParserRead.{IsOfFileText, IsCountOfFileText, IsEndedText, WantsMemoryAt}
 
--- a source that tells its bytes held this text
+-- a source that can name its bytes held this text
 abbrev pub Held : Option (List ℕ) → List ℕ → Type 0
 Held None text = ⊤
 Held (Some left) text = left ≡ text
@@ -24,31 +24,31 @@ pub record ReadsText (limit : ℕ) (left : Option (List ℕ)) (file : FileRead) 
   pub held : Held left text
   pub of_text : IsOfFileText file limit text
 
--- the counts are those of a file of which the source held a text, within the limit on records
+-- the counts are right for a file whose text the source held, within the limit on records
 pub record CountsText (limit : ℕ) (left : Option (List ℕ)) (count : FileCounted) : Type 0 where
   pub text : List ℕ
   pub held : Held left text
   pub of_text : IsCountOfFileText count limit text
 
--- the same of what a reader tells of a file
+-- and so is what a reader returns of a file
 pub record ReadsEnded {K : Type 0} (keeps : Keeps K) (limit : ℕ) (left : Option (List ℕ)) (ended : Ended K) : Type 0 where
   pub text : List ℕ
   pub held : Held left text
   pub of_text : IsEndedText keeps limit text ended
 
--- the fault is this text's, and no want of memory
+-- the fault is this text's, and isn't out of memory
 pub record IsFaultOf (limit : ℕ) (text : List ℕ) (fault : FileFault) : Type 0 where
   pub cause : FileCause
   pub cause_is : cause_meant fault.cause ≡ Some cause
   pub is : IsFileFault limit text (record { number = fault.number; cause = cause })
 
--- the fault is that of a text that the source held
+-- the fault is one of a text that the source held
 pub record RefusesText (limit : ℕ) (left : Option (List ℕ)) (fault : FileFault) : Type 0 where
   pub text : List ℕ
   pub held : Held left text
   pub is : IsFaultOf limit text fault
 
--- what was read has no record at fault so far before its last piece, which has at most so many bytes
+-- what was read has no record at fault so far before its last piece, which has at most this many bytes
 pub record ReadsNoFurther (most limit : ℕ) (old new : Option (List ℕ)) : Type 0 where
   pub before : List ℕ
   pub piece : List ℕ
@@ -56,7 +56,7 @@ pub record ReadsNoFurther (most limit : ℕ) (old new : Option (List ℕ)) : Typ
   pub at_once : length piece ≤ most
   pub read : Reads old (before ++ piece) new
 
--- memory was wanting for a record that the last piece, of at most so many bytes, is the first to tell, and no record up to it is at fault
+-- memory ran out at a record that only the last piece, of at most this many bytes, completes, and no record up to it is at fault
 pub record WantsRecord (most limit : ℕ) (old new : Option (List ℕ)) : Type 0 where
   pub before : List ℕ
   pub piece : List ℕ

@@ -1,4 +1,4 @@
--- Records that begin anew behind a header or a whole unit, and the changes that those make which are units by themselves.
+-- Records that begin a unit, after the header or a whole unit, and the changes of those that are units by themselves.
 use Rattle.std.specs.Prelude.{◌≡◌, ℕ, List}
 use Rattle.docker_model.specs.records.Record.{Kind, HasKind, IsRecord, tiploc_insert, tiploc_amend, tiploc_delete, association, basic_schedule, trailer}
 use Rattle.docker_model.specs.records.Field.{HasGoodFields}

@@ -32,7 +32,7 @@ pub enum ReadFault {
     Source,
     /// What the source holds is no text of a file. The cause is never `Memory`.
     File(FileFault),
-    /// A growth was refused: want of memory. No record that was judged before is at fault.
+    /// A growth was refused: out of memory. No record that was judged before is at fault.
     Memory,
 }
 

@@ -20,12 +20,12 @@ use cif_journey::FileCause;
 use cif_line::{Basic, Kind, Line, header, kind};
 use std::alloc::AllocError;
 
-/// Where a file is behind its records so far.
+/// Where in a file the next record stands.
 #[derive(Clone, Copy, PartialEq, Eq, Debug)]
 pub(crate) enum FileStage {
     /// Before its header.
     BeforeHeader,
-    /// Behind its header, or behind a whole unit.
+    /// After its header, or after a whole unit.
     BetweenUnits,
     /// Behind these lines of a schedule.
     InSchedule(Opened),
@@ -51,7 +51,7 @@ impl FileStage {
         }
     }
 
-    /// The schedule that is being read, if its journey is whole, so that no schedule goes on behind its lines.
+    /// The schedule that is being read, if its journey is whole, so that no schedule goes on after its lines.
     fn over(&self) -> Option<Opened>
         ensures { (opened : Opened) → self.now ≡ FileStage.InSchedule opened →
             MatchOption result (is_over_by (progress_meant opened.progress).stage ≡ false)
@@ -73,7 +73,7 @@ pub(crate) struct Front<K> {
     keeper: K,
 }
 
-/// Whether a record of this kind stands in a schedule, behind its basic schedule.
+/// Whether a record of this kind stands in a schedule, after its basic schedule.
 fn follows_basic(kind: Kind) -> bool
     ensures { result ≡ follows_basic (Some (meaning kind)) }
 {
@@ -173,7 +173,7 @@ impl<K: Keeper> Front<K> {
         Ok(())
     }
 
-    /// Takes a record behind the header or a whole unit.
+    /// Takes a record after the header or a whole unit.
     fn take_unit(&mut self, number: u32, kind: Kind, line: &Line) -> Result<(), FileCause>
         requires stage { self.old.stage ≡ FileStage.BetweenUnits }
         requires record { IsRecord line.now }
@@ -186,7 +186,7 @@ impl<K: Keeper> Front<K> {
         Ok(())
     }
 
-    /// Takes a record behind lines of a schedule.
+    /// Takes a record after lines of a schedule.
     fn take_behind(
         &mut self,
         number: u32,
@@ -230,7 +230,7 @@ impl<K: Keeper> Front<K> {
         }
     }
 
-    /// Adds a line of the schedule, which stands behind it.
+    /// Adds a line of the schedule, which comes next.
     fn add_line(&mut self, line: &Line) -> Result<(), AllocError>
         ensures read { (opened : Opened) → self.old.stage ≡ FileStage.InSchedule opened →
             (records : List (List ℕ)) →
@@ -257,7 +257,7 @@ impl<K: Keeper> Front<K> {
         Ok(())
     }
 
-    /// Takes a record that begins anew behind a whole schedule.
+    /// Takes a record that begins a unit after a whole schedule.
     fn begin_anew(&mut self, number: u32, opened: Opened, unit: Unit<'_>) -> Result<(), AllocError>
         requires stage { self.old.stage ≡ FileStage.InSchedule opened }
         requires unit { IsOfSome unit }

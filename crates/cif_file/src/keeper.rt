@@ -10,7 +10,7 @@ use crate::single::Single;
 use cif_line::Line;
 use std::alloc::AllocError;
 
-/// What keeps of a file's records what its reader is to tell of them, beside the header and the number of the records. It is told of the records that make
+/// What a reader keeps of a file's records, beside the header and their number. It is given the records that make
 /// changes, in their order.
 pub(crate) trait Keeper: Drop + Sized {
     // it keeps these lines of the schedule that is being read, and these changes

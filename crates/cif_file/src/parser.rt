@@ -14,7 +14,7 @@ use arrayvec::ArrayVec;
 use std::alloc::Global;
 use std::marker::Model;
 
-/// The most bytes that an open line is kept with: those of a record and a carriage return.
+/// The most bytes of an unfinished line that are kept: a record and a carriage return.
 const MOST_PARTIAL: usize = 81;
 
 /// The records of a file so far, and the bytes of a line whose end didn't come yet.
@@ -146,8 +146,8 @@ impl FileParser {
         }
     }
 
-    /// Takes the next bytes of the file. It is refused once they have a record at fault whose line feed or 82nd byte came, and it tells that fault; or where
-    /// memory is wanting, at that record, and then no record up to it is at fault. The record is one that these bytes are the first to tell. Each later call
+    /// Takes the next bytes of the file. Fails as soon as a bad record's line feed or 82nd byte has arrived, with that record's fault; or if
+    /// memory runs out, at the record that needed it, and then no record up to it is at fault. No earlier call could have reported that record. Each later call
     /// answers the same fault and takes nothing.
     pub fn feed(&mut self, piece: &[u8]) -> Result<(), FileFault>
         ensures read { GoesOn (HasRead self.old) piece.now (HasRead self.new) }
@@ -171,7 +171,7 @@ impl FileParser {
         }
     }
 
-    /// The file that the bytes are, or their fault; or want of memory, at the last record where none is at fault. After a fault of `feed` it is that fault.
+    /// The file that the bytes are, or their fault; or out of memory, at the last record, if none is at fault. After a fault of `feed` it is that fault.
     pub fn finish(self) -> Result<CifFile, FileFault>
         ensures ok { IfOk result (EndsAs (HasRead self)) }
         ensures err { IfErr result (EndsInFault (HasRead self)) }

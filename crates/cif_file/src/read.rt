@@ -17,7 +17,7 @@ use cif_line::{FeedFault, Source, Taker, feed_all};
 use std::alloc::Global;
 
 /// Reads a source to its end, and answers the file whose text it held, of at most `limit` records. It is read no further than to the piece, of at most 65,536
-/// bytes, that tells the first fault: so a source that never ends is read to the piece with the record above the limit at the latest.
+/// bytes, that has the first fault: an endless source is read at most to the piece with the record above the limit.
 pub fn read_file<S: Source>(alloc: Global, source: &mut S, limit: u32) -> Result<CifFile, ReadFault>
     requires failures { S.failures source.old < 2 ^ 64 - 1 }
     requires limit { limit ≤ MOST_RECORDS }
@@ -58,7 +58,7 @@ impl<K: Keeper> Taker for Reading<K> {
     ghost bounded = { taken_is_bounded K.keeps };
 }
 
-/// Reads a source to its end, or to the piece that tells the first fault, and answers what is told of the file whose text it held.
+/// Reads a source to its end, or to the piece that has the first fault, and returns what was kept of the file whose text it held.
 pub(crate) fn read_source<S: Source, K: Keeper>(
     alloc: Global,
     source: &mut S,
@@ -89,7 +89,7 @@ pub(crate) fn read_source<S: Source, K: Keeper>(
     }
 }
 
-/// What is told of the file that was read.
+/// What was kept of the file that was read.
 fn ended_of<K: Keeper>(reading: Reading<K>) -> Result<Ended<K>, ReadFault>
     ensures ok { IfOk result (EndsBy K.keeps reading) }
     ensures file { (limit : ℕ) (text : List ℕ) → IsReading K.keeps reading limit text →

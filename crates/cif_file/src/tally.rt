@@ -8,7 +8,7 @@ use crate::single::{Single, count_changes};
 use cif_line::Line;
 use std::alloc::AllocError;
 
-/// How many changes a file's records have made so far. No file has so many that they can't be counted, for a record makes two at most.
+/// How many changes a file's records have made so far. They can always be counted, because a record makes two at most.
 #[derive(Debug, Drop)]
 pub(crate) struct Tally {
     changes: u64,

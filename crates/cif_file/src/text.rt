@@ -31,7 +31,7 @@ pub(crate) fn line_feed(text: &[u8]) -> Option<usize>
     Some(RECORD + at)
 }
 
-/// The first bytes of the text are those of a record.
+/// The text begins with the bytes of a record.
 fn begins_with_record(text: &[u8]) -> bool
     ensures { IsTrue result ↔ ((RECORD ≤ length text.now) × IsRecord (take RECORD text.now)) }
 {
@@ -46,7 +46,7 @@ fn first_feed(text: &[u8]) -> Option<usize>
     text.iter().position(|byte| *byte == b'\n')
 }
 
-/// What stands before the first line feed, and behind it; none where there is no line feed.
+/// What stands before the first line feed, and after it. None if there is no line feed.
 pub(crate) fn split_line(text: &[u8]) -> Option<(&[u8], &[u8])>
     ensures { MatchOption result (HasNoFeed text.now)
         (λ parts. IsCut text.now parts.0.now parts.1.now) }

@@ -1,4 +1,4 @@
-//! Records that begin anew behind a header or a whole unit, read where they lie.
+//! Records that begin a unit, after the header or a whole unit, read where they lie.
 ghost use Rattle.std.specs.Prelude.{◌≡◌, true, is_some, Some, IsErr, IfOk, IfErr};
 ghost use Rattle.docker_model.specs.records.Record.{HasKind, IsRecord, kind_of};
 ghost use Rattle.docker_model.specs.records.Field.{HasGoodFields};

@@ -41,7 +41,7 @@ pub record HasLines (journey : JourneyState) (lines : List (List ℕ)) : Type 0 
   pub falls_are : journey.deletion ≡ false → journey.falls ≡ midnights lines
   pub last_is : journey.deletion ≡ false → journey.last ≡ last_of (times_along lines)
 
--- a cause told is why the line does not go on with a schedule
+-- the cause is why the line does not go on with a schedule
 abbrev pub IsScheduleCause : List (List ℕ) → List ℕ → Option fault.FileCause → Type 0
 IsScheduleCause earlier line None = ⊥
 IsScheduleCause earlier line (Some cause) = IsScheduleFault earlier line cause
@@ -59,7 +59,7 @@ times_list times = time_list times.first ++ time_list times.second ++ time_list 
 abbrev pub AreTimesOf : List ℕ → Times → Type 0
 AreTimesOf line times = map (λ time. time.1) (times_of line) ≡ times_list times
 
--- the stage behind one more line of a kind; before the first line there is none
+-- the stage after one more line of a kind; before the first line there is none
 abbrev pub stage_then : Option place.Stage → Option Kind → Option place.Stage
 stage_then None kind = None
 stage_then (Some stage) kind = stage_after stage kind
@@ -88,7 +88,7 @@ is_over_by _ = false
 
 -- ---- what the reader does with a line
 
--- its progress has the line behind those that it had
+-- its progress has the line after those that it had
 abbrev pub Advances : Progress → List ℕ → Progress → Type 0
 Advances old line new =
     (lines : List (List ℕ)) → HasLines (progress_meant old) lines → HasLines (progress_meant new) (lines ++ line ∷ [])
@@ -97,7 +97,7 @@ Advances old line new =
 abbrev pub JudgesLine : JourneyState → List ℕ → Type 0 → Type 0
 JudgesLine journey line holds = (lines : List (List ℕ)) → HasLines journey lines → holds ↔ BeginsSchedule (lines ++ line ∷ [])
 
--- it told this cause, which is why the line does not go on with a schedule behind those that it has
+-- it answered this cause, which is why the line does not go on with a schedule after those that it has
 abbrev pub FaultsLine : JourneyState → List ℕ → FileCause → Type 0
 FaultsLine journey line cause = (lines : List (List ℕ)) → HasLines journey lines → IsScheduleCause lines line (cause_meant cause)
 

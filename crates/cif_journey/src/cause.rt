@@ -25,11 +25,11 @@ pub enum FileCause {
     Midnights,
     /// The text ends before a trailer.
     NoEnd,
-    /// The record stands behind the trailer.
+    /// The record comes after the trailer.
     After,
     /// There are more records than the limit allows.
     TooMany,
-    /// A growth was refused: want of memory.
+    /// A growth was refused: out of memory.
     Memory,
 }
 

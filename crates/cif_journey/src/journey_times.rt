@@ -66,7 +66,7 @@ impl Clock {
     }
 }
 
-/// The times of a line behind a basic schedule, or its leftmost bad field.
+/// The times of a line after a basic schedule, or its leftmost bad field.
 pub(crate) fn times_at(kind: Kind, line: &Line) -> Result<Times, FieldFault>
     requires kind { HasKind (meaning kind) line.now }
     requires follows { follows_basic (Some (meaning kind)) ≡ true }

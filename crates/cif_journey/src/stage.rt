@@ -21,7 +21,7 @@ pub(crate) enum ScheduleStage {
 }
 
 impl ScheduleStage {
-    /// The stage behind one more line of this kind; none where no schedule has such a line next.
+    /// The stage after one more line of this kind. None if no schedule has such a line next.
     pub(crate) fn after(self, kind: Kind) -> Option<ScheduleStage>
         ensures stage { option_map stage_meant result ≡
             stage_after (stage_meant self) (Some (meaning kind)) }

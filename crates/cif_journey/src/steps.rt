@@ -48,7 +48,7 @@ impl Progress {
         self.deletion
     }
 
-    /// Whether its journey is whole, so that no schedule goes on behind the lines.
+    /// Whether its journey is whole, so that no schedule goes on after its lines.
     pub fn is_over(self) -> bool
         ensures { result ≡ is_over_by (progress_meant self).stage }
     {
@@ -58,7 +58,7 @@ impl Progress {
         }
     }
 
-    /// Takes one more line, or tells why the schedule doesn't go on with it. A refused line changes nothing.
+    /// Takes one more line, or returns why the schedule doesn't go on with it. A refused line changes nothing.
     pub(crate) fn take(&mut self, line: &Line) -> Result<(), FileCause>
         ensures ok { JudgesLine (progress_meant self.old) line.now (IsOk result) }
         ensures read { OnOk result (Advances self.old line.now self.new) }
@@ -72,7 +72,7 @@ impl Progress {
         }
     }
 
-    /// Takes one more record of this kind, or tells why the schedule doesn't go on with it. A refused one changes nothing.
+    /// Takes one more record of this kind, or returns why the schedule doesn't go on with it. A refused one changes nothing.
     pub fn advance(&mut self, kind: Kind, line: &Line) -> Result<(), FileCause>
         requires record { IsRecord line.now }
         requires kind { HasKind (meaning kind) line.now }

@@ -5,7 +5,7 @@ use Rattle.docker_model.specs.records.Record.{Lines, Kind, tiploc_insert, tiploc
 use Rattle.cif_laws.specs.RecordTest.{has_good_fields, is_record}
 use Rattle.cif_laws.specs.ScheduleStage.{Stage, after_basic, after_journey, stage_after, may_end, is_sound_next}
 
--- before the header, behind it or a whole unit, behind these lines of a schedule, behind the trailer
+-- before the header, after it or a whole unit, after these lines of a schedule, after the trailer
 pub data Place : Type 0 where
   before_header : Place
   between_units : Place
@@ -22,7 +22,7 @@ unit_by_kind (Some basic_schedule) line = Some (in_schedule after_basic (line �
 unit_by_kind (Some trailer) line = Some after_end
 unit_by_kind _ line = None
 
--- the place behind these lines of a schedule, which is between units once its journey is whole
+-- the place after these lines of a schedule, which is between units once its journey is whole
 abbrev pub place_in : Stage → Lines → Place
 place_in after_journey lines = between_units
 place_in stage lines = in_schedule stage lines
@@ -37,7 +37,7 @@ abbrev pub is_header_kind : Option Kind → Bool
 is_header_kind (Some header) = true
 is_header_kind _ = false
 
--- the place after one more record, by its kind alone: none where the record is out of place
+-- the place after one more record, by its kind only: none if the record is out of place
 abbrev pub place_by_kind : Place → Option Kind → List ℕ → Option Place
 place_by_kind before_header kind line = cond (is_header_kind kind) (Some between_units) None
 place_by_kind between_units kind line = unit_by_kind kind line

@@ -1,4 +1,4 @@
--- A text as it comes in: the lines whose line feed came, and the open line behind the last one.
+-- A text as it comes in: the complete lines, whose line feed came, and the unfinished line after the last one.
 use Rattle.std.specs.Prelude.{◌≡◌, ℕ, List, false, All, [], ◌∷◌, map, ◌==◌, count_by}
 use Rattle.std.specs.List.{slice_split}
 use Rattle.std.specs.Str.Lines.{strip_carriage_return}

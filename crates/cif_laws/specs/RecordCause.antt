@@ -7,7 +7,7 @@ use Rattle.docker_model.specs.file.FileFault.{FileCause, bad_field, third_midnig
 use Rattle.cif_laws.specs.FileStage.{Place, after_end, place_by_kind}
 use Rattle.cif_laws.specs.ScheduleStage.{Stage, stage_after, is_basic_kind}
 
--- behind the trailer
+-- after the trailer
 abbrev pub is_after_end : Place → Bool
 is_after_end after_end = true
 is_after_end _ = false
@@ -21,27 +21,27 @@ with_column cause None other = other
 abbrev pub field_cause : List ℕ → FileCause
 field_cause line = with_column bad_field (leftmost_bad_field line) third_midnight
 
--- the place, else what the record's fields tell
+-- the place, else what the record's fields say
 abbrev pub place_cause : Place → List ℕ → FileCause
 place_cause place line = cond (is_none (place_by_kind place (kind_of line) line)) bad_place (field_cause line)
 
--- the kind, else what its place tells
+-- the kind, else what its place says
 abbrev pub kind_cause : Place → List ℕ → FileCause
 kind_cause place line = cond (is_none (kind_of line)) bad_kind (place_cause place line)
 
--- a byte, else what its kind tells
+-- a byte, else what its kind says
 abbrev pub byte_cause : Place → List ℕ → FileCause
 byte_cause place line = with_column bad_byte (leftmost_bad_byte line) (kind_cause place line)
 
--- the length, else what its bytes tell
+-- the length, else what its bytes say
 abbrev pub length_cause : Place → List ℕ → FileCause
 length_cause place line = cond (length line == 80) (byte_cause place line) bad_length
 
--- a trailer before, else what the record itself tells
+-- a trailer before, else what the record itself says
 abbrev pub end_cause : Place → List ℕ → FileCause
 end_cause place line = cond (is_after_end place) after_trailer (length_cause place line)
 
--- the limit, else what the place and the record tell
+-- the limit, else what the place and the record say
 abbrev pub cause_of : ℕ → ℕ → Place → List ℕ → FileCause
 cause_of limit count place line = cond (nat_le limit count) too_many (end_cause place line)
 
@@ -53,6 +53,6 @@ cause_of_long limit count place = cond (nat_le limit count) too_many (cond (is_a
 abbrev pub schedule_cause : Stage → List ℕ → FileCause
 schedule_cause stage line = cond (is_none (kind_of line)) bad_kind (cond (is_none (stage_after stage (kind_of line))) bad_place (field_cause line))
 
--- the same of a first line, which is a basic schedule
+-- and so for a first line, which is a basic schedule
 abbrev pub first_line_cause : List ℕ → FileCause
 first_line_cause line = cond (is_none (kind_of line)) bad_kind (cond (is_basic_kind (kind_of line)) (field_cause line) bad_place)

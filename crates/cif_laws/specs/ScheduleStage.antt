@@ -14,7 +14,7 @@ pub data Stage : Type 0 where
   in_journey : Stage
   after_journey : Stage
 
--- the stage after one more record, by its kind alone: none where it doesn't go on with the schedule
+-- the stage after one more record, by its kind only: none if it doesn't go on with the schedule
 abbrev pub stage_after : Stage → Option Kind → Option Stage
 stage_after after_basic (Some extra_details) = Some after_details
 stage_after after_basic (Some origin_location) = Some in_journey

@@ -1,4 +1,4 @@
--- The falls of times as they come in, behind the last time so far.
+-- The falls of times as they come in, after the last time so far.
 use Rattle.std.specs.Prelude.{ℕ, List, [], ◌∷◌, Some, None, Option}
 use Rattle.docker_model.specs.file.Journey.{fall_count}
 
@@ -8,7 +8,7 @@ last_of [] = None
 last_of (time ∷ []) = Some time
 last_of (time ∷ later ∷ times) = last_of (later ∷ times)
 
--- the falls of times behind a last one
+-- the falls of times after a last one
 abbrev pub falls_after : Option ℕ → List ℕ → ℕ
 falls_after None times = fall_count times
 falls_after (Some last) times = fall_count (last ∷ times)

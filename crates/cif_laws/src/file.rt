@@ -81,7 +81,7 @@ pub fn schedule_goes_on_or_fault()
         → BeginsSchedule (earlier ++ line ∷ []) → ¬ IsScheduleFault earlier line cause }
 {}
 
-/// A fault that a text tells before its end stays the fault of every longer text. A text tells one at most.
+/// A fault that a text shows before its end stays the fault of every longer text. A text shows one at most.
 pub fn told_fault_stays()
     ensures so_far { (limit : ℕ) (text more : List ℕ) (fault : FileFault)
         → IsFaultSoFar limit text fault → IsFaultSoFar limit (text ++ more) fault }
@@ -91,7 +91,7 @@ pub fn told_fault_stays()
         → IsFaultSoFar limit text first → IsFaultSoFar limit text second → first ≡ second }
 {}
 
-/// Every text tells a fault, or some file begins with the lines that it tells, they are within the limit, and behind the last line feed stand at most 81 bytes; and not both.
+/// Every text shows a fault, or some file begins with its complete lines, they are within the limit, and at most 81 bytes follow the last line feed; and not both.
 pub fn no_fault_among_told()
     ensures either { (limit : ℕ) (text : List ℕ)
         → ((fault : FileFault) × IsFaultSoFar limit text fault) ⊎ BeginsWithin limit text }
@@ -99,7 +99,7 @@ pub fn no_fault_among_told()
         → BeginsWithin limit text → ¬ IsFaultSoFar limit text fault }
 {}
 
-/// A text that tells no fault is short: it has at most 82 bytes for each record of the limit, and 81 more.
+/// A text that shows no fault is short: it has at most 82 bytes for each record of the limit, and 81 more.
 pub fn text_without_fault_is_bounded()
     ensures { (limit : ℕ) (text : List ℕ) → ((fault : FileFault) → ¬ IsFaultSoFar limit text fault)
         → length text ≤ 82 * limit + 81 }

@@ -6,7 +6,7 @@ ghost use Rattle.cif_line.specs.Kind.{meaning};
 use crate::kind_of_record::Kind;
 use cif_field::Line;
 
-/// The kind of a record, by its identity in columns 1 and 2. None where no kind has it, as `LN`.
+/// The kind of a record, by its identity in columns 1 and 2. None if no kind has it, as `LN`.
 pub fn kind(line: &Line) -> Option<Kind>
     ensures { option_map meaning result ≡ kind_of line.now }
 {

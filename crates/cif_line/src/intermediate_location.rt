@@ -58,35 +58,35 @@ impl<'a> Call<'a> {
         self.line.tiploc(3)
     }
 
-    /// The suffix that tells apart several calls at one timing point: column 10.
+    /// The suffix that distinguishes several calls at one timing point: column 10.
     pub fn suffix(&self) -> u8
         ensures { result ≡ column 10 self.now }
     {
         self.line.column(10)
     }
 
-    /// The scheduled arrival, in half minutes, none where it is blank: columns 11 to 15.
+    /// The scheduled arrival, in half minutes, none if it is blank: columns 11 to 15.
     pub fn arrival(&self) -> Option<Time>
         ensures { result ≡ scheduled_time (columns 11 15 self.now) }
     {
         self.times.arrival
     }
 
-    /// The scheduled departure, in half minutes, none where it is blank: columns 16 to 20.
+    /// The scheduled departure, in half minutes, none if it is blank: columns 16 to 20.
     pub fn departure(&self) -> Option<Time>
         ensures { result ≡ scheduled_time (columns 16 20 self.now) }
     {
         self.times.departure
     }
 
-    /// The scheduled pass, in half minutes, none where it is blank: columns 21 to 25.
+    /// The scheduled pass, in half minutes, none if it is blank: columns 21 to 25.
     pub fn pass(&self) -> Option<Time>
         ensures { result ≡ scheduled_time (columns 21 25 self.now) }
     {
         self.times.pass
     }
 
-    /// The public arrival, a whole minute, none where it is blank or `0000`: columns 26 to 29.
+    /// The public arrival, a whole minute, none if it is blank or `0000`: columns 26 to 29.
     pub fn public_arrival(&self) -> Option<Time>
         ensures value { result ≡ public_half_minutes (columns 26 29 self.now) }
         ensures shown { shown_public (columns 26 29 self.now) ≡ public_text result }
@@ -94,7 +94,7 @@ impl<'a> Call<'a> {
         self.line.public_time(26)
     }
 
-    /// The public departure, a whole minute, none where it is blank or `0000`: columns 30 to 33.
+    /// The public departure, a whole minute, none if it is blank or `0000`: columns 30 to 33.
     pub fn public_departure(&self) -> Option<Time>
         ensures value { result ≡ public_half_minutes (columns 30 33 self.now) }
         ensures shown { shown_public (columns 30 33 self.now) ≡ public_text result }

@@ -49,7 +49,7 @@ impl<'a> Origin<'a> {
         self.line.tiploc(3)
     }
 
-    /// The suffix that tells apart several calls at one timing point: column 10.
+    /// The suffix that distinguishes several calls at one timing point: column 10.
     pub fn suffix(&self) -> u8
         ensures { result ≡ column 10 self.now }
     {
@@ -63,7 +63,7 @@ impl<'a> Origin<'a> {
         self.departure
     }
 
-    /// The public departure, a whole minute, none where it is blank or `0000`: columns 16 to 19.
+    /// The public departure, a whole minute, none if it is blank or `0000`: columns 16 to 19.
     pub fn public_departure(&self) -> Option<Time>
         ensures value { result ≡ public_half_minutes (columns 16 19 self.now) }
         ensures shown { shown_public (columns 16 19 self.now) ≡ public_text result }

@@ -1,4 +1,4 @@
-//! Readers of records: each makes a view of a line whose checked fields are good, and otherwise tells the leftmost that is not.
+//! Readers of records: each makes a view of a line whose checked fields are good, and otherwise names the leftmost that isn't.
 ghost use Rattle.std.specs.Prelude.{◌≡◌, IsOk, IfOk, IfErr, Some, None};
 ghost use Rattle.docker_model.specs.records.Clock.{half_minutes};
 ghost use Rattle.docker_model.specs.records.Record.{HasKind, columns, header, association, basic_schedule, origin_location, intermediate_location, terminating_location, change_en_route};
@@ -33,7 +33,7 @@ pub fn header(line: &Line) -> Result<Header<'_>, FieldFault>
     }
 }
 
-/// The first column of a header's leftmost bad field, none where all are good.
+/// The first column of a header's leftmost bad field, none if all are good.
 fn header_fault(line: &Line) -> Option<u8>
     requires kind { HasKind header line.now }
     ensures { result ≡ leftmost_bad_field line.now }
@@ -63,7 +63,7 @@ pub fn tiploc(line: &Line) -> Result<TiplocRecord<'_>, FieldFault>
     }
 }
 
-/// The first column of a TIPLOC record's leftmost bad field, none where all are good.
+/// The first column of a TIPLOC record's leftmost bad field, none if all are good.
 fn tiploc_fault(line: &Line) -> Option<u8>
     requires kind { IsTiplocRecord line.now }
     ensures { result ≡ leftmost_bad_field line.now }
@@ -89,7 +89,7 @@ pub fn assoc(line: &Line) -> Result<Assoc<'_>, FieldFault>
     }
 }
 
-/// The first column of an association's leftmost bad field, none where all are good. Of a deletion the end date and the days do not count.
+/// The first column of an association's leftmost bad field, none if all are good. Of a deletion the end date and the days do not count.
 fn assoc_fault(line: &Line) -> Option<u8>
     requires kind { HasKind association line.now }
     ensures { result ≡ leftmost_bad_field line.now }
@@ -129,7 +129,7 @@ pub fn basic(line: &Line) -> Result<Basic<'_>, FieldFault>
     }
 }
 
-/// The first column of a basic schedule's leftmost bad field, none where all are good. Of a deletion the end date and the days do not count.
+/// The first column of a basic schedule's leftmost bad field, none if all are good. Of a deletion the end date and the days do not count.
 fn basic_fault(line: &Line) -> Option<u8>
     requires kind { HasKind basic_schedule line.now }
     ensures { result ≡ leftmost_bad_field line.now }

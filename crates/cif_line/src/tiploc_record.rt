@@ -57,7 +57,7 @@ impl<'a> TiplocRecord<'a> {
         self.line.field(19)
     }
 
-    /// The new code of an amendment (TA), none where it is blank, and none of another record: columns 73 to 79.
+    /// The new code of an amendment (TA), none if it is blank, and none of another record: columns 73 to 79.
     pub fn new_code(&self) -> Option<Tiploc>
         ensures { result ≡ new_code_of (kind_of self.now) self.now }
     {

@@ -40,7 +40,7 @@ pub record IsNoted (names : List (List ℕ)) (numbers : List ℕ) (item : Item) 
   pub links : AreRanks names (link_places item.0 item.1) (numbers_of true numbers piece)
   pub within : piece.from + piece.count ≤ length numbers
 
--- the same of each of them
+-- each of them is noted so
 abbrev pub AreNoted : List (List ℕ) → List ℕ → List Item → List Piece → Type 0
 AreNoted names numbers [] [] = ⊤
 AreNoted names numbers [] (piece ∷ pieces) = ⊥
@@ -52,12 +52,12 @@ abbrev pub numbers_in : List Piece → ℕ
 numbers_in [] = 0
 numbers_in (piece ∷ pieces) = piece.count + numbers_in pieces
 
--- the places of the keys with their ops are noted, one behind the other
+-- the places of the keys with their ops are noted, one after the other
 pub record HasNoted (items : List Item) (notes : Notes) : Type 0 where
   pub are : AreNoted notes.names.list.items notes.numbers.items items notes.pieces.items
   pub apart : numbers_in notes.pieces.items ≤ length notes.numbers.items
 
--- the piece is that of the numbers that came
+-- the piece has the numbers that came
 pub record IsNext (names : List (List ℕ)) (old new : List ℕ) (item : Item) (piece : Piece) : Type 0 where
   pub noted : IsNoted names new item piece
   pub apart : length old + piece.count ≤ length new

@@ -8,7 +8,7 @@ use std::alloc::Global;
 /// How many indexes a memo has.
 const SLOTS: usize = 65_536;
 
-/// In how many slots, one behind the other, the index of a place may be.
+/// In how many slots, one after the other, the index of a place may be.
 const NEAR: usize = 8;
 
 /// For some places the index at which each was found last, by a hash of its bytes. A slot may have the index of another place, so that each is looked at.
@@ -25,7 +25,7 @@ impl Memo {
         }
     }
 
-    /// Makes room for what is to be kept, if there is none yet. `Memory` where the allocator refuses it.
+    /// Makes room for what is to be kept, if there is none yet. `Memory` if the allocator refuses it.
     pub(crate) fn grow(&mut self) -> Result<(), Memory> {
         if self.slots.is_empty() {
             self.slots = vec![in *self.slots.allocator(); 0u32; SLOTS]?;

@@ -26,7 +26,7 @@ impl Names {
         }
     }
 
-    /// The number of a place, which gets the next one where the memo doesn't know it. `Memory` where the allocator refuses it.
+    /// The number of a place, which gets the next one where the memo doesn't know it. `Memory` if the allocator refuses it.
     pub(crate) fn number_of(&mut self, place: &[u8; 7]) -> Result<u32, Memory>
         ensures kept { Keeps self.old.list.items self.new.list.items }
         ensures number { IfOk result (λ number.

@@ -36,7 +36,7 @@ impl Notes {
         }
     }
 
-    /// What those of the rows name that these numbers tell, in this order: the number of a row is how many were noted before it. In an empty vector that has room for them.
+    /// What the rows with these numbers name, in this order: the number of a row is how many were noted before it. In an empty vector that has room for them.
     pub fn picked(self, order: &[u32], mut pieces: Vec<Piece>) -> Notes
         requires none { pieces.items ≡ [] }
         requires empty { vec_len pieces ≡ 0 }

@@ -48,7 +48,7 @@ pub(crate) fn piece_of(
     }
 }
 
-/// How many numbers there are. `Memory` where they are too many.
+/// How many numbers there are. `Memory` if they are too many.
 fn count_of(numbers: &Vec<u32>) -> Result<u32, Memory>
     ensures { IfOk result (λ count. count ≡ length numbers.now.items) }
 {

@@ -5,7 +5,7 @@ ghost use Rattle.cif_places.specs.Noted.{numbers_of};
 /// The numbers that a row has among all that were noted: of the places where a schedule calls, or of the one where an association is.
 #[derive(Clone, Copy, Debug, PartialEq, Eq, PartialOrd, Ord)]
 pub struct Piece {
-    /// Whether the numbers are those of an association.
+    /// Whether the numbers belong to an association.
     pub is_link: bool,
     /// Where the numbers begin.
     pub from: u32,

@@ -33,7 +33,7 @@ op_lines deleted = []
 op_lines lapsed = []
 op_lines (put_with body) = lines_in body
 
--- four bytes can tell the number of its lines
+-- four bytes can hold the number of its lines
 abbrev pub HasFewLines : Key × Entry → Type 0
 HasFewLines entry = length (op_lines entry.1.op) < 2 ^ 32
 

@@ -6,7 +6,7 @@ use Rattle.docker_model.specs.state.State.{State}
 use Rattle.docker_model.specs.state.StateText.{item_bytes, entry_bytes}
 use Rattle.cif_line.specs.Device.{Takes, TakesPart}
 
--- the text of a state behind the number of its ledger items
+-- the text of a state after the number of its ledger items
 abbrev pub body_text : State → List ℕ
 body_text state = flat_map item_bytes state.ledger ++ to_be_bytes w64 (length state.entries) ++ flat_map entry_bytes state.entries
 

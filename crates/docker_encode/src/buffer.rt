@@ -23,7 +23,7 @@ pub(crate) fn flush<K: Sink>(sink: &mut K, buffer: &mut Buffer) -> Result<(), Fa
     Ok(())
 }
 
-/// Writes what the buffer holds where there is no room for so many more bytes.
+/// Writes what the buffer holds if there is no room for this many more bytes.
 pub(crate) fn make_room<K: Sink>(
     sink: &mut K,
     buffer: &mut Buffer,

@@ -1,6 +1,6 @@
 //! The formats of a state's text: their marks, how wide each part is, and where the fields of a part begin. Widths and offsets are in bytes.
 
-/// The formats, by their marks. That of `DKS1` tells no horizon and no op that has lapsed.
+/// The formats, by their marks. `DKS1` has no horizon and no lapsed op.
 #[derive(Clone, Copy, Debug)]
 pub enum Format {
     /// The older format.

@@ -91,7 +91,7 @@ fn add_head(buffer: &mut Buffer, horizon: u16, count: usize)
     add(buffer, &(count as u64).to_be_bytes());
 }
 
-/// Gives the bytes of ledger items and entries, each behind their number: the first number is given already.
+/// Writes the bytes of ledger items and entries, each list after its number: the first number is written already.
 fn put_body<K: Sink>(sink: &mut K, buffer: &mut Buffer, state: &State) -> Result<(), Failed>
     requires { K.failures sink.old < 2 ^ 64 - 1 }
     ensures { Gives K.taken K.failures sink.old buffer.old.items (body_text state.now) result

@@ -29,7 +29,7 @@ abbrev pub LapsesTo : List (model.Key × ops.Entry) → Option FileStamp → ℕ
 LapsesTo entries floor horizon key entry =
     (before : ops.Entry) × Contains entries (key, before) × IsKept floor before.stamp.file × (lapse_entry horizon before ≡ entry)
 
--- the entries are those of the join of two tables that are kept under the floor, each lapsed under the horizon
+-- the entries are what the join of two tables keeps under the floor, each lapsed under the horizon
 pub record AreJoined (first second : List (Key × Entry)) (floor : Option FileStamp) (horizon : ℕ) (joined : List (model.Key × ops.Entry)) : Type 0 where
   pub whole : List (Key × Entry)
   pub is_join : IsJoinOfRows (ord_max (on entry_meant entry_cmp)) first second whole
@@ -59,7 +59,7 @@ moved_marks ranks moves marks = filter_map (moved_mark ranks moves) marks
 abbrev pub AreRising : List (Option ℕ) → Type 0
 AreRising moves = (i j p q : ℕ) → i < j → slice_get moves i ≡ Some (Some p) → slice_get moves j ≡ Some (Some q) → p < q
 
--- the spots of the joined rows are those of both sides where their rows go
+-- the spots of the joined rows are the spots of both sides, where their rows go
 abbrev pub HasMovedSpots : Places → List (model.Key × ops.Entry) → List (model.Key × ops.Entry) → List (model.Key × ops.Entry) → Moves → Type 0
 HasMovedSpots places first second joined moves = (spot : Spot) → Contains (spots_of places joined) spot
     ↔ (Contains (moved_spots moves.first.items (spots_of places first)) spot ⊎ Contains (moved_spots moves.second.items (spots_of places second)) spot)
@@ -71,7 +71,7 @@ pub record AreMoves (first second joined : List (model.Key × ops.Entry)) (moves
   pub calls : HasMovedSpots call_places first second joined moves
   pub links : HasMovedSpots link_places first second joined moves
 
--- no move is made yet, and there is room for those of so many rows on both sides
+-- no move is made yet, and there is room for the moves of this many rows on both sides
 pub record HasRows (first second : ℕ) (moves : Moves) : Type 0 where
   pub first_none : moves.first.items ≡ []
   pub first_empty : vec_len moves.first ≡ 0

@@ -8,16 +8,16 @@ use Rattle.docker_index.specs.declared.mark.Mark.{Mark}
 abbrev pub mark_of : List ℕ → ℕ → ℕ → Mark
 mark_of ranks at number = record { place = get_or ranks number 0; at = at }
 
--- the index of the last of so many rows that isn't among those left
+-- the index of the last of this many rows that isn't among the rows left
 abbrev pub row_before : ℕ → List Piece → ℕ
 row_before rows left = rows - length left - 1
 
--- the marks of rows of which these pieces are left, of so many
+-- the marks of this many rows, of which these pieces are left
 abbrev pub noted_marks : Bool → List ℕ → List ℕ → ℕ → List Piece → List Mark
 noted_marks links ranks numbers rows [] = []
 noted_marks links ranks numbers rows (piece ∷ pieces) =
     map (mark_of ranks (row_before rows pieces)) (numbers_of links numbers piece) ++ noted_marks links ranks numbers rows pieces
 
--- the marks of these numbers of a row, and of the rows behind it
+-- the marks of these numbers of a row, and of the rows after it
 abbrev pub marks_left : Bool → List ℕ → List ℕ → ℕ → List Piece → List ℕ → List Mark
 marks_left links ranks numbers rows pieces here = map (mark_of ranks (row_before rows pieces)) here ++ noted_marks links ranks numbers rows pieces

@@ -13,13 +13,13 @@ use Rattle.docker_index.specs.ByPlace.{AreCounts}
 use Rattle.docker_index.specs.Joined.{AreRanks}
 use Rattle.docker_index.specs.Spots.{call_places, link_places, spots_of}
 
--- nothing is in the vector, and it has room for so many
+-- nothing is in the vector, and it has room for this many
 pub record HasRoomOf (count : ℕ) (marks : Vec Mark) : Type 0 where
   pub none : marks.items ≡ []
   pub empty : vec_len marks ≡ 0
   pub room : count ≤ vec_capacity marks
 
--- nothing is counted, and there is room for so many places and so many marks
+-- nothing is counted, and there is room for this many places and this many marks
 pub record HasSlots (places marks : ℕ) (slots : Slots) : Type 0 where
   pub none : AreCounts [] slots.counts.items
   pub len : length slots.counts.items ≡ places
@@ -40,7 +40,7 @@ pub record HasRoomFor (rows : List (model.Key × ops.Entry)) (names : List (List
 abbrev pub Includes : List (List ℕ) → List (List ℕ) → Type 0
 Includes few many = (place : List ℕ) → Contains few place → Contains many place
 
--- the places of names, ascending, and room for so many calls and so many rows
+-- the places of names, ascending, and room for this many calls and this many rows
 pub record IsRoom (names : List (List ℕ)) (most_calls most_rows : ℕ) (room : Room) : Type 0 where
   pub named : IsStrictlyAscending bytes_cmp room.places.items
   pub ranks : AreRanks room.places.items names room.ranks.items

@@ -31,7 +31,7 @@ spots_from places at (row ∷ rows) = map (spot_at at) (places_of places row) ++
 abbrev pub spots_of : Places → List (Key × Entry) → List Spot
 spots_of places rows = spots_from places 0 rows
 
--- the spots are those of the rows, each once, ascending
+-- the spots are the rows' spots, each once, ascending
 pub record AreSpotsOf (places : Places) (rows : List (Key × Entry)) (spots : List Spot) : Type 0 where
   pub ascending : IsStrictlyAscending spot_cmp spots
   pub members : (spot : Spot) → Contains spots spot ↔ Contains (spots_of places rows) spot

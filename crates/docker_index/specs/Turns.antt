@@ -67,7 +67,7 @@ is_put deleted = false
 is_put lapsed = false
 is_put (put_with body) = true
 
--- the index to which an entry that wins goes, where so many rows go before it
+-- the index to which a winning entry goes, after this many rows
 abbrev pub goes : Option FileStamp → ℕ → ℕ → Entry → Option ℕ
 goes floor horizon at entry =
     if is_kept floor (entry_meant entry).stamp.file && is_put (lapse horizon (entry_meant entry).op) then Some at else None
@@ -80,7 +80,7 @@ after floor at entry = if is_kept floor (entry_meant entry).stamp.file then 1 + 
 abbrev pub wins : Entry → Entry → Bool
 wins one other = is_lt (entry_cmp (entry_meant other) (entry_meant one))
 
--- where the rows of the first table go, where so many rows go before
+-- where the rows of the first table go, after this many rows
 abbrev pub first_moves : Option FileStamp → ℕ → ℕ → List AtKey → List (Option ℕ)
 first_moves floor horizon at [] = []
 first_moves floor horizon at (in_first one ∷ turns) = goes floor horizon at one.1 ∷ first_moves floor horizon (after floor at one.1) turns
@@ -89,7 +89,7 @@ first_moves floor horizon at (in_both one other ∷ turns) =
     if wins one.1 other.1 then goes floor horizon at one.1 ∷ first_moves floor horizon (after floor at one.1) turns
     else None ∷ first_moves floor horizon (after floor at other.1) turns
 
--- where those of the second go
+-- where the rows of the second table go
 abbrev pub second_moves : Option FileStamp → ℕ → ℕ → List AtKey → List (Option ℕ)
 second_moves floor horizon at [] = []
 second_moves floor horizon at (in_first one ∷ turns) = second_moves floor horizon (after floor at one.1) turns

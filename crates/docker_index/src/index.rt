@@ -85,7 +85,7 @@ impl Index {
         self.links.retain(|mark| is_put_at(rows, mark));
     }
 
-    /// The index of the join of the rows that two are of, in a time that is linear in both. `Memory` where the allocator refuses it.
+    /// The index of the join of the rows that two are of, in a time that is linear in both. `Memory` if the allocator refuses it.
     pub fn of_join(
         alloc: Global,
         first: &Index,
@@ -167,7 +167,7 @@ impl Index {
     }
 }
 
-/// An empty vector with room for so many marks of each of two indexes. `Memory` where the allocator refuses it.
+/// An empty vector with room for this many marks of each of two indexes. `Memory` if the allocator refuses it.
 fn room_for(alloc: Global, first: usize, second: usize) -> Result<Vec<Mark>, Memory>
     ensures { IfOk result (HasRoomOf (first + second)) }
 {

@@ -14,7 +14,7 @@ use cif_line::Memory;
 use docker_join::{Entry, FileStamp, Op};
 use std::alloc::Global;
 
-/// For each row of two tables, in their order, its index among the rows of their join; none where the other table's entry wins, where the entry is not kept under
+/// For each row of two tables, in their order, its index among the rows of their join; none if the other table's entry wins, where the entry is not kept under
 /// the floor, and where it is not live there.
 #[derive(Debug, Drop)]
 pub struct Moves {
@@ -25,7 +25,7 @@ pub struct Moves {
 }
 
 impl Moves {
-    /// No moves yet, with room for those of so many rows of each table. `Memory` where the allocator refuses it.
+    /// No moves yet, with room for the moves of this many rows of each table. `Memory` if the allocator refuses it.
     pub fn with_room(alloc: Global, first: usize, second: usize) -> Result<Moves, Memory>
         ensures { IfOk result (HasRows first second) }
     {
@@ -79,7 +79,7 @@ impl Moves {
         moves
     }
 
-    /// Takes a turn of the walk over both tables, where so many rows go before it. How many go up to and with it.
+    /// Takes a turn of the walk over both tables, after this many rows. Returns how many there are with it.
     fn take(&mut self, turn: Turn<'_>, floor: &Option<FileStamp>, horizon: u16, at: u32) -> u32
         requires few { at + 1 < 2 ^ 32 }
         requires first_room { vec_len self.old.first + length (firsts (turn_meant turn ∷ []))
@@ -137,7 +137,7 @@ fn wins(one: &Entry, other: &Entry) -> bool
     other < one
 }
 
-/// The index to which an entry goes that wins, where so many rows go before it. None where it is not kept, or not live.
+/// The index to which a winning entry goes, after this many rows. None if it is not kept, or not live.
 fn index_of(entry: &Entry, floor: &Option<FileStamp>, horizon: u16, at: u32) -> Option<u32>
     ensures { result ≡ goes (floor_meant floor.now) horizon at entry.now }
 {

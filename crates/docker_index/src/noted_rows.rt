@@ -10,7 +10,7 @@ use cif_places::Notes;
 use docker_join::{Entry, Op};
 use std::alloc::Global;
 
-/// What these rows name. `Memory` where the allocator refuses it.
+/// What these rows name. `Memory` if the allocator refuses it.
 pub fn notes_of_rows(alloc: Global, rows: &[(Key, Entry)]) -> Result<Notes, Memory>
     ensures { IfOk result (HasNoted (items_of (map row_meant rows.now))) }
 {

@@ -27,7 +27,7 @@ pub struct Room {
 }
 
 impl Room {
-    /// Room for the index of the rows that were noted, and of those rows of which the changes that were noted make one for each key. `Memory` where the allocator refuses it.
+    /// Room for the index of the rows that were noted, and of those rows of which the changes that were noted make one for each key. `Memory` if the allocator refuses it.
     pub fn for_notes(alloc: Global, notes: &Notes) -> Result<Room, Memory>
         ensures rows { (rows : List (model.Key × ops.Entry)) → HasNoted (items_of rows) notes.now
             → IfOk result (HasRoomFor rows notes.now.names.list.items) }
@@ -43,7 +43,7 @@ impl Room {
         )
     }
 
-    /// The places of names, and room for so many calls and for the links of so many rows.
+    /// The places of names, and room for this many calls and for the links of this many rows.
     fn for_names(
         alloc: Global,
         names: &[[u8; 7]],

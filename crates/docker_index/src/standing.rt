@@ -19,7 +19,7 @@ use docker_join::{Entry, Op};
 use std::marker::Model;
 
 /// Walks the live rows at a place, each with an index and its key with its body, in the order of the keys. The index is that among the rows where it stands, but
-/// no clause says so: it tells where to look first, and no answer rests on it.
+/// no clause says so: it is where to look first, and no answer rests on it.
 #[derive(Clone, Debug, Drop)]
 pub struct Numbered<'a> {
     rows: &'a [(Key, Entry)],
@@ -154,7 +154,7 @@ fn is_up_to(mark: &Mark, rank: usize) -> bool
     (mark.place as usize).cmp(&rank).is_le()
 }
 
-/// The marks at a place, of marks that ascend. By a binary search, none where the place is not named.
+/// The marks at a place, of marks that ascend. By a binary search, none if the place is not named.
 pub(crate) fn marks_at<'a>(places: &[[u8; 7]], marks: &'a [Mark], place: &[u8; 7]) -> &'a [Mark]
     requires named { IsStrictlyAscending bytes_cmp places.now }
     requires up { IsStrictlyAscending mark_cmp marks.now }

@@ -9,11 +9,11 @@ use Rattle.docker_model.specs.state.State.{State}
 use Rattle.docker_model.specs.state.StateText.{key_in, stamp_in, Format, dks_1, dks_2, item_in}
 use Rattle.docker_model.specs.state.StatePart.{Before, before_item, before_entry_count, before_tag, in_entry, at_end, before_line, before_body, EntryPart, before_key, before_stamp, before_op, before_horizon, before_ledger_count, before_mark}
 
--- what comes after so many of the items
+-- what comes after this many of the items
 abbrev pub after_items : (horizon : ℕ) → ℕ → List LedgerItem → Before
 after_items horizon count ledger = if nat_le count (length ledger) then before_entry_count horizon ledger else before_item horizon count ledger
 
--- what comes after so many of the entries
+-- what comes after this many of the entries
 abbrev pub after_entries : ℕ → State → Before
 after_entries count state = if nat_le count (length state.entries) then at_end state else in_entry count state before_tag
 
@@ -22,7 +22,7 @@ abbrev pub with_entry : State → Key → Stamp → Op → State
 with_entry state key stamp op =
     record { horizon = state.horizon; ledger = state.ledger; entries = state.entries ++ (key, record { stamp = stamp; op = op }) ∷ [] }
 
--- what comes after so many of the lines
+-- what comes after this many of the lines
 abbrev pub after_lines : ℕ → State → ScheduleKey → Stamp → ℕ → List (List ℕ) → Before
 after_lines count state key stamp n lines =
     if nat_le n (length lines) then after_entries count (with_entry state (schedule_key key) stamp (put_with (schedule_body lines)))

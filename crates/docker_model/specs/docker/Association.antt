@@ -43,7 +43,7 @@ abbrev pub IsPartnerIdentity : Table → List ℕ → Option ℕ → List ℕ �
 IsPartnerIdentity live uid None identity = identity ≡ codes "????"
 IsPartnerIdentity live uid (Some day) identity = IsIdentityOn live uid identity day
 
--- the line is that of an association at the place on the day
+-- the line is for an association at the place on the day
 pub record IsAssociationLine (live : Table) (place : List ℕ) (day : ℕ) (line : DockerLine) : Type 0 where
   pub start : ℕ
   pub key : AssociationKey

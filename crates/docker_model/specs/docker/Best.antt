@@ -4,7 +4,7 @@ use Rattle.std.specs.declared.cmp.Ordering.{Ordering}
 use Rattle.std.specs.Ordering.{is_lt}
 use Rattle.docker_model.specs.state.Order.{IsAtMost}
 
--- what is found is an element that passes and comes behind none that does; where nothing is found, none passes
+-- what is found is an element that passes, and no other that passes comes before it; if nothing is found, none passes
 abbrev pub IsBest : {A : Type 0} → (A → A → Ordering) → (A → Bool) → List A → Option A → Type 0
 IsBest {A} cmp test xs None = (z : A) → Contains xs z → test z ≡ false
 IsBest {A} cmp test xs (Some x) = Contains xs x × (test x ≡ true) × ((z : A) → Contains xs z → test z ≡ true → IsAtMost cmp x z)

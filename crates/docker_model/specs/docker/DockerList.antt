@@ -10,7 +10,7 @@ use Rattle.docker_model.specs.docker.Choice.{TrainRuns}
 use Rattle.docker_model.specs.docker.DockerLine.{DockerLine, line_of_event, docker_line_cmp}
 use Rattle.docker_model.specs.docker.Association.{IsAssociationLine}
 
--- the line is that of an event at the place on the day, of a train that runs
+-- the line is for an event at the place on the day, of a train that runs
 pub record IsEventLine (live : Table) (place : List ℕ) (day : ℕ) (line : DockerLine) : Type 0 where
   pub start : ℕ
   pub key : ScheduleKey
@@ -27,7 +27,7 @@ pub record Lists (IsLine : DockerLine → Type 0) (lines : List DockerLine) : Ty
   pub ascending : IsStrictlyAscending docker_line_cmp lines
   pub members : (line : DockerLine) → Contains lines line ↔ IsLine line
 
--- the events alone
+-- just the events
 abbrev pub IsEventList : Table → List ℕ → ℕ → List DockerLine → Type 0
 IsEventList live place day lines = Lists (IsEventLine live place day) lines
 

@@ -45,7 +45,7 @@ heading live place day =
 abbrev pub last_line : List ℕ
 last_line = codes "END" ++ spaces 53
 
--- with a line feed behind
+-- with a line feed after it
 abbrev pub ended : List ℕ → List ℕ
 ended text = text ++ 10 ∷ []
 

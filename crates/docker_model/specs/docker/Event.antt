@@ -35,7 +35,7 @@ event_day start lines event = start + falls_to lines event.number
 abbrev pub event_line : List (List ℕ) → Event → List ℕ
 event_line lines event = slice_index_or lines event.place []
 
--- the identity after the last change en route, if there is one, and else that of the basic schedule
+-- the identity after the last change en route, or the basic schedule's if there is none
 abbrev pub changed_identity : Option (List ℕ) → List ℕ → List ℕ
 changed_identity None basic = columns 33 36 basic
 changed_identity (Some change) basic = columns 13 16 change

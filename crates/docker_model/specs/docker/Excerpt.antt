@@ -19,7 +19,7 @@ pub record IsNamed (live : Table) (place uid : List ℕ) : Type 0 where
   pub associated_is : key.associated ≡ uid
   pub linked : IsLinked live place key line
 
--- the UID is concerned at the place: all its schedules tell which of them runs, and what its identity is
+-- the UID is concerned at the place: all its schedules decide which of them runs, and what its identity is
 abbrev pub IsConcerned : Table → List ℕ → List ℕ → Type 0
 IsConcerned live place uid = HasCall live place uid ⊎ IsNamed live place uid
 

@@ -80,7 +80,7 @@ next_kept place so_far entry = with_entry_of place so_far entry.0 entry.1
 abbrev pub kept_from : List ℕ → ExcerptSoFar → List (Key × Entry) → List (Key × Entry)
 kept_from place so_far rest = kept_after_run place (fold (next_kept place) so_far rest)
 
--- how far a walk has come behind these entries
+-- how far a walk has come after these entries
 abbrev pub kept_so_far : List ℕ → List (Key × Entry) → ExcerptSoFar
 kept_so_far place entries = fold (next_kept place) nothing_kept entries
 
@@ -88,7 +88,7 @@ kept_so_far place entries = fold (next_kept place) nothing_kept entries
 abbrev pub excerpt_for : List ℕ → State → State
 excerpt_for place state = record { horizon = state.horizon; ledger = state.ledger; entries = kept_after_run place (kept_so_far place state.entries) }
 
--- a walk that has come behind these entries has kept so much, is in this run, and the run is to be kept or not
+-- a walk that has passed these entries has kept this much, is in this run, and the run is to be kept or not
 pub record HasKept (place : List ℕ) (entries kept run : List (Key × Entry)) (needed : Bool) : Type 0 where
   pub so_far : kept_so_far place entries ≡ record { kept = kept; run = run }
   pub is_needed : is_run_needed place (record { kept = kept; run = run }) ≡ needed

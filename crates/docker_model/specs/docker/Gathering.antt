@@ -52,7 +52,7 @@ abbrev pub identity_of : Option Train → List ℕ
 identity_of None = codes "????"
 identity_of (Some train) = columns 33 36 (first_record train.lines)
 
--- the same of a UID, on a day that there may not be
+-- and so for a UID, on a day that may not exist
 abbrev pub partner_identity : (List ℕ → ℕ → Option Train) → List ℕ → Option ℕ → List ℕ
 partner_identity trains uid None = codes "????"
 partner_identity trains uid (Some day) = identity_of (trains uid day)
@@ -92,7 +92,7 @@ row_lines trains links place day (schedule_key key) (schedule_body lines) = sche
 row_lines trains links place day (association_key key) (association_body line) = association_lines trains links place day key line
 row_lines trains links place day _ _ = []
 
--- the lines of rows, row by row: of trains and associations that are told by UID, group and start day
+-- the lines of rows, row by row: of trains and associations given by UID, group and start day
 abbrev pub gathered : (List ℕ → ℕ → Option Train) → (Group → ℕ → Option Link) → List ℕ → ℕ → List Row → List DockerLine
 gathered trains links place day rows = flat_map (λ row. row_lines trains links place day row.0 row.1) rows
 

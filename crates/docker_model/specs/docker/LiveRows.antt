@@ -62,7 +62,7 @@ associations_in rows = filter_map (λ row. association_of row.0 row.1) rows
 abbrev pub is_running : List ℕ → ℕ → Train → Bool
 is_running uid day train = bytes_eq train.key.uid uid && schedule_runs (first_record train.lines) day
 
--- the schedule runs, and comes behind none that does in the order of choice
+-- the schedule runs, and none that runs comes before it in the order of choice
 abbrev pub is_choice : List Train → List ℕ → ℕ → Train → Bool
 is_choice trains uid day train =
     is_running uid day train
@@ -90,7 +90,7 @@ is_of_group group key =
 abbrev pub is_linked : Group → ℕ → Link → Bool
 is_linked group day link = is_of_group group link.key && association_runs link.line day
 
--- the association runs, and comes behind none of its group that does in the order of choice
+-- the association runs, and none of its group that runs comes before it in the order of choice
 abbrev pub is_link_choice : List Link → Group → ℕ → Link → Bool
 is_link_choice links group day link =
     is_linked group day link
@@ -110,7 +110,7 @@ abbrev pub IsTrainOn : Table → List ℕ → ℕ → Option Train → Type 0
 IsTrainOn live uid day None = RunsNot live uid day
 IsTrainOn live uid day (Some train) = TrainRuns live uid day train.key train.lines
 
--- it tells for each UID and day the train of the table
+-- it gives for each UID and day the train of the table
 abbrev pub TellsTrains : Table → (List ℕ → ℕ → Option Train) → Type 0
 TellsTrains live trains = (uid : List ℕ) (day : ℕ) → IsTrainOn live uid day (trains uid day)
 
@@ -119,6 +119,6 @@ abbrev pub IsLinkOn : Table → Group → ℕ → Option Link → Type 0
 IsLinkOn live group day None = (key : AssociationKey) (line : List ℕ) → ¬ IsChosenAssociation live group day key line
 IsLinkOn live group day (Some link) = IsChosenAssociation live group day link.key link.line
 
--- it tells for each group and base start day the chosen association of the table
+-- it gives for each group and base start day the chosen association of the table
 abbrev pub TellsLinks : Table → (Group → ℕ → Option Link) → Type 0
 TellsLinks live links = (group : Group) (day : ℕ) → IsLinkOn live group day (links group day)

@@ -22,7 +22,7 @@ pub record ScheduleKey : Type 0 where
   pub runs_from : ℕ
   pub indicator : ℕ
 
--- a key: a TIPLOC's code, or that of an association or a schedule
+-- a key: a TIPLOC's code, or the key of an association or a schedule
 pub data Key : Type 0 where
   tiploc_key : (code : List ℕ) → Key
   association_key : (key : AssociationKey) → Key
@@ -80,7 +80,7 @@ tiploc_details line = tiploc_body (columns 10 72 line)
 abbrev pub keeps_code : List ℕ → Bool
 keeps_code line = is_blank (columns 73 79 line) || bytes_eq (columns 73 79 line) (columns 3 9 line)
 
--- the lines of a schedule behind its basic schedule, among the records that follow it
+-- the lines of a schedule after its basic schedule, among the records that follow it
 abbrev pub schedule_rest : List (List ℕ) → List (List ℕ)
 schedule_rest following = take_while (λ line. follows_basic (kind_of line)) following
 

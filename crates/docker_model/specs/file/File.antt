@@ -10,7 +10,7 @@ abbrev pub first_record : List (List ℕ) → List ℕ
 first_record [] = []
 first_record (line ∷ lines) = line
 
--- a record that stands in a schedule behind its basic schedule
+-- a record that stands in a schedule after its basic schedule
 abbrev pub follows_basic : Option Kind → Bool
 follows_basic (Some extra_details) = true
 follows_basic (Some origin_location) = true
@@ -46,7 +46,7 @@ pub record IsSoundJourney (lines : List (List ℕ)) : Type 0 where
   pub fields : All HasGoodFields lines
   pub falls : midnights lines ≤ 2
 
--- a basic schedule, at most one record of extra details, and a journey. The journey lines of a deletion are read for kind and place alone
+-- a basic schedule, at most one record of extra details, and a journey. The journey lines of a deletion are read only for kind and place
 pub record IsSchedule (lines : List (List ℕ)) : Type 0 where
   pub basic : List ℕ
   pub extra : List (List ℕ)

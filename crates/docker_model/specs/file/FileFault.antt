@@ -18,7 +18,7 @@ pub data FileCause : Type 0 where
   third_midnight : FileCause
   no_end : FileCause
 
--- their order: of several that hold the first is told
+-- their order: if several hold, the first is the cause
 abbrev pub cause_rank : FileCause → ℕ
 cause_rank too_many = 0
 cause_rank after_trailer = 1
@@ -95,7 +95,7 @@ pub record IsUnended (limit : ℕ) (records : List (List ℕ)) (fault : FileFaul
 abbrev pub IsFileFault : ℕ → List ℕ → FileFault → Type 0
 IsFileFault limit text fault = IsRecordFault limit (lines_of text) fault ⊎ IsUnended limit (lines_of text) fault
 
--- the text is one of this file, of at most so many records
+-- the text is one of this file, of at most this many records
 pub record IsFileText (limit : ℕ) (text : List ℕ) (file : List (List ℕ)) : Type 0 where
   pub lines : lines_of text ≡ file
   pub is : IsFile file

@@ -13,7 +13,7 @@ abbrev pub changes_of_units : ℕ → List (List (List ℕ)) → List Change
 changes_of_units number [] = []
 changes_of_units number (unit ∷ units) = changes_of_unit number unit ++ changes_of_units (number + length unit) units
 
--- the one change of a schedule, of a basic schedule and the lines behind it: its key is deleted, or put with all these lines
+-- the one change of a schedule, from its basic schedule and the lines after it: its key is deleted, or put with all these lines
 abbrev pub change_of_schedule : ℕ → List ℕ → List (List ℕ) → Change
 change_of_schedule number basic others = record {
   number = number;

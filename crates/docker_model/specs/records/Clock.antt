@@ -13,7 +13,7 @@ is_blank field = list_all (λ b. b == 32) field
 abbrev pub is_clock : List ℕ → Bool
 is_clock field = list_all is_ascii_digit (take 4 field) && nat_lt (two_digits field 0) 24 && nat_lt (two_digits field 2) 60
 
--- the minute of the day that the first four bytes tell: of a field of four or five bytes
+-- the minute of the day in the first four bytes: of a field of four or five bytes
 abbrev pub minute_of : List ℕ → ℕ
 minute_of field = 60 * two_digits field 0 + two_digits field 2
 

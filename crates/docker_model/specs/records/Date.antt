@@ -1,4 +1,4 @@
--- Dates: a day is a number, 0 for 1 January 1960. The calendar is that of the crate `jiff`. A field has the width said: past the end of a shorter one bytes
+-- Dates: a day is a number, 0 for 1 January 1960. The calendar is the one of the crate `jiff`. A field has the width said: past the end of a shorter one bytes
 -- read as 0.
 use Rattle.std.specs.Prelude.{ℕ, ◌+◌, ◌-◌, ◌*◌, List, slice_index, nat_le, if◌then◌else◌, Bool, ◌&&◌, pos, ◌+ℤ◌, unsigned_abs, ◌≤◌, codes, ◌||◌, ◌==◌, ◌%◌, count_by}
 use Rattle.std.specs.List.{list_all, range_with_len}

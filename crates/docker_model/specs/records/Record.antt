@@ -11,7 +11,7 @@ is_printable b = nat_le 0x20 b && nat_le b 0x7E
 abbrev pub IsRecord : List ℕ → Type 0
 IsRecord bytes = (length bytes ≡ 80) × AllPass is_printable bytes
 
--- a text of so many bytes
+-- a text of this many bytes
 abbrev pub IsTextOfLength : ℕ → List ℕ → Type 0
 IsTextOfLength n bytes = (length bytes ≡ n) × AllPass is_printable bytes
 

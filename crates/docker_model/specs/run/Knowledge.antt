@@ -28,7 +28,7 @@ IsGoodEvent format (take_file office text limit) = limit ≤ most_records
 IsGoodEvent format (horizon_event office day) = IsHorizonOf format day
 IsGoodEvent format _ = ⊤
 
--- each state is the summary of what its office knows, each message's text that of the summary of what it knows itself, and files and horizons are good
+-- each state is the summary of what its office knows, each message is the text of the summary of what it knows itself, and files and horizons are good
 pub record Holds (format : Format) (known : KnownSets) (states : List State) (messages : List (List ℕ)) : Type 0 where
   pub offices : All (IsGoodKnown format) known.offices
   pub sent : All (IsGoodKnown format) known.messages

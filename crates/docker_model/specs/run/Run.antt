@@ -143,8 +143,8 @@ pub record Exchange : Type 0 where
   pub messages : List (List ℕ)
   pub replies : List Reply
 
--- it is what a run of these events at so many offices leaves, with messages of a format: each state is the summary of what its office knows, each message the
--- text of that of what it knows itself
+-- it is what a run of these events at this many offices leaves, with messages of a format: each state is the summary of what its office knows, each message the
+-- text of the summary of what it knows itself
 pub record IsRun (format : Format) (offices : ℕ) (events : List RunEvent) (exchange : Exchange) : Type 0 where
   pub replies : AreReplies (none_known offices) events exchange.replies
   pub states : AllZip IsStateOf (known_sets offices events exchange.replies).offices exchange.states

@@ -96,7 +96,7 @@ IsCallingFromEither one two live first second row =
     (Contains first row × (live (schedule_key row.1) ≡ one (schedule_key row.1)))
     ⊎ (Contains second row × (live (schedule_key row.1) ≡ two (schedule_key row.1)))
 
--- the same of associations
+-- and so for associations
 abbrev pub IsLinkedFromEither : Table → Table → Table → List LinkedRow → List LinkedRow → LinkedRow → Type 0
 IsLinkedFromEither one two live first second row =
     (Contains first row × (live (association_key row.1) ≡ one (association_key row.1)))

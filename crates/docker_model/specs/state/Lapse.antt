@@ -20,11 +20,11 @@ HasNotToLapse horizon (put_with body) = horizon ≤ body_end body
 abbrev pub lapse_entry : ℕ → Entry → Entry
 lapse_entry horizon entry = record { stamp = entry.stamp; op = lapse horizon entry.op }
 
--- the same of the entry of a key
+-- and so for the entry of a key
 abbrev pub lapse_keyed : ℕ → Key × Entry → Key × Entry
 lapse_keyed horizon entry = (entry.0, lapse_entry horizon entry.1)
 
--- the same of each entry
+-- and so for each entry
 abbrev pub lapse_entries : ℕ → List (Key × Entry) → List (Key × Entry)
 lapse_entries horizon entries = map (lapse_keyed horizon) entries
 

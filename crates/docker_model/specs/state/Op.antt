@@ -53,7 +53,7 @@ body_bytes (tiploc_body bytes) = bytes
 body_bytes (association_body line) = line
 body_bytes (schedule_body lines) = concat lines
 
--- the end number of an end date of six bytes that can be read, else that of no end
+-- the end number of an end date of six bytes that can be read, else the number for no end
 abbrev pub readable_end : List ℕ → ℕ
 readable_end field = if is_end_date field then end_number field else no_end_number
 
@@ -63,7 +63,7 @@ body_end (tiploc_body bytes) = no_end_number
 body_end (association_body line) = readable_end (columns 22 27 line)
 body_end (schedule_body lines) = readable_end (columns 16 21 (first_record lines))
 
--- the order of bodies: by end number, then by bytes, then by tag. It tells apart bodies whose lines are records, and not all whose lines have other lengths
+-- the order of bodies: by end number, then by bytes, then by tag. It distinguishes bodies whose lines are records, but not all bodies with lines of other lengths
 abbrev pub body_cmp : Body → Body → Ordering
 body_cmp a b =
     ordering_then (nat_cmp (body_end a) (body_end b))
@@ -86,7 +86,7 @@ body_of deleted = None
 body_of lapsed = None
 body_of (put_with body) = Some body
 
--- deleted is below lapsed, and that below every put. It tells apart ops of records: those whose bodies' lines have 80 bytes
+-- deleted is below lapsed, and lapsed is below every put. It distinguishes ops of records, whose bodies' lines have 80 bytes
 abbrev pub op_cmp : Op → Op → Ordering
 op_cmp deleted deleted = Equal
 op_cmp deleted lapsed = Less
@@ -103,6 +103,6 @@ pub record Entry : Type 0 where
   pub stamp : Stamp
   pub op : Op
 
--- entries are ordered by stamp, and then by op. It tells apart entries of records
+-- entries are ordered by stamp, and then by op. It distinguishes entries of records
 abbrev pub entry_cmp : Entry → Entry → Ordering
 entry_cmp a b = ordering_then (stamp_cmp a.stamp b.stamp) (op_cmp a.op b.op)

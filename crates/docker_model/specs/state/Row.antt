@@ -10,7 +10,7 @@ use Rattle.docker_model.specs.state.Table.{Table}
 abbrev pub Row : Type 0
 Row = Key × Body
 
--- each key is below those behind it
+-- each key is below every later one
 abbrev pub AreInKeyOrder : List Row → Type 0
 AreInKeyOrder rows = IsStrictlyAscending (on (λ (row : Row). row.0) key_cmp) rows
 

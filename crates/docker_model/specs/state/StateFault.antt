@@ -10,7 +10,7 @@ use Rattle.docker_model.specs.state.State.{IsGoodItem, State, IsGoodKey, IsAssoc
 use Rattle.docker_model.specs.state.StateText.{Format, key_in, stamp_in, IsOpByte, mark, item_in, state_text}
 use Rattle.docker_model.specs.state.StatePart.{RaisesFloor, IsAboveItems, IsAboveEntries, IsLineCount, before_tag, AreLinesUpTo, before_stamp, EntryPart, before_op, IsTag, before_line, before_key, before_body, HaveNotToLapse, Before, before_entry_count, before_horizon, at_end, in_entry, before_item, before_mark, before_ledger_count, AreGood, text_before, items_before, width}
 
--- the causes. A bad horizon stands in DKS2 alone
+-- the causes. A bad horizon is possible only in DKS2
 pub data StateCause : Type 0 where
   bad_mark : StateCause
   bad_item : StateCause
@@ -68,7 +68,7 @@ IsBadPart format (before_entry_count horizon ledger) bytes cause = ⊥
 IsBadPart format (in_entry count state part) bytes cause = IsBadEntryPart format state part bytes cause
 IsBadPart format (at_end state) bytes cause = ⊥
 
--- a part that lies below the limit is bad; the offset is that of its item
+-- a part that lies below the limit is bad; the offset is where its item begins
 pub record HasBadPart (format : Format) (limit : ℕ) (text : List ℕ) (fault : StateFault) : Type 0 where
   pub before : Before
   pub good : AreGood format before
@@ -92,7 +92,7 @@ pub record IsLong (format : Format) (limit : ℕ) (text : List ℕ) (fault : Sta
   pub cause : fault.cause ≡ too_long
   pub limit_at : fault.at ≡ limit
 
--- the text ends before the state does; the offset is that of the item that is not whole
+-- the text ends before the state does; the offset is where the item that is not whole begins
 pub record IsShort (format : Format) (limit : ℕ) (text : List ℕ) (fault : StateFault) : Type 0 where
   pub before : Before
   pub good : AreGood format before
@@ -103,7 +103,7 @@ pub record IsShort (format : Format) (limit : ℕ) (text : List ℕ) (fault : St
   pub cause : fault.cause ≡ too_short
   pub item_at : fault.at ≡ length (items_before format before)
 
--- bytes follow the state; the offset is that of the first of them
+-- bytes follow the state; the offset is where the first of them stands
 pub record HasTail (format : Format) (limit : ℕ) (text : List ℕ) (fault : StateFault) : Type 0 where
   pub state : State
   pub valid : AreGood format (at_end state)
@@ -119,7 +119,7 @@ abbrev pub IsStateFault : Format → ℕ → List ℕ → StateFault → Type 0
 IsStateFault format limit text fault =
     HasBadPart format limit text fault ⊎ IsLong format limit text fault ⊎ IsShort format limit text fault ⊎ HasTail format limit text fault
 
--- the text is that of a valid state in a format, within the limit
+-- the text belongs to a valid state in a format, within the limit
 pub record IsStateText (format : Format) (limit : ℕ) (text : List ℕ) (state : State) : Type 0 where
   pub valid : AreGood format (at_end state)
   pub is : text ≡ state_text format state

@@ -11,7 +11,7 @@ use Rattle.docker_model.specs.state.Op.{key_tag, key_cmp, body_end}
 use Rattle.docker_model.specs.state.State.{State, IsGoodKey, IsStampIn, IsLedger}
 use Rattle.docker_model.specs.state.StateText.{Format, head_text, mark, ledger_text, entries_text, state_text, key_bytes, stamp_bytes, IsHorizonOf, IsToldState, TellsHorizon}
 
--- how far an entry is told: what its parts so far say
+-- how far an entry has been read: what its parts so far say
 pub data EntryPart : Type 0 where
   before_tag : EntryPart
   before_key : (tag : ℕ) → EntryPart
@@ -20,7 +20,7 @@ pub data EntryPart : Type 0 where
   before_body : (key : Key) (stamp : Stamp) → EntryPart
   before_line : (key : ScheduleKey) (stamp : Stamp) (count : ℕ) (lines : List (List ℕ)) → EntryPart
 
--- what the parts before a part say: the horizon, the counts, and what has been told of a ledger, of entries and of the next entry
+-- what the parts before a part say: the horizon, the counts, and what has been read of the ledger, of the entries and of the next entry
 pub data Before : Type 0 where
   before_mark : Before
   before_horizon : Before
@@ -108,7 +108,7 @@ IsAboveEntries state key = All (λ entry. IsBelow key_cmp entry.0 key) state.ent
 abbrev pub IsAboveItems : List LedgerItem → LedgerItem → Type 0
 IsAboveItems ledger item = All (λ earlier. IsBelow ledger_item_cmp earlier item) ledger
 
--- the item is of a full extract with a file stamp above that of the first item
+-- the item is of a full extract with a file stamp above the first item's
 abbrev pub RaisesFloor : List LedgerItem → LedgerItem → Type 0
 RaisesFloor [] item = ⊥
 RaisesFloor (first ∷ ledger) item = IsFull item × IsBelow file_stamp_cmp first.stamp item.stamp
@@ -119,7 +119,7 @@ pub record AreLinesOf (key : ScheduleKey) (lines : List (List ℕ)) : Type 0 whe
   pub new : HasNewTransaction (first_record lines)
   pub key_is : schedule_named (first_record lines) ≡ schedule_key key
 
--- the same, and the last of so many lines completes the schedule
+-- the same, and the last of this many lines completes the schedule
 pub record AreLinesUpTo (key : ScheduleKey) (count : ℕ) (lines : List (List ℕ)) : Type 0 where
   pub lines_of : AreLinesOf key lines
   pub complete : length lines ≡ count → IsSchedule lines
@@ -132,7 +132,7 @@ IsKeyHere state key = IsGoodKey key × IsAboveEntries state key
 abbrev pub IsStampHere : State → Key → Stamp → Type 0
 IsStampHere state key stamp = IsKeyHere state key × IsStampIn state.ledger stamp
 
--- the lines have not to lapse, as the first of them tells
+-- the lines do not lapse, as the first of them shows
 abbrev pub HaveNotToLapse : State → List (List ℕ) → Type 0
 HaveNotToLapse state lines = state.horizon ≤ body_end (schedule_body lines)
 
@@ -147,7 +147,7 @@ IsPartHere state (before_line key stamp count lines) =
     IsStampHere state (schedule_key key) stamp × IsLineCount count × (length lines < count)
     × ((lines ≡ []) ⊎ (AreLinesOf key lines × HaveNotToLapse state lines))
 
--- a number that eight bytes can tell
+-- a number that eight bytes can hold
 abbrev pub IsCount : ℕ → Type 0
 IsCount count = count < 2 ^ 64
 

@@ -1,4 +1,4 @@
--- The text of a state, in bytes, in either of two formats: that of the mark DKS1 tells no horizon, and that of DKS2 does. All numbers are big endian.
+-- The text of a state, in bytes, in either of two formats: with the mark DKS1 it has no horizon, with DKS2 it has one. All numbers are big endian.
 use Rattle.std.specs.Prelude.{ℕ, List, codes, [], ◌++◌, ◌∷◌, length, slice_range, slice_index, ◌==◌, if◌then◌else◌, ⊤, ◌≡◌, ◌⊎◌, All}
 use Rattle.std.specs.List.{concat, flat_map}
 use Rattle.std.specs.Int.{w16, to_be_bytes, w32, w64, from_be_bytes}
@@ -18,7 +18,7 @@ abbrev pub mark : Format → List ℕ
 mark dks_1 = codes "DKS1"
 mark dks_2 = codes "DKS2"
 
--- the horizon behind the mark, where the format tells it
+-- the horizon after the mark, if the format has it
 abbrev pub horizon_bytes : Format → ℕ → List ℕ
 horizon_bytes dks_1 horizon = []
 horizon_bytes dks_2 horizon = to_be_bytes w16 horizon
@@ -113,17 +113,17 @@ key_in tag bytes = if tag == 1 then tiploc_key bytes else (if tag == 2 then asso
 abbrev pub stamp_in : List ℕ → Stamp
 stamp_in bytes = record { file = file_stamp_in bytes; number = from_be_bytes w32 (slice_range bytes 11 15) }
 
--- the format tells a horizon
+-- the format has a horizon
 abbrev pub TellsHorizon : Format → Type 0
 TellsHorizon dks_1 = ⊥
 TellsHorizon dks_2 = ⊤
 
--- the horizons that a state of the format may have: 0 where the format tells none
+-- the horizons that a state of the format may have: 0 if the format has none
 abbrev pub IsHorizonOf : Format → ℕ → Type 0
 IsHorizonOf dks_1 horizon = horizon ≡ 0
 IsHorizonOf dks_2 horizon = IsDay horizon
 
--- the ops that the format tells: lapsed in DKS2 alone
+-- the ops that the format has: lapsed only in DKS2
 abbrev pub TellsOp : Format → Op → Type 0
 TellsOp dks_1 lapsed = ⊥
 TellsOp _ _ = ⊤
@@ -133,7 +133,7 @@ abbrev pub IsOpByte : Format → ℕ → Type 0
 IsOpByte dks_1 byte = (byte ≡ 0) ⊎ (byte ≡ 1)
 IsOpByte dks_2 byte = (byte ≡ 0) ⊎ (byte ≡ 1) ⊎ (byte ≡ 2)
 
--- a valid state that the format can tell
+-- a valid state that the format can hold
 pub record IsToldState (format : Format) (state : State) : Type 0 where
   pub valid : IsValid state
   pub horizon : IsHorizonOf format state.horizon
