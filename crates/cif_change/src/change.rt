@@ -1,5 +1,5 @@
 //! Changes of keys, and the order of bodies and acts.
-ghost use Rattle.std.specs.Prelude.{◌≡◌, ◌+◌, ◌-◌, ◌<◌, ◌≤◌};
+ghost use Rattle.std.specs.Prelude.{◌≡◌, ◌↔◌, ◌+◌, ◌-◌, ◌<◌, ◌≤◌, IsTrue};
 ghost use Rattle.std.specs.Ordering.{on, as_partial_cmp, eq_by_cmp};
 ghost use Rattle.std.specs.Cmp.{partial_equiv_from_equiv, on_equiv, on_total, eq_by_cmp_equiv, partial_order_from_total};
 ghost use Rattle.std.proofs.Common.{refl};
@@ -11,8 +11,10 @@ ghost use Rattle.cif_change.specs.Joined.{joined_bytes};
 ghost use Rattle.cif_change.specs.Meaning.{body_meant};
 ghost use Rattle.cif_change.specs.Acts.{act_op};
 
+use crate::joined::Joined;
 use crate::key::Key;
-use crate::lines::{Joined, Lines};
+use crate::lines::Lines;
+use crate::same::{are_same_lines, compare_lines, is_same_line};
 use cif_line::{Line, NO_END, Until};
 use std::cmp::Ordering;
 
@@ -69,7 +71,26 @@ impl Body {
         ensures { result ≡
             bytes_cmp (body_bytes (body_meant self.now)) (body_bytes (body_meant other.now)) }
     {
-        self.bytes().compare(other.bytes())
+        match (self, other) {
+            (Body::Schedule(own), Body::Schedule(lines)) => {
+                compare_lines(own.as_slice(), lines.as_slice())
+            }
+            _ => self.bytes().compare(other.bytes()),
+        }
+    }
+
+    /// Whether it is the other body: of its kind, with its bytes.
+    fn is_same(&self, other: &Body) -> bool
+        ensures { IsTrue result ↔ (body_meant self.now ≡ body_meant other.now) }
+    {
+        match (self, other) {
+            (Body::Tiploc(own), Body::Tiploc(bytes)) => own == bytes,
+            (Body::Assoc(own), Body::Assoc(line)) => is_same_line(own, line),
+            (Body::Schedule(own), Body::Schedule(lines)) => {
+                are_same_lines(own.as_slice(), lines.as_slice())
+            }
+            _ => false,
+        }
     }
 }
 
@@ -129,6 +150,10 @@ impl Ord for Body {
     ghost matches_eq = { λ a b. refl };
 
     fn cmp(&self, other: &Body) -> Ordering {
+        // Most bodies that are compared are the same, and their end dates needn't be read.
+        if self.is_same(other) {
+            return Ordering::Equal;
+        }
         self.end_number()
             .cmp(&other.end_number())
             .then_with(|| self.cmp_bytes(other))

@@ -2,8 +2,10 @@
 #![tactic(auto)]
 
 mod change;
+mod joined;
 mod key;
 mod lines;
+mod same;
 
 pub use change::{Act, Body, Change};
 pub use key::{AssocKey, Key, ScheduleKey};

@@ -17,4 +17,3 @@ pub mod LedgerSearch
 pub mod UidRows
 pub mod NoFile
 pub mod Newest
-pub mod SameLines

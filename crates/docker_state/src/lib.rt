@@ -8,7 +8,6 @@ mod live;
 mod near;
 mod parts;
 mod rows;
-mod same;
 mod staging;
 mod state;
 mod uid_rows;

@@ -14,7 +14,6 @@ ghost use Rattle.docker_state.specs.Staging.{IsAboveStaged, IsOffered, HasNothin
 use crate::floor::{common_floor, floor_of, is_kept};
 use crate::item::LedgerItem;
 use crate::ledger::{has_kept_items, is_above_all};
-use crate::same::is_below;
 use crate::state::State;
 use cif_file::Key;
 use cif_line::Memory;
@@ -141,7 +140,7 @@ fn is_to_stage(
         return is_kept(floor, &entry.stamp.file);
     }
     match state.get_near(key, near) {
-        Some(own) => is_kept(floor, &entry.stamp.file) && is_below(own, entry),
+        Some(own) => is_kept(floor, &entry.stamp.file) && own < entry,
         None => is_kept(floor, &entry.stamp.file),
     }
 }

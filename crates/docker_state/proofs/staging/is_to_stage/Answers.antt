@@ -18,9 +18,9 @@ returns-then-is_above_all c =
 pub returns-then-is_kept : goal.returns-then-is_kept
 returns-then-is_kept c =
     to_stage_tells c.args.state.now c.get_near.ensures.valid (floor_meant c.args.floor.now) (key_meant c.args.key.now) (entry_meant c.args.entry.now)
-    (Some (entry_meant c.in-Some.own.now)) c.in-Some.ensures.entry c.is_below.result
+    (Some (entry_meant c.in-Some.own.now)) c.in-Some.ensures.entry c.lt.result
     (below_tells (IsKept (floor_meant c.args.floor.now) (entry_meant c.args.entry.now).stamp.file) (c.is_kept-in-Some.ensures.0 c.if-is_kept.true)
-    (entry_cmp (entry_meant c.in-Some.own.now) (entry_meant c.args.entry.now)) c.is_below.result c.is_below.ensures)
+    (entry_cmp (entry_meant c.in-Some.own.now) (entry_meant c.args.entry.now)) c.lt.result c.lt.ensures)
 
 pub returns-in-None : goal.returns-in-None
 returns-in-None c =

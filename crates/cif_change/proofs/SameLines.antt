@@ -1,5 +1,6 @@
 -- Lines whose blocks of sixteen bytes are the same.
-use Rattle.std.proofs.Common.{◌≡◌, ℕ, ◌+◌, ◌*◌, ◌%◌, ◌^◌, ◌≤◌, nat_eq, Bool, true, false, cond, not, ◌&&◌, List, [], ◌∷◌, ◌++◌, map, length, take, drop, w8, refl, sym, ap, ◌∙◌, arith}
+use Rattle.std.proofs.Common.{◌≡◌, ℕ, ◌+◌, ◌*◌, ◌%◌, ◌^◌, ◌≤◌, nat_eq, Bool, true, false, cond, not, ◌&&◌, List, [], ◌∷◌, ◌++◌, map, length, take, drop, w8, refl, sym, ap, subst, ◌∙◌, arith}
+use Rattle.std.specs.Prelude.{◌↔◌, IsTrue}
 use Rattle.std.proofs.lemmas.Bool.{eqb-true}
 use Rattle.std.proofs.lemmas.Bool.Decides.{nat_tests}
 use Rattle.std.proofs.lemmas.List.{drop_all}
@@ -34,13 +35,32 @@ none_differs (x ∷ xs) (y ∷ ys) even none = by (nat_eq x y) refl none (none_d
     by true one told rest = let same = eqb-true x y one in let others = rest (sym (twice (mask_l (zip2 differ xs ys))) ∙ told) in λ i. same i ∷ others i
     by false two told rest = absurd (let bad : false ≡ true = sym (one_set (mask_l (zip2 differ xs ys))) ∙ told in cc)
 
+-- and of bytes that are the same the mask is 0
+none_of_same : (xs : List ℕ) → nat_eq (mask_l (zip2 differ xs xs)) 0 ≡ true
+none_of_same [] = refl
+none_of_same (x ∷ xs) = by (nat_eq x x) (grind (arith, nat_tests)) (none_of_same xs)
+  where
+    by : (b : Bool) → b ≡ true → nat_eq (mask_l (zip2 differ xs xs)) 0 ≡ true → nat_eq (cond (not b) 1 0 + 2 * mask_l (zip2 differ xs xs)) 0 ≡ true
+    by true one rest = twice (mask_l (zip2 differ xs xs)) ∙ rest
+    by false two rest = absurd (let bad : false ≡ true = two in cc)
+
+-- the mask of lanes is that of the bytes that aren't the same
+mask_of_lanes : (xs ys : List ℕ) → length xs ≡ length ys → length xs ≤ 64
+    → mask_l (map (top 7) (zip2 lane xs ys)) % 2 ^ 64 ≡ mask_l (zip2 differ xs ys)
+mask_of_lanes xs ys even few =
+    ap (λ l. mask_l l % 2 ^ 64) (tops_compared w8 differ xs ys) ∙ mask_l-mod (zip2 differ xs ys) 64 (omega (arith, length-zip2 differ xs ys even))
+
 -- bytes are the same where no lane of theirs is set
 pub no_lane_differs : (xs ys : List ℕ) → length xs ≡ length ys → length xs ≤ 64
     → nat_eq (mask_l (map (top 7) (zip2 lane xs ys)) % 2 ^ 64) 0 ≡ true → xs ≡ ys
 no_lane_differs xs ys even few none =
-    let bits : mask_l (map (top 7) (zip2 lane xs ys)) % 2 ^ 64 ≡ mask_l (zip2 differ xs ys) =
-    ap (λ l. mask_l l % 2 ^ 64) (tops_compared w8 differ xs ys) ∙ mask_l-mod (zip2 differ xs ys) 64 (omega (arith, length-zip2 differ xs ys even)) in
-    none_differs xs ys even (ap (λ m. nat_eq m 0) (sym bits) ∙ none)
+    none_differs xs ys even (ap (λ m. nat_eq m 0) (sym (mask_of_lanes xs ys even few)) ∙ none)
+
+-- and of bytes that are the same none is
+pub no_lane_of_same : (xs ys : List ℕ) → length xs ≤ 64 → xs ≡ ys → nat_eq (mask_l (map (top 7) (zip2 lane xs ys)) % 2 ^ 64) 0 ≡ true
+no_lane_of_same xs ys few same =
+    subst (λ (other : List ℕ). nat_eq (mask_l (map (top 7) (zip2 lane xs other)) % 2 ^ 64) 0 ≡ true) same
+    (ap (λ m. nat_eq m 0) (mask_of_lanes xs xs refl few) ∙ none_of_same xs)
 
 -- what is left from a place on is the same where its first block and the rest are
 same_rest : (xs ys : List ℕ) (at : ℕ) → take 16 (drop at xs) ≡ take 16 (drop at ys) → drop (at + 16) xs ≡ drop (at + 16) ys → drop at xs ≡ drop at ys
@@ -51,7 +71,7 @@ nothing_left : (bytes : List ℕ) → length bytes ≡ 80 → drop 80 bytes ≡ 
 nothing_left bytes size = drop_all 80 bytes (let long : length bytes ≤ 80 = omega arith in long)
 
 -- a line is another where each block is
-pub same_line : (xs ys : List ℕ) → length xs ≡ 80 → length ys ≡ 80
+same_line : (xs ys : List ℕ) → length xs ≡ 80 → length ys ≡ 80
     → take 16 (drop 0 xs) ≡ take 16 (drop 0 ys) → take 16 (drop 16 xs) ≡ take 16 (drop 16 ys) → take 16 (drop 32 xs) ≡ take 16 (drop 32 ys)
     → take 16 (drop 48 xs) ≡ take 16 (drop 48 ys) → take 16 (drop 64 xs) ≡ take 16 (drop 64 ys) → xs ≡ ys
 same_line xs ys left right first second third fourth fifth =
@@ -60,10 +80,33 @@ same_line xs ys left right first second third fourth fifth =
     (same_rest xs ys 32 third (same_rest xs ys 48 fourth (same_rest xs ys 64 fifth (nothing_left xs left ∙ sym (nothing_left ys right))))))
 
 -- five that hold together hold each
-pub all_five : (a b c d e : Bool) → ((((a && b) && c) && d) && e) ≡ true → (a ≡ true) × (b ≡ true) × (c ≡ true) × (d ≡ true) × (e ≡ true)
+all_five : (a b c d e : Bool) → ((((a && b) && c) && d) && e) ≡ true → (a ≡ true) × (b ≡ true) × (c ≡ true) × (d ≡ true) × (e ≡ true)
 all_five true true true true true told = (refl, refl, refl, refl, refl)
 all_five true true true true false told = absurd (let bad : false ≡ true = told in cc)
 all_five true true true false e told = absurd (let bad : false ≡ true = told in cc)
 all_five true true false d e told = absurd (let bad : false ≡ true = told in cc)
 all_five true false c d e told = absurd (let bad : false ≡ true = told in cc)
 all_five false b c d e told = absurd (let bad : false ≡ true = told in cc)
+
+-- the block of two lines from a place on is the same
+abbrev pub IsSameBlock : List ℕ → List ℕ → ℕ → Type 0
+IsSameBlock xs ys at = take 16 (drop at xs) ≡ take 16 (drop at ys)
+
+-- of five tests, each of a block, all hold where the lines are the same
+pub line_told : (xs ys : List ℕ) → length xs ≡ 80 → length ys ≡ 80 → (a b c d e : Bool)
+    → (IsTrue a ↔ IsSameBlock xs ys 0) → (IsTrue b ↔ IsSameBlock xs ys 16) → (IsTrue c ↔ IsSameBlock xs ys 32)
+    → (IsTrue d ↔ IsSameBlock xs ys 48) → (IsTrue e ↔ IsSameBlock xs ys 64)
+    → IsTrue ((((a && b) && c) && d) && e) ↔ (xs ≡ ys)
+line_told xs ys left right a b c d e first second third fourth fifth = (told, holds)
+  where
+    told : IsTrue ((((a && b) && c) && d) && e) → xs ≡ ys
+    told all =
+        let each = all_five a b c d e all in
+        same_line xs ys left right (first.0 each.0) (second.0 each.1) (third.0 each.2) (fourth.0 each.3) (fifth.0 each.4)
+
+    block : xs ≡ ys → (at : ℕ) → IsSameBlock xs ys at
+    block same at = ap (λ bytes. take 16 (drop at bytes)) same
+
+    holds : xs ≡ ys → IsTrue ((((a && b) && c) && d) && e)
+    holds same = λ i.
+        (((first.1 (block same 0) i && second.1 (block same 16) i) && third.1 (block same 32) i) && fourth.1 (block same 48) i) && fifth.1 (block same 64) i

@@ -3,7 +3,7 @@ use Rattle.std.specs.Ordering.{nat_cmp}
 use Rattle.std.proofs.lemmas.Iterator.Consumers.{YieldsList-from_first}
 use Rattle.std.proofs.lemmas.Iterator.Search.{cmp_from_yields_List}
 use Rattle.cif_change.specs.Joined.{joined_bytes}
-use Rattle.cif_change.proofs.lines.Joined.compare.Goals as goal
+use Rattle.cif_change.proofs.joined.Joined.compare.Goals as goal
 
 pub returns : goal.returns
 returns c =
