@@ -1,0 +1,171 @@
+# shellcheck shell=bash
+# What the launchers share; they source it.
+#   launch PROGRAM [WORD..]
+# runs crates/PROGRAM/out/PROGRAM with these words, its input, output and status untouched. If it isn't built, or is older than a source
+# that it stands on, it is proved and built first. Progress goes to standard error, and the report on each crate to
+# crates/PROGRAM/out/proving/CRATE.log. Status 70 says that it couldn't be built.
+
+root=$(dirname "$(dirname "$(readlink -f "${BASH_SOURCE[0]}")")")
+
+# The kilobytes that the check of one crate may take.
+memory_of_a_check=$((5 * 1024 * 1024))
+
+# What is under way: by its process the crate, and the second in which it began.
+declare -A under_way=() began=()
+# The crates that wait, in the order in which they should begin; by crate those that it cites; and those that are proved.
+declare -a waiting=()
+declare -A cites=() is_proved=()
+# A process that ends soon, while a crate waits for memory.
+pause=
+
+say() { printf '%s: %s\n' "$launched" "$1" >&2; }
+
+# The crates that a program stands on, and itself, each with the crates of this repository that it cites. The crate with the longest
+# chain of crates up to the program comes first, and so each comes after those that it cites.
+plan() {
+  awk -F'[: ]+' -v program="$1" '
+    { line[NR] = $0; is_ours[$1] }
+    END {
+      chain[program] = longest = 1
+      for (n = NR; n > 0; n--) {
+        words = split(line[n], word)
+        if (!(word[1] in chain)) continue
+        cited[n] = word[1]
+        for (i = 2; i <= words; i++) {
+          if (!(word[i] in is_ours)) continue
+          cited[n] = cited[n] " " word[i]
+          if (chain[word[i]] <= chain[word[1]]) chain[word[i]] = chain[word[1]] + 1
+          if (chain[word[i]] > longest) longest = chain[word[i]]
+        }
+      }
+      for (; longest > 0; longest--)
+        for (n = 1; n <= NR; n++) {
+          split(cited[n], word)
+          if (n in cited && chain[word[1]] == longest) print cited[n]
+        }
+    }' "$root/crates.txt"
+}
+
+# Whether a program is older than one of the sources that it stands on, or isn't there.
+is_old() {
+  local program=$root/crates/$1/out/$1 crate
+  local -a folders=()
+  [ -x "$program" ] || return 0
+  [ "$root/crates.txt" -nt "$program" ] && return 0
+  while read -r crate _; do folders+=("$root/crates/$crate"); done < <(plan "$1")
+  [ -n "$(find "${folders[@]}" -name out -prune -o \( -name '*.rt' -o -name '*.antt' \) -newer "$program" -print -quit)" ]
+}
+
+# Runs `rt COMMAND` in a crate's folder, in a session of its own, so that it can be ended with all that it started.
+begin() {
+  local crate=$1 command=$2 log=$3 input=$4
+  (cd "$root/crates/$crate" && exec setsid rt "$command") <"$input" >"$log" 2>&1 &
+  under_way[$!]=$crate
+  began[$!]=$SECONDS
+}
+
+# Ends all that is under way, and the launcher.
+stop() {
+  local process
+  trap '' INT TERM HUP
+  for process in "${!under_way[@]}"; do kill -TERM -- "-$process" "$process"; done 2>/dev/null
+  if [ -n "$pause" ]; then kill "$pause" 2>/dev/null; fi
+  wait
+  say "stopped; what is proved is kept"
+  exit "$1"
+}
+
+free_memory() { awk '/^MemAvailable:/ { free = $2 } END { print free + 0 }' /proc/meminfo; }
+
+# Whether memory allows one more check. One that began less than a minute ago has yet to take what it needs.
+has_memory() {
+  local process checks=1
+  for process in "${!under_way[@]}"; do
+    if ((SECONDS - began[$process] < 60)); then checks=$((checks + 1)); fi
+  done
+  (($(free_memory) >= checks * memory_of_a_check))
+}
+
+# Finds the first crate that waits for nothing: sets `next` to its place in `waiting`, or to nothing.
+find_next() {
+  local at crate
+  for at in "${!waiting[@]}"; do
+    next=$at
+    for crate in ${cites[${waiting[at]}]}; do
+      if [ -z "${is_proved[$crate]:-}" ]; then next=; fi
+    done
+    if [ -n "$next" ]; then return; fi
+  done
+  next=
+}
+
+# Begins checks until the lanes are full, memory is short or no crate can begin. If nothing is under way, one begins in any case.
+begin_more() {
+  local lanes=$1 logs=$2 next
+  while find_next; [ -n "$next" ] && ((${#under_way[@]} < lanes)); do
+    if ((${#under_way[@]} > 0)) && ! has_memory; then
+      if [ -z "$pause" ]; then sleep 10 & pause=$!; fi
+      return
+    fi
+    begin "${waiting[next]}" check "$logs/${waiting[next]}.log" /dev/null
+    unset 'waiting[next]'
+  done
+}
+
+time_since() {
+  local seconds=$((SECONDS - $1))
+  if ((seconds < 60)); then echo "$seconds s"; else echo "$((seconds / 60)) min"; fi
+}
+
+# Proves the crates of a program in lanes: one for each two processors, and at least two. A crate begins when those that it cites are
+# proved. After a failure no other crate begins, and those that are under way go on to their end.
+prove() {
+  local program=$1 logs=$2 start=$SECONDS failed='' crate rest total lanes ended status
+  while read -r crate rest; do
+    waiting+=("$crate")
+    cites[$crate]=$rest
+  done < <(plan "$program")
+  total=${#waiting[@]}
+  lanes=$(($(nproc) / 2))
+  ((lanes >= 2)) || lanes=2
+  say "proving $total crates and building the program: the first time up to an hour on four processors, later only what changed"
+  while begin_more "${failed:-$lanes}" "$logs"; ((${#under_way[@]} > 0)); do
+    status=0
+    wait -n -p ended || status=$?
+    if [ "$ended" = "$pause" ]; then pause= && continue; fi
+    crate=${under_way[$ended]}
+    unset "under_way[$ended]"
+    if ((status == 0)); then
+      is_proved[$crate]=yes
+      say "$crate is proved (${#is_proved[@]} of $total, $((SECONDS - began[$ended])) s; $(time_since "$start") so far)"
+    else
+      failed=0
+      say "$crate isn't proved: see $logs/$crate.log"
+      if ((${#under_way[@]} > 0)); then say "no other crate begins; still under way: ${under_way[*]}"; fi
+    fi
+  done
+  if [ -n "$pause" ]; then kill "$pause" 2>/dev/null; fi
+  [ -z "$failed" ]
+}
+
+build() {
+  local program=$1 logs=$root/crates/$1/out/proving input=/dev/null
+  command -v rt >/dev/null 2>&1 || { say "the program isn't built, and the kit's command rt isn't on the PATH to prove and build it"; return 1; }
+  mkdir -p "$logs"
+  trap 'stop 130' INT
+  trap 'stop 143' TERM
+  trap 'stop 129' HUP
+  prove "$program" "$logs" || return 1
+  # Machine code, and a first run.
+  if [ -f "$root/crates/$program/stdin" ]; then input=$root/crates/$program/stdin; fi
+  begin "$program" run "$logs/$program.log" "$input"
+  wait "${!under_way[@]}" || { say "the program isn't built: see $logs/$program.log"; return 1; }
+  trap - INT TERM HUP
+  touch "$root/crates/$program/out/$program"
+}
+
+launch() {
+  launched=$1
+  if is_old "$1"; then build "$1" || exit 70; fi
+  exec "$root/crates/$1/out/$1" "${@:2}"
+}
