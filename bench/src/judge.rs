@@ -460,7 +460,7 @@ fn take_lines(judge: &mut Judge, text: &[u8]) -> Result<usize, Fault> {
 }
 
 /// Where the first line feed stands; mostly behind 80 other bytes.
-fn end_of_line(text: &[u8]) -> Option<usize> {
+pub fn end_of_line(text: &[u8]) -> Option<usize> {
     if text.len() > 80 && text[80] == b'\n' && text[..80].iter().fold(true, |none, &byte| none & (byte != b'\n')) {
         return Some(80);
     }

@@ -157,7 +157,7 @@ type Tallies = [Tally; 3];
 
 /// The states of the files, that of all of them, and that under a horizon.
 fn states_of(files: &[Vec<u8>]) -> Option<Vec<Vec<u8>>> {
-    let kept = |words: &[&str], files: &[Vec<u8>]| answer(words, files).ok()?.state;
+    let kept = |words: &[&str], files: &[Vec<u8>]| answer(words, files).state;
     let empty = kept(&["new", "STATE"], &[])?;
     let mut states =
         files.iter().map(|file| kept(&["take", "STATE", "FILE"], &[empty.clone(), file.clone()])).collect::<Option<Vec<_>>>()?;
@@ -238,7 +238,7 @@ impl Bench<'_> {
         };
         fs::write(state, &files[0])?;
         fs::write(other, text)?;
-        let Answer { status, output, errors, state: becomes } = answer(&words, &files).unwrap_or_else(|refused| refused);
+        let Answer { status, output, errors, state: becomes } = answer(&words, &files);
         let spent = run(&[&[self.program], &*words].concat(), Input::None)?;
         let left = fs::read(state)?;
         let wanted = (i32::from(status), &*output, &*errors);

@@ -356,7 +356,7 @@ fn example(name: &str) -> Vec<u8> {
 }
 
 fn kept(words: &[&str], files: &[Vec<u8>]) -> Vec<u8> {
-    plain::answer(words, files).unwrap().state.unwrap()
+    plain::answer(words, files).state.unwrap()
 }
 
 #[test]
@@ -377,11 +377,11 @@ fn dockers_of_a_morning() {
     }
     assert_eq!(texts[0], texts[1]);
     for place in ["ASHFELD", "BRAYTON", "CORHAM"] {
-        let docker = plain::answer(&["print", "STATE", place, "2024-06-12"], &texts[..1]).unwrap().output;
+        let docker = plain::answer(&["print", "STATE", place, "2024-06-12"], &texts[..1]).output;
         assert!(docker.starts_with(&format!("DOCKER {place}")) && transcript.contains(&docker), "{docker}");
     }
-    let files = plain::answer(&["files", "STATE"], &texts[..1]).unwrap().output;
+    let files = plain::answer(&["files", "STATE"], &texts[..1]).output;
     assert!(files.lines().count() == 3 && transcript.contains(&files), "{files}");
     let near = kept(&["horizon", "STATE", "2024-06-10"], &texts[..1]);
-    assert_eq!(plain::answer(&["print", "STATE", "CORHAM", "2024-06-12"], &[near]).unwrap().status, 1);
+    assert_eq!(plain::answer(&["print", "STATE", "CORHAM", "2024-06-12"], &[near]).status, 1);
 }

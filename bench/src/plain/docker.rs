@@ -1,245 +1,202 @@
-//! The docker of a state, by plain walks over what is live.
+//! The docker of an excerpt.
 
-use super::fields::{at, iso, time};
-use super::state::{Body, Key, State};
+use super::excerpt::{Calls, Event, Excerpt, Link, Train, DAYS, TODAY};
+use super::fields::{at, iso, pair};
+use super::key::{Item, FILE_STAMP};
+use std::cmp::Reverse;
 use std::collections::HashMap;
 
-type Schedule<'a> = (&'a Key, &'a Body);
-
-/// An event of a schedule: its record, with its kind and time, the identity there, and how many times fell before it.
-struct Event<'a> {
-    number: u64,
-    line: &'a [u8],
-    kind: u8,
-    half_minutes: u16,
-    public: Option<&'a [u8]>,
-    identity: &'a [u8],
-    falls: u16,
-}
-
-fn events(body: &Body) -> Vec<Event<'_>> {
-    let mut events = Vec::new();
-    let mut identity = &body.bytes[32..36];
-    let (mut last, mut falls) = (0, 0);
-    for line in body.bytes.chunks_exact(80) {
-        // Column of the time, its kind, and column of the public time; in the order arrival, pass, departure.
-        let times: &[(usize, u8, usize)] = match &line[..2] {
-            b"LO" => &[(11, b'D', 16)],
-            b"LT" => &[(11, b'A', 16)],
-            b"LI" => &[(11, b'A', 26), (21, b'P', 0), (16, b'D', 30)],
-            b"CR" => {
-                identity = &line[12..16];
-                &[]
-            }
-            _ => &[],
-        };
-        for &(column, kind, public) in times {
-            let Some(half_minutes) = time(&line[column - 1..]) else {
-                continue;
-            };
-            falls += u16::from(half_minutes < last);
-            last = half_minutes;
-            let public = (public > 0).then(|| &line[public - 1..public + 3]).filter(|text| text != b"0000");
-            events.push(Event { number: events.len() as u64 + 1, line, kind, half_minutes, public, identity, falls });
-        }
-    }
-    events
-}
-
-/// Whether what a basic schedule's or an association's line puts runs on a day; the columns of its first day, its last day and its marks.
-fn runs(line: &[u8], first: u16, end: u16, marks: usize, day: u16) -> bool {
-    first <= day && day <= end && line[marks - 1 + usize::from((day + 4) % 7)] == b'1'
-}
-
-fn stp_and_first(key: &Key) -> (u8, u16) {
-    match *key {
-        Key::Schedule { first, stp, .. } => (stp, first),
-        Key::Association { start, stp, .. } => (stp, start),
-        Key::Tiploc(_) => (0, 0),
-    }
-}
-
-/// Of those that run on a day the one of the least STP indicator, and of equals the latest first day.
-fn chosen<'a>(rows: &[Schedule<'a>], marks: usize, day: u16) -> Option<Schedule<'a>> {
-    let running = rows.iter().filter(|(key, body)| runs(&body.bytes, stp_and_first(key).1, body.end, marks, day));
-    running.copied().min_by_key(|(key, _)| {
-        let (stp, first) = stp_and_first(key);
-        (stp, u16::MAX - first)
-    })
-}
-
-const DAYS_OF_SCHEDULE: usize = 22;
-const DAYS_OF_ASSOCIATION: usize = 28;
-
-/// The schedules of each UID.
-struct Trains<'a>(HashMap<[u8; 6], Vec<Schedule<'a>>>);
-
-impl<'a> Trains<'a> {
-    /// The schedule that a UID's train runs by on a day: what is chosen, and no cancellation.
-    fn running(&self, uid: &[u8; 6], day: u16) -> Option<Schedule<'a>> {
-        chosen(self.0.get(uid)?, DAYS_OF_SCHEDULE, day).filter(|(key, _)| stp_and_first(key).0 != b'C')
-    }
-}
+/// A line as it is printed, of 56 columns and a line feed.
+type Text = [u8; 57];
 
 struct Line {
     /// Time, kind, UID, start day, number of the event, associated UID.
-    order: (u16, usize, [u8; 6], u16, u64, [u8; 6]),
-    text: String,
+    order: (u16, usize, [u8; 6], usize, u64, [u8; 6]),
+    text: Text,
 }
 
-fn text(bytes: &[u8]) -> String {
-    String::from_utf8_lossy(bytes).into_owned()
+/// A line of spaces with texts from columns on, which count from 1.
+fn columns<const N: usize>(texts: &[(usize, &[u8])]) -> [u8; N] {
+    let mut line = [b' '; N];
+    line[N - 1] = b'\n';
+    for (column, text) in texts {
+        line[column - 1..column - 1 + text.len()].copy_from_slice(text);
+    }
+    line
 }
 
-/// A line without what stands behind the public time. Times of half minutes are printed with an H.
-fn front(event: &Event, kind: u8, uid: &[u8; 6], stp: u8, own: bool) -> String {
-    let (platform, line, path) = match &event.line[..2] {
-        b"LO" => (19, Some(22), None),
-        b"LT" => (19, None, Some(22)),
-        _ => (33, Some(36), Some(39)),
+/// The number in two digits.
+fn two(number: u16) -> [u8; 2] {
+    [b'0' + (number / 10) as u8, b'0' + (number % 10) as u8]
+}
+
+/// A line of an event as far as an association has it too. Times of half minutes are printed with an H.
+fn line_at(event: &Event, kind: u8, uid: &[u8], stp: u8) -> Text {
+    let (minutes, line) = (event.half_minutes / 2, &event.line);
+    let platform = if &line[..2] == b"LI" { 33 } else { 19 };
+    columns(&[
+        (1, &two(minutes / 60)),
+        (3, &two(minutes % 60)),
+        (5, if event.half_minutes % 2 == 1 { b"H" } else { b" " }),
+        (7, &[kind]),
+        (9, &event.identity),
+        (14, uid),
+        (21, &[stp]),
+        (23, &line[9..10]),
+        (25, &line[platform..platform + 3]),
+    ])
+}
+
+/// Puts line, path and public time of an event into its line.
+fn add_own(text: &mut Text, event: &Event) {
+    let line = &event.line;
+    let mut put = |column: usize, field: &[u8]| text[column - 1..column - 1 + field.len()].copy_from_slice(field);
+    let public = match (&line[..2], event.kind) {
+        (b"LO", _) => {
+            put(29, &line[22..25]);
+            &line[15..19]
+        }
+        (b"LT", _) => {
+            put(33, &line[22..25]);
+            &line[15..19]
+        }
+        (_, kind) => {
+            put(29, &line[36..39]);
+            put(33, &line[39..42]);
+            match kind {
+                b'A' => &line[25..29],
+                b'D' => &line[29..33],
+                _ => b"    ",
+            }
+        }
     };
-    let field =
-        |column: Option<usize>| column.filter(|_| own).map_or("   ".to_string(), |from| text(&event.line[from..from + 3]));
-    let minutes = event.half_minutes / 2;
-    format!(
-        "{:02}{:02}{} {} {} {} {} {} {} {} {} {}",
-        minutes / 60,
-        minutes % 60,
-        if event.half_minutes % 2 == 1 { 'H' } else { ' ' },
-        kind as char,
-        text(event.identity),
-        text(uid),
-        stp as char,
-        event.line[9] as char,
-        field_of(event.line, platform),
-        field(line),
-        field(path),
-        event.public.filter(|_| own).map_or("    ".to_string(), text),
-    )
-}
-
-fn field_of(line: &[u8], from: usize) -> String {
-    text(&line[from..from + 3])
+    if public != b"0000" {
+        put(37, public);
+    }
 }
 
 fn kind_rank(kind: u8) -> usize {
     b"APJVND".iter().position(|&letter| letter == kind).unwrap_or(6)
 }
 
-/// The docker of a place and a day; none where the day is before the horizon plus three days.
-pub fn docker(state: &State, place: &[u8; 7], day: u16) -> Option<String> {
-    if state.horizon > 0 && day < state.horizon + 3 {
-        return None;
-    }
-    let mut trains = Trains(HashMap::new());
-    let mut associations: Vec<Schedule> = Vec::new();
-    let mut description = vec![b' '; 26];
-    for (key, body) in state.live() {
-        match key {
-            Key::Tiploc(code) if code == place => description = body.bytes[9..35].to_vec(),
-            Key::Association { place: at, .. } if at == place => associations.push((key, body)),
-            Key::Schedule { uid, .. } => trains.0.entry(*uid).or_default().push((key, body)),
-            _ => {}
-        }
-    }
-    let mut lines = Vec::new();
-    for (uid, rows) in &trains.0 {
-        for row in rows.iter().filter(|(_, body)| body.bytes.chunks_exact(80).any(|line| line[2..9] == *place)) {
-            add_events(&mut lines, &trains, uid, *row, place, day);
-        }
-    }
-    add_associations(&mut lines, &trains, &associations, place, day);
-    lines.sort_by(|one, other| one.order.cmp(&other.order));
-    let heading = format!("DOCKER {} {} {}", text(place), iso(day), text(&description));
-    let mut printed = format!("{heading:<56}\n");
-    for line in &lines {
-        printed += &format!("{:<56}\n", line.text);
-    }
-    printed += &format!("{:<56}\n", "END");
-    Some(printed)
+/// Of rows that run on a day of an index the one of the least STP indicator, and of equals the latest first day; unless it is a cancellation.
+fn chosen<T>(rows: &[T], index: usize, choice: impl Fn(&T) -> (u8, u8, u16)) -> Option<&T> {
+    let running = rows.iter().filter(|row| choice(row).0 >> index & 1 == 1);
+    let best = running.min_by_key(|row| {
+        let (_, stp, first) = choice(row);
+        (stp, Reverse(first))
+    });
+    best.filter(|row| choice(row).1 != b'C')
 }
 
-fn add_events(lines: &mut Vec<Line>, trains: &Trains, uid: &[u8; 6], row: Schedule, place: &[u8; 7], day: u16) {
-    let (key, body) = row;
-    for start in day.saturating_sub(2)..=day {
-        if trains.running(uid, start).is_none_or(|(running, _)| running != key) {
-            continue;
+/// The train of a UID on each of the days.
+type Running<'a> = [Option<&'a Train>; DAYS];
+
+fn running(rows: &[Train]) -> Running<'_> {
+    std::array::from_fn(|index| chosen(rows, index, |train| (train.runs, train.stp, train.first)))
+}
+
+/// The trains by UID; what was asked of a UID once is known.
+struct Trains<'a> {
+    rows: &'a [Train],
+    known: HashMap<[u8; 6], Running<'a>>,
+}
+
+impl<'a> Trains<'a> {
+    fn of(&mut self, uid: [u8; 6]) -> &Running<'a> {
+        let rows = self.rows;
+        self.known.entry(uid).or_insert_with(|| {
+            let from = &rows[rows.partition_point(|train| train.uid < uid)..];
+            running(&from[..from.iter().take_while(|train| train.uid == uid).count()])
+        })
+    }
+}
+
+/// The text of the docker.
+pub fn docker(excerpt: &Excerpt) -> String {
+    let mut lines = Vec::new();
+    for rows in excerpt.trains.chunk_by(|one, other| one.uid == other.uid) {
+        if rows.iter().any(|train| train.calls.is_some()) {
+            add_events(&mut lines, &running(rows));
         }
-        let all = events(body);
-        let (Some(first), Some(last)) =
-            (body.bytes.chunks_exact(80).find(|line| &line[..2] == b"LO"), body.bytes.chunks_exact(80).last())
+    }
+    let mut trains = Trains { rows: &excerpt.trains, known: HashMap::new() };
+    // Base UID, associated UID and base suffix; the first days stand between them in the key.
+    let group = |link: &Link| (at::<12>(&link.key, 1), link.key[22]);
+    let mut links: Vec<&Link> = excerpt.links.iter().collect();
+    links.sort_by_key(|link| group(link));
+    for rows in links.chunk_by(|one, other| group(one) == group(other)) {
+        lines.extend((1..=TODAY).filter_map(|index| link_line(&mut trains, rows, index)));
+    }
+    lines.sort_by(|one, other| one.order.cmp(&other.order));
+    let description = excerpt.description.unwrap_or([b' '; 26]);
+    let heading: Text = columns(&[(1, b"DOCKER"), (8, &excerpt.place), (16, iso(excerpt.day).as_bytes()), (27, &description)]);
+    let mut printed = heading.to_vec();
+    lines.iter().for_each(|line| printed.extend_from_slice(&line.text));
+    printed.extend_from_slice(&columns::<57>(&[(1, b"END")]));
+    String::from_utf8_lossy(&printed).into_owned()
+}
+
+fn add_events(lines: &mut Vec<Line>, running: &Running) {
+    for (index, train) in running.iter().enumerate().take(TODAY + 1) {
+        let Some((train, Calls { origin: Some(origin), terminus, events, .. })) =
+            train.and_then(|train| Some((train, train.calls.as_deref()?)))
         else {
             continue;
         };
-        for event in all.iter().filter(|event| event.line[2..9] == *place && start + event.falls == day) {
-            let front = front(event, event.kind, uid, stp_and_first(key).0, true);
-            let order = (event.half_minutes, kind_rank(event.kind), *uid, start, event.number, [0; 6]);
-            lines.push(Line { order, text: format!("{front} {} {}", text(&first[2..9]), text(&last[2..9])) });
+        for event in events.iter().filter(|event| index + usize::from(event.falls) == TODAY) {
+            let mut text = line_at(event, event.kind, &train.uid, train.stp);
+            add_own(&mut text, event);
+            text[41..48].copy_from_slice(origin);
+            text[49..56].copy_from_slice(terminus);
+            let order = (event.half_minutes, kind_rank(event.kind), train.uid, index, event.number, [0; 6]);
+            lines.push(Line { order, text });
         }
     }
 }
 
-/// The group of an association: base UID, associated UID, location and base suffix.
-fn group(key: &Key) -> Option<([u8; 6], [u8; 6], u8)> {
-    match *key {
-        Key::Association { base, other, suffix, .. } => Some((base, other, suffix)),
-        _ => None,
+/// The line of a group of associations whose base train starts on the day of an index.
+fn link_line(trains: &mut Trains, rows: &[&Link], index: usize) -> Option<Line> {
+    let link = chosen(rows, index, |link| (link.runs, link.key[23], pair(&link.key, 13)))?;
+    let kind = match &link.category {
+        b"JJ" => b'J',
+        b"VV" => b'V',
+        b"NP" => b'N',
+        _ => return None,
+    };
+    let partner_index = match link.indicator {
+        b'S' | b' ' => index,
+        b'N' => index + 1,
+        b'P' => index - 1,
+        _ => return None,
+    };
+    let (base, other, suffix) = (at(&link.key, 1), at(&link.key, 7), link.key[22]);
+    let calls = trains.of(base)[index]?.calls.as_deref()?;
+    let event = calls.firsts.iter().map(|&first| &calls.events[first]).find(|event| event.line[9] == suffix)?;
+    if index + usize::from(event.falls) != TODAY {
+        return None;
     }
-}
-
-fn add_associations(lines: &mut Vec<Line>, trains: &Trains, rows: &[Schedule], place: &[u8; 7], day: u16) {
-    let mut groups: HashMap<_, Vec<Schedule>> = HashMap::new();
-    for row in rows {
-        groups.entry(group(row.0)).or_default().push(*row);
-    }
-    for (named, rows) in groups {
-        let Some((base, other, suffix)) = named else { continue };
-        for start in day.saturating_sub(2)..=day {
-            let Some((key, body)) = chosen(&rows, DAYS_OF_ASSOCIATION, start).filter(|(key, _)| stp_and_first(key).0 != b'C')
-            else {
-                continue;
-            };
-            let kind = match &body.bytes[34..36] {
-                b"JJ" => b'J',
-                b"VV" => b'V',
-                b"NP" => b'N',
-                _ => continue,
-            };
-            let partner_day = match body.bytes[36] {
-                b'S' | b' ' => i32::from(start),
-                b'N' => i32::from(start) + 1,
-                b'P' => i32::from(start) - 1,
-                _ => continue,
-            };
-            let Some((_, schedule)) = trains.running(&base, start) else { continue };
-            let all = events(schedule);
-            let Some(event) = all.iter().find(|event| event.line[2..9] == *place && event.line[9] == suffix) else { continue };
-            if start + event.falls != day {
-                continue;
-            }
-            let partner =
-                u16::try_from(partner_day).ok().filter(|&day| day <= 36_524).and_then(|day| trains.running(&other, day));
-            let identity = partner.map_or("????".to_string(), |(_, body)| text(&at::<4>(&body.bytes, 33)));
-            let front = front(event, kind, &base, stp_and_first(key).0, false);
-            let order = (event.half_minutes, kind_rank(kind), base, start, event.number, other);
-            lines.push(Line { order, text: format!("{front} {}  {identity}", text(&other)) });
-        }
-    }
+    let identity = trains.of(other)[partner_index].map_or(*b"????", |train| train.identity);
+    let mut text = line_at(event, kind, &base, link.key[23]);
+    text[41..47].copy_from_slice(&other);
+    text[49..53].copy_from_slice(&identity);
+    let order = (event.half_minutes, kind_rank(kind), base, index, event.number, other);
+    Some(Line { order, text })
 }
 
 /// A line for each file that counts.
-pub fn files(state: &State) -> String {
-    let line = |item: &super::state::Item| {
-        let (stamp, minute) = (&item.stamp, item.stamp.minute);
-        format!(
-            "{} {:02}{:02} {} {} {}\n",
-            iso(stamp.day),
-            minute / 60,
-            minute % 60,
-            text(&stamp.reference),
-            item.indicator as char,
-            text(&item.last)
-        )
+pub fn files(ledger: &[Item]) -> String {
+    let line = |item: &Item| -> [u8; 34] {
+        let (day, minute) = (pair(item, 0), pair(item, 2));
+        columns(&[
+            (1, iso(day).as_bytes()),
+            (12, &two(minute / 60)),
+            (14, &two(minute % 60)),
+            (17, &item[4..FILE_STAMP]),
+            (25, &item[FILE_STAMP..12]),
+            (27, &item[12..]),
+        ])
     };
-    state.ledger.iter().map(line).collect()
+    let printed: Vec<u8> = ledger.iter().flat_map(line).collect();
+    String::from_utf8_lossy(&printed).into_owned()
 }

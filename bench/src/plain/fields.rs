@@ -1,12 +1,21 @@
 //! Fields of records, as numbers and bytes.
 
-use super::state::{Key, NO_END};
+/// An end date of no end, and the end of what has none.
+pub const NO_END: u16 = 65_535;
 
-/// The bytes from a column on, which count from 1.
-pub fn at<const N: usize>(line: &[u8], column: usize) -> [u8; N] {
-    let mut bytes = [0; N];
-    bytes.copy_from_slice(&line[column - 1..column - 1 + N]);
-    bytes
+/// The number of the last day, 2059-12-31.
+pub const LAST_DAY: u16 = 36_524;
+
+/// The bytes from an index on.
+pub fn at<const N: usize>(bytes: &[u8], from: usize) -> [u8; N] {
+    let mut part = [0; N];
+    part.copy_from_slice(&bytes[from..from + N]);
+    part
+}
+
+/// The number that the two bytes from an index on tell.
+pub fn pair(bytes: &[u8], from: usize) -> u16 {
+    u16::from_be_bytes(at(bytes, from))
 }
 
 fn two(digits: &[u8]) -> u16 {
@@ -82,19 +91,4 @@ pub fn iso(number: u16) -> String {
 /// The half minutes of a scheduled time, where there is one.
 pub fn time(field: &[u8]) -> Option<u16> {
     (field[0] != b' ').then(|| (two(field) * 60 + two(&field[2..])) * 2 + u16::from(field[4] == b'H'))
-}
-
-pub fn association_key(line: &[u8]) -> Key {
-    Key::Association {
-        base: at(line, 4),
-        other: at(line, 10),
-        start: day(&line[15..]),
-        place: at(line, 38),
-        suffix: line[44],
-        stp: line[79],
-    }
-}
-
-pub fn schedule_key(line: &[u8]) -> Key {
-    Key::Schedule { uid: at(line, 4), first: day(&line[9..]), stp: line[79] }
 }

@@ -1,19 +1,24 @@
-//! The program written plainly, without proofs and without care for little memory: the same bytes for the same words. It is compared with the
-//! program, in what it answers and in the time that it takes. Words are not checked, and no source is standard input.
+//! The program written plainly, without proofs: the same bytes for the same words. It reads each source once, and keeps of it nothing or an excerpt where that
+//! is enough, and else its entries in one arena. It is compared with the program, in what it answers and in the time that it takes. Words are not checked,
+//! and no source is standard input.
 
-pub mod docker;
-pub mod fields;
-pub mod state;
-pub mod take;
-pub mod text;
+mod docker;
+mod excerpt;
+mod extract;
+mod fields;
+mod keeper;
+mod key;
+mod source;
+mod state;
+mod text;
 
-use crate::judge::{judge_stream, line_of, LIMIT};
+use crate::judge::{judge_stream, line_of, Fault, LIMIT};
+use excerpt::Excerpt;
+use keeper::Nothing;
 use state::State;
-use std::fs;
-use std::io::Result;
+use std::fs::{self, File};
+use std::io::{self, BufWriter, Read};
 use text::{Format, StateFault};
-
-const MOST_BYTES: u64 = 1 << 40;
 
 /// What a command answers: its status, what it prints, what it says on standard error, and what STATE becomes.
 #[derive(Debug, Default, PartialEq, Eq)]
@@ -24,64 +29,121 @@ pub struct Answer {
     pub state: Option<Vec<u8>>,
 }
 
-impl Answer {
-    fn printed(output: String) -> Answer {
-        Answer { output, ..Answer::default() }
-    }
+/// Why a command isn't done: a device that failed, or a line of standard error.
+pub enum Stop {
+    Device(io::Error),
+    Refused(String),
+}
 
-    fn kept(state: &State) -> Answer {
-        Answer { state: Some(text::write(state)), ..Answer::default() }
-    }
-
-    fn refused(errors: String) -> Answer {
-        Answer { status: 1, errors, ..Answer::default() }
+impl From<io::Error> for Stop {
+    fn from(error: io::Error) -> Stop {
+        Stop::Device(error)
     }
 }
 
-impl From<StateFault> for Answer {
-    fn from(fault: StateFault) -> Answer {
-        Answer::refused(format!("docker: state refused: offset {}: {:?}\n", fault.at, fault.cause))
+impl From<Fault> for Stop {
+    fn from(fault: Fault) -> Stop {
+        Stop::Refused(line_of(&Err(fault)))
     }
 }
 
-/// The state of a file, or what the program says of it.
-fn taken(bytes: &[u8]) -> std::result::Result<State, Answer> {
-    take::state_of(bytes, LIMIT).map(|(state, _)| state).map_err(|fault| Answer::refused(line_of(&Err(fault))))
+impl From<StateFault> for Stop {
+    fn from(fault: StateFault) -> Stop {
+        Stop::Refused(format!("docker: state refused: offset {}: {:?}\n", fault.at, fault.cause))
+    }
 }
 
-fn state_in(bytes: &[u8], format: Format) -> std::result::Result<State, Answer> {
-    Ok(text::read(bytes, format, MOST_BYTES)?)
+/// What a command prints, or what STATE becomes.
+enum Done {
+    Printed(String),
+    Kept(State),
 }
 
-/// What a command answers, by the bytes of its files in the order of its words.
-pub fn answer(words: &[&str], files: &[Vec<u8>]) -> std::result::Result<Answer, Answer> {
-    let printed = |state: &State, place: &str, date: &str| {
-        let mut code = [b' '; 7];
-        code[..place.len()].copy_from_slice(place.as_bytes());
-        match docker::docker(state, &code, fields::iso_number(date).expect("a date")) {
-            Some(docker) => Answer::printed(docker),
-            None => Answer::refused("docker: day refused: before horizon plus three days\n".to_string()),
-        }
-    };
-    let own = || state_in(&files[0], Format::Dks2);
+/// Does what the words ask of their files, in the order of the words.
+fn perform<R: Read>(words: &[&str], files: Vec<R>) -> Result<Done, Stop> {
+    let mut files = files.into_iter();
+    let mut file = || files.next().expect("a file for each path");
+    let day = |date: &str| fields::iso_number(date).expect("a date");
     Ok(match words {
-        ["new", _] => Answer::kept(&State::default()),
-        ["day", _, place, date] => printed(&taken(&files[0])?, place, date),
-        ["take", ..] => Answer::kept(&own()?.join(taken(&files[1])?)),
-        ["merge", ..] => Answer::kept(&own()?.join(state_in(&files[1], Format::Dks2)?)),
-        ["print", _, place, date] => printed(&own()?, place, date),
-        ["files", _] => Answer::printed(docker::files(&own()?)),
-        ["horizon", _, date] => {
-            let mut state = own()?;
-            state.raise(fields::iso_number(date).expect("a date"));
-            Answer::kept(&state)
+        ["check", _] => Done::Printed(check(file())?),
+        ["new", _] => Done::Kept(State::default()),
+        ["day", _, place, date] => {
+            let mut excerpt = Excerpt::of_file(code(place), day(date));
+            extract::read(file(), &mut excerpt)?;
+            Done::Printed(docker::docker(&excerpt.finish()))
         }
-        ["migrate", _] => Answer::kept(&state_in(&files[0], Format::Dks1)?),
-        _ => Answer { status: 2, ..Answer::default() },
+        ["print", _, place, date] => Done::Printed(print(file(), code(place), day(date))?),
+        ["files", _] => Done::Printed(docker::files(&text::read(file(), Format::Dks2, &mut Nothing)?.1)),
+        ["take", ..] => Done::Kept(take(file(), file())?),
+        ["merge", ..] => {
+            let mut state = own(file(), Format::Dks2)?;
+            state.join(|table| text::read(file(), Format::Dks2, table))?;
+            Done::Kept(state)
+        }
+        ["horizon", _, date] => {
+            let mut state = own(file(), Format::Dks2)?;
+            state.raise(day(date));
+            Done::Kept(state)
+        }
+        ["migrate", _] => Done::Kept(own(file(), Format::Dks1)?),
+        _ => return Err(Stop::Device(io::Error::other("no such command"))),
     })
 }
 
-/// The paths among a command's words.
+/// A timing point's code in seven columns.
+fn code(place: &str) -> [u8; 7] {
+    let mut code = [b' '; 7];
+    code[..place.len()].copy_from_slice(place.as_bytes());
+    code
+}
+
+fn check(mut file: impl Read) -> Result<String, Stop> {
+    let counts = judge_stream(&mut file, LIMIT)??;
+    Ok(line_of(&Ok(counts)))
+}
+
+/// The state whose text a file has.
+fn own(file: impl Read, format: Format) -> Result<State, Stop> {
+    let mut state = State::default();
+    (state.horizon, state.ledger) = text::read(file, format, &mut state.table)?;
+    Ok(state)
+}
+
+fn take(state: impl Read, file: impl Read) -> Result<State, Stop> {
+    let mut state = own(state, Format::Dks2)?;
+    state.join(|table| {
+        let item = extract::read(file, table)?;
+        table.sort();
+        Ok::<_, Stop>((0, vec![item]))
+    })?;
+    Ok(state)
+}
+
+/// The docker of a state, unless the day is before the horizon plus three days.
+fn print(file: impl Read, place: [u8; 7], day: u16) -> Result<String, Stop> {
+    let mut excerpt = Excerpt::of_state(place, day);
+    let (horizon, _) = text::read(file, Format::Dks2, &mut excerpt)?;
+    if horizon > 0 && day < horizon + 3 {
+        return Err(Stop::Refused("docker: day refused: before horizon plus three days\n".to_string()));
+    }
+    Ok(docker::docker(&excerpt.finish()))
+}
+
+/// What a command answers, by the bytes of its files in the order of its words.
+pub fn answer(words: &[&str], files: &[Vec<u8>]) -> Answer {
+    match perform(words, files.iter().map(Vec::as_slice).collect()) {
+        Ok(Done::Printed(output)) => Answer { output, ..Answer::default() },
+        Ok(Done::Kept(state)) => {
+            let mut text = Vec::new();
+            state.write(&mut text).expect("memory takes each byte");
+            Answer { state: Some(text), ..Answer::default() }
+        }
+        Err(Stop::Refused(errors)) => Answer { status: 1, errors, ..Answer::default() },
+        Err(Stop::Device(error)) => Answer { status: 4, errors: format!("{error}\n"), ..Answer::default() },
+    }
+}
+
+/// The paths of the files that a command reads.
 fn paths<'a>(words: &[&'a str]) -> Vec<&'a str> {
     match words {
         ["take" | "merge", first, second] => vec![first, second],
@@ -92,21 +154,25 @@ fn paths<'a>(words: &[&'a str]) -> Vec<&'a str> {
 }
 
 /// Does what the words ask, and answers the exit status.
-pub fn run(words: &[&str]) -> Result<u8> {
-    if let ["check", path] = words {
-        let answer = judge_stream(&mut fs::File::open(path)?, LIMIT)?;
-        match answer {
-            Ok(_) => print!("{}", line_of(&answer)),
-            Err(_) => eprint!("{}", line_of(&answer)),
+pub fn run(words: &[&str]) -> io::Result<u8> {
+    let files = paths(words).iter().map(File::open).collect::<io::Result<Vec<_>>>()?;
+    match perform(words, files) {
+        Ok(Done::Printed(output)) => print!("{output}"),
+        Ok(Done::Kept(state)) => replace(words[1], &state)?,
+        Err(Stop::Device(error)) => return Err(error),
+        Err(Stop::Refused(line)) => {
+            eprint!("{line}");
+            return Ok(1);
         }
-        return Ok(u8::from(answer.is_err()));
     }
-    let files = paths(words).iter().map(fs::read).collect::<Result<Vec<_>>>()?;
-    let answer = answer(words, &files).unwrap_or_else(|refused| refused);
-    if let Some(state) = &answer.state {
-        fs::write(words[1], state)?;
-    }
-    print!("{}", answer.output);
-    eprint!("{}", answer.errors);
-    Ok(answer.status)
+    Ok(0)
+}
+
+/// Writes a state beside its file, and to the disk, and then puts it in the file's place.
+fn replace(path: &str, state: &State) -> io::Result<()> {
+    let draft = format!("{path}.new");
+    let mut out = BufWriter::with_capacity(1 << 16, File::create(&draft)?);
+    state.write(&mut out)?;
+    out.into_inner()?.sync_all()?;
+    fs::rename(&draft, path)
 }

@@ -1,127 +1,166 @@
 //! What an office knows: of each file a ledger item, and of each key the greatest entry, from the newest full extract on.
 
+use super::keeper::{Act, Keeper};
+use super::key::{is_full, width, Item, Key, Stamp, FILE_STAMP, SCHEDULE};
 use std::cmp::Ordering;
+use std::io::{Result, Write};
+use std::mem::take;
 
-/// An end date of no end, and the end of what has none.
-pub const NO_END: u16 = 65_535;
+pub const DELETED: u8 = 0;
+pub const PUT: u8 = 1;
+pub const LAPSED: u8 = 2;
 
-#[derive(Clone, Copy, PartialEq, Eq, PartialOrd, Ord)]
-pub struct FileStamp {
-    pub day: u16,
-    pub minute: u16,
-    pub reference: [u8; 7],
+/// The bytes of an entry before its body: its stamp and its op.
+const HEAD: usize = 16;
+
+/// A key, where its entry stands, and on which day that ends.
+#[derive(Clone, Copy)]
+struct Row {
+    key: Key,
+    at: usize,
+    length: usize,
+    end: u16,
 }
 
-#[derive(Clone, Copy, PartialEq, Eq, PartialOrd, Ord)]
-pub struct Item {
-    pub stamp: FileStamp,
-    pub indicator: u8,
-    pub last: [u8; 7],
+/// Entries in one arena, of each stamp, op and body; and a row for each.
+#[derive(Default)]
+pub struct Table {
+    arena: Vec<u8>,
+    rows: Vec<Row>,
 }
 
-#[derive(Clone, Copy, PartialEq, Eq, PartialOrd, Ord)]
-pub enum Key {
-    Tiploc([u8; 7]),
-    Association { base: [u8; 6], other: [u8; 6], start: u16, place: [u8; 7], suffix: u8, stp: u8 },
-    Schedule { uid: [u8; 6], first: u16, stp: u8 },
-}
-
-/// The bytes of what is put, and the day on which it ends.
-#[derive(Clone, PartialEq, Eq, PartialOrd, Ord)]
-pub struct Body {
-    pub end: u16,
-    pub bytes: Vec<u8>,
-}
-
-#[derive(Clone, PartialEq, Eq, PartialOrd, Ord)]
-pub enum Op {
-    Deleted,
-    Lapsed,
-    Put(Body),
-}
-
-#[derive(Clone, PartialEq, Eq, PartialOrd, Ord)]
-pub struct Entry {
-    pub stamp: (FileStamp, u32),
-    pub op: Op,
-}
-
-#[derive(Clone, Default)]
-pub struct State {
-    pub horizon: u16,
-    pub ledger: Vec<Item>,
-    pub entries: Vec<(Key, Entry)>,
-}
-
-/// The union of two ascending lists, with what a rule makes of two rows of one key.
-fn union<T>(first: Vec<T>, second: Vec<T>, order: impl Fn(&T, &T) -> Ordering, pick: impl Fn(T, T) -> T) -> Vec<T> {
-    let mut rows = Vec::with_capacity(first.len() + second.len());
-    let (mut first, mut second) = (first.into_iter().peekable(), second.into_iter().peekable());
-    loop {
-        let next = match (first.peek(), second.peek()) {
-            (Some(one), Some(other)) => order(one, other),
-            (Some(_), None) => Ordering::Less,
-            (None, Some(_)) => Ordering::Greater,
-            (None, None) => return rows,
+impl Keeper for Table {
+    fn change(&mut self, key: &Key, stamp: &Stamp, act: Act) {
+        let (op, end, body): (u8, u16, &[u8]) = match act {
+            Act::Delete => (DELETED, 0, &[]),
+            Act::Lapse => (LAPSED, 0, &[]),
+            Act::Put(end, body) => (PUT, end, body),
         };
-        rows.extend(match next {
-            Ordering::Less => first.next(),
-            Ordering::Greater => second.next(),
-            Ordering::Equal => first.next().zip(second.next()).map(|(one, other)| pick(one, other)),
-        });
+        let at = self.arena.len();
+        self.arena.extend_from_slice(stamp);
+        self.arena.push(op);
+        self.arena.extend_from_slice(body);
+        self.rows.push(Row { key: *key, at, length: HEAD + body.len(), end });
+    }
+
+    fn line(&mut self, line: &[u8]) {
+        self.arena.extend_from_slice(line);
+        if let Some(row) = self.rows.last_mut() {
+            row.length += line.len();
+        }
     }
 }
 
-impl State {
-    /// The state of one file: its item, and the entries of its changes in whatever order.
-    pub fn of_file(item: Item, mut changes: Vec<(Key, Entry)>) -> State {
-        changes.sort();
-        // Of each key the last entry, which is the greatest.
-        changes.dedup_by(|later, earlier| {
-            let same = later.0 == earlier.0;
+impl Table {
+    /// Sorts the changes of a file, and leaves of each key the last, which is the greatest.
+    pub fn sort(&mut self) {
+        self.rows.sort_by(|one, other| one.key.cmp(&other.key));
+        self.rows.dedup_by(|later, earlier| {
+            let same = later.key == earlier.key;
             if same {
-                std::mem::swap(later, earlier);
+                *earlier = *later;
             }
             same
         });
-        State { horizon: 0, ledger: vec![item], entries: changes }
     }
 
-    /// The newest full extract's stamp: what is older counts no more.
-    fn floor(&self) -> Option<FileStamp> {
-        self.ledger.iter().filter(|item| item.indicator == b'F').map(|item| item.stamp).max()
+    fn entry(&self, row: &Row) -> &[u8] {
+        &self.arena[row.at..row.at + row.length]
     }
 
-    pub fn join(self, other: State) -> State {
-        let horizon = self.horizon.max(other.horizon);
-        let mut joined = State {
-            horizon: 0,
-            ledger: union(self.ledger, other.ledger, Ord::cmp, |one, _| one),
-            entries: union(self.entries, other.entries, |one, other| one.0.cmp(&other.0), |one, other| one.max(other)),
+    /// The order of two entries of a key: by stamp, op, last day and body.
+    fn order(&self, one: &Row, other: &Row) -> Ordering {
+        let parts = |row: &Row| {
+            let (head, body) = self.entry(row).split_at(HEAD);
+            let rank = [DELETED, LAPSED, PUT].iter().position(|&op| op == head[HEAD - 1]);
+            (&head[..HEAD - 1], rank, row.end, body)
         };
-        if let Some(floor) = joined.floor() {
-            joined.ledger.retain(|item| item.stamp >= floor);
-            joined.entries.retain(|(_, entry)| entry.stamp.0 >= floor);
+        let (one, other) = (parts(one), parts(other));
+        one.cmp(&other)
+    }
+
+    /// The rows of each key of two ascending lists, of both the greater.
+    fn union(&self, own: Vec<Row>, others: Vec<Row>) -> Vec<Row> {
+        let mut rows = Vec::with_capacity(own.len() + others.len());
+        let mut others = others.into_iter().peekable();
+        for mut row in own {
+            while let Some(before) = others.next_if(|other| other.key < row.key) {
+                rows.push(before);
+            }
+            if let Some(other) = others.next_if(|other| other.key == row.key) {
+                if self.order(&row, &other).is_lt() {
+                    row = other;
+                }
+            }
+            rows.push(row);
         }
-        joined.raise(horizon);
-        joined
+        rows.extend(others);
+        rows
+    }
+}
+
+#[derive(Default)]
+pub struct State {
+    pub horizon: u16,
+    pub ledger: Vec<Item>,
+    pub table: Table,
+}
+
+impl State {
+    /// Joins this state with another one, which is read by the call into the same arena: its horizon and its ledger.
+    pub fn join<E>(
+        &mut self,
+        read: impl FnOnce(&mut Table) -> std::result::Result<(u16, Vec<Item>), E>,
+    ) -> std::result::Result<(), E> {
+        let own = take(&mut self.table.rows);
+        let (horizon, items) = read(&mut self.table)?;
+        let others = take(&mut self.table.rows);
+        self.table.rows = self.table.union(own, others);
+        self.ledger.extend(items);
+        self.ledger.sort();
+        self.ledger.dedup();
+        let floor = self.ledger.iter().filter(|item| is_full(item)).map(|item| item[..FILE_STAMP].to_vec()).max();
+        if let Some(floor) = floor {
+            let Table { arena, rows } = &mut self.table;
+            self.ledger.retain(|item| item[..FILE_STAMP] >= *floor);
+            rows.retain(|row| arena[row.at..row.at + FILE_STAMP] >= *floor);
+        }
+        self.raise(horizon);
+        Ok(())
     }
 
     /// Takes the greater horizon, and lets what ends before it lapse.
     pub fn raise(&mut self, horizon: u16) {
         self.horizon = self.horizon.max(horizon);
-        for (_, entry) in &mut self.entries {
-            if matches!(&entry.op, Op::Put(body) if body.end < self.horizon) {
-                entry.op = Op::Lapsed;
+        let Table { arena, rows } = &mut self.table;
+        for row in rows {
+            let op = &mut arena[row.at + HEAD - 1];
+            if *op == PUT && row.end < self.horizon {
+                *op = LAPSED;
+                row.length = HEAD;
             }
         }
     }
 
-    /// What is put, in key order.
-    pub fn live(&self) -> impl Iterator<Item = (&Key, &Body)> {
-        self.entries.iter().filter_map(|(key, entry)| match &entry.op {
-            Op::Put(body) => Some((key, body)),
-            _ => None,
-        })
+    /// Writes the text.
+    pub fn write(&self, out: &mut impl Write) -> Result<()> {
+        out.write_all(b"DKS2")?;
+        out.write_all(&self.horizon.to_be_bytes())?;
+        out.write_all(&(self.ledger.len() as u64).to_be_bytes())?;
+        for item in &self.ledger {
+            out.write_all(item)?;
+        }
+        out.write_all(&(self.table.rows.len() as u64).to_be_bytes())?;
+        for row in &self.table.rows {
+            let tag = row.key[0];
+            let (head, body) = self.table.entry(row).split_at(HEAD);
+            out.write_all(&row.key[..width(tag)])?;
+            out.write_all(head)?;
+            if tag == SCHEDULE && !body.is_empty() {
+                out.write_all(&((body.len() / 80) as u32).to_be_bytes())?;
+            }
+            out.write_all(body)?;
+        }
+        Ok(())
     }
 }

@@ -1,0 +1,247 @@
+//! What the docker of one place and day is made of, taken from changes or entries as they are read.
+
+use super::fields::{at, pair, time, LAST_DAY};
+use super::keeper::{Act, Keeper};
+use super::key::{Key, Stamp, ASSOCIATION, SCHEDULE, TIPLOC};
+use std::collections::HashSet;
+
+/// The days that count, from three before to the next: trains of a docker start on the day or on the two before it, and an associated train up to a day
+/// before or after its base.
+pub const DAYS: usize = 5;
+
+/// The index of the day itself among them.
+pub const TODAY: usize = 3;
+
+/// An event at the place: its record, with its kind and time, the identity there, and how many times fell before it.
+pub struct Event {
+    pub number: u64,
+    pub kind: u8,
+    pub half_minutes: u16,
+    pub falls: u16,
+    pub identity: [u8; 4],
+    pub line: [u8; 80],
+}
+
+/// The events of a train at the place, and where it begins and ends.
+#[derive(Default)]
+pub struct Calls {
+    pub origin: Option<[u8; 7]>,
+    pub terminus: [u8; 7],
+    pub events: Vec<Event>,
+    /// The index of the first event of each suffix.
+    pub firsts: Vec<usize>,
+}
+
+/// A schedule, on which of the days it runs, and what it has at the place. One that runs on none may be deleted.
+pub struct Train {
+    pub uid: [u8; 6],
+    pub first: u16,
+    pub stp: u8,
+    pub runs: u8,
+    pub identity: [u8; 4],
+    pub calls: Option<Box<Calls>>,
+}
+
+/// An association at the place, and on which of the days it runs.
+pub struct Link {
+    pub key: Key,
+    pub runs: u8,
+    pub category: [u8; 2],
+    pub indicator: u8,
+}
+
+pub struct Excerpt {
+    pub place: [u8; 7],
+    pub day: u16,
+    pub description: Option<[u8; 26]>,
+    pub links: Vec<Link>,
+    pub trains: Vec<Train>,
+    /// Of a state, whose keys come in order: the UIDs that associations name, which stand before the schedules.
+    partners: Option<HashSet<[u8; 6]>>,
+    /// The walk over the schedule whose lines come.
+    walk: Option<Walk>,
+}
+
+impl Excerpt {
+    /// Of a file, where each key may come more than once.
+    pub fn of_file(place: [u8; 7], day: u16) -> Excerpt {
+        Excerpt { place, day, description: None, links: Vec::new(), trains: Vec::new(), partners: None, walk: None }
+    }
+
+    /// Of a state.
+    pub fn of_state(place: [u8; 7], day: u16) -> Excerpt {
+        Excerpt { partners: Some(HashSet::new()), ..Excerpt::of_file(place, day) }
+    }
+
+    /// The associations and the trains in order, of each key what came last.
+    pub fn finish(mut self) -> Excerpt {
+        self.close();
+        self.links.sort_by(|one, other| one.key.cmp(&other.key));
+        self.links.dedup_by(|later, earlier| replaces(later, earlier, |link| link.key));
+        self.trains.sort_by(|one, other| one.key().cmp(&other.key()));
+        self.trains.dedup_by(|later, earlier| replaces(later, earlier, Train::key));
+        self
+    }
+
+    fn close(&mut self) {
+        let walked = self.walk.take().and_then(Walk::finish);
+        if let Some(train) = self.trains.last_mut().filter(|_| walked.is_some()) {
+            train.calls = walked.map(Box::new);
+        }
+    }
+
+    /// On which of the days runs what has this first and last day and these marks.
+    fn runs(&self, first: u16, last: u16, marks: &[u8]) -> u8 {
+        let mut runs = 0;
+        for index in 0..DAYS as u16 {
+            let day = (self.day + index).wrapping_sub(TODAY as u16);
+            if day <= LAST_DAY && first <= day && day <= last && marks[usize::from((day + 4) % 7)] == b'1' {
+                runs |= 1 << index;
+            }
+        }
+        runs
+    }
+
+    fn link(&mut self, key: &Key, act: Act) {
+        let link = match act {
+            Act::Put(end, line) => {
+                let runs = self.runs(pair(key, 13), end, &line[27..34]);
+                Link { key: *key, runs, category: at(line, 34), indicator: line[36] }
+            }
+            _ => Link { key: *key, runs: 0, category: *b"  ", indicator: b' ' },
+        };
+        if let Some(partners) = &mut self.partners {
+            partners.insert(at(key, 7));
+        }
+        self.links.push(link);
+    }
+
+    fn train(&mut self, key: &Key, act: Act) {
+        let (uid, first) = (at(key, 1), pair(key, 7));
+        self.forget_before(&uid);
+        let mut train = Train { uid, first, stp: key[9], runs: 0, identity: *b"    ", calls: None };
+        if let Act::Put(end, line) = act {
+            train.runs = self.runs(first, end, &line[21..28]);
+            train.identity = at(line, 32);
+        }
+        if self.partners.is_some() && train.runs == 0 {
+            return;
+        }
+        // Its lines are of use where it starts on the day or on one of the two before it.
+        if train.runs & 0b1110 > 0 {
+            self.walk = Some(Walk::new(train.identity));
+        }
+        self.trains.push(train);
+    }
+
+    /// Where keys come in order: at another UID the trains of the one before go, if the docker has no use for them.
+    fn forget_before(&mut self, uid: &[u8; 6]) {
+        let (Some(partners), Some(last)) = (&self.partners, self.trains.last()) else { return };
+        if last.uid == *uid || partners.contains(&last.uid) {
+            return;
+        }
+        let before = self.trains.iter().rposition(|train| train.uid != last.uid).map_or(0, |at| at + 1);
+        if self.trains[before..].iter().all(|train| train.calls.is_none()) {
+            self.trains.truncate(before);
+        }
+    }
+}
+
+/// Whether two rows are of one key. The later one takes the place of the earlier.
+fn replaces<T, K: PartialEq>(later: &mut T, earlier: &mut T, key: impl Fn(&T) -> K) -> bool {
+    let same = key(later) == key(earlier);
+    if same {
+        std::mem::swap(later, earlier);
+    }
+    same
+}
+
+impl Train {
+    fn key(&self) -> ([u8; 6], u16, u8) {
+        (self.uid, self.first, self.stp)
+    }
+}
+
+impl Keeper for Excerpt {
+    fn change(&mut self, key: &Key, _: &Stamp, act: Act) {
+        self.close();
+        match key[0] {
+            TIPLOC if key[1..8] == self.place => {
+                self.description = match act {
+                    Act::Put(_, body) => Some(at(body, 9)),
+                    _ => None,
+                }
+            }
+            ASSOCIATION if key[15..22] == self.place => self.link(key, act),
+            SCHEDULE => self.train(key, act),
+            _ => {}
+        }
+    }
+
+    fn line(&mut self, line: &[u8]) {
+        if let Some(walk) = &mut self.walk {
+            walk.line(line, &self.place);
+        }
+    }
+}
+
+/// A walk over the lines of a schedule.
+struct Walk {
+    number: u64,
+    last: u16,
+    falls: u16,
+    identity: [u8; 4],
+    calls: Calls,
+}
+
+impl Walk {
+    fn new(identity: [u8; 4]) -> Walk {
+        Walk { number: 0, last: 0, falls: 0, identity, calls: Calls::default() }
+    }
+
+    fn line(&mut self, line: &[u8], place: &[u8; 7]) {
+        // Columns of the times, each with its kind; in the order arrival, pass, departure.
+        let times: &[(usize, u8)] = match &line[..2] {
+            b"LO" => &[(11, b'D')],
+            b"LT" => &[(11, b'A')],
+            b"LI" => &[(11, b'A'), (21, b'P'), (16, b'D')],
+            b"CR" => {
+                self.identity = at(line, 12);
+                return;
+            }
+            _ => return,
+        };
+        self.calls.origin.get_or_insert_with(|| at(line, 2));
+        self.calls.terminus = at(line, 2);
+        let here = line[2..9] == *place;
+        for &(column, kind) in times {
+            let Some(half_minutes) = time(&line[column - 1..]) else { continue };
+            self.number += 1;
+            self.falls += u16::from(half_minutes < self.last);
+            self.last = half_minutes;
+            if here {
+                self.add(kind, line);
+            }
+        }
+    }
+
+    fn add(&mut self, kind: u8, line: &[u8]) {
+        let Calls { events, firsts, .. } = &mut self.calls;
+        if !firsts.iter().any(|&first| events[first].line[9] == line[9]) {
+            firsts.push(events.len());
+        }
+        events.push(Event {
+            number: self.number,
+            kind,
+            half_minutes: self.last,
+            falls: self.falls,
+            identity: self.identity,
+            line: at(line, 0),
+        });
+    }
+
+    /// The calls at the place, if there are some.
+    fn finish(self) -> Option<Calls> {
+        (!self.calls.events.is_empty()).then_some(self.calls)
+    }
+}

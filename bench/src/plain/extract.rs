@@ -1,0 +1,85 @@
+//! The changes of a file.
+
+use super::fields::{end, NO_END};
+use super::keeper::{Act, Keeper};
+use super::key::{self, Item, Key};
+use super::source::Source;
+use super::Stop;
+use crate::judge::{Judge, LIMIT};
+use std::io::Read;
+
+/// Gives the changes of records, which were judged, to a keeper.
+struct Changes<'a, K> {
+    item: Item,
+    record: u32,
+    /// Whether the lines that come are of a schedule that was put.
+    open: bool,
+    keeper: &'a mut K,
+}
+
+impl<K: Keeper> Changes<'_, K> {
+    fn change(&mut self, key: &Key, act: Act) {
+        self.keeper.change(key, &key::stamp(&self.item, self.record), act);
+    }
+
+    fn record(&mut self, line: &[u8]) {
+        self.record += 1;
+        match &line[..2] {
+            b"BX" | b"LO" | b"LI" | b"LT" | b"CR" => {
+                if self.open {
+                    self.keeper.line(line);
+                }
+            }
+            b"BS" => {
+                self.open = line[2] != b'D';
+                self.change_or_delete(&key::schedule(line), line, 15);
+            }
+            _ => {
+                self.open = false;
+                self.single(line);
+            }
+        }
+    }
+
+    /// A record that is a unit by itself, or the header or the trailer.
+    fn single(&mut self, line: &[u8]) {
+        match &line[..2] {
+            b"HD" => self.item = key::item(line),
+            b"TI" | b"TA" => {
+                let mut code = &line[2..9];
+                if &line[..2] == b"TA" && &line[72..79] != b"       " && &line[72..79] != code {
+                    self.change(&key::tiploc(code), Act::Delete);
+                    code = &line[72..79];
+                }
+                self.change(&key::tiploc(code), Act::Put(NO_END, &line[9..72]));
+            }
+            b"TD" => self.change(&key::tiploc(&line[2..9]), Act::Delete),
+            b"AA" => self.change_or_delete(&key::association(line), line, 21),
+            _ => {}
+        }
+    }
+
+    /// What a line does whose end date stands at an index. It is kept with the transaction of a new record.
+    fn change_or_delete(&mut self, key: &Key, line: &[u8], end_at: usize) {
+        if line[2] == b'D' {
+            return self.change(key, Act::Delete);
+        }
+        let mut kept = [0; 80];
+        kept.copy_from_slice(line);
+        kept[2] = b'N';
+        self.change(key, Act::Put(end(&line[end_at..]), &kept));
+    }
+}
+
+/// Reads a file to its end, or to its fault, and answers its ledger item.
+pub fn read(from: impl Read, keeper: &mut impl Keeper) -> Result<Item, Stop> {
+    let mut source = Source::new(from);
+    let mut judge = Judge::new(LIMIT);
+    let mut changes = Changes { item: [0; 19], record: 0, open: false, keeper };
+    while let Some(line) = source.line()? {
+        judge.record(line)?;
+        changes.record(&line[..80]);
+    }
+    judge.finish()?;
+    Ok(changes.item)
+}

@@ -1,0 +1,29 @@
+//! What files and states are read into.
+
+use super::key::{Key, Stamp};
+
+/// What becomes of a key.
+#[derive(Clone, Copy)]
+pub enum Act<'a> {
+    Delete,
+    Lapse,
+    /// The last day of what is put, and its bytes: of a schedule its first line.
+    Put(u16, &'a [u8]),
+}
+
+/// Keeps what it needs of the changes of a file or the entries of a state, as they are read.
+pub trait Keeper {
+    fn change(&mut self, key: &Key, stamp: &Stamp, act: Act);
+
+    /// The next line of the schedule that was put last.
+    fn line(&mut self, line: &[u8]);
+}
+
+/// Keeps nothing.
+pub struct Nothing;
+
+impl Keeper for Nothing {
+    fn change(&mut self, _: &Key, _: &Stamp, _: Act) {}
+
+    fn line(&mut self, _: &[u8]) {}
+}
