@@ -2,6 +2,7 @@
 
 mod commands;
 mod flip;
+mod growth;
 mod judge;
 mod make;
 mod measure;
@@ -22,7 +23,7 @@ use std::process::ExitCode;
 
 const USAGE: &str = "usage: extract full SCHEDULES SEED FILE | extract update SCHEDULES BASE_SEED SEED DAY FILE | \
 extract judge FILE | extract flip FILE SEED | extract compare DOCKER FILE SEED FLIPS | extract measure DOCKER FILE.. | extract state STATE_TIMES FILE UPDATE FOLDER | \
-extract commands DOCKER FILE UPDATE FOLDER | extract shapes DOCKER RECORDS SEED FOLDER | extract plain WORD.. | extract mutate DOCKER FOLDER SEED TIMES FILE..";
+extract commands DOCKER FILE UPDATE FOLDER | extract shapes DOCKER RECORDS SEED FOLDER | extract growth DOCKER FOLDER WORD.. | extract plain WORD.. | extract mutate DOCKER FOLDER SEED TIMES FILE..";
 
 fn main() -> ExitCode {
     let words: Vec<String> = std::env::args().skip(1).collect();
@@ -62,6 +63,7 @@ fn job(words: &[&str]) -> Option<Result<u8>> {
         ["mutate", program, folder, seed, times, paths @ ..] if !paths.is_empty() => {
             mutate::compare(program, folder, number(seed)?, count(times)?, paths).map(|same| u8::from(!same))
         }
+        ["growth", program, folder, words @ ..] => growth::tables(program, folder, words).map(|passes| u8::from(!passes)),
         ["plain", words @ ..] if !words.is_empty() => plain::run(words),
         ["commands", program, path, update, folder] => commands::table(program, path, update, folder).map(|()| 0),
         ["shapes", program, records, seed, folder] => shapes::table(program, count(records)?, number(seed)?, folder).map(|()| 0),

@@ -11,7 +11,7 @@ use std::io::{Error, Result};
 const NATIONAL: usize = 18;
 
 /// A name of so many letters of its own for each number.
-fn letters<const WIDTH: usize>(mut number: usize) -> [u8; WIDTH] {
+pub fn letters<const WIDTH: usize>(mut number: usize) -> [u8; WIDTH] {
     let mut name = [b'A'; WIDTH];
     for letter in name.iter_mut().rev() {
         *letter += (number % 26) as u8;

@@ -1,6 +1,7 @@
 //! The plain reader on texts whose answer is known, and the shape of extracts.
 
 use crate::flip::Flip;
+use crate::growth::shapes::{ledger, Makes, DATE, PLACE, SHAPES};
 use crate::judge::{judge_stream, judge_text, line_of, Answer, Cause, Counts, Fault, LIMIT};
 use crate::make;
 use crate::plain;
@@ -384,4 +385,44 @@ fn dockers_of_a_morning() {
     assert!(files.lines().count() == 3 && transcript.contains(&files), "{files}");
     let near = kept(&["horizon", "STATE", "2024-06-10"], &texts[..1]);
     assert_eq!(plain::answer(&["print", "STATE", "CORHAM", "2024-06-12"], &[near]).status, 1);
+}
+
+// ---------------------------------------------------------------- hostile shapes
+
+/// How many lines the docker of a shape of so many rows has, without its heading and its last line.
+fn lines_of(shape: &str, rows: usize) -> usize {
+    match shape {
+        // One of them runs.
+        "schedules of one UID" | "schedules of one UID, those of two states in turn" | "changes of one key" => 1,
+        // The association, and its trains.
+        "associations of one group" => 3,
+        // For each suffix a pass and an association, and the associated train.
+        "associations of two suffixes in turn" => 5,
+        // Each base with its association, and the partner.
+        "bases of one partner" | "bases of one partner, which has as many schedules" => 2 * rows + 1,
+        "partners of one base, whose call is behind as many lines" | "partners of one base, which has as many schedules" => {
+            rows + 1
+        }
+        "partners of one base, whose call is behind as many of another suffix" => 2 * rows + 1,
+        "calls of one schedule at one place" => rows + 1,
+        "calls of one schedule at as many places" => 1,
+        // The origin and each 64th call.
+        "calls at places that meet in one slot of the memo" => 1 + rows.div_ceil(64),
+        "trains at one place and time" | "trains in falling order" | "trains from both ends in turn" => rows,
+        _ => 0,
+    }
+}
+
+#[test]
+fn hostile_shapes() {
+    for shape in SHAPES.iter().filter(|shape| matches!(shape.makes, Makes::File(_))) {
+        for newer in [false, true] {
+            let file = made("hostile", |path| shape.write(60, newer, path));
+            assert!(judge_text(&file, LIMIT).is_ok(), "{}", shape.name);
+            let docker = plain::answer(&["day", "FILE", PLACE, DATE], &[file]).output;
+            assert_eq!(docker.lines().count(), 2 + lines_of(shape.name, 60), "{}: {docker}", shape.name);
+        }
+    }
+    let joined = kept(&["merge", "STATE", "OTHER"], &[ledger(60, false), ledger(60, true)]);
+    assert_eq!(plain::answer(&["files", "STATE"], &[joined]).output.lines().count(), 120);
 }
