@@ -84,7 +84,9 @@ enum Kind {
 }
 
 fn kind(line: &Line) -> Option<Kind> {
+    // The most common first.
     Some(match &line[..2] {
+        b"LI" => Kind::Call,
         b"HD" => Kind::Header,
         b"TI" => Kind::Tiploc,
         b"TA" => Kind::Amended,
@@ -93,7 +95,6 @@ fn kind(line: &Line) -> Option<Kind> {
         b"BS" => Kind::Basic,
         b"BX" => Kind::Extra,
         b"LO" => Kind::Origin,
-        b"LI" => Kind::Call,
         b"LT" => Kind::Terminus,
         b"CR" => Kind::Change,
         b"ZZ" => Kind::Trailer,
@@ -256,7 +257,7 @@ impl Judge {
             return false;
         }
         for column in columns {
-            let Some(time) = half_minutes(&line[column - 1..]) else {
+            let Some(time) = judged_time(&line[column - 1..]) else {
                 continue;
             };
             if self.last_event.is_some_and(|last| time < last) {
@@ -404,6 +405,14 @@ fn half_minutes(field: &[u8]) -> Option<u16> {
         _ => return None,
     };
     Some(minutes(field)? * 2 + half)
+}
+
+/// The half minutes of a field that was judged: a time, or spaces.
+#[inline(always)]
+pub fn judged_time(field: &[u8]) -> Option<u16> {
+    let digit = |at: usize| u16::from(field[at] - b'0');
+    let minutes = || (digit(0) * 10 + digit(1)) * 60 + digit(2) * 10 + digit(3);
+    (field[0] != b' ').then(|| minutes() * 2 + u16::from(field[4] == b'H'))
 }
 
 // ---------------------------------------------------------------- texts

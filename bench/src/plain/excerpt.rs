@@ -1,8 +1,9 @@
 //! What the docker of one place and day is made of, taken from changes or entries as they are read.
 
-use super::fields::{at, pair, time, LAST_DAY};
+use super::fields::{at, pair, LAST_DAY};
 use super::keeper::{Act, Keeper};
 use super::key::{Key, Stamp, ASSOCIATION, SCHEDULE, TIPLOC};
+use crate::judge::judged_time;
 use std::collections::HashSet;
 
 /// The days that count, from three before to the next: trains of a docker start on the day or on the two before it, and an associated train up to a day
@@ -202,9 +203,9 @@ impl Walk {
     fn line(&mut self, line: &[u8], place: &[u8; 7]) {
         // Columns of the times, each with its kind; in the order arrival, pass, departure.
         let times: &[(usize, u8)] = match &line[..2] {
+            b"LI" => &[(11, b'A'), (21, b'P'), (16, b'D')],
             b"LO" => &[(11, b'D')],
             b"LT" => &[(11, b'A')],
-            b"LI" => &[(11, b'A'), (21, b'P'), (16, b'D')],
             b"CR" => {
                 self.identity = at(line, 12);
                 return;
@@ -215,7 +216,7 @@ impl Walk {
         self.calls.terminus = at(line, 2);
         let here = line[2..9] == *place;
         for &(column, kind) in times {
-            let Some(half_minutes) = time(&line[column - 1..]) else { continue };
+            let Some(half_minutes) = judged_time(&line[column - 1..]) else { continue };
             self.number += 1;
             self.falls += u16::from(half_minutes < self.last);
             self.last = half_minutes;

@@ -25,7 +25,7 @@ impl<K: Keeper> Changes<'_, K> {
     fn record(&mut self, line: &[u8]) {
         self.record += 1;
         match &line[..2] {
-            b"BX" | b"LO" | b"LI" | b"LT" | b"CR" => {
+            b"LI" | b"LO" | b"LT" | b"BX" | b"CR" => {
                 if self.open {
                     self.keeper.line(line);
                 }

@@ -87,8 +87,3 @@ pub fn iso(number: u16) -> String {
     let month = (0..12).rev().find(|&month| start(month) <= rest).unwrap_or(0);
     format!("{year}-{:02}-{:02}", month + 1, rest - start(month) + 1)
 }
-
-/// The half minutes of a scheduled time, where there is one.
-pub fn time(field: &[u8]) -> Option<u16> {
-    (field[0] != b' ').then(|| (two(field) * 60 + two(&field[2..])) * 2 + u16::from(field[4] == b'H'))
-}
