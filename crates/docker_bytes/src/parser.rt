@@ -131,6 +131,7 @@ impl Parser {
             HasRead self format limit text →
             IfErr result.1 (λ fault. IsUnended format limit text fault) }
         ensures back { IsErr result.1 → own_of self ≡ Some result.0 }
+        ensures again { (fault : _) → HasFailed self fault → result.1 ≡ Err fault }
     {
         match self.fault {
             Some(fault) => (self.reading.into_own(), Err(fault)),

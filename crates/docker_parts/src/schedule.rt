@@ -1,6 +1,7 @@
 //! The lines of a schedule, as they are read.
 ghost use Rattle.std.specs.Prelude.{◌≡◌, ◌+◌, ◌<◌, ◌↔◌, ◌⊎◌, [], ◌∷◌, ◌++◌, length, false, IsTrue, IsOk, IfOk, IfErr};
 ghost use Rattle.cif_file.specs.JourneyRead.{HasLines};
+ghost use Rattle.docker_model.specs.file.File.{BeginsSchedule};
 ghost use Rattle.docker_parts.specs.Stage.{schedule_meant};
 ghost use Rattle.docker_parts.specs.Judged.{IsOfKey, IsFirstOf};
 ghost use Rattle.docker_parts.specs.FaultMeaning.{cause_meant};
@@ -93,14 +94,15 @@ impl Gathered {
         Ok(Lines::of(body))
     }
 
-    /// Takes the next of so many lines, which is judged before memory grows. `Body` where they are none of a schedule with this one. It lets go of all lines where
-    /// the last one doesn't complete them, or memory is wanting.
+    /// Takes the next of so many lines, which is judged before memory grows. `Body` where they are none of a schedule with this one. A line with which no
+    /// schedule begins leaves the lines as they were. Where the last one doesn't complete them, or memory runs out, it lets go of all.
     fn take(&mut self, line: &Line, count: u32) -> Result<(), StateCause>
         requires { length self.old < count }
         ensures taken { IsOk result → self.new ≡ self.old ++ line.now ∷ [] }
         ensures goes_on { IsOk result → BeginUpTo count (self.old ++ line.now ∷ []) }
         ensures err { IfErr result (λ cause. IsLineRefusal count self.old line.now
             (cause_meant cause)) }
+        ensures kept { (¬ BeginsSchedule (self.old ++ line.now ∷ [])) → self.new ≡ self.old }
     {
         let is_last = !self.has_more(count);
         if self.journey.line(line).is_err() {

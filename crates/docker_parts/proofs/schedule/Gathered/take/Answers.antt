@@ -35,3 +35,18 @@ returns-then-is_err-2-clause-err c =
           inr ((w.complete.ensures (c.args.self.now ++ c.args.line.now ∷ []) (c.line.ensures.read c.args.self.now here ok)).0 w.if-not-complete.false)
       | else-is_last-via-else-is_last w ↦ inl w.if-is_last.false
     ])
+
+pub returns-then-not-complete-clause-kept : goal.returns-then-not-complete-clause-kept
+returns-then-not-complete-clause-kept c = λ none.
+    let ok : IsOk c.line.result = search rules in
+    absurd (none ((c.line.ensures.ok c.args.self.now (subst (HasLines c.self.inside.journey) c.self.view_is c.self.invariant)).0 ok))
+
+pub returns-clause-kept : goal.returns-clause-kept
+returns-clause-kept c = λ none.
+    let ok : IsOk c.line.result = search rules in
+    absurd (none ((c.line.ensures.ok c.args.self.now (subst (HasLines c.self.inside.journey) c.self.view_is c.self.invariant)).0 ok))
+
+pub returns-then-is_err-2-clause-kept : goal.returns-then-is_err-2-clause-kept
+returns-then-is_err-2-clause-kept c = λ none.
+    let ok : IsOk c.line.result = search rules in
+    absurd (none ((c.line.ensures.ok c.args.self.now (subst (HasLines c.self.inside.journey) c.self.view_is c.self.invariant)).0 ok))
