@@ -1,13 +1,16 @@
 //! Why the program ends before it is done.
 use docker_job::JobFault;
 use docker_office::OfficeFault;
+use thiserror::Error;
 
-/// Whatever ends the program before it is done.
-#[derive(Clone, Copy, PartialEq, Eq, Debug)]
+/// Whatever ends the program before it is done. It is shown as the fault in it; the line on standard error is `fault_text`.
+#[derive(Clone, Copy, PartialEq, Eq, Debug, Error)]
 pub enum Fault {
     /// There is no job.
+    #[error("{0}")]
     Job(JobFault),
     /// The job is refused.
+    #[error("{0}")]
     Office(OfficeFault),
 }
 

@@ -26,6 +26,8 @@ mod knowledge;
 #[cfg(test)]
 mod offices;
 #[cfg(test)]
+mod printed_faults;
+#[cfg(test)]
 mod random_runs;
 #[cfg(test)]
 mod records;
