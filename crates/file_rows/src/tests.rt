@@ -32,6 +32,10 @@ const LT: &[u8] =
 const ZZ: &[u8] =
     b"ZZ                                                                              ";
 
+/// The header of an update a day later.
+const HD_10B: &[u8] =
+    b"HDTPS.UDFROC1.PD2406091006242100DFROC1BDFROC1AUA                                ";
+
 /// A header with an update indicator that is none.
 const HD_OTHER: &[u8] =
     b"HDTPS.UDFROC1.PD2406090906242100DFROC1ADFROC1ZXA                                ";
@@ -115,6 +119,10 @@ const CR: &[u8] =
 /// The insertion of Ashfield Central.
 const TI: &[u8] =
     b"TIASHFELD         ASHFIELD CENTRAL                                              ";
+
+/// An insertion of Ashfeld without a description.
+const TI_BLANK: &[u8] =
+    b"TIASHFELD                                                                       ";
 
 /// Its amendment: another code and description.
 const TA_RENAMED: &[u8] =
@@ -449,7 +457,7 @@ fn renames(rt: HostRuntime) {
     let new = tiploc(&rt, "ASHFLDN");
     changes_are(&rt, alloc, &[HD, TI, ZZ], &[put(&old, CENTRAL)]);
     let renamed = [deletion(&old), put(&new, NEW)];
-    changes_are(&rt, alloc, &[HD, TA_RENAMED, ZZ], &renamed);
+    changes_are(&rt, alloc, &[HD_10B, TA_RENAMED, ZZ], &renamed);
     changes_are(&rt, alloc, &[HD, TA_SAME, ZZ], &[put(&old, CENTRAL)]);
 }
 
@@ -503,7 +511,7 @@ fn check_records_without_end(rt: &impl Abort, alloc: Global) {
     same(rt, parser.feed(HD), Ok(()));
     same(rt, parser.feed(b"\n"), Ok(()));
     for number in 2..2000 {
-        let _ = parser.feed(TI);
+        let _ = parser.feed(TI_BLANK);
         again = parser.feed(b"\n");
         same(rt, (number, again.is_ok()), (number, number <= 1000));
     }
