@@ -124,21 +124,29 @@ pub(super) const BS_C30002: &[u8] =
 pub(super) const BS_C30002_DELETED: &[u8] =
     b"BSDC30002240610              POO                                               P";
 
-/// A call at Colwell, 10:10.
+/// An origin: Ashfeld, 10:00, without a public time or a line.
+pub(super) const LO_1000_PLAIN: &[u8] =
+    b"LOASHFELD 1000     1                                                            ";
+
+/// A call at Colwell, 10:10, without public times.
 pub(super) const LI_COLWELL: &[u8] =
-    b"LICOLWELL 1010 1012      000000003                                              ";
+    b"LICOLWELL 1010 1012              3                                              ";
 
 /// A second call there, 10:40.
 pub(super) const LI_COLWELL_AGAIN: &[u8] =
-    b"LICOLWELL21040 1042      000000004                                              ";
+    b"LICOLWELL21040 1042              4                                              ";
+
+/// A terminus: Brayton, 11:00, without a public time or a path.
+pub(super) const LT_1100_PLAIN: &[u8] =
+    b"LTBRAYTON 1100     2                                                            ";
 
 /// An origin: Colwell, 10:45.
 pub(super) const LO_COLWELL: &[u8] =
-    b"LOCOLWELL 1045 00005                                                            ";
+    b"LOCOLWELL 1045     5                                                            ";
 
 /// A terminus: Dunmere, 11:00.
 pub(super) const LT_DUNMERE: &[u8] =
-    b"LTDUNMERE 1100 00001                                                            ";
+    b"LTDUNMERE 1100     1                                                            ";
 
 /// An association of C30001 and C30002 at Colwell on 10 June 2024.
 pub(super) const AA_COLWELL: &[u8] =

@@ -64,7 +64,7 @@ fn add_lines(rt: &impl Abort, text: &mut Vec<u8>, lines: &[Line]) {
 }
 
 /// Adds the lines of a body to a text.
-fn add_body(rt: &impl Abort, text: &mut Vec<u8>, body: &Body) {
+pub(super) fn add_body(rt: &impl Abort, text: &mut Vec<u8>, body: &Body) {
     match body {
         Body::Tiploc(details) => add_line(rt, text, details),
         Body::Assoc(line) => add_line(rt, text, line.bytes()),
