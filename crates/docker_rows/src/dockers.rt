@@ -135,6 +135,46 @@ END
     (
         &[EVENING],
         "BRAYTON",
+        "2024-06-11",
+        "\
+DOCKER BRAYTON 2024-06-11                               
+0005  A 1A10 C10001 P   2       FL  0006 ASHFELD BRAYTON
+END                                                     
+",
+    ),
+    (
+        &[EVENING],
+        "BRAYTON",
+        "2024-06-12",
+        "\
+DOCKER BRAYTON 2024-06-12                               
+0005  A 1A10 C10001 P   2       FL  0006 ASHFELD BRAYTON
+END                                                     
+",
+    ),
+    (
+        &[EVENING],
+        "BRAYTON",
+        "2024-06-13",
+        "\
+DOCKER BRAYTON 2024-06-13                               
+0005  A 1A10 C10001 P   2       FL  0006 ASHFELD BRAYTON
+END                                                     
+",
+    ),
+    (
+        &[EVENING],
+        "BRAYTON",
+        "2024-06-14",
+        "\
+DOCKER BRAYTON 2024-06-14                               
+0005  A 1A10 C10001 P   2       FL  0006 ASHFELD BRAYTON
+END                                                     
+",
+    ),
+    (
+        &[EVENING],
+        "BRAYTON",
         "2024-06-15",
         "\
 DOCKER BRAYTON 2024-06-15                               
