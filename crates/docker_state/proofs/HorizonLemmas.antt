@@ -14,16 +14,16 @@ use Rattle.docker_join.specs.declared.entry.Entry.{Entry}
 use Rattle.docker_state.specs.declared.item.LedgerItem.{LedgerItem}
 use Rattle.docker_state.specs.Meaning.{item_meant, row_meant, state_meant}
 
-module _ (own horizon day : ℕ) (is : horizon ≡ day) (low : own ≤ day) (ledger : List LedgerItem) (rows after : List (Key × Entry))
-    (lapsed : map row_meant after ≡ lapse_entries horizon (map row_meant rows)) where
+module _ (own day : ℕ) (low : own ≤ day) (ledger : List LedgerItem) (rows after : List (Key × Entry))
+    (lapsed : map row_meant after ≡ lapse_entries day (map row_meant rows)) where
   -- the rows lapsed under a day that is no lower are the state with it set
-  pub rows_raised : state_meant horizon ledger after ≡ raise_horizon day (state_meant own ledger rows)
+  pub rows_raised : state_meant day ledger after ≡ raise_horizon day (state_meant own ledger rows)
   rows_raised =
-      (λ i. record { horizon = horizon; ledger = map item_meant ledger; entries = lapsed i })
-      ∙ ap (λ h. lapse_state h (state_meant own ledger rows)) (is ∙ sym (max-eq_right low))
+      (λ i. record { horizon = day; ledger = map item_meant ledger; entries = lapsed i })
+      ∙ ap (λ h. lapse_state h (state_meant own ledger rows)) (sym (max-eq_right low))
 
   -- and it is valid
-  pub raised_valid : IsDay day → IsValid (state_meant own ledger rows) → IsValid (state_meant horizon ledger after)
+  pub raised_valid : IsDay day → IsValid (state_meant own ledger rows) → IsValid (state_meant day ledger after)
   raised_valid within valid = subst IsValid (sym rows_raised) (raised_is_valid day (state_meant own ledger rows) within valid)
 
 -- the index after the rows have lapsed is that of the rows

@@ -15,5 +15,5 @@ pub mod HorizonLemmas
 pub mod StagingLemmas
 pub mod LedgerSearch
 pub mod UidRows
-pub mod NoFile
 pub mod Newest
+pub mod NothingToStage

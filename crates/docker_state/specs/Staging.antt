@@ -42,6 +42,11 @@ IsOffered own before key entry after =
     (IsToStage own before.floor key entry × (after ≡ with_staged before key entry))
     ⊎ (¬ IsToStage own before.floor key entry × (after ≡ before))
 
+-- none of the entries is to be staged for a state
+abbrev pub HasNoneToStage : State → Option stamps.FileStamp → List (model.Key × ops.Entry) → Type 0
+HasNoneToStage own floor entries =
+    (key : model.Key) (entry : ops.Entry) → Contains entries (key, entry) → ¬ IsToStage own floor key entry
+
 -- the key is above those of the staged entries
 abbrev pub IsAboveStaged : List (model.Key × ops.Entry) → model.Key → Type 0
 IsAboveStaged staged key =

@@ -1,6 +1,7 @@
 //! The state of what files say: which files are known, and of each key the greatest entry, lapsed under a horizon. States are joined in any order and however often.
 #![tactic(auto)]
 
+mod covers;
 mod floor;
 mod item;
 mod ledger;

@@ -104,7 +104,7 @@ impl Parts {
         }
     }
 
-    /// The state of the parts. Want of memory lets go of them.
+    /// The state of the parts. Out of memory lets go of them; so do more than 4,294,967,295 entries or places, which are numbered in 32 bits.
     pub fn finish(self) -> Result<State, Memory>
         ensures { IfOk result (λ state. state ≡ self) }
     {

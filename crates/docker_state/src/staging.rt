@@ -125,7 +125,7 @@ impl Staging {
 }
 
 /// Whether an entry is kept under a floor and greater than the state's own of its key, if there is one. The own one is looked for at an index first.
-fn is_to_stage(
+pub(crate) fn is_to_stage(
     state: &State,
     floor: &Option<FileStamp>,
     key: &Key,
@@ -146,7 +146,10 @@ fn is_to_stage(
 }
 
 impl State {
-    /// Takes over what was received: the union of the ledgers kept under its floor, and the own entries that are kept, with each staged entry at its key, lapsed under the own horizon. That is the join with the state of what was received. Where nothing is staged and no item is new it does nothing. Want of memory leaves the state as it was, and drops what was received.
+    /// Takes over what was received: the union of the ledgers kept under its floor, and the own entries that are kept, with each staged entry at its key, lapsed
+    /// under the own horizon. That is the join with the state of what was received. If the entries were offered to another state with the same floor, it is that
+    /// join too, and a greater own entry stays. If nothing is staged and no item is new it does nothing. Out of memory leaves the state as it was, and drops what
+    /// was received.
     pub fn commit(&mut self, staging: Staging) -> Result<(), Memory>
         requires floor { IsFloor (self.old.ledger ++ staging.items) staging.floor }
         ensures join { IsOk result

@@ -92,7 +92,8 @@ impl State {
         }
     }
 
-    /// The state of the one file. Want of memory, before a change was moved, hands it back as it was.
+    /// The state of the one file. Out of memory, before a change was moved, hands it back as it was; so does a file of more than 4,294,967,295 changes or places,
+    /// which are numbered in 32 bits.
     pub fn of_file(alloc: Global, file: CifFile) -> Result<State, CifFile>
         ensures ok { (records : List (List ℕ)) → IsOfRecords file records
             → IfOk result (IsSummary (records ∷ []) 0) }
@@ -144,12 +145,28 @@ impl State {
         ensures summary { (files : List (List (List ℕ))) (horizon : ℕ)
             → IsSummary files horizon self.old → IsSummary files (max horizon day) self.new }
     {
-        let horizon = day.number();
+        self.raise(day.number());
+    }
+
+    /// Raises the horizon to a day number: the same.
+    fn raise(&mut self, horizon: u16)
+        requires { IsDay horizon }
+        ensures { self.new ≡ raise_horizon horizon self.old }
+    {
         if self.horizon < horizon {
             self.horizon = horizon;
             self.entries.lapse(horizon);
             self.index.lapse(self.entries.as_slice());
         }
+    }
+
+    /// The state with its horizon raised to a day number.
+    fn raised(mut self, horizon: u16) -> State
+        requires { IsDay horizon }
+        ensures { result ≡ raise_horizon horizon self }
+    {
+        self.raise(horizon);
+        self
     }
 
     /// The ledger items, ascending.
@@ -245,15 +262,6 @@ impl State {
         }
     }
 
-    /// Whether this is the state of no file.
-    fn is_of_no_file(&self) -> bool
-        ensures none { IsTrue result
-            → self.now ≡ record { horizon = 0; ledger = []; entries = [] } }
-        ensures valid { IsValid self.now }
-    {
-        self.ledger.is_empty() && self.entries.is_empty() && self.horizon == 0
-    }
-
     /// The join of two states, row by row, whichever they are.
     fn join_rows(self, alloc: Global, other: State) -> Result<State, (State, State)>
         ensures ok { IfOk result (IsJoin self other) }
@@ -305,7 +313,7 @@ impl State {
     }
 
     /// The floor of this ledger and that of another state together.
-    fn floor_with(&self, other: &State) -> Option<FileStamp>
+    pub(crate) fn floor_with(&self, other: &State) -> Option<FileStamp>
         ensures { IsFloor (self.now.ledger ++ other.now.ledger) (floor_meant result) }
     {
         common_floor(self.floor(), other.floor())
@@ -331,7 +339,10 @@ impl Merge for State {
 
     ghost idempotent = { join_idempotent };
 
-    /// The join of two states: the union of their ledgers kept under its floor, and of each key the greater entry kept under the same floor and lapsed under the greater horizon. Where one of them is the state of no file it is the other, as it is. Want of memory, before anything was moved, hands both back as they were.
+    /// The join of two states: the union of their ledgers kept under its floor, and of each key the greater entry kept under the same floor and lapsed under the
+    /// greater horizon. If one of them has all that the other would bring, it is that state under the greater horizon, and the other's memory is given back: so it
+    /// is of a full extract that is newer than each file of the other, and then no row of the other is looked at. Out of memory, before anything was moved, hands
+    /// both back as they were; so do two states with more than 4,294,967,295 rows or places together, which are numbered in 32 bits.
     fn join(self, alloc: Global, other: State) -> Result<State, (State, State)>
         ensures ok { IfOk result (IsJoin self other) }
         ensures err { IfErr result (λ both. (both.0 ≡ self) × (both.1 ≡ other)) }
@@ -339,12 +350,13 @@ impl Merge for State {
             → IsSummary files g self → IsSummary others h other
             → IfOk result (IsSummary (files ++ others) (max g h)) }
     {
-        let is_of_none = self.is_of_no_file();
-        if other.is_of_no_file() {
-            return Ok(self);
+        let own = self.horizon();
+        let theirs = other.horizon();
+        if self.covers(&other) {
+            return Ok(self.raised(theirs));
         }
-        if is_of_none {
-            return Ok(other);
+        if other.covers(&self) {
+            return Ok(other.raised(own));
         }
         self.join_rows(alloc, other)
     }

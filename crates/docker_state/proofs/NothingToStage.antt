@@ -1,0 +1,66 @@
+-- A state that has all that another would bring.
+use Rattle.std.proofs.Common.{◌≡◌, Bool, true, false, List, [], ◌∷◌, ◌++◌, map, length, refl, ap, sym, ◌∙◌, subst, inl, inr, ◌⊎◌, Contains, arith}
+use Rattle.std.specs.Prelude.{Option, ◌↔◌, IsTrue}
+use Rattle.std.specs.Ordering.{ordering_reverse}
+use Rattle.docker_model.specs.file.Change.{Key}
+use Rattle.docker_model.specs.state.Order.{IsBelow, IsAtMost}
+use Rattle.docker_model.specs.state.Stamp.{FileStamp, LedgerItem, file_stamp_cmp, IsFloor, IsKept}
+use Rattle.docker_model.specs.state.Op.{Entry}
+use Rattle.docker_model.specs.state.State.{State, IsValid, IsGoodEntry, IsJoin, raise_horizon}
+use Rattle.docker_model.specs.state.Staging.{IsToStage, IsStaged}
+use Rattle.cif_laws.proofs.lists.Membership.{Contains-cons, Contains-map, member_of, nil-Contains}
+use Rattle.cif_laws.proofs.orders.Orders.{file_stamp_total}
+use Rattle.state_laws.proofs.joins.StagedEntry.{staging_joins}
+use Rattle.state_laws.proofs.joins.StagedState.{join_with_staged}
+use Rattle.docker_state.specs.Staging.{HasKeptItems, HasNoneToStage}
+use Rattle.docker_state.proofs.StagingLemmas.{join_of_nothing_new}
+
+-- what is below a floor isn't kept under it
+pub not_kept : (stamp floor : FileStamp) → IsBelow file_stamp_cmp stamp floor → ¬ IsAtMost file_stamp_cmp floor stamp
+not_kept stamp floor below kept = kept (file_stamp_total.antisymm floor stamp ∙ ap ordering_reverse below)
+
+-- of a state whose files all are below the floor nothing is to be staged
+pub below_brings_none : (own other : State) → IsValid other → (floor : Option FileStamp)
+    → ((item : LedgerItem) → Contains other.ledger item → ¬ IsKept floor item.stamp) → HasNoneToStage own floor other.entries
+below_brings_none own other valid floor below key entry among to =
+    let good : IsGoodEntry other.ledger (key, entry) = member_of (IsGoodEntry other.ledger) other.entries (key, entry) valid.entries.0 among in
+    let item = Contains-map (λ (item : LedgerItem). item.stamp) other.ledger entry.stamp.file good.stamp.in_ledger in
+    below item.0 item.1 (subst (IsKept floor) (sym item.2) to.kept)
+
+-- of no row nothing is
+pub none_of_no_row : {A : Type 0} (meant : A → Key × Entry) (own : State) (floor : Option FileStamp) (rows : List A) → length rows ≡ 0
+    → HasNoneToStage own floor (map meant rows)
+none_of_no_row meant own floor [] none = λ key entry among. absurd (nil-Contains (key, entry) among)
+none_of_no_row meant own floor (row ∷ rows) some = absurd (omega arith)
+
+-- and of a row that isn't and others of which nothing is
+pub none_of_more : (own : State) (floor : Option FileStamp) (row : Key × Entry) (rows : List (Key × Entry)) → ¬ IsToStage own floor row.0 row.1
+    → HasNoneToStage own floor rows → HasNoneToStage own floor (row ∷ rows)
+none_of_more own floor row rows first others key entry among = by (Contains-cons row rows (key, entry) among)
+  where
+    by : (row ≡ (key, entry)) ⊎ Contains rows (key, entry) → ¬ IsToStage own floor key entry
+    by (inl same) = subst (λ (it : Key × Entry). ¬ IsToStage own floor it.0 it.1) same first
+    by (inr behind) = others key entry behind
+
+-- and of rows of the code that begin with one
+pub none_of_rest : {A : Type 0} (meant : A → Key × Entry) (own : State) (floor : Option FileStamp) (rows behind : List A) (row : A) → rows ≡ row ∷ behind
+    → ¬ IsToStage own floor (meant row).0 (meant row).1 → HasNoneToStage own floor (map meant behind) → HasNoneToStage own floor (map meant rows)
+none_of_rest meant own floor rows behind row is first others =
+    subst (λ xs. HasNoneToStage own floor (map meant xs)) (sym is) (none_of_more own floor (meant row) (map meant behind) first others)
+
+-- what a test that fails tells
+pub untold : {P : Type 0} (b : Bool) → b ≡ false → IsTrue b ↔ P → ¬ P
+untold b fails tells holds = let bad : false ≡ true = sym fails ∙ tells.1 holds in cc
+
+-- a state that has each item that is kept, and for which nothing is to be staged, is the join under the greater horizon
+pub covered : (own other : State) → IsValid own → IsValid other → (floor : Option FileStamp) → IsFloor (own.ledger ++ other.ledger) floor
+    → HasKeptItems own.ledger other.ledger floor → HasNoneToStage own floor other.entries → IsJoin own other (raise_horizon other.horizon own)
+covered own other valid valid_too floor is_floor has none =
+    staging_joins own other floor [] own valid valid_too is_floor stages
+    (join_with_staged own other floor [] own valid.entries.1 is_floor stages (join_of_nothing_new own valid other.ledger floor is_floor has [] refl))
+  where
+    stages : IsStaged own floor other.entries []
+    stages = record {
+      ascending = tt;
+      members = λ key entry. (λ among. absurd (nil-Contains (key, entry) among), λ told. absurd (none key entry told.0 told.1));
+    }

@@ -1,0 +1,18 @@
+use Rattle.std.proofs.Common.{List, subst, sym, Contains}
+use Rattle.docker_model.specs.file.Change.{Key}
+use Rattle.docker_model.specs.state.Op.{Entry}
+use Rattle.docker_model.specs.state.Stamp.{LedgerItem}
+use Rattle.docker_state.specs.Meaning.{floor_meant}
+use Rattle.docker_state.specs.Staging.{HasNoneToStage}
+use Rattle.docker_state.proofs.NothingToStage.{below_brings_none}
+use Rattle.docker_state.proofs.covers.brings_none.Goals as goal
+
+pub returns-then-are_below : goal.returns-then-are_below
+returns-then-are_below c = λ told.
+    below_brings_none c.args.own.now c.args.other.now c.ledger.ensures.valid (floor_meant c.args.floor.now)
+    (λ item among. c.are_below.ensures told item (subst (λ (items : List LedgerItem). Contains items item) (sym c.ledger.ensures.items) among))
+
+pub returns-else-are_below : goal.returns-else-are_below
+returns-else-are_below c = λ told.
+    subst (λ (rows : List (Key × Entry)). HasNoneToStage c.args.own.now (floor_meant c.args.floor.now) rows) c.entries.ensures.rows
+    (c.none_to_stage.ensures told)

@@ -1,0 +1,61 @@
+//! Whether a state has all that another would bring: the join with it is then this state, under the greater horizon.
+ghost use Rattle.std.specs.Prelude.{◌≡◌, map, IsTrue, Contains};
+ghost use Rattle.docker_model.specs.state.Stamp.{ledger_item_cmp, IsKept};
+ghost use Rattle.docker_model.specs.state.Order.{IsStrictlyAscending};
+ghost use Rattle.docker_model.specs.state.State.{raise_horizon, IsJoin};
+ghost use Rattle.docker_state.specs.Meaning.{floor_meant, item_meant, row_meant};
+ghost use Rattle.docker_state.specs.Staging.{HasNoneToStage};
+
+use crate::item::LedgerItem;
+use crate::ledger::{has_kept_items, is_above_all};
+use crate::staging::is_to_stage;
+use crate::state::State;
+use cif_file::Key;
+use docker_join::{Entry, FileStamp};
+
+/// Whether each file of a ledger is below a floor.
+fn are_below(ledger: &[LedgerItem], floor: &Option<FileStamp>) -> bool
+    requires { IsStrictlyAscending ledger_item_cmp (map item_meant ledger.now) }
+    ensures { IsTrue result → (item : _) → Contains (map item_meant ledger.now) item
+        → ¬ IsKept (floor_meant floor.now) item.stamp }
+{
+    match floor {
+        Some(least) => is_above_all(ledger, least),
+        None => false,
+    }
+}
+
+/// Whether none of these rows, whose keys ascend, is to be staged for a state.
+fn none_to_stage(own: &State, rows: &[(Key, Entry)], floor: &Option<FileStamp>) -> bool
+    ensures { IsTrue result
+        → HasNoneToStage own.now (floor_meant floor.now) (map row_meant rows.now) }
+{
+    let mut near = 0;
+    let mut rest = rows;
+    while let Some((row, behind)) = rest.split_first() {
+        if is_to_stage(own, floor, &row.0, &row.1, &mut near) {
+            return false;
+        }
+        rest = behind;
+    }
+    true
+}
+
+/// Whether nothing of a state is to be staged for another. Where all its files are below the floor of both, none of its rows is looked at.
+fn brings_none(own: &State, other: &State, floor: &Option<FileStamp>) -> bool
+    ensures { IsTrue result → HasNoneToStage own.now (floor_meant floor.now) other.now.entries }
+{
+    are_below(other.ledger(), floor) || none_to_stage(own, other.entries(), floor)
+}
+
+impl State {
+    /// Whether the join with another state is this one under the greater horizon: each item and each entry of the other is below the floor of both, or this state
+    /// has it, or an entry of its key that is greater.
+    pub(crate) fn covers(&self, other: &State) -> bool
+        ensures { IsTrue result
+            → IsJoin self.now other.now (raise_horizon other.now.horizon self.now) }
+    {
+        let floor = self.floor_with(other);
+        has_kept_items(self.ledger(), other.ledger(), &floor) && brings_none(self, other, &floor)
+    }
+}
