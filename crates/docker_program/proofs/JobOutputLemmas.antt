@@ -82,6 +82,18 @@ ends_in_part prepared name files files_now output (office.File fault) is same on
 ends_in_part prepared name files files_now output (office.State fault) is same only lapsed memory = only
 ends_in_part prepared name files files_now output office.Source is same only lapsed memory = only
 
+-- the draft of a job that writes a file isn't written whole only where it fails
+pub fails_alone : (prepared : PreparedView) (name : Text) (fault : OfficeFault) → stored_by prepared.job ≡ Some name → IsOfDocker fault →
+    (fault ≡ office.Lapsed → IsRefused prepared) → (fault ≡ office.Memory → PrintsDocker prepared) → fault ≡ office.Sink
+fails_alone prepared name office.Sink is only lapsed memory = refl
+fails_alone prepared name office.Lapsed is only lapsed memory =
+    absurd (no_refused prepared.job.task prepared.read (no_docker prepared.job.task prepared.job.words name is) (lapsed refl))
+fails_alone prepared name office.Memory is only lapsed memory =
+    absurd (no_docker prepared.job.task prepared.job.words name is (memory refl))
+fails_alone prepared name (office.File fault) is only lapsed memory = elim only [ ]
+fails_alone prepared name (office.State fault) is only lapsed memory = elim only [ ]
+fails_alone prepared name office.Source is only lapsed memory = elim only [ ]
+
 -- what a draft that held nothing gained is what it holds
 holds_gained : (old new : DeviceBytes) (text : List ℕ) → Held old [] → Takes old text new → Held new text
 holds_gained None new text empty gained = subst (λ new. Held new text) (sym gained) tt

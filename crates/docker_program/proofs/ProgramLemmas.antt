@@ -1,5 +1,6 @@
 -- How the program ends where a job isn't read whole.
-use Rattle.std.proofs.Common.{◌≡◌, ◌≢◌, ◌≤◌, ◌↔◌, ℕ, List, [], ◌∷◌, Option, None, Some, Err, arith, inl, inr, refl, sym, subst}
+use Rattle.std.proofs.Common.{◌≡◌, ◌≢◌, ◌≤◌, ◌↔◌, ℕ, List, [], ◌∷◌, Option, None, Some, Err, arith, ap, inl, inr, refl, sym, ◌∙◌, subst}
+use Rattle.std.specs.Prelude.{IfSome, Result, option_map, ⊤}
 use Rattle.docker_job.specs.Words.{Text}
 use Rattle.docker_job.specs.Job.{JobView, NameNoJob}
 use Rattle.docker_job.specs.declared.fault.JobFault.TheVariants as job
@@ -9,7 +10,9 @@ use Rattle.docker_cmd.specs.declared.fault.Fault.TheVariants.{Job, Office}
 use Rattle.docker_cmd.specs.OfficeFault.{OfficeFault}
 use Rattle.docker_cmd.specs.OfficeFault.TheVariants as office
 use Rattle.docker_program.specs.Devices.{Given, IsUnwritten, Written, written}
-use Rattle.docker_program.specs.Program.{AskForNone, AskForSome, AsksAtMost, AsksFor, EndsBy, EndsWriting, FaultSink, HasRead, IsAsked, IsPrepared, IsUsageStatus, Performs, ReadsNamed, Writes, ending_status}
+use Rattle.docker_program.specs.Names.{stored_by}
+use Rattle.docker_program.specs.Past.{Past, with_draft, with_draft_from, with_draft_of, with_look, with_look_at}
+use Rattle.docker_program.specs.Program.{AskForNone, AskForSome, AsksAtMost, AsksFor, AsksStore, EndsBy, EndsWriting, FaultSink, HasRead, IsAsked, IsPrepared, IsUsageStatus, Performs, ReadsNamed, Writes, ending_status}
 
 -- a job that is asked for and refused for what its sources held ends the program by that fault
 pub ends_unread : (words : List Text) (given : Given) (written : Written) (job : JobView) (rest : DeviceBytes) (fault : OfficeFault) →
@@ -49,6 +52,52 @@ pub ends_done : (words : List Text) (given : Given) (written : Written) (job : J
     Writes written prepared → IsAsked words given (HasRead given (Writes written))
 ends_done words given written job rest prepared asks at_most is writes =
     record { job = job; rest = rest; asks = asks; at_most = at_most; holds = (prepared, (is, writes)) }
+
+-- what comes of writing, told from before a look that left the files as they were
+pub ends_from : (output output_now : DeviceBytes) (files seen files_now : Text → DeviceBytes) (prepared : PreparedView) (result : Result ⊤ OfficeFault) →
+    seen ≡ files → EndsWriting (written output output_now seen files_now) prepared result →
+    EndsWriting (written output output_now files files_now) prepared result
+ends_from output output_now files seen files_now prepared result same ends =
+    subst (λ (files : Text → DeviceBytes). EndsWriting (written output output_now files files_now) prepared result) same ends
+
+-- where no job is told, nothing is asked of a store
+pub asks_nothing : (words : List Text) (given : Given) (past : Option Past) → AsksAtMost words given.input given.left →
+    given.first.left ≡ given.first.before → given.second.left ≡ given.second.before → AsksStore words given past past
+asks_nothing words given past at_most first second = inl (record { why = tt; at_most = at_most; first = first; second = second }, refl)
+
+-- where a job isn't read whole, a look was
+pub asks_a_look : (words : List Text) (given : Given) (job : JobView) (rest : DeviceBytes) (before now : Option Past) →
+    AsksFor words given.input job rest → AsksAtMost words given.input rest → now ≡ with_look_at (stored_by job) before →
+    AsksStore words given before now
+asks_a_look words given job rest before now asks at_most is =
+    inr (inl (record { job = job; rest = rest; asks = asks; at_most = at_most; holds = is }))
+
+-- a look at the file of this name, and a draft from it
+draft_from_look : {A : Type 0} (looked : Option A) (name : A → Text) (number : A → ℕ) (stored : Option Text) (before : Option Past) →
+    option_map name looked ≡ stored → IfSome before (λ past. IfSome looked (λ it. number it ≡ past.looks)) →
+    with_draft_from (option_map number looked) (with_look_at stored before) ≡ with_draft_of stored before
+draft_from_look None name number stored before is first =
+    subst (λ stored. with_draft_from None (with_look_at stored before) ≡ with_draft_of stored before) is refl
+draft_from_look (Some it) name number stored None is first =
+    subst (λ stored. with_draft_from (Some (number it)) (with_look_at stored None) ≡ with_draft_of stored None) is refl
+draft_from_look (Some it) name number stored (Some past) is first =
+    subst (λ stored. with_draft_from (Some (number it)) (with_look_at stored (Some past)) ≡ with_draft_of stored (Some past)) is
+    (ap (λ look. Some (with_draft look (with_look past))) first)
+
+-- where a job is read whole, a draft from that look
+pub asks_a_draft : {A : Type 0} (looked : Option A) (name : A → Text) (number : A → ℕ)
+    (words : List Text) (given : Given) (job : JobView) (rest : DeviceBytes) (prepared : PreparedView) (before seen now : Option Past) →
+    AsksFor words given.input job rest → AsksAtMost words given.input rest → IsPrepared given job rest prepared →
+    option_map name looked ≡ stored_by job → IfSome before (λ past. IfSome looked (λ it. number it ≡ past.looks)) →
+    seen ≡ with_look_at (stored_by job) before → now ≡ with_draft_from (option_map number looked) seen →
+    AsksStore words given before now
+asks_a_draft looked name number words given job rest prepared before seen now asks at_most is named first looks drafts =
+    inr (inr (record { job = job; rest = rest; asks = asks; at_most = at_most; holds = (prepared, (is, by)) }))
+  where
+    by : now ≡ with_draft_of (stored_by prepared.job) before
+    by = drafts ∙ ap (λ past. with_draft_from (option_map number looked) past) looks
+        ∙ draft_from_look looked name number (stored_by job) before named first
+        ∙ ap (λ job. with_draft_of (stored_by job) before) (sym is.job_is)
 
 -- words that ask for a job name one
 names_one : (words : List Text) (given : Given) (Holds : JobView → DeviceBytes → Type 0) → words ≢ [] → IsAsked words given Holds → ¬ NameNoJob words

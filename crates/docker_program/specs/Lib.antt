@@ -1,3 +1,4 @@
 pub mod Devices
 pub mod Names
+pub mod Past
 pub mod Program

@@ -17,6 +17,7 @@ use Rattle.docker_cmd.specs.declared.fault.Fault.TheVariants.{Job, Office}
 use Rattle.docker_program.specs.declared.files.OpenFault.{OpenFault}
 use Rattle.docker_program.specs.declared.files.OpenFault.TheVariants as opening
 use Rattle.docker_program.specs.Names.{names_of, stored_by}
+use Rattle.docker_program.specs.Past.{Past, with_draft_of, with_look_at}
 use Rattle.docker_program.specs.Devices.{Given, Written, IsUnwritten, LeavesOtherFiles, AreThere, FailsToOpen, LeavesOthers, first_held, first_left, second_held, second_left}
 
 -- the words name this job; where there are none the first line of standard input does, and the rest of that is left
@@ -192,6 +193,13 @@ abbrev pub EndsBy : List Text → Given → Written → Option Fault → Type 0
 EndsBy words given written None = IsAsked words given (HasRead given (Writes written))
 EndsBy words given written (Some (Office office.Sink)) = IsAsked words given (HasRead given (WritesPart written))
 EndsBy words given written (Some fault) = IsWhy words given fault × IsUnwritten written
+
+-- what is asked of a store, before and now: nothing, and then no file was opened; or one look at the file that the job writes; or that look, and a draft from
+-- it once all was read
+abbrev pub AsksStore : List Text → Given → Option Past → Option Past → Type 0
+AsksStore words given before now = (IsNotAsked words given ⊤ × (now ≡ before))
+    ⊎ IsAsked words given (λ job rest. now ≡ with_look_at (stored_by job) before)
+    ⊎ IsAsked words given (HasRead given (λ prepared. now ≡ with_draft_of (stored_by prepared.job) before))
 
 -- the exit status: 0, or the fault's
 abbrev pub ending_status : Option Fault → ℕ

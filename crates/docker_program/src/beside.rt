@@ -23,7 +23,8 @@ pub(crate) struct Beside {
 }
 
 impl Beside {
-    /// Makes an empty draft beside the file of this path, which this command alone holds, with the permissions of the old file where there is one.
+    /// Makes an empty draft beside the file of this path, which this command alone holds, with the permissions of the old file where there is one. One that
+    /// can't be given them is taken away again; if that fails too, the device failed.
     pub(crate) fn make(
         rt: &HostRuntime,
         file: String,
@@ -49,7 +50,9 @@ impl Beside {
                 Ok((made, beside))
             }
             Err(error) => {
-                let _ = fs::remove_file(rt, draft.as_str());
+                if fs::remove_file(rt, draft.as_str()).is_err() {
+                    return Err(OpenFault::Failed);
+                }
                 Err(OpenFault::from(error))
             }
         }
@@ -63,7 +66,7 @@ impl Beside {
         Ok(())
     }
 
-    /// Takes the draft away, as far as that can be done.
+    /// Takes the draft away, as far as that can be done. Whoever calls it has counted a failure.
     pub(crate) fn remove(&self, rt: &HostRuntime) {
         let _ = fs::remove_file(rt, self.draft.as_str());
     }

@@ -169,7 +169,11 @@ impl Stores for Folder {
 
     ghost failures = { λ folder. folder.failures };
 
-    fn look<'a>(&self, name: &'a str) -> Looked<'a, Option<Seen>> {
+    ghost past = { λ _. None };
+
+    ghost number = { λ _. 0 };
+
+    fn look<'a>(&mut self, name: &'a str) -> Looked<'a, Option<Seen>> {
         Looked {
             name,
             seen: self.look_under(name),

@@ -3,6 +3,7 @@ ghost use Rattle.std.specs.Prelude.{◌≡◌, ◌≢◌, ◌+◌, ◌-◌, ◌^
 ghost use Rattle.docker_cmd.specs.Prepared.{output_of, state_written};
 ghost use Rattle.docker_program.specs.Devices.{IsCounted, LeavesNoDraft, written};
 ghost use Rattle.docker_program.specs.Names.{stored_by};
+ghost use Rattle.docker_program.specs.Past.{with_draft, with_draft_from};
 ghost use Rattle.docker_program.specs.Program.{EndsWriting, result_status};
 
 use crate::files::OpenFault;
@@ -27,6 +28,8 @@ pub(crate) fn write_output<W: Stores, K: Sink>(
     ensures counted { IsCounted (result_status result)
         (W.failures store.old + K.failures output.old)
         (W.failures store.new + K.failures output.new) }
+    ensures asked { W.past store.new
+        ≡ with_draft_from (option_map (λ it. W.number it.seen) looked.entry) (W.past store.old) }
 {
     match looked {
         None => emit(prepared, output),
@@ -47,6 +50,8 @@ fn write_file<W: Stores>(
     ensures drafts { LeavesNoDraft (W.has_draft store.old) (W.has_draft store.new) }
     ensures counted { IsCounted (result_status result)
         (W.failures store.old) (W.failures store.new) }
+    ensures asked { W.past store.new
+        ≡ option_map (with_draft (W.number looked.entry.seen)) (W.past store.old) }
 {
     let mut draft = match store.create(looked) {
         Ok(draft) => draft,

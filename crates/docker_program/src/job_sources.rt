@@ -8,7 +8,7 @@ ghost use Rattle.docker_program.specs.Program.{ReadsInOrder, ReadsNamed, result_
 use crate::files::{Files, OpenFault};
 use crate::job_names::names;
 use crate::names::Names;
-use crate::stores::Looked;
+use crate::stores::{Looked, Stores};
 use cif_line::Source;
 use docker_cmd::{Job, OfficeFault, Prepared, prepare};
 use std::alloc::Global;
@@ -61,12 +61,13 @@ fn read_in_order<'a, S: Source, T: Source>(
     prepare(alloc, job, first, second)
 }
 
-/// Opens the files that a job reads, in the order of its words, and then reads its sources. One of them may be what is left of standard input. What was seen of
-/// the file that the job writes is asked for, so that none is read for a job whose file wasn't looked at before.
-pub(crate) fn read_sources<'a, T, S: Source, F: Files>(
+/// Opens the files that a job reads, in the order of its words, and then reads its sources. One of them may be what is left of standard input. What the store
+/// saw of the file that the job writes is asked for, so that none is read for a job whose file wasn't looked at before.
+pub(crate) fn read_sources<'a, W: Stores, S: Source, F: Files>(
     alloc: Global,
     job: &'a Job,
-    _looked: &Option<Looked<'_, T>>,
+    _looked: &Option<Looked<'_, W::Seen>>,
+    _store: &W,
     stdin: &mut S,
     first: &mut F,
     second: &mut F,

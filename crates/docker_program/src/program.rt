@@ -1,9 +1,10 @@
 //! The order of the program's work.
-ghost use Rattle.std.specs.Prelude.{◌≡◌, ◌≢◌, ◌+◌, ◌-◌, ◌^◌, ◌<◌, ◌↔◌, None, Some, option_map};
+ghost use Rattle.std.specs.Prelude.{◌≡◌, ◌≢◌, ◌+◌, ◌-◌, ◌^◌, ◌<◌, ◌↔◌, IfSome, None, Some, option_map};
 ghost use Rattle.docker_job.specs.Words.{texts};
 ghost use Rattle.docker_program.specs.Devices.{IsCounted, LeavesNoDraft, device_of, given, written};
 ghost use Rattle.docker_program.specs.Names.{stored_by};
-ghost use Rattle.docker_program.specs.Program.{EndsBy, Performs, ending_status, fault_in, fault_sink};
+ghost use Rattle.docker_program.specs.Past.{with_look_at};
+ghost use Rattle.docker_program.specs.Program.{AsksStore, EndsBy, Performs, ending_status, fault_in, fault_sink};
 
 use crate::fault_report::tell;
 use crate::files::Files;
@@ -18,10 +19,17 @@ use std::alloc::Global;
 use std::mem;
 
 /// Looks at the file that a job writes, if it writes one, before anything is read.
-fn look_at_stored<'a, W: Stores>(job: &'a Job, store: &W) -> Option<Looked<'a, W::Seen>>
-    ensures { option_map (λ it. it.name.now) result ≡ stored_by job.now }
+fn look_at_stored<'a, W: Stores>(job: &'a Job, store: &mut W) -> Option<Looked<'a, W::Seen>>
+    ensures name { option_map (λ it. it.name.now) result ≡ stored_by job.now }
+    ensures number { IfSome (W.past store.old)
+        (λ asked. IfSome result (λ it. W.number it.seen ≡ asked.looks)) }
+    ensures asked { W.past store.new ≡ with_look_at (stored_by job.now) (W.past store.old) }
+    ensures kept { W.held store.new ≡ W.held store.old }
+    ensures no_draft { W.has_draft store.new ≡ W.has_draft store.old }
+    ensures no_failure { W.failures store.new ≡ W.failures store.old }
 {
-    stored_name(job).map(|name| store.look(name))
+    let name = stored_name(job)?;
+    Some(store.look(name))
 }
 
 /// Does the job that is asked for: reads its sources, and then writes its output.
@@ -51,10 +59,15 @@ fn do_job<S: Source, F: Files, W: Stores, K: Sink>(
         + W.failures store.old + K.failures output.old)
         (S.failures stdin.new + F.failures first.new + F.failures second.new
         + W.failures store.new + K.failures output.new) }
+    ensures asked { AsksStore (texts words.now)
+        (given (S.left stdin.old) (S.left stdin.new)
+        (device_of F.left F.held F.is_missing first.old first.new)
+        (device_of F.left F.held F.is_missing second.old second.new))
+        (W.past store.old) (W.past store.new) }
 {
     let job = requested_job(alloc, words, stdin)?;
     let looked = look_at_stored(&job, store);
-    let prepared = read_sources(alloc, &job, &looked, stdin, first, second)?;
+    let prepared = read_sources(alloc, &job, &looked, store, stdin, first, second)?;
     let done = write_output(looked, &prepared, store, output);
     // The program ends here: what it has read is left to the system, not freed piece by piece.
     mem::forget(prepared);
@@ -93,6 +106,11 @@ pub fn perform<S: Source, F: Files, W: Stores, K: Sink, L: Sink>(
         + W.failures store.old + K.failures output.old)
         (S.failures stdin.new + F.failures first.new + F.failures second.new
         + W.failures store.new + K.failures output.new) }
+    ensures asked { AsksStore (texts words.now)
+        (given (S.left stdin.old) (S.left stdin.new)
+        (device_of F.left F.held F.is_missing first.old first.new)
+        (device_of F.left F.held F.is_missing second.old second.new))
+        (W.past store.old) (W.past store.new) }
 {
     match do_job(alloc, words, stdin, first, second, store, output) {
         Ok(()) => 0,

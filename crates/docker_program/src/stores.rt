@@ -1,7 +1,8 @@
 //! Files that are written anew by their names.
-ghost use Rattle.std.specs.Prelude.{◌≡◌, ℕ, ◌+◌, ◌-◌, ◌^◌, ◌<◌, ◌↔◌, ◌≢◌, [], Some, List, Option, Bool, false, IfOk, IsErr, OnOk, OnErr, Err};
+ghost use Rattle.std.specs.Prelude.{◌≡◌, ℕ, ◌+◌, ◌-◌, ◌^◌, ◌<◌, ◌↔◌, ◌≢◌, [], Some, List, Option, Bool, false, IfOk, IfSome, IsErr, OnOk, OnErr, Err, option_map};
 ghost use Rattle.cif_file.specs.SourceRead.{Held};
 ghost use Rattle.docker_program.specs.Devices.{IsEither, LeavesOtherFiles};
+ghost use Rattle.docker_program.specs.Past.{Past, with_draft, with_look};
 
 use crate::files::OpenFault;
 use cif_line::{Failed, Sink};
@@ -30,19 +31,30 @@ pub trait Stores {
     // The name of the file that a draft was made for.
     ghost target: { Self → Option (List ℕ) };
 
-    // Whether there is a draft that was neither put in the place of its file nor taken back.
+    // Whether there is a draft that was neither put in the place of its file nor taken back. One that can't be taken back is a failure.
     ghost has_draft: { Self → Bool };
 
     // How often it has failed so far, together with the drafts that it took back.
     ghost failures: { Self → ℕ };
 
+    // What was asked of it so far, or None where it can't tell that.
+    ghost past: { Self → Option Past };
+
+    // The number of the look by which this was seen, counted from 0.
+    ghost number: { Self.Seen → ℕ };
+
     /// Looks at the file of this name before it is read, so that a draft made from what it held then never takes the place of a text
     /// that came since.
-    fn look<'a>(&self, name: &'a str) -> Looked<'a, Self::Seen>
-        ensures { result.name.now ≡ name.now };
+    fn look<'a>(&mut self, name: &'a str) -> Looked<'a, Self::Seen>
+        ensures name { result.name.now ≡ name.now }
+        ensures number { IfSome (past self.old) (λ asked. number result.seen ≡ asked.looks) }
+        ensures asked { past self.new ≡ option_map with_look (past self.old) }
+        ensures kept { held self.new ≡ held self.old }
+        ensures no_draft { has_draft self.new ≡ has_draft self.old }
+        ensures no_failure { failures self.new ≡ failures self.old };
 
     /// An empty draft for the file that was looked at; none for a device that fails, for a text that came since, or for want of memory. Every file that can
-    /// be told is as it was.
+    /// be told is as it was. Where none is made nothing of it is left, or the device fails.
     fn create(&mut self, looked: Looked<'_, Self::Seen>) -> Result<Self::Draft, OpenFault>
         requires { failures self.old < 2 ^ 64 - 1 }
         ensures target { OnOk result (target self.new ≡ Some looked.entry.name.now) }
@@ -53,7 +65,9 @@ pub trait Stores {
         ensures counted { (result ≡ Err OpenFault.Failed)
             ↔ (failures self.new ≡ failures self.old + 1) }
         ensures no_failure { result ≢ Err OpenFault.Failed
-            → failures self.new ≡ failures self.old };
+            → failures self.new ≡ failures self.old }
+        ensures asked { past self.new
+            ≡ option_map (with_draft (number looked.entry.seen)) (past self.old) };
 
     /// Puts a draft in the place of its file, which then holds what the draft took. Where that fails, the file holds that too, or what it held before, and
     /// the draft is taken back.
@@ -69,14 +83,18 @@ pub trait Stores {
         ensures no_failure { OnOk result
             (failures self.new ≡ failures self.old + Self.Draft.failures draft) }
         ensures counted { OnErr result
-            (failures self.new ≡ failures self.old + Self.Draft.failures draft + 1) };
+            (failures self.new ≡ failures self.old + Self.Draft.failures draft + 1) }
+        ensures asked { past self.new ≡ past self.old };
 
-    /// Takes a draft back that isn't to be completed. Every file that can be told is as it was.
+    /// Takes a draft back that failed. Every file that can be told is as it was. Where it can't be taken back no further failure is counted, for the draft's
+    /// own is.
     fn discard(&mut self, draft: Self::Draft)
-        requires { failures self.old + Self.Draft.failures draft < 2 ^ 64 }
+        requires failed { 0 < Self.Draft.failures draft }
+        requires few { failures self.old + Self.Draft.failures draft < 2 ^ 64 }
         ensures kept { held self.new ≡ held self.old }
         ensures no_draft { has_draft self.new ≡ false }
-        ensures counted { failures self.new ≡ failures self.old + Self.Draft.failures draft };
+        ensures counted { failures self.new ≡ failures self.old + Self.Draft.failures draft }
+        ensures asked { past self.new ≡ past self.old };
 
     /// How often it has failed so far.
     fn failures(&self) -> u64
