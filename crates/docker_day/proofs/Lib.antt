@@ -10,3 +10,5 @@ pub mod RowPieces
 pub mod Printed
 pub mod PassedOver
 pub mod RowPortions
+pub mod FirstCalls
+pub mod OnVisits

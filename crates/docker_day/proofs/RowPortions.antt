@@ -1,16 +1,18 @@
 -- Rows of a walk that are taken some at a time.
-use Rattle.std.proofs.Common.{◌≡◌, ℕ, Bool, true, false, List, [], ◌∷◌, ◌++◌, refl, sym, ◌∙◌, subst, Some, None, IsNone, arith}
+use Rattle.std.proofs.Common.{◌≡◌, ℕ, Bool, true, false, List, [], ◌∷◌, ◌++◌, refl, ap, sym, ◌∙◌, subst, Some, None, IsNone, arith}
 use Rattle.std.specs.Prelude.{Option, ◌||◌}
 use Rattle.std.specs.Option.{unwrap_or}
 use Rattle.docker_model.specs.file.Change.{Key, Body}
 use Rattle.docker_model.specs.state.Row.{Row, AreRowsOf}
-use Rattle.docker_model.specs.state.State.{IsBodyOf}
+use Rattle.docker_model.specs.state.State.{IsBodyOf, live_table}
 use Rattle.docker_model.specs.state.Table.{Table}
 use Rattle.docker_model.specs.docker.LiveRows.{train_in, link_in}
 use Rattle.docker_model.specs.docker.Gathering.{gathered, row_lines}
+use Rattle.docker_model.specs.docker.DockerLine.{DockerLine}
 use Rattle.docker_train.specs.Along.{AreGoodRows, AreLive}
+use Rattle.docker_train.specs.Known.{PlaceDay}
 use Rattle.docker_day.specs.Lines.{row_may_run}
-use Rattle.docker_day.specs.Portions.{AreLeft, ArePassedOver}
+use Rattle.docker_day.specs.Portions.{AreLeft, ArePassedOver, HaveMoved}
 use Rattle.docker_day.proofs.PassedOver.{not_lately, row_idle}
 
 -- a row that may have no line has none
@@ -58,3 +60,23 @@ none_behind day all rest fewer false behind (Some false) left before end after i
     passed_again day all rest fewer left (before refl) (after refl)
 none_behind day all rest fewer false behind None left before end after is none =
     subst (ArePassedOver day all) (sym (end refl)) (before refl)
+
+-- a walk that has moved on, and moves on again
+pub moved_again : (there again : PlaceDay) (all rest fewer : List Row) (first second third : List DockerLine) → again ≡ there
+    → HaveMoved there all rest first second → HaveMoved again rest fewer second third → HaveMoved there all fewer first third
+moved_again there again all rest fewer first second third same one two = λ rows are.
+    subst (λ (p : PlaceDay). HaveMoved p rest fewer second third) same two rows are ∙ one rows are
+
+-- and one that passes over rows
+pub moved_over : (there again : PlaceDay) (all rest fewer : List Row) (first second : List DockerLine) → again ≡ there
+    → AreLive (live_table again.state) rest → HaveMoved there all rest first second → ArePassedOver again.day rest fewer
+    → HaveMoved there all fewer first second
+moved_over there again all rest fewer first second same live one passed = λ rows are.
+    ap (λ more. second ++ more)
+    (sym (subst (λ (p : PlaceDay). ArePassedOver p.day rest fewer) same passed there.place (live_table there.state)
+    (subst (λ (p : PlaceDay). AreLive (live_table p.state) rest) same live) rows are))
+    ∙ one rows are
+
+-- rows that are live in one state are so in the same
+pub live_again : (there again : PlaceDay) (rows : List Row) → again ≡ there → AreLive (live_table there.state) rows → AreLive (live_table again.state) rows
+live_again there again rows same live = subst (λ (p : PlaceDay). AreLive (live_table p.state) rows) (sym same) live

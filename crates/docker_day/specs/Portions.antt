@@ -1,10 +1,13 @@
 -- The rows of a walk, taken some at a time.
-use Rattle.std.specs.Prelude.{◌≡◌, ◌≤◌, ◌-◌, ℕ, List, length}
+use Rattle.std.specs.Prelude.{◌≡◌, ◌≤◌, ◌-◌, ℕ, List, ◌++◌, length}
 use Rattle.docker_model.specs.state.Row.{Row, AreRowsOf}
+use Rattle.docker_model.specs.state.State.{live_table}
 use Rattle.docker_model.specs.state.Table.{Table}
+use Rattle.docker_model.specs.docker.DockerLine.{DockerLine}
 use Rattle.docker_model.specs.docker.LiveRows.{train_in, link_in}
 use Rattle.docker_model.specs.docker.Gathering.{gathered}
 use Rattle.docker_train.specs.Along.{AreGoodRows, AreLive}
+use Rattle.docker_train.specs.Known.{PlaceDay}
 
 -- of some rows these are left, fewer where there were any
 pub record AreLeft (before after : List Row) : Type 0 where
@@ -16,3 +19,9 @@ pub record AreLeft (before after : List Row) : Type 0 where
 abbrev pub ArePassedOver : ℕ → List Row → List Row → Type 0
 ArePassedOver day before after = (place : List ℕ) (live : Table) → AreLive live before → (rows : List Row) → AreRowsOf live rows
     → gathered (train_in rows) (link_in rows) place day before ≡ gathered (train_in rows) (link_in rows) place day after
+
+-- a walk has moved on: what is out, and the lines of the rows that are left, are what they were together
+abbrev pub HaveMoved : PlaceDay → List Row → List Row → List DockerLine → List DockerLine → Type 0
+HaveMoved there before after lines more = (rows : List Row) → AreRowsOf (live_table there.state) rows
+    → more ++ gathered (train_in rows) (link_in rows) there.place there.day after
+    ≡ lines ++ gathered (train_in rows) (link_in rows) there.place there.day before

@@ -3,6 +3,7 @@ ghost use Rattle.std.specs.Prelude.{◌≡◌};
 ghost use Rattle.std.specs.Ordering.{as_partial_cmp, eq_by_cmp};
 ghost use Rattle.std.specs.Cmp.{partial_equiv_from_equiv, eq_by_cmp_equiv, partial_order_from_total};
 ghost use Rattle.std.proofs.Common.{refl};
+ghost use Rattle.docker_model.specs.file.Change.{ScheduleKey};
 ghost use Rattle.docker_model.specs.docker.DockerLine.{docker_line_cmp};
 ghost use Rattle.cif_laws.proofs.orders.Orders.{docker_line_total};
 ghost use Rattle.cif_line.specs.Letter.{stp_letter};
@@ -97,19 +98,19 @@ impl<'a> DockerLine<'a> {
     pub(crate) fn of_link(
         link: &LinkView<'a>,
         occasion: Occasion,
-        base: &ScheduleView<'a>,
         start: Day,
         event: &Occurrence<'a>,
-        identity: &'a [u8; 4],
+        identity: [u8; 4],
     ) -> DockerLine<'a>
-        ensures { result ≡ line_of_link (occasion_meant occasion) link.now.key base.now.key start
-            (occurrence_meant event.now) identity.entry.now }
+        ensures { (base : ScheduleKey) → base.uid ≡ link.now.key.base
+            → result ≡ line_of_link (occasion_meant occasion) link.now.key base start
+            (occurrence_meant event.now) identity }
     {
         DockerLine {
             time: event.time,
             occasion,
             identity: event.identity,
-            uid: base.key().uid,
+            uid: link.key().base,
             stp: link.key().stp,
             suffix: suffix_in(event.line),
             platform: Location::of(event.line).platform,
@@ -120,7 +121,7 @@ impl<'a> DockerLine<'a> {
             number: event.number,
             detail: Detail::Partner {
                 uid: link.key().associated,
-                identity: *identity,
+                identity,
             },
         }
     }

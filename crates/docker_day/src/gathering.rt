@@ -5,40 +5,43 @@ ghost use Rattle.docker_model.specs.state.State.{IsBodyOf, live_table};
 ghost use Rattle.docker_model.specs.docker.Gathering.{row_lines};
 ghost use Rattle.docker_model.specs.docker.LiveRows.{schedule_of};
 ghost use Rattle.docker_train.specs.Along.{IsLiveLink};
-ghost use Rattle.docker_day.specs.Lines.{Adds, link_here, row_piece, row_back, row_lately, row_under_way};
+ghost use Rattle.docker_day.specs.Lines.{Adds, link_here, row_lately, row_under_way};
+ghost use Rattle.docker_day.specs.Visits.{AddsAt, AddsIf, IsLiveAt};
 
 use crate::docker_line::DockerLine;
 use crate::link_lines::link_line;
 use crate::train_lines::{add_schedule, is_lately, is_under_way};
+use crate::visit::Visit;
+use crate::visits::Visits;
 use cif_file::{Body, Key};
 use cif_line::{Day, Memory, Tiploc};
-use docker_train::{LinkView, Near, association_of, day_back, schedule_of};
+use docker_train::{LinkView, association_of, schedule_of};
 
-/// Adds the lines of a row: those on each start day whose trains can be there on the day.
+/// Adds the lines of a row, which has an index: those on each start day whose trains can be there on the day.
 pub(crate) fn add_row<'a>(
     lines: &mut Vec<DockerLine<'a>>,
-    near: &Near<'a>,
+    visits: &mut Visits<'a>,
+    row: usize,
     key: &'a Key,
     body: &'a Body,
-    place: &Tiploc,
-    day: Day,
 ) -> Result<(), Memory>
     requires good { IsBodyOf (key_meant key.now) (body_meant body.now) }
-    requires live { live_table near.now (key_meant key.now) ≡ Some (body_meant body.now) }
-    ensures { OnOk result (Adds (live_table near.now)
-        (λ trains links. row_lines trains links place.now day (key_meant key.entry.now)
-        (body_meant body.entry.now))
+    requires live { live_table visits.old.state (key_meant key.now) ≡ Some (body_meant body.now) }
+    ensures same { visits.new ≡ visits.old }
+    ensures added { OnOk result (Adds (live_table visits.old.state)
+        (λ trains links. row_lines trains links visits.old.place visits.old.day
+        (key_meant key.entry.now) (body_meant body.entry.now))
         lines.old.items lines.new.items) }
 {
-    if !is_row_lately(key, body, day) {
+    if !is_row_lately(key, body, visits.day()) {
         return Ok(());
     }
-    add_back(lines, near, key, body, place, day, 0)?;
-    if !is_row_under_way(key, body, place, day) {
+    add_piece(lines, &mut visits.today, row, key, body)?;
+    if !is_row_under_way(key, body, visits.place(), visits.day()) {
         return Ok(());
     }
-    add_back(lines, near, key, body, place, day, 1)?;
-    add_back(lines, near, key, body, place, day, 2)
+    add_back(lines, &mut visits.day_before, row, key, body)?;
+    add_back(lines, &mut visits.two_before, row, key, body)
 }
 
 /// Whether a row may have lines on a day: of a schedule only where it runs on that day or on one of the two before it, which is asked by one look at its fields.
@@ -63,97 +66,86 @@ fn is_row_under_way(key: &Key, body: &Body, place: &Tiploc, day: Day) -> bool
     }
 }
 
-/// Adds the lines of a row on the start day so many days back, if there is such a day.
+/// Adds the lines of a row on a visit, if there is one.
 fn add_back<'a>(
     lines: &mut Vec<DockerLine<'a>>,
-    near: &Near<'a>,
+    visit: &mut Option<Visit<'a>>,
+    row: usize,
     key: &'a Key,
     body: &'a Body,
-    place: &Tiploc,
-    day: Day,
-    back: u16,
 ) -> Result<(), Memory>
     requires good { IsBodyOf (key_meant key.now) (body_meant body.now) }
-    requires live { live_table near.now (key_meant key.now) ≡ Some (body_meant body.now) }
-    ensures { OnOk result (Adds (live_table near.now)
-        (λ trains links. row_back trains links place.now day (key_meant key.entry.now)
-        (body_meant body.entry.now) back)
+    requires live { IsLiveAt visit.old (key_meant key.now) (body_meant body.now) }
+    ensures same { visit.new ≡ visit.old }
+    ensures added { OnOk result
+        (AddsIf visit.old (key_meant key.entry.now) (body_meant body.entry.now)
         lines.old.items lines.new.items) }
 {
-    match day_back(day, back) {
-        Some(start) => add_piece(lines, near, key, body, place, day, start),
+    match visit {
+        Some(visit) => add_piece(lines, visit, row, key, body),
         None => Ok(()),
     }
 }
 
-/// Adds the lines of a row on a start day.
+/// Adds the lines of a row on a visit.
 fn add_piece<'a>(
     lines: &mut Vec<DockerLine<'a>>,
-    near: &Near<'a>,
+    visit: &mut Visit<'a>,
+    row: usize,
     key: &'a Key,
     body: &'a Body,
-    place: &Tiploc,
-    day: Day,
-    start: Day,
 ) -> Result<(), Memory>
     requires good { IsBodyOf (key_meant key.now) (body_meant body.now) }
-    requires live { live_table near.now (key_meant key.now) ≡ Some (body_meant body.now) }
-    requires past { start ≤ day }
-    ensures { OnOk result (Adds (live_table near.now)
-        (λ trains links. row_piece trains links place.now day (key_meant key.entry.now)
-        (body_meant body.entry.now) start)
+    requires live { live_table visit.old.state (key_meant key.now) ≡ Some (body_meant body.now) }
+    ensures same { visit.new ≡ visit.old }
+    ensures added { OnOk result
+        (AddsAt visit.old (key_meant key.entry.now) (body_meant body.entry.now)
         lines.old.items lines.new.items) }
 {
     match schedule_of(key, body) {
-        Some(train) => add_schedule(lines, near, &train, place, day, start),
-        None => add_other(lines, near, key, body, place, day, start),
+        Some(train) => add_schedule(lines, visit, row, &train),
+        None => add_other(lines, visit, key, body),
     }
 }
 
 /// The same of a row that is not of a schedule.
 fn add_other<'a>(
     lines: &mut Vec<DockerLine<'a>>,
-    near: &Near<'a>,
+    visit: &mut Visit<'a>,
     key: &'a Key,
     body: &'a Body,
-    place: &Tiploc,
-    day: Day,
-    start: Day,
 ) -> Result<(), Memory>
     requires good { IsBodyOf (key_meant key.now) (body_meant body.now) }
-    requires live { live_table near.now (key_meant key.now) ≡ Some (body_meant body.now) }
-    requires past { start ≤ day }
+    requires live { live_table visit.old.state (key_meant key.now) ≡ Some (body_meant body.now) }
     requires other { schedule_of (key_meant key.now) (body_meant body.now) ≡ None }
-    ensures { OnOk result (Adds (live_table near.now)
-        (λ trains links. row_piece trains links place.now day (key_meant key.entry.now)
-        (body_meant body.entry.now) start)
+    ensures same { visit.new ≡ visit.old }
+    ensures added { OnOk result
+        (AddsAt visit.old (key_meant key.entry.now) (body_meant body.entry.now)
         lines.old.items lines.new.items) }
 {
     match association_of(key, body) {
-        Some(link) => add_link(lines, near, &link, place, day, start),
+        Some(link) => add_link(lines, visit, &link),
         None => Ok(()),
     }
 }
 
-/// Adds the line of an association on a start day of its base train, if it is at the place.
+/// Adds the line of an association on a visit, if it is at the place.
 fn add_link<'a>(
     lines: &mut Vec<DockerLine<'a>>,
-    near: &Near<'a>,
+    visit: &mut Visit<'a>,
     link: &LinkView<'a>,
-    place: &Tiploc,
-    day: Day,
-    start: Day,
 ) -> Result<(), Memory>
-    requires past { start ≤ day }
-    requires live { IsLiveLink (live_table near.now) link.now }
-    ensures { OnOk result (Adds (live_table near.now)
-        (λ trains links. link_here trains links place.now day link.now start)
+    requires live { IsLiveLink (live_table visit.old.state) link.now }
+    ensures same { visit.new ≡ visit.old }
+    ensures added { OnOk result (Adds (live_table visit.old.state)
+        (λ trains links. link_here trains links visit.old.place visit.old.day link.now
+        visit.old.start)
         lines.old.items lines.new.items) }
 {
-    if link.key().location != *place {
+    if link.key().location != *visit.place() {
         return Ok(());
     }
-    if let Some(line) = link_line(near.state(), link, day, start) {
+    if let Some(line) = link_line(visit, link)? {
         lines.push(line)?;
     }
     Ok(())

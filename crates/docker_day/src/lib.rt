@@ -1,6 +1,9 @@
 //! The docker of a timing point and a day: its lines, their order, and the printed list.
 #![tactic(auto)]
 
+mod base_calls;
+mod bases;
+mod call;
 mod detail;
 mod docker_line;
 mod docker_list;
@@ -13,6 +16,8 @@ mod portions;
 mod print;
 mod starts;
 mod train_lines;
+mod visit;
+mod visits;
 
 pub use detail::Detail;
 pub use docker_line::DockerLine;

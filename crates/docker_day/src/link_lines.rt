@@ -1,56 +1,56 @@
 //! The line of an association.
-ghost use Rattle.std.specs.Prelude.{◌≡◌, ◌≤◌, ◌&&◌, ◌==◌, List, not, option_map, find};
+ghost use Rattle.std.specs.Prelude.{◌≡◌, ◌&&◌, ◌==◌, List, Some, not, option_map, IfOk};
+ghost use Rattle.docker_model.specs.file.Change.{ScheduleKey};
 ghost use Rattle.docker_model.specs.records.Record.{columns, column};
 ghost use Rattle.docker_model.specs.state.State.{live_table};
 ghost use Rattle.docker_model.specs.docker.Association.{category_occasion, is_date_indicator, partner_start};
-ghost use Rattle.docker_model.specs.docker.Gathering.{identity_of, is_in_force, partner_identity};
+ghost use Rattle.docker_model.specs.docker.Gathering.{is_in_force, partner_identity};
 ghost use Rattle.docker_model.specs.state.Row.{Row, AreRowsOf};
 ghost use Rattle.docker_model.specs.docker.LiveRows.{train_in, link_in};
 ghost use Rattle.docker_train.specs.Keys.{association_key_meant};
 ghost use Rattle.docker_train.specs.Meaning.{occasion_meant};
-ghost use Rattle.docker_train.specs.Occurrences.{occurrences};
 ghost use Rattle.docker_train.specs.Walk.{occurrence_meant};
 ghost use Rattle.docker_train.specs.Along.{IsLiveLink};
-ghost use Rattle.docker_day.specs.Lines.{is_call, listed, link_line_at, link_line_by, link_line_with, link_piece};
+ghost use Rattle.docker_day.specs.Lines.{listed, link_line_at, link_line_with, link_piece};
 
 use crate::docker_line::DockerLine;
-use crate::location::{suffix_in, tiploc_in};
 use crate::starts::{is_today, partner_start};
+use crate::visit::Visit;
 use cif_file::AssocKey;
-use cif_line::{Day, Tiploc};
-use docker_state::State;
-use docker_train::{Events, LinkView, Occasion, Occurrence, ScheduleView, counts_on, train_on};
+use cif_line::Memory;
+use docker_train::{LinkView, Occasion, Occurrence};
 
-/// The line of an association on a day, where it counts on a start day of its base train and that runs.
+/// The line of an association at the place of a visit, if it counts on the start day and its base train runs then.
 pub(crate) fn link_line<'a>(
-    state: &'a State,
+    visit: &mut Visit<'a>,
     link: &LinkView<'a>,
-    day: Day,
-    start: Day,
-) -> Option<DockerLine<'a>>
-    requires past { start ≤ day }
-    requires live { IsLiveLink (live_table state.now) link.now }
-    ensures { (rows : List Row) → AreRowsOf (live_table state.now) rows
-        → listed result ≡ link_piece (train_in rows) (link_in rows) day link.now start }
+) -> Result<Option<DockerLine<'a>>, Memory>
+    requires live { IsLiveLink (live_table visit.old.state) link.now }
+    requires here { link.now.key.location ≡ visit.old.place }
+    ensures same { visit.new ≡ visit.old }
+    ensures line { IfOk result (λ line. (rows : List Row)
+        → AreRowsOf (live_table visit.old.state) rows → listed line
+        ≡ link_piece (train_in rows) (link_in rows) visit.old.day link.now visit.old.start) }
 {
-    if is_in_force(state, link, start) {
-        line_with(state, link, day, start)
+    if is_in_force(visit, link) {
+        line_with(visit, link)
     } else {
-        None
+        Ok(None)
     }
 }
 
-/// Whether an association counts on a start day of its base train, is no cancellation, and has a date indicator.
-fn is_in_force(state: &State, link: &LinkView<'_>, start: Day) -> bool
-    requires live { IsLiveLink (live_table state.now) link.now }
-    ensures { (rows : List Row) → AreRowsOf (live_table state.now) rows
-        → result ≡ is_in_force (link_in rows) start link.now.key link.now.line }
+/// Whether an association counts on the start day, is no cancellation, and has a date indicator.
+fn is_in_force(visit: &Visit<'_>, link: &LinkView<'_>) -> bool
+    requires live { IsLiveLink (live_table visit.now.state) link.now }
+    requires here { link.now.key.location ≡ visit.now.place }
+    ensures { (rows : List Row) → AreRowsOf (live_table visit.now.state) rows
+        → result ≡ is_in_force (link_in rows) visit.now.start link.now.key link.now.line }
 {
-    // Its own days are asked first, for those of its group are looked for along all associations at the place.
-    if !link.runs_on(start) {
+    // Its own days are asked first, for which association of its group counts takes a search.
+    if !link.runs_on(visit.start()) {
         return false;
     }
-    counts_on(state, link.key(), start) & stands(link.key()) & has_indicator(link)
+    visit.counts(link.key()) & stands(link.key()) & has_indicator(link)
 }
 
 /// Whether it is the key of no cancellation.
@@ -86,110 +86,77 @@ fn occasion_of(category: &[u8; 2]) -> Option<Occasion>
     }
 }
 
-/// The line of an association, where it has a category and its base train runs.
+/// The line of an association that is in force, if it has a category and its base train runs.
 fn line_with<'a>(
-    state: &'a State,
+    visit: &mut Visit<'a>,
     link: &LinkView<'a>,
-    day: Day,
-    start: Day,
-) -> Option<DockerLine<'a>>
-    requires past { start ≤ day }
-    ensures { (rows : List Row) → AreRowsOf (live_table state.now) rows
-        → listed result ≡ link_line_with (train_in rows) day start link.now
-        (category_occasion (columns 35 36 link.now.line)) (train_in rows link.now.key.base start) }
+) -> Result<Option<DockerLine<'a>>, Memory>
+    requires here { link.now.key.location ≡ visit.old.place }
+    ensures same { visit.new ≡ visit.old }
+    ensures line { IfOk result (λ line. (rows : List Row)
+        → AreRowsOf (live_table visit.old.state) rows → listed line
+        ≡ link_line_with (train_in rows) visit.old.day visit.old.start link.now
+        (category_occasion (columns 35 36 link.now.line))
+        (train_in rows link.now.key.base visit.old.start)) }
 {
     match occasion_of(link.record().category()) {
-        Some(occasion) => match train_on(state, &link.key().base, start) {
-            Some(base) => line_by(state, link, day, start, occasion, &base),
-            None => None,
-        },
-        None => None,
+        Some(occasion) => line_by(visit, link, occasion),
+        None => Ok(None),
     }
 }
 
-/// The line of an association with its base train.
+/// The line of an association of a category, if its base train runs and calls there.
 fn line_by<'a>(
-    state: &'a State,
+    visit: &mut Visit<'a>,
     link: &LinkView<'a>,
-    day: Day,
-    start: Day,
     occasion: Occasion,
-    base: &ScheduleView<'a>,
-) -> Option<DockerLine<'a>>
-    requires past { start ≤ day }
-    ensures { (rows : List Row) → AreRowsOf (live_table state.now) rows
-        → listed result ≡ link_line_by (train_in rows) day start link.now
-        (occasion_meant occasion) base.now.key
-        (find (is_call link.now.key.location link.now.key.suffix) (occurrences base.now.lines)) }
+) -> Result<Option<DockerLine<'a>>, Memory>
+    requires here { link.now.key.location ≡ visit.old.place }
+    ensures same { visit.new ≡ visit.old }
+    ensures line { IfOk result (λ line. (rows : List Row)
+        → AreRowsOf (live_table visit.old.state) rows → listed line
+        ≡ link_line_with (train_in rows) visit.old.day visit.old.start link.now
+        (Some (occasion_meant occasion)) (train_in rows link.now.key.base visit.old.start)) }
 {
     let key = link.key();
-    match first_call(base.events(), &key.location, key.suffix) {
-        Some(event) => line_at(state, link, day, start, occasion, base, &event),
-        None => None,
+    match visit.first_call(&key.base, key.suffix) {
+        Ok(Some(event)) => line_at(visit, link, occasion, &event),
+        Ok(None) => Ok(None),
+        Err(refused) => Err(refused),
     }
 }
 
-/// The line of an association at an event of its base train, where that is on the day.
+/// The line of an association at an event of its base train, if that is on the day.
 fn line_at<'a>(
-    state: &'a State,
+    visit: &mut Visit<'a>,
     link: &LinkView<'a>,
-    day: Day,
-    start: Day,
     occasion: Occasion,
-    base: &ScheduleView<'a>,
     event: &Occurrence<'a>,
-) -> Option<DockerLine<'a>>
-    requires past { start ≤ day }
-    ensures { (rows : List Row) → AreRowsOf (live_table state.now) rows
-        → listed result ≡ link_line_at (train_in rows) day start link.now
-        (occasion_meant occasion) base.now.key
-        (occurrence_meant event.now) }
+) -> Result<Option<DockerLine<'a>>, Memory>
+    ensures same { visit.new ≡ visit.old }
+    ensures line { IfOk result (λ line. (rows : List Row)
+        → AreRowsOf (live_table visit.old.state) rows
+        → (base : ScheduleKey) → base.uid ≡ link.now.key.base → listed line
+        ≡ link_line_at (train_in rows) visit.old.day visit.old.start link.now
+        (occasion_meant occasion) base (occurrence_meant event.now)) }
 {
-    if is_today(event, day, start) {
-        let identity = partner_identity(state, link, start);
-        Some(DockerLine::of_link(link, occasion, base, start, event, identity))
-    } else {
-        None
+    if !is_today(event, visit.day(), visit.start()) {
+        return Ok(None);
     }
+    let identity = partner_identity(visit, link)?;
+    Ok(Some(DockerLine::of_link(link, occasion, visit.start(), event, identity)))
 }
 
-/// The first event of a call at a place and suffix.
-fn first_call<'a>(events: Events<'a>, place: &Tiploc, suffix: u8) -> Option<Occurrence<'a>>
-    ensures { option_map occurrence_meant result ≡ find (is_call place.now suffix) events.entry }
+/// The identity of the associated train on its start day, and question marks if it does not run then or there is no such day.
+fn partner_identity<'a>(visit: &mut Visit<'a>, link: &LinkView<'_>) -> Result<[u8; 4], Memory>
+    ensures same { visit.new ≡ visit.old }
+    ensures identity { IfOk result (λ identity. (rows : List Row)
+        → AreRowsOf (live_table visit.old.state) rows → identity
+        ≡ partner_identity (train_in rows) link.now.key.associated
+        (partner_start (column 37 link.now.line) visit.old.start)) }
 {
-    for event in events {
-        if is_call(&event, place, suffix) {
-            return Some(event);
-        }
-    }
-    None
-}
-
-/// Whether an event is of a call at a place and suffix.
-fn is_call(event: &Occurrence<'_>, place: &Tiploc, suffix: u8) -> bool
-    ensures { result ≡ is_call place.now suffix (occurrence_meant event.now) }
-{
-    (tiploc_in(event.line) == place.bytes()) & (suffix_in(event.line) == suffix)
-}
-
-/// The identity of the associated train on its start day, and question marks where it does not run then or there is no such day.
-fn partner_identity<'a>(state: &'a State, link: &LinkView<'_>, start: Day) -> &'a [u8; 4]
-    ensures { (rows : List Row) → AreRowsOf (live_table state.now) rows
-        → result.now ≡ partner_identity (train_in rows) link.now.key.associated
-        (partner_start (column 37 link.now.line) start) }
-{
-    match partner_start(link.record().date_indicator(), start) {
-        Some(day) => identity_of(train_on(state, &link.key().associated, day)),
-        None => b"????",
-    }
-}
-
-/// The identity of a train in its basic schedule, and question marks where there is none.
-fn identity_of<'a>(train: Option<ScheduleView<'a>>) -> &'a [u8; 4]
-    ensures { result.now ≡ identity_of train.entry }
-{
-    match train {
-        Some(train) => train.identity(),
-        None => b"????",
+    match partner_start(link.record().date_indicator(), visit.start()) {
+        Some(day) => visit.identity(&link.key().associated, day),
+        None => Ok(*b"????"),
     }
 }

@@ -15,6 +15,7 @@ use crate::docker_line::DockerLine;
 use crate::docker_list::Docker;
 use crate::fault::DockerFault;
 use crate::portions::add_rows;
+use crate::visits::Visits;
 use cif_file::{Body, Key};
 use cif_line::{Day, Memory, Tiploc};
 use docker_join::Op;
@@ -23,7 +24,7 @@ use docker_train::{associations_at, rows_of, schedules_at};
 use std::alloc::Global;
 
 /// The docker of a timing point and a day: the events of the trains that run, and the associations, there on that day. `Lapsed` exactly where the state has a
-/// horizon and the day is before it plus three days, for then what has lapsed may be missing; `Memory` where room for the lines is refused.
+/// horizon and the day is before it plus three days, for then what has lapsed may be missing; `Memory` where room is refused, for the lines or for what is looked up for them.
 pub fn docker<'a>(
     alloc: Global,
     state: &'a State,
@@ -39,7 +40,7 @@ pub fn docker<'a>(
     let mut lines = Vec::new(alloc);
     // That there are rows of the live table is a clause of theirs.
     let _rows = rows_of(state);
-    match add_all(&mut lines, state, tiploc, day) {
+    match add_all(alloc, &mut lines, state, tiploc, day) {
         Ok(()) => {
             let description = description(state, tiploc);
             Ok(Docker::of(*tiploc, day, description, in_order(lines)))
@@ -50,6 +51,7 @@ pub fn docker<'a>(
 
 /// Adds the lines of the associations at a place and of the schedules that call there.
 fn add_all<'a>(
+    alloc: Global,
     lines: &mut Vec<DockerLine<'a>>,
     state: &'a State,
     place: &Tiploc,
@@ -58,8 +60,9 @@ fn add_all<'a>(
     ensures { OnOk result
         (HasGathered (live_table state.now) place.now day lines.old.items lines.new.items) }
 {
-    add_rows(lines, state, associations_at(state, place), place, day)?;
-    add_rows(lines, state, schedules_at(state, place), place, day)
+    let mut visits = Visits::at(alloc, state, place, day)?;
+    add_rows(lines, &mut visits, associations_at(state, place))?;
+    add_rows(lines, &mut visits, schedules_at(state, place))
 }
 
 /// The lines in their order.

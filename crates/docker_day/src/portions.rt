@@ -1,45 +1,43 @@
 //! The lines of a docker, gathered from the rows of a walk, some rows at a time.
-ghost use Rattle.std.specs.Prelude.{◌≡◌, ◌↔◌, ◌++◌, List, [], OnOk, IsNone, Some, false};
+ghost use Rattle.std.specs.Prelude.{◌≡◌, ◌↔◌, [], OnOk, IsNone, Some, false};
 ghost use Rattle.cif_file.specs.Meaning.{key_meant, body_meant};
 ghost use Rattle.docker_model.specs.state.State.{IsBodyOf, live_table};
-ghost use Rattle.docker_model.specs.state.Row.{Row, AreRowsOf};
 ghost use Rattle.docker_model.specs.docker.Gathering.{gathered};
-ghost use Rattle.docker_model.specs.docker.LiveRows.{train_in, link_in};
 ghost use Rattle.docker_train.specs.Along.{AreGoodRows, AreLive};
 ghost use Rattle.docker_day.specs.Lines.{Adds, row_may_run};
-ghost use Rattle.docker_day.specs.Portions.{AreLeft, ArePassedOver};
+ghost use Rattle.docker_day.specs.Portions.{AreLeft, ArePassedOver, HaveMoved};
 
 use crate::docker_line::DockerLine;
 use crate::gathering::add_row;
+use crate::visits::Visits;
 use cif_file::{Body, Key};
-use cif_line::{Day, Memory, Tiploc};
+use cif_line::{Day, Memory};
 use docker_index::Numbered;
-use docker_state::{Standing, State};
-use docker_train::{Near, schedule_of};
+use docker_state::Standing;
+use docker_train::schedule_of;
 
 /// How many rows are looked at before the lines of one are added: their bytes come from memory all at a time so, and not one after the other.
 const PORTION: usize = 16;
 
-/// Adds the lines of rows at a place on a day. `Memory` where the growth is refused.
+/// Adds the lines of rows at a place on a day. `Memory` if a growth is refused.
 pub(crate) fn add_rows<'a>(
     lines: &mut Vec<DockerLine<'a>>,
-    state: &'a State,
+    visits: &mut Visits<'a>,
     rows: Standing<'a>,
-    place: &Tiploc,
-    day: Day,
 ) -> Result<(), Memory>
     requires good { AreGoodRows rows }
-    requires live { AreLive (live_table state.now) rows }
-    ensures { OnOk result
-        (Adds (live_table state.now)
-        (λ trains links. gathered trains links place.now day rows.entry)
+    requires live { AreLive (live_table visits.old.state) rows }
+    ensures same { visits.new ≡ visits.old }
+    ensures added { OnOk result
+        (Adds (live_table visits.old.state)
+        (λ trains links. gathered trains links visits.old.place visits.old.day rows.entry)
         lines.old.items lines.new.items) }
 {
     let mut rest = rows.numbered();
     loop {
         let mut ahead = rest.clone()?;
-        match may_some_run(&mut ahead, day) {
-            Some(true) => add_portion(lines, state, &mut rest, place, day)?,
+        match may_some_run(&mut ahead, visits.day()) {
+            Some(true) => add_portion(lines, visits, &mut rest)?,
             Some(false) => rest = ahead,
             None => return Ok(()),
         }
@@ -87,21 +85,19 @@ fn may_row_run(key: &Key, body: &Body, day: Day) -> bool
 /// Adds the lines of the first rows of a walk, which goes on behind them.
 fn add_portion<'a>(
     lines: &mut Vec<DockerLine<'a>>,
-    state: &'a State,
+    visits: &mut Visits<'a>,
     rows: &mut Numbered<'a>,
-    place: &Tiploc,
-    day: Day,
 ) -> Result<(), Memory>
     requires good { AreGoodRows rows.old }
-    requires live { AreLive (live_table state.now) rows.old }
+    requires live { AreLive (live_table visits.old.state) rows.old }
+    ensures same { visits.new ≡ visits.old }
     ensures left { OnOk result (AreLeft rows.old rows.new) }
-    ensures added { OnOk result ((all : List Row) → AreRowsOf (live_table state.now) all
-        → lines.new.items ++ gathered (train_in all) (link_in all) place.now day rows.new
-        ≡ lines.old.items ++ gathered (train_in all) (link_in all) place.now day rows.old) }
+    ensures added { OnOk result
+        (HaveMoved visits.old rows.old rows.new lines.old.items lines.new.items) }
 {
-    add_next(lines, state, rows, place, day)?;
+    add_next(lines, visits, rows)?;
     for _ in 1..PORTION {
-        add_next(lines, state, rows, place, day)?;
+        add_next(lines, visits, rows)?;
     }
     Ok(())
 }
@@ -109,20 +105,18 @@ fn add_portion<'a>(
 /// Adds the lines of the next row of a walk, if there is one.
 fn add_next<'a>(
     lines: &mut Vec<DockerLine<'a>>,
-    state: &'a State,
+    visits: &mut Visits<'a>,
     rows: &mut Numbered<'a>,
-    place: &Tiploc,
-    day: Day,
 ) -> Result<(), Memory>
     requires good { AreGoodRows rows.old }
-    requires live { AreLive (live_table state.now) rows.old }
+    requires live { AreLive (live_table visits.old.state) rows.old }
+    ensures same { visits.new ≡ visits.old }
     ensures left { OnOk result (AreLeft rows.old rows.new) }
-    ensures added { OnOk result ((all : List Row) → AreRowsOf (live_table state.now) all
-        → lines.new.items ++ gathered (train_in all) (link_in all) place.now day rows.new
-        ≡ lines.old.items ++ gathered (train_in all) (link_in all) place.now day rows.old) }
+    ensures added { OnOk result
+        (HaveMoved visits.old rows.old rows.new lines.old.items lines.new.items) }
 {
     match rows.next() {
-        Some((row, key, body)) => add_row(lines, &Near::row(state, row), key, body, place, day),
+        Some((row, key, body)) => add_row(lines, visits, row, key, body),
         None => Ok(()),
     }
 }

@@ -14,30 +14,30 @@ use crate::detail::Detail;
 use crate::docker_line::DockerLine;
 use crate::location::tiploc_in;
 use crate::starts::{is_here, is_today};
+use crate::visit::Visit;
 use cif_line::{Day, Memory, Tiploc};
-use docker_train::{Near, Occurrence, ScheduleView, ends_of, is_train_on, passes_midnight};
+use docker_train::{Occurrence, ScheduleView, ends_of, passes_midnight};
 
-/// Adds the lines of a schedule at a place on a day, where its train runs by it from a start day on. `Memory` where the growth is refused.
+/// Adds the lines of a schedule, whose row has an index, on a visit, if its train runs by it then. `Memory` if a growth is refused.
 pub(crate) fn add_schedule<'a>(
     lines: &mut Vec<DockerLine<'a>>,
-    near: &Near<'a>,
+    visit: &mut Visit<'a>,
+    row: usize,
     train: &ScheduleView<'a>,
-    place: &Tiploc,
-    day: Day,
-    start: Day,
 ) -> Result<(), Memory>
-    requires past { start ≤ day }
-    requires live { IsLiveTrain (live_table near.now) train.now }
-    ensures { OnOk result (Adds (live_table near.now)
-        (λ trains links. schedule_piece trains place.now day train.now.key train.now.lines start)
+    requires live { IsLiveTrain (live_table visit.old.state) train.now }
+    ensures same { visit.new ≡ visit.old }
+    ensures added { OnOk result (Adds (live_table visit.old.state)
+        (λ trains links. schedule_piece trains visit.old.place visit.old.day train.now.key
+        train.now.lines visit.old.start)
         lines.old.items lines.new.items) }
 {
     // Its own days are asked first, for the choice among the schedules of its UID takes a search.
-    if !train.runs_on(start) {
+    if !train.runs_on(visit.start()) {
         return Ok(());
     }
-    if is_train_on(near, train, start) {
-        add_events(lines, train, place, day, start)
+    if visit.runs_by(row, train) {
+        add_events(lines, train, visit.place(), visit.day(), visit.start())
     } else {
         Ok(())
     }

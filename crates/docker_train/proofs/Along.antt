@@ -11,7 +11,6 @@ use Rattle.docker_model.specs.docker.Choice.{Group, schedule_runs, schedule_choi
 use Rattle.docker_model.specs.docker.Best.{with_one_more}
 use Rattle.docker_model.specs.state.Row.{Row, AreRowsOf}
 use Rattle.docker_model.specs.docker.LiveRows.{Train, Link, HasSchedulesOf, HasAssociationsOf, IsChosenOn, IsLinkOn, unless_cancelled, train_in, link_in, schedule_of, association_of, is_running, is_linked}
-use Rattle.docker_model.specs.docker.Gathering.{runs_by}
 use Rattle.docker_model.specs.docker.ChoiceWalk.{IsChosenSoFar, IsLinkSoFar, next_chosen, next_link}
 use Rattle.docker_model.specs.state.State.{HasGoodBodies}
 use Rattle.docker_model.specs.state.Index.{AreCalling, AreLinked, AreOfUid}
@@ -143,6 +142,15 @@ next_link_is_one group day found (association_key key) (schedule_body lines) lin
 next_link_is_one group day found (tiploc_key code) body link is = absurd (no_link link is)
 next_link_is_one group day found (schedule_key key) body link is = absurd (no_link link is)
 
+-- and a row that is of none changes nothing
+pub next_link_is_none : (group : Group) (day : ℕ) (found : Option Link) (key : Key) (body : Body) → association_of key body ≡ None
+    → found ≡ next_link group day found key body
+next_link_is_none group day found (association_key key) (association_body line) none = absurd (no_link (record { key = key; line = line }) (sym none))
+next_link_is_none group day found (association_key key) (tiploc_body bytes) none = refl
+next_link_is_none group day found (association_key key) (schedule_body lines) none = refl
+next_link_is_none group day found (tiploc_key code) body none = refl
+next_link_is_none group day found (schedule_key key) body none = refl
+
 -- the best so far stays where one more does not come before it, whether that passes the test or not
 pub not_before : {A : Type 0} (cmp : A → A → Ordering) (test : A → Bool) (best more : A) → is_lt (cmp more best) ≡ false
     → Some best ≡ with_one_more cmp test (Some best) more
@@ -179,7 +187,7 @@ best_alone train day runs =
     running = λ i. (bytes_eq-Decides train.key.uid train.key.uid).1 refl i && runs i
 
 -- the best along the rows of its UID from it on is the train of the day, unless it is a cancellation
-pub train_from_it : (live : Table) (rows : List Row) (train : Train) (day : ℕ) (walk : List Row) (found : Option Train) → AreRowsOf live rows
+train_from_it : (live : Table) (rows : List Row) (train : Train) (day : ℕ) (walk : List Row) (found : Option Train) → AreRowsOf live rows
     → IsLiveTrain live train → schedule_runs (first_record train.lines) day ≡ true → HasSchedulesOf live train.key.uid walk
     → found ≡ chosen_along train.key.uid day (Some train) walk → unless_cancelled found ≡ train_in rows train.key.uid day
 train_from_it live rows train day walk found are is_live runs has is =
@@ -188,13 +196,11 @@ train_from_it live rows train day walk found are is_live runs has is =
     (subst (IsChosenSoFar train.key.uid day (row_of train ∷ walk)) (sym is)
     (chosen_behind train.key.uid day (row_of train ∷ []) walk (Some train) (best_alone train day runs))))
 
--- so it tells whether the train of the day runs by it
-pub runs_by_told : (live : Table) (rows : List Row) (train : Train) (key : ScheduleKey) (day : ℕ) (walk : List Row) (best found : Option Train) (answer : Bool)
+-- and so what is found from it on
+pub train_from_told : (live : Table) (rows : List Row) (train : Train) (key : ScheduleKey) (day : ℕ) (walk : List Row) (best found : Option Train)
     → key ≡ train.key → AreRowsOf live rows → IsLiveTrain live train → schedule_runs (first_record train.lines) day ≡ true → HasSchedulesOf live key.uid walk
-    → best ≡ chosen_along key.uid day (Some train) walk → found ≡ unless_cancelled best → answer ≡ runs_by found key
-    → answer ≡ runs_by (train_in rows train.key.uid day) train.key
-runs_by_told live rows train key day walk best found answer same are is_live runs has is told so =
-    so ∙ (λ i. runs_by (told i) (same i))
-    ∙ ap (λ (t : Option Train). runs_by t train.key)
-    (train_from_it live rows train day walk best are is_live runs (subst (λ (k : ScheduleKey). HasSchedulesOf live k.uid walk) same has)
-    (is ∙ ap (λ (k : ScheduleKey). chosen_along k.uid day (Some train) walk) same))
+    → best ≡ chosen_along key.uid day (Some train) walk → found ≡ unless_cancelled best → found ≡ train_in rows train.key.uid day
+train_from_told live rows train key day walk best found same are is_live runs has is told =
+    told
+    ∙ train_from_it live rows train day walk best are is_live runs (subst (λ (k : ScheduleKey). HasSchedulesOf live k.uid walk) same has)
+    (is ∙ ap (λ (k : ScheduleKey). chosen_along k.uid day (Some train) walk) same)

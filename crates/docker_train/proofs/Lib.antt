@@ -9,3 +9,4 @@ pub mod NoEvents
 pub mod Late
 pub mod LatelyRuns
 pub mod UpTo
+pub mod Known

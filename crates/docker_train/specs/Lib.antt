@@ -8,3 +8,4 @@ pub mod Runs
 pub mod Midnights
 pub mod Lately
 pub mod UpTo
+pub mod Known

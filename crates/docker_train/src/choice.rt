@@ -1,12 +1,10 @@
 //! Which schedule of a train counts on a day.
 ghost use Rattle.std.specs.Prelude.{◌≡◌, ◌==◌, ℕ, true, List, None, Some};
-ghost use Rattle.std.specs.Ordering.{on, is_eq, is_lt};
+ghost use Rattle.std.specs.Ordering.{on, is_lt};
 ghost use Rattle.cif_file.specs.Meaning.{key_meant, body_meant};
 ghost use Rattle.docker_model.specs.state.State.{IsBodyOf, live_table};
 ghost use Rattle.docker_model.specs.file.File.{first_record};
-ghost use Rattle.docker_model.specs.state.Op.{schedule_key_cmp};
 ghost use Rattle.docker_model.specs.docker.Choice.{schedule_choice_cmp, schedule_runs};
-ghost use Rattle.docker_model.specs.docker.Gathering.{runs_by};
 ghost use Rattle.docker_model.specs.docker.Best.{with_one_more};
 ghost use Rattle.docker_model.specs.docker.ChoiceWalk.{next_chosen};
 ghost use Rattle.docker_model.specs.state.Row.{Row, AreRowsOf};
@@ -49,36 +47,19 @@ fn unless_cancelled(found: Option<ScheduleView<'_>>) -> Option<ScheduleView<'_>>
     }
 }
 
-/// Whether the train of a schedule's UID that starts on a day, on which the schedule runs, runs by it: it is no cancellation, and none of the UID that runs then
-/// comes before it.
-pub fn is_train_on(near: &Near<'_>, train: &ScheduleView<'_>, day: Day) -> bool
+/// The train of a schedule's UID that starts on a day on which the schedule runs. The schedule is the best so far before a row is looked at.
+pub(crate) fn train_from<'a>(
+    near: &Near<'a>,
+    train: &ScheduleView<'a>,
+    day: Day,
+) -> Option<ScheduleView<'a>>
     requires live { IsLiveTrain (live_table near.now) train.now }
     requires runs { schedule_runs (first_record train.now.lines) day ≡ true }
     ensures { (rows : List Row) → AreRowsOf (live_table near.now) rows
-        → result ≡ runs_by (train_in rows train.now.key.uid day) train.now.key }
+        → result ≡ train_in rows train.now.key.uid day }
 {
-    let key = train.key();
-    let rows = schedules_of(near, &key.uid);
-    let best = best_of(Some(train.again()), rows, &key.uid, day);
-    has_key(unless_cancelled(best), key)
-}
-
-/// Whether there is a schedule, and it has this key.
-fn has_key(found: Option<ScheduleView<'_>>, key: &ScheduleKey) -> bool
-    ensures { result ≡ runs_by found.entry (schedule_key_meant key.now) }
-{
-    match found {
-        Some(view) => is_same(view.key(), key),
-        None => false,
-    }
-}
-
-/// Whether two keys are one.
-fn is_same(key: &ScheduleKey, other: &ScheduleKey) -> bool
-    ensures { result ≡ is_eq
-        (schedule_key_cmp (schedule_key_meant key.now) (schedule_key_meant other.now)) }
-{
-    key.cmp(other).is_eq()
+    let uid = &train.key().uid;
+    unless_cancelled(best_of(Some(train.again()), schedules_of(near, uid), uid, day))
 }
 
 /// The best along rows, where that so far is known.

@@ -2,10 +2,14 @@
 #![tactic(auto)]
 
 mod choice;
+mod day_links;
+mod day_trains;
 mod days_run;
 mod ends;
 mod events;
+mod identities;
 mod lately;
+mod link_group;
 mod link_view;
 mod links;
 mod midnights;
@@ -13,19 +17,22 @@ mod near;
 mod occasion;
 mod schedule_view;
 mod times;
+mod uid_train;
 mod up_to;
 mod walk;
 mod walks;
 
-pub use choice::{chosen, is_train_on, schedule_of, train_on};
+pub use choice::{chosen, schedule_of, train_on};
+pub use day_links::DayLinks;
+pub use day_trains::DayTrains;
 pub use days_run::runs;
 pub use ends::ends_of;
 pub use events::Events;
+pub use identities::Identities;
 pub use lately::{Lately, day_back};
 pub use link_view::LinkView;
-pub use links::{association_of, counts_on};
+pub use links::association_of;
 pub use midnights::{falls, passes_midnight};
-pub use near::Near;
 pub use occasion::Occasion;
 pub use schedule_view::ScheduleView;
 pub use walk::Occurrence;

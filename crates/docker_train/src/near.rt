@@ -10,7 +10,7 @@ use std::marker::Model;
 /// A state, and the index of a row of it, beside which the schedules of a UID are looked for first. Of an index nothing is promised: that of another row costs a
 /// search, and changes no answer.
 #[derive(Debug, Drop)]
-pub struct Near<'a> {
+pub(crate) struct Near<'a> {
     state: &'a State,
     row: usize,
 }
@@ -25,21 +25,21 @@ impl<'a> Model for Near<'a> {
 
 impl<'a> Near<'a> {
     /// A state, and the index of a row, as a walk over the rows at a place tells it.
-    pub fn row(state: &'a State, row: usize) -> Near<'a>
+    pub(crate) fn row(state: &'a State, row: usize) -> Near<'a>
         ensures { result ≡ state.entry.now }
     {
         Near { state, row }
     }
 
     /// A state, and no row that is nearer than others.
-    pub fn none(state: &'a State) -> Near<'a>
+    pub(crate) fn none(state: &'a State) -> Near<'a>
         ensures { result ≡ state.entry.now }
     {
         Near::row(state, 0)
     }
 
     /// The state.
-    pub fn state(&self) -> &'a State
+    pub(crate) fn state(&self) -> &'a State
         ensures { result.now ≡ self.now }
     {
         self.state

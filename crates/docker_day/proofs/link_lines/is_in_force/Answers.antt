@@ -1,7 +1,7 @@
 use Rattle.std.specs.Prelude.{◌&&◌, ◌==◌, not}
 use Rattle.std.proofs.Common.{ap, sym, ◌∙◌}
 use Rattle.docker_model.specs.file.Change.{AssociationKey}
-use Rattle.docker_model.specs.docker.Choice.{group_of}
+use Rattle.docker_model.specs.docker.Choice.{association_runs, group_of}
 use Rattle.docker_model.specs.docker.Gathering.{counts_as}
 use Rattle.docker_model.specs.docker.LiveRows.{link_in}
 use Rattle.docker_model.specs.state.State.{live_table}
@@ -10,10 +10,11 @@ use Rattle.docker_day.proofs.link_lines.is_in_force.Goals as goal
 
 pub returns : goal.returns
 returns c = λ rows are.
-    let counts = c.counts_on.ensures rows are ∙ ap (λ (key : AssociationKey). counts_as (link_in rows (group_of key) c.args.start) key) c.key.ensures in
+    let counts = c.counts.ensures rows are ∙ ap (λ (key : AssociationKey). counts_as (link_in rows (group_of key) c.args.visit.now.start) key) c.key.ensures in
     let stands = c.stands.ensures ∙ ap (λ (key : AssociationKey). not (key.indicator == 67)) c.key-2.ensures in
     λ i. (counts i && stands i) && c.has_indicator.ensures i
 
 pub returns-then-not-runs_on : goal.returns-then-not-runs_on
 returns-then-not-runs_on c = λ rows are.
-    not_in_force (live_table c.args.state.now) rows c.args.link.now c.args.start are c.requires.live (sym c.runs_on.ensures ∙ c.if-not-runs_on.true)
+    not_in_force (live_table c.args.visit.now.state) rows c.args.link.now c.args.visit.now.start are c.requires.live
+    (sym (c.runs_on.ensures ∙ ap (λ start. association_runs c.args.link.now.line start) c.start.ensures.start) ∙ c.if-not-runs_on.true)

@@ -1,15 +1,21 @@
-use Rattle.std.proofs.Common.{ap, sym, ◌∙◌}
-use Rattle.std.specs.Prelude.{option_map}
+use Rattle.std.proofs.Common.{◌≡◌, List, ap, sym, subst, ◌∙◌}
+use Rattle.std.specs.Prelude.{Option, IfOk, option_map}
 use Rattle.docker_model.specs.records.Record.{columns}
 use Rattle.docker_model.specs.docker.Association.{category_occasion}
 use Rattle.docker_model.specs.docker.LiveRows.{train_in}
+use Rattle.docker_model.specs.file.Journey.{Occasion}
+use Rattle.docker_model.specs.state.Row.{Row, AreRowsOf}
+use Rattle.docker_model.specs.state.State.{live_table}
 use Rattle.docker_train.specs.Meaning.{occasion_meant}
-use Rattle.docker_day.specs.Lines.{link_line_with}
+use Rattle.docker_day.specs.Lines.{listed, link_line_with}
 use Rattle.docker_day.proofs.link_lines.line_with.Goals as goal
 
-pub returns-in-Some-train_on : goal.returns-in-Some-train_on
-returns-in-Some-train_on c = λ rows are.
-    let occasion = ap (option_map occasion_meant) (sym c.in-Some.is) ∙ c.occasion_of.ensures ∙ ap category_occasion
-    (c.category.ensures.value ∙ ap (columns 35 36) c.record.ensures) in
-    let base = sym c.in-Some-train_on.is ∙ c.train_on.ensures rows are ∙ (λ i. train_in rows (c.key.ensures i).base c.args.start) in
-    c.line_by.ensures rows are ∙ (λ i. link_line_with (train_in rows) c.args.day c.args.start c.args.link.now (occasion i) (base i))
+pub returns-in-Some-clause-line : goal.returns-in-Some-clause-line
+returns-in-Some-clause-line c =
+    let visit = c.args.visit.now in
+    let link = c.args.link.now in
+    subst (λ (occasion : Option Occasion). IfOk c.line_by.result (λ line. (rows : List Row) → AreRowsOf (live_table visit.state) rows
+    → listed line ≡ link_line_with (train_in rows) visit.day visit.start link occasion (train_in rows link.key.base visit.start)))
+    (ap (option_map occasion_meant) (sym c.in-Some.is) ∙ c.occasion_of.ensures ∙ ap category_occasion
+    (c.category.ensures.value ∙ ap (columns 35 36) c.record.ensures))
+    c.line_by.ensures.line

@@ -1,19 +1,16 @@
-use Rattle.std.proofs.Common.{◌≡◌, ◌++◌, List, length}
-use Rattle.docker_model.specs.state.Row.{Row, AreRowsOf}
+use Rattle.std.proofs.Common.{◌≡◌, length}
 use Rattle.docker_model.specs.state.State.{live_table}
-use Rattle.docker_model.specs.docker.Gathering.{gathered}
-use Rattle.docker_model.specs.docker.LiveRows.{train_in, link_in}
 use Rattle.docker_train.specs.Along.{AreGoodRows, AreLive}
+use Rattle.docker_day.specs.Portions.{HaveMoved}
 use Rattle.docker_day.proofs.portions.add_rows.Given as goal
 
 -- what is out and the lines of the rows to come are all
 abbrev pub invariant-loop-ahead : goal.invariant-loop-ahead
 invariant-loop-ahead l = record {
   good : AreGoodRows l.rest;
-  live : AreLive (live_table l.state) l.rest;
-  all : (rows : List Row) → AreRowsOf (live_table l.state) rows
-      → l.lines.items ++ gathered (train_in rows) (link_in rows) l.place l.day l.rest
-      ≡ l.fn.lines.items ++ gathered (train_in rows) (link_in rows) l.place l.day l.fn.rows;
+  live : AreLive (live_table l.visits.state) l.rest;
+  same : l.visits ≡ l.fn.visits;
+  all : HaveMoved l.fn.visits l.fn.rows l.rest l.fn.lines.items l.lines.items;
 }
 
 abbrev pub decreases-loop-ahead : goal.decreases-loop-ahead

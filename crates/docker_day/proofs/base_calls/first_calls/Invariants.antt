@@ -1,0 +1,12 @@
+use Rattle.std.proofs.Common.{◌≡◌, ℕ}
+use Rattle.std.specs.Prelude.{find}
+use Rattle.std.specs.BTreeMap.{get}
+use Rattle.std.specs.Ordering.{nat_cmp}
+use Rattle.docker_day.specs.Bases.{kept_or}
+use Rattle.docker_day.specs.Lines.{is_call}
+use Rattle.docker_day.proofs.base_calls.first_calls.Given as goal
+
+-- of each suffix the first event is the one that is kept, and else the first of those that are left
+abbrev pub invariant-loop-event : goal.invariant-loop-event
+invariant-loop-event l = (suffix : ℕ)
+    → kept_or (get nat_cmp l.calls suffix) (find (is_call l.place suffix) l.event-iterator) ≡ find (is_call l.place suffix) l.fn.events

@@ -1,0 +1,94 @@
+//! The first events of the calls of a train at a place.
+ghost use Rattle.std.specs.Prelude.{◌≡◌, ℕ, Some, None, if◌then◌else◌, find, option_map, IfOk, OnOk};
+ghost use Rattle.std.specs.BTreeMap.{get};
+ghost use Rattle.std.specs.Ordering.{nat_cmp};
+ghost use Rattle.std.specs.Str.{bytes_eq};
+ghost use Rattle.docker_train.specs.Walk.{occurrence_meant};
+ghost use Rattle.docker_day.specs.Bases.{HasCall, HasEvent, meant_if};
+ghost use Rattle.docker_day.specs.Lines.{is_call};
+
+use crate::call::Call;
+use crate::location::suffix_in;
+use crate::starts::is_here;
+use cif_line::{Memory, Tiploc, Uid};
+use docker_train::{Events, Occurrence};
+use std::alloc::Global;
+use std::collections::BTreeMap;
+
+/// A UID, and the calls of its train at some place on some start day: for each suffix the first event with it. None if the train does not run then.
+#[derive(Debug, Drop)]
+pub(crate) struct BaseCalls<'a> {
+    pub(crate) uid: Uid,
+    pub(crate) calls: BTreeMap<u8, Call<'a>>,
+}
+
+impl<'a> BaseCalls<'a> {
+    /// The first event of the call with a suffix. None if they are the calls of another UID.
+    pub(crate) fn asked(&self, uid: &Uid, suffix: u8) -> Option<Option<Occurrence<'a>>>
+        ensures { option_map meant_if result ≡ (if bytes_eq self.now.uid uid.now
+            then Some (get nat_cmp self.now.calls suffix) else None) }
+    {
+        if self.uid == *uid {
+            Some(self.first(suffix))
+        } else {
+            None
+        }
+    }
+
+    /// The first event of the call with a suffix.
+    pub(crate) fn first(&self, suffix: u8) -> Option<Occurrence<'a>>
+        ensures { meant_if result ≡ get nat_cmp self.now.calls suffix }
+    {
+        match self.calls.get(&suffix) {
+            Some(call) => Some(call.event()),
+            None => None,
+        }
+    }
+}
+
+/// Of each suffix the first event of a call at a place with that suffix.
+pub(crate) fn first_calls<'a>(
+    alloc: Global,
+    events: Events<'a>,
+    place: &Tiploc,
+) -> Result<BTreeMap<u8, Call<'a>>, Memory>
+    ensures { IfOk result (λ calls. (suffix : ℕ)
+        → get nat_cmp calls suffix ≡ find (is_call place.now suffix) events.entry) }
+{
+    let mut calls = BTreeMap::new(alloc);
+    for event in events {
+        add_event(&mut calls, &event, place)?;
+    }
+    Ok(calls)
+}
+
+/// Takes one more event into the first ones, if it is at the place.
+fn add_event<'a>(
+    calls: &mut BTreeMap<u8, Call<'a>>,
+    event: &Occurrence<'a>,
+    place: &Tiploc,
+) -> Result<(), Memory>
+    ensures { OnOk result (HasEvent place.now calls.old (occurrence_meant event.entry.now)
+        calls.new) }
+{
+    if is_here(event, place) {
+        add_call(calls, suffix_in(event.line), Call::of(event))
+    } else {
+        Ok(())
+    }
+}
+
+/// Takes one more event of a call into the first ones, if there is none with its suffix.
+fn add_call<'a>(
+    calls: &mut BTreeMap<u8, Call<'a>>,
+    suffix: u8,
+    call: Call<'a>,
+) -> Result<(), Memory>
+    ensures { OnOk result (HasCall suffix calls.old call.entry calls.new) }
+{
+    if calls.contains_key(&suffix) {
+        return Ok(());
+    }
+    calls.insert(suffix, call)?;
+    Ok(())
+}

@@ -1,0 +1,123 @@
+//! The calls at a place of the base trains of associations, of which the last ones asked for are kept.
+ghost use Rattle.std.specs.Prelude.{◌≡◌, ℕ, List, IfOk, IfSome};
+ghost use Rattle.std.specs.BTreeMap.{get};
+ghost use Rattle.std.specs.Ordering.{nat_cmp};
+ghost use Rattle.docker_model.specs.state.State.{live_table};
+ghost use Rattle.docker_model.specs.state.Row.{Row, AreRowsOf};
+ghost use Rattle.docker_model.specs.docker.LiveRows.{train_in};
+ghost use Rattle.docker_day.specs.Bases.{first_call, meant_if};
+
+use crate::base_calls::{BaseCalls, first_calls};
+use crate::call::Call;
+use cif_line::{Day, Memory, Tiploc, Uid};
+use docker_state::State;
+use docker_train::{Occurrence, train_on};
+use std::alloc::Global;
+use std::collections::BTreeMap;
+use std::marker::Model;
+
+/// The calls at a place of the base trains that start on a day. Those of the train that was asked for last are kept: the associations of a base train come one after
+/// the other in a walk, so the lines of each base train are looked at once.
+#[derive(Debug, Drop)]
+pub(crate) struct Bases<'a> {
+    alloc: Global,
+    state: &'a State,
+    place: Tiploc,
+    day: Day,
+    last: Option<BaseCalls<'a>>,
+}
+
+impl<'a> Model for Bases<'a> {
+    ghost use Rattle.docker_model.specs.state.State.{live_table};
+    ghost use Rattle.docker_train.specs.Known.{PlaceDay};
+    ghost use Rattle.docker_day.specs.Bases.{AreKnownCalls};
+
+    ghost Value = { PlaceDay };
+
+    ghost view = { λ bases. record {
+      state = bases.state.now;
+      place = bases.place;
+      day = bases.day;
+    } };
+
+    ghost invariant = { λ bases.
+        AreKnownCalls (live_table bases.state.now) bases.place bases.day bases.last };
+}
+
+impl<'a> Bases<'a> {
+    /// The calls at a place of the trains that start on a day, none of which was asked for yet.
+    pub(crate) fn at(alloc: Global, state: &'a State, place: &Tiploc, day: Day) -> Bases<'a>
+        ensures { result ≡ record { state = state.entry.now; place = place.now; day = day } }
+    {
+        Bases {
+            alloc,
+            state,
+            place: *place,
+            day,
+            last: None,
+        }
+    }
+
+    /// The first event of the call of a UID's train at the place with a suffix. None if there is no such call, or the train does not run. `Memory` if there is no room
+    /// for the calls of the train.
+    pub(crate) fn first_call(
+        &mut self,
+        uid: &Uid,
+        suffix: u8,
+    ) -> Result<Option<Occurrence<'a>>, Memory>
+        ensures same { self.new ≡ self.old }
+        ensures event { IfOk result (λ event. (rows : List Row)
+            → AreRowsOf (live_table self.old.state) rows → meant_if event
+            ≡ first_call (train_in rows uid.now self.old.day) self.old.place suffix) }
+    {
+        match self.known(uid, suffix) {
+            Some(event) => Ok(event),
+            None => self.look_up(uid, suffix),
+        }
+    }
+
+    /// The first event of the call among those that are kept. None if none are kept, or those of another train.
+    fn known(&self, uid: &Uid, suffix: u8) -> Option<Option<Occurrence<'a>>>
+        ensures { IfSome result (λ event. (rows : List Row)
+            → AreRowsOf (live_table self.now.state) rows → meant_if event
+            ≡ first_call (train_in rows uid.now self.now.day) self.now.place suffix) }
+    {
+        match &self.last {
+            Some(last) => last.asked(uid, suffix),
+            None => None,
+        }
+    }
+
+    /// The same by a walk over the lines of the train. Its calls are kept.
+    fn look_up(&mut self, uid: &Uid, suffix: u8) -> Result<Option<Occurrence<'a>>, Memory>
+        ensures same { self.new ≡ self.old }
+        ensures event { IfOk result (λ event. (rows : List Row)
+            → AreRowsOf (live_table self.old.state) rows → meant_if event
+            ≡ first_call (train_in rows uid.now self.old.day) self.old.place suffix) }
+    {
+        let calls = calls_of(self.alloc, self.state, uid, &self.place, self.day)?;
+        let last = BaseCalls { uid: *uid, calls };
+        let event = last.first(suffix);
+        self.last = Some(last);
+        Ok(event)
+    }
+}
+
+/// The first events of the calls of a UID's train at a place.
+fn calls_of<'a>(
+    alloc: Global,
+    state: &'a State,
+    uid: &Uid,
+    place: &Tiploc,
+    day: Day,
+) -> Result<BTreeMap<u8, Call<'a>>, Memory>
+    ensures { IfOk result (λ calls. (suffix : ℕ) (rows : List Row)
+        → AreRowsOf (live_table state.now) rows
+        → get nat_cmp calls suffix
+        ≡ first_call (train_in rows uid.now day) place.now suffix) }
+{
+    match train_on(state, uid, day) {
+        Some(train) => first_calls(alloc, train.events(), place),
+        None => Ok(BTreeMap::new(alloc)),
+    }
+}

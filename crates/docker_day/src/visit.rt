@@ -1,0 +1,145 @@
+//! A place on a day, for the trains that start on one day.
+ghost use Rattle.std.specs.Prelude.{◌≡◌, ◌≤◌, true, List, IfOk};
+ghost use Rattle.docker_model.specs.file.File.{first_record};
+ghost use Rattle.docker_model.specs.state.State.{live_table};
+ghost use Rattle.docker_model.specs.state.Row.{Row, AreRowsOf};
+ghost use Rattle.docker_model.specs.docker.Choice.{group_of, schedule_runs};
+ghost use Rattle.docker_model.specs.docker.Gathering.{counts_as, identity_of, runs_by};
+ghost use Rattle.docker_model.specs.docker.LiveRows.{train_in, link_in};
+ghost use Rattle.docker_train.specs.Along.{IsLiveTrain};
+ghost use Rattle.docker_train.specs.Keys.{association_key_meant};
+ghost use Rattle.docker_day.specs.Bases.{first_call, meant_if};
+
+use crate::bases::Bases;
+use cif_file::AssocKey;
+use cif_line::{Day, Memory, Tiploc, Uid};
+use docker_state::State;
+use docker_train::{DayLinks, DayTrains, Identities, Occurrence, ScheduleView};
+use std::alloc::Global;
+use std::marker::Model;
+
+/// The visit to a place on a day of the trains that start on one day, which is not after it. What was looked up for it is kept: which trains and associations count on
+/// the start day, where base trains call, and the identities of associated trains. So each row is looked at once, however many rows ask for it.
+#[derive(Debug, Drop)]
+pub(crate) struct Visit<'a> {
+    place: Tiploc,
+    day: Day,
+    start: Day,
+    trains: DayTrains<'a>,
+    links: DayLinks<'a>,
+    bases: Bases<'a>,
+    identities: Identities<'a>,
+}
+
+impl<'a> Model for Visit<'a> {
+    ghost use Rattle.docker_day.specs.Visits as visits;
+    ghost use Rattle.docker_day.specs.Visits.{IsOnePlace};
+
+    ghost Value = { visits.Visit };
+
+    ghost view = { λ visit. record {
+      state = visit.identities;
+      place = visit.place;
+      day = visit.day;
+      start = visit.start;
+    } };
+
+    ghost invariant = { λ visit. IsOnePlace visit.identities visit.place visit.day visit.start
+        visit.trains visit.links visit.bases };
+}
+
+impl<'a> Visit<'a> {
+    /// The visit of the trains that start on a day. `Memory` if there is no room for the associations that count on that day.
+    pub(crate) fn of(
+        alloc: Global,
+        state: &'a State,
+        place: &Tiploc,
+        day: Day,
+        start: Day,
+    ) -> Result<Visit<'a>, Memory>
+        requires past { start ≤ day }
+        ensures { IfOk result (λ visit. visit ≡ record {
+          state = state.entry.now;
+          place = place.now;
+          day = day;
+          start = start;
+        }) }
+    {
+        Ok(Visit {
+            place: *place,
+            day,
+            start,
+            trains: DayTrains::of(state, start),
+            links: DayLinks::at(alloc, state, place, start)?,
+            bases: Bases::at(alloc, state, place, start),
+            identities: Identities::of(alloc, state),
+        })
+    }
+
+    /// The place.
+    pub(crate) fn place(&self) -> &Tiploc
+        ensures { result.now ≡ self.now.place }
+    {
+        &self.place
+    }
+
+    /// The day.
+    pub(crate) fn day(&self) -> Day
+        ensures { result ≡ self.now.day }
+    {
+        self.day
+    }
+
+    /// The day on which the trains start.
+    pub(crate) fn start(&self) -> Day
+        ensures start { result ≡ self.now.start }
+        ensures past { self.now.start ≤ self.now.day }
+    {
+        self.start
+    }
+
+    /// Whether the train of a schedule's UID runs by it, on a start day on which the schedule runs. The index is that of the schedule's row.
+    pub(crate) fn runs_by(&mut self, row: usize, train: &ScheduleView<'a>) -> bool
+        requires live { IsLiveTrain (live_table self.old.state) train.now }
+        requires runs { schedule_runs (first_record train.now.lines) self.old.start ≡ true }
+        ensures same { self.new ≡ self.old }
+        ensures answer { (rows : List Row) → AreRowsOf (live_table self.old.state) rows
+            → result ≡ runs_by (train_in rows train.now.key.uid self.old.start) train.now.key }
+    {
+        self.trains.runs_by(row, train)
+    }
+
+    /// Whether an association at the place is the one of its group that counts on the start day.
+    pub(crate) fn counts(&self, key: &AssocKey) -> bool
+        requires { key.now.location ≡ self.now.place }
+        ensures { (rows : List Row) → AreRowsOf (live_table self.now.state) rows → result
+            ≡ counts_as (link_in rows (group_of (association_key_meant key.now)) self.now.start)
+            (association_key_meant key.now) }
+    {
+        self.links.counts(key)
+    }
+
+    /// The first event of the call of a UID's train at the place with a suffix. None if there is no such call, or the train does not run on the start day.
+    pub(crate) fn first_call(
+        &mut self,
+        uid: &Uid,
+        suffix: u8,
+    ) -> Result<Option<Occurrence<'a>>, Memory>
+        ensures same { self.new ≡ self.old }
+        ensures event { IfOk result (λ event. (rows : List Row)
+            → AreRowsOf (live_table self.old.state) rows → meant_if event
+            ≡ first_call (train_in rows uid.now self.old.start) self.old.place suffix) }
+    {
+        self.bases.first_call(uid, suffix)
+    }
+
+    /// The identity of the train of a UID that starts on a day, and question marks if it does not run then.
+    pub(crate) fn identity(&mut self, uid: &Uid, day: Day) -> Result<[u8; 4], Memory>
+        ensures same { self.new ≡ self.old }
+        ensures identity { IfOk result (λ identity. (rows : List Row)
+            → AreRowsOf (live_table self.old.state) rows
+            → identity ≡ identity_of (train_in rows uid.now day)) }
+    {
+        self.identities.identity(uid, day)
+    }
+}

@@ -1,0 +1,90 @@
+//! A place on a day, for the trains of all start days that can be there.
+ghost use Rattle.std.specs.Prelude.{◌≡◌, IfOk};
+ghost use Rattle.docker_train.specs.Known.{PlaceDay};
+ghost use Rattle.docker_day.specs.Visits.{visit_back};
+
+use crate::visit::Visit;
+use cif_line::{Day, Memory, Tiploc};
+use docker_state::State;
+use docker_train::day_back;
+use std::alloc::Global;
+use std::marker::Model;
+
+/// The visits to a place on a day: of the trains that start on the day, and of those that start on each of the two days before it that there are.
+#[derive(Debug, Drop)]
+pub(crate) struct Visits<'a> {
+    pub(crate) today: Visit<'a>,
+    pub(crate) day_before: Option<Visit<'a>>,
+    pub(crate) two_before: Option<Visit<'a>>,
+}
+
+impl<'a> Model for Visits<'a> {
+    ghost use Rattle.docker_train.specs.Known.{PlaceDay};
+    ghost use Rattle.docker_day.specs.Visits.{AreVisits};
+
+    ghost Value = { PlaceDay };
+
+    ghost view = { λ visits. record {
+      state = visits.today.state;
+      place = visits.today.place;
+      day = visits.today.day;
+    } };
+
+    ghost invariant = { λ visits. AreVisits
+        (record {
+          state = visits.today.state;
+          place = visits.today.place;
+          day = visits.today.day;
+        })
+        visits.today visits.day_before visits.two_before };
+}
+
+impl<'a> Visits<'a> {
+    /// The visits to a place on a day. `Memory` if there is no room for the associations that count on their start days.
+    pub(crate) fn at(
+        alloc: Global,
+        state: &'a State,
+        place: &Tiploc,
+        day: Day,
+    ) -> Result<Visits<'a>, Memory>
+        ensures { IfOk result (λ visits. visits
+            ≡ record { state = state.entry.now; place = place.now; day = day }) }
+    {
+        Ok(Visits {
+            today: Visit::of(alloc, state, place, day, day)?,
+            day_before: visit_back(alloc, state, place, day, 1)?,
+            two_before: visit_back(alloc, state, place, day, 2)?,
+        })
+    }
+
+    /// The place.
+    pub(crate) fn place(&self) -> &Tiploc
+        ensures { result.now ≡ self.now.place }
+    {
+        self.today.place()
+    }
+
+    /// The day.
+    pub(crate) fn day(&self) -> Day
+        ensures { result ≡ self.now.day }
+    {
+        self.today.day()
+    }
+}
+
+/// The visit of the trains that start so many days before the day, if there is such a day.
+fn visit_back<'a>(
+    alloc: Global,
+    state: &'a State,
+    place: &Tiploc,
+    day: Day,
+    back: u16,
+) -> Result<Option<Visit<'a>>, Memory>
+    ensures { IfOk result (λ visit. visit ≡ visit_back
+        (record { state = state.entry.now; place = place.now; day = day }) back) }
+{
+    match day_back(day, back) {
+        Some(start) => Ok(Some(Visit::of(alloc, state, place, day, start)?)),
+        None => Ok(None),
+    }
+}

@@ -1,0 +1,13 @@
+use Rattle.std.proofs.Common.{◌≡◌, None}
+use Rattle.std.specs.BTreeMap.{get}
+use Rattle.docker_model.specs.docker.Choice.{Group}
+use Rattle.docker_train.specs.Along.{link_along, AreGoodRows}
+use Rattle.docker_train.specs.Known.{group_cmp}
+use Rattle.docker_train.proofs.day_links.best_of.Given as goal
+
+-- of each group the best along the rows that are left is the best along all
+abbrev pub invariant-loop-key : goal.invariant-loop-key
+invariant-loop-key l = record {
+  best : (group : Group) → link_along group l.day (get group_cmp l.best group) l.key-iterator ≡ link_along group l.day None l.fn.rows;
+  good : AreGoodRows l.key-iterator;
+}

@@ -1,0 +1,147 @@
+//! The associations at a place that count on a start day.
+ghost use Rattle.std.specs.Prelude.{◌≡◌, List, None, IfOk, OnOk};
+ghost use Rattle.std.specs.BTreeMap.{get};
+ghost use Rattle.cif_file.specs.Meaning.{key_meant, body_meant};
+ghost use Rattle.docker_model.specs.docker.Choice.{Group, group_of};
+ghost use Rattle.docker_model.specs.docker.ChoiceWalk.{next_link};
+ghost use Rattle.docker_model.specs.docker.Gathering.{counts_as};
+ghost use Rattle.docker_model.specs.docker.LiveRows.{link_in};
+ghost use Rattle.docker_model.specs.state.Row.{Row, AreRowsOf};
+ghost use Rattle.docker_model.specs.state.State.{IsBodyOf, live_table};
+ghost use Rattle.docker_train.specs.Along.{link_along, AreGoodRows};
+ghost use Rattle.docker_train.specs.Keys.{association_key_meant};
+ghost use Rattle.docker_train.specs.Known.{group_cmp, stays, HasOneMore};
+
+use crate::link_group::LinkGroup;
+use crate::link_view::LinkView;
+use crate::links::{association_of, comes_before, is_same};
+use crate::walks::associations_at;
+use cif_file::{AssocKey, Body, Key};
+use cif_line::{Day, Memory, Tiploc};
+use docker_state::{Standing, State};
+use std::alloc::Global;
+use std::collections::BTreeMap;
+use std::marker::Model;
+
+/// The associations at a place that count on a start day of their base trains: of those of a group that run then the one with the least STP indicator, and of several
+/// such the one with the latest first day. They are found by one walk over the associations at the place.
+#[derive(Debug, Drop)]
+pub struct DayLinks<'a> {
+    state: &'a State,
+    place: Tiploc,
+    day: Day,
+    best: BTreeMap<LinkGroup, LinkView<'a>>,
+}
+
+impl<'a> Model for DayLinks<'a> {
+    ghost use Rattle.docker_model.specs.state.State.{live_table};
+    ghost use Rattle.docker_train.specs.Known.{PlaceDay, AreDayLinks};
+
+    ghost Value = { PlaceDay };
+
+    ghost view = { λ links. record {
+      state = links.state.now;
+      place = links.place;
+      day = links.day;
+    } };
+
+    ghost invariant = { λ links.
+        AreDayLinks (live_table links.state.now) links.place links.day links.best };
+}
+
+impl<'a> DayLinks<'a> {
+    /// The associations at a place that count on a start day. `Memory` if there is no room for them.
+    pub fn at(
+        alloc: Global,
+        state: &'a State,
+        place: &Tiploc,
+        day: Day,
+    ) -> Result<DayLinks<'a>, Memory>
+        ensures { IfOk result (λ links. links
+            ≡ record { state = state.entry.now; place = place.now; day = day }) }
+    {
+        let best = best_of(alloc, associations_at(state, place), day)?;
+        Ok(DayLinks {
+            state,
+            place: *place,
+            day,
+            best,
+        })
+    }
+
+    /// Whether an association at the place is the one of its group that counts.
+    pub fn counts(&self, key: &AssocKey) -> bool
+        requires { key.now.location ≡ self.now.place }
+        ensures { (rows : List Row) → AreRowsOf (live_table self.now.state) rows → result
+            ≡ counts_as (link_in rows (group_of (association_key_meant key.now)) self.now.day)
+            (association_key_meant key.now) }
+    {
+        match self.best.get(&LinkGroup::of(key)) {
+            Some(link) => is_same(link.key(), key),
+            None => false,
+        }
+    }
+}
+
+/// The best of each group along rows.
+fn best_of<'a>(
+    alloc: Global,
+    rows: Standing<'a>,
+    day: Day,
+) -> Result<BTreeMap<LinkGroup, LinkView<'a>>, Memory>
+    requires { AreGoodRows rows }
+    ensures { IfOk result (λ best. (group : Group) → get group_cmp best group
+        ≡ link_along group day None rows.entry) }
+{
+    let mut best = BTreeMap::new(alloc);
+    for (key, body) in rows {
+        add_row(&mut best, key, body, day)?;
+    }
+    Ok(best)
+}
+
+/// Takes one more row into the best.
+fn add_row<'a>(
+    best: &mut BTreeMap<LinkGroup, LinkView<'a>>,
+    key: &'a Key,
+    body: &'a Body,
+    day: Day,
+) -> Result<(), Memory>
+    requires { IsBodyOf (key_meant key.now) (body_meant body.now) }
+    ensures { OnOk result ((group : Group) → get group_cmp best.new group
+        ≡ next_link group day (get group_cmp best.old group) (key_meant key.entry.now)
+        (body_meant body.entry.now)) }
+{
+    match association_of(key, body) {
+        Some(link) => add(best, link, day),
+        None => Ok(()),
+    }
+}
+
+/// Takes one more association into the best.
+fn add<'a>(
+    best: &mut BTreeMap<LinkGroup, LinkView<'a>>,
+    link: LinkView<'a>,
+    day: Day,
+) -> Result<(), Memory>
+    ensures { OnOk result (HasOneMore day best.old link.entry best.new) }
+{
+    if !link.runs_on(day) {
+        return Ok(());
+    }
+    if stays(best, &link) {
+        return Ok(());
+    }
+    best.insert(LinkGroup::of(link.key()), link)?;
+    Ok(())
+}
+
+/// Whether the best so far of an association's group stays when the association is seen.
+fn stays(best: &BTreeMap<LinkGroup, LinkView<'_>>, link: &LinkView<'_>) -> bool
+    ensures { result ≡ stays (get group_cmp best.now (group_of link.now.key)) link.now }
+{
+    match best.get(&LinkGroup::of(link.key())) {
+        Some(other) => !comes_before(link.key(), other.key()),
+        None => false,
+    }
+}
