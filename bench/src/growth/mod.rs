@@ -16,9 +16,9 @@ const RATIO: f64 = 2.6;
 const WANTED: f64 = 0.03;
 const FLOOR: f64 = 0.02;
 
-/// How often each is measured; and how often at most where the ratio is too great, for what else the machine does can double a time.
+/// How often each is measured, and how often at most where the ratio is too great: what else the machine does can double a time.
 const ROUNDS: usize = 2;
-const MOST_ROUNDS: usize = 12;
+const MOST_ROUNDS: usize = 6;
 
 /// A command: what STATE is before it, and its words.
 struct Command {
@@ -185,6 +185,11 @@ fn row(folder: &mut Folder, programs: [&[&str]; 2], command: &Command) -> Result
     folder.agree(programs, command, rows)?;
     let mut own = folder.growth(programs[0], command, rows)?;
     while own[0] < FLOOR && rows < folder.shape.most {
+        rows *= 2;
+        own = folder.growth(programs[0], command, rows)?;
+    }
+    // A spell or a step, as where an allocator begins to ask the system for each room, isn't there again at twice as many.
+    if own[1] > RATIO * own[0] {
         rows *= 2;
         own = folder.growth(programs[0], command, rows)?;
     }
