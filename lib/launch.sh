@@ -10,9 +10,9 @@ root=$(dirname "$(dirname "$(readlink -f "${BASH_SOURCE[0]}")")")
 # The kilobytes that the check of one crate may take.
 memory_of_a_check=$((5 * 1024 * 1024))
 
-# What is under way: by its process the crate, and the second in which it began.
+# What is under way: for each process its crate, and the second in which it began.
 declare -A under_way=() began=()
-# The crates that wait, in the order in which they should begin; by crate those that it cites; and those that are proved.
+# The crates that wait, in the order in which they should begin; for each crate the crates that it cites; and the crates that are proved.
 declare -a waiting=()
 declare -A cites=() is_proved=()
 # A process that ends soon, while a crate waits for memory.
@@ -21,7 +21,7 @@ pause=
 say() { printf '%s: %s\n' "$launched" "$1" >&2; }
 
 # The crates that a program stands on, and itself, each with the crates of this repository that it cites. The crate with the longest
-# chain of crates up to the program comes first, and so each comes after those that it cites.
+# chain of crates up to the program comes first, so each comes after the crates that it cites.
 plan() {
   awk -F'[: ]+' -v program="$1" '
     { line[NR] = $0; is_ours[$1] }
@@ -64,7 +64,7 @@ begin() {
   began[$!]=$SECONDS
 }
 
-# Ends all that is under way, and the launcher.
+# Ends everything that is under way, and the launcher.
 stop() {
   local process
   trap '' INT TERM HUP
@@ -117,8 +117,8 @@ time_since() {
   if ((seconds < 60)); then echo "$seconds s"; else echo "$((seconds / 60)) min"; fi
 }
 
-# Proves the crates of a program in lanes: one for each two processors, and at least two. A crate begins when those that it cites are
-# proved. After a failure no other crate begins, and those that are under way go on to their end.
+# Proves the crates of a program in lanes: one for each two processors, and at least two. A crate begins when the crates that it cites
+# are proved. After a failure no other crate begins, and the checks that are under way run to their end.
 prove() {
   local program=$1 logs=$2 start=$SECONDS failed='' crate rest total lanes ended status
   while read -r crate rest; do
