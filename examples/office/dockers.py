@@ -1,0 +1,346 @@
+#!/usr/bin/python3
+"""Asks for dockers of one STATE, and for what STATE is made of, behind one interface with two ways.
+
+Where the program `desk` is found, one process of it answers every request: it loads STATE once, and again what changed when STATE's file did.
+Else each request is a `docker` command of its own, which reads STATE again: of a national extract that takes 1.4 to 3 seconds and 1 GB of
+memory each time. Its answer is kept as long as STATE's file is the same one. Both give the same bytes.
+
+As a command:
+  dockers.py STATE known               writes of when the newest file is, and which updates are missing before it
+  dockers.py STATE print DATE <PLACES  writes the docker of each place of a list, one a line, and says which places nobody knows
+DOCKER names the program `docker`, and DESK the program `desk`. The status is the greatest of all answers'.
+"""
+import collections
+import datetime
+import os
+import re
+import shutil
+import subprocess
+import sys
+import threading
+from typing import NamedTuple, Optional
+
+# One to seven bytes from 0x21 to 0x7E, as docker reads a TIPLOC; but a word that begins with a hyphen is none.
+TIPLOC = re.compile(r"[!-,.-~][!-~]{0,6}")
+# How many bytes of answers are kept between commands.
+KEPT = 64 << 20
+# After how many seconds a process that gave no answer is ended.
+PATIENCE = 300
+
+
+class Answer(NamedTuple):
+    """What docker answers: with status 0 what it writes to standard output, else its line of standard error."""
+    status: int
+    text: bytes
+
+
+class Extract(NamedTuple):
+    """A file that counts in STATE, by its line of `files`."""
+    date: str
+    time: str
+    reference: str
+    indicator: str
+    last: str
+
+    @property
+    def name(self):
+        return f"{'full extract' if self.indicator == 'F' else 'update'} {self.reference} of {self.date} {self.time[:2]}:{self.time[2:]}"
+
+
+def is_tiploc(word):
+    return TIPLOC.fullmatch(word) is not None
+
+
+def is_date(word):
+    """Whether a word is a day that docker reads."""
+    try:
+        return re.fullmatch(r"\d{4}-\d\d-\d\d", word, re.ASCII) is not None and 1960 <= datetime.date.fromisoformat(word).year <= 2059
+    except ValueError:
+        return False
+
+
+def extracts_of(text):
+    """The files that a text of `files` lists."""
+    lines = text.decode("ascii").split("\n")[:-1]
+    return [Extract(line[:10], line[11:15], line[16:23].strip(), line[24], line[26:33].strip()) for line in lines]
+
+
+def missing(extracts):
+    """Of each update that doesn't follow the file before it: what should stand before it, and the update."""
+    before = [None, *(extract.reference for extract in extracts)]
+    return [(extract.last, extract) for extract, last in zip(extracts, before) if extract.indicator == "U" and extract.last != last]
+
+
+def description_of(docker):
+    """What the heading of a docker says of the place: nothing where nobody knows the code."""
+    return docker[26:52].decode("ascii").strip()
+
+
+def identity(path):
+    """What tells one file of a path from another that took its place."""
+    try:
+        found = os.stat(path)
+    except OSError:
+        return None
+    return found.st_dev, found.st_ino, found.st_size, found.st_mtime_ns
+
+
+class Reader:
+    """What both ways share: words are checked before they are sent, and one request is under way at a time."""
+
+    def __init__(self, program, state):
+        self.program = program
+        self.state = os.path.abspath(state)
+        self.turn = threading.Lock()
+
+    def print_docker(self, tiploc, date):
+        """The docker of a place on a day."""
+        if not is_tiploc(tiploc):
+            return Answer(2, f"{tiploc!r} is no place: a code has one to seven characters\n".encode())
+        if not is_date(date):
+            return Answer(2, f"{date!r} is no day: write YYYY-MM-DD, from 1960 to 2059\n".encode())
+        return self.ask(("print", tiploc, date))
+
+    def files(self):
+        """The list of files that STATE is made of."""
+        return self.ask(("files",))
+
+    def close(self):
+        """Ends what was started."""
+
+
+class Commands(Reader):
+    """One `docker` command for each request."""
+
+    def __init__(self, program, state):
+        super().__init__(program, state)
+        self.seen = None
+        self.kept = collections.OrderedDict()
+
+    def ask(self, request):
+        with self.turn:
+            now = identity(self.state)
+            if now != self.seen:
+                self.kept.clear()
+                self.seen = now
+            if request not in self.kept:
+                answer = self.run(request)
+                # An answer that may be of a file that came meanwhile isn't kept; nor is one that another try may better.
+                if now is None or identity(self.state) != now or answer.status > 1:
+                    return answer
+                self.kept[request] = answer
+                while sum(len(kept.text) for kept in self.kept.values()) > KEPT:
+                    self.kept.popitem(last=False)
+            return self.kept[request]
+
+    def at_hand(self, tiploc, date):
+        """The docker of a place, if asking for it reads no STATE."""
+        with self.turn:
+            return self.kept.get(("print", tiploc, date)) if identity(self.state) == self.seen else None
+
+    def run(self, request):
+        command, *words = request
+        try:
+            ended = subprocess.run([self.program, command, self.state, *words], stdin=subprocess.DEVNULL, capture_output=True, timeout=PATIENCE, check=False)
+        except subprocess.TimeoutExpired:
+            return Answer(4, b"docker: no answer\n")
+        if ended.returncode == 0:
+            return Answer(0, ended.stdout)
+        # A process that a signal ended says nothing: most often it was the system, for want of memory.
+        return Answer(ended.returncode, ended.stderr) if 1 <= ended.returncode <= 4 else Answer(3, b"docker: ended by the system\n")
+
+
+class Ended(Exception):
+    """The process of `desk` is gone, or what it wrote is no answer."""
+
+
+class Desk(Reader):
+    """One process of `desk`, without --write, so that nothing that is asked changes STATE. It is started with the first request, and again
+    where it ended."""
+
+    def __init__(self, program, state):
+        super().__init__(program, state)
+        self.process = None
+        self.seen = None
+        self.known = None
+
+    def ask(self, request):
+        with self.turn:
+            for _ in range(2):
+                try:
+                    fault = self.renewed()
+                    return fault or self.exchange(" ".join(request))
+                except Ended:
+                    fault = self.end()
+                    if fault is not None:
+                        return fault
+            return Answer(4, b"desk: ended twice without an answer\n")
+
+    def at_hand(self, tiploc, date):
+        """The docker of a place, if asking for it reads no STATE: here always."""
+        return self.print_docker(tiploc, date)
+
+    def renewed(self):
+        """Sees to it that the process knows what STATE's file has now, and no more. The fault, if there is one."""
+        now, known = identity(self.state), knowledge(self.state)
+        if self.process is None:
+            self.start()
+        elif now != self.seen:
+            if grew(self.known, known):
+                answer = self.exchange("renew")
+                if answer.status != 0:
+                    return answer
+            else:
+                # Another state took its place. What is in memory would only join it.
+                self.end()
+                self.start()
+        self.seen, self.known = now, known
+        return None
+
+    def start(self):
+        self.process = subprocess.Popen([self.program, self.state], stdin=subprocess.PIPE, stdout=subprocess.PIPE, stderr=subprocess.PIPE)
+
+    def exchange(self, line):
+        """Sends a line and reads its answer: a header `STATUS LINES BYTES`, and so many bytes."""
+        watch = threading.Timer(PATIENCE, self.process.kill)
+        watch.start()
+        try:
+            self.process.stdin.write(line.encode("ascii") + b"\n")
+            self.process.stdin.flush()
+            header = self.process.stdout.readline(64)
+            found = re.fullmatch(rb"([0-4]) (\d+) (\d+)\n", header)
+            if found is None:
+                raise Ended
+            status, lines, length = (int(number) for number in found.groups())
+            text = self.process.stdout.read(length)
+            if len(text) != length or text.count(b"\n") != lines:
+                raise Ended
+            return Answer(status, text)
+        except OSError as error:
+            raise Ended from error
+        finally:
+            watch.cancel()
+
+    def end(self):
+        """Ends the process. If it ended by itself with a line on standard error, as where STATE is refused, that is its fault."""
+        process, self.process = self.process, None
+        if process is None:
+            return None
+        try:
+            process.stdin.close()
+        except OSError:
+            pass
+        process.stdout.close()
+        try:
+            process.wait(timeout=1)
+        except subprocess.TimeoutExpired:
+            process.kill()
+            process.wait()
+        told = process.stderr.read()
+        process.stderr.close()
+        return Answer(process.returncode, told) if 1 <= process.returncode <= 4 and told else None
+
+    def close(self):
+        with self.turn:
+            self.end()
+
+
+class Knowledge(NamedTuple):
+    """What the head of a state's text says: its horizon and its ledger items."""
+    horizon: int
+    items: tuple
+
+
+def knowledge(path):
+    """What a state knows, by the head of its text; None where the file has none."""
+    try:
+        with open(path, "rb") as text:
+            head = text.read(14)
+            count = int.from_bytes(head[6:14], "big")
+            if len(head) < 14 or head[:4] != b"DKS2" or 14 + 19 * count > os.fstat(text.fileno()).st_size:
+                return None
+            return Knowledge(int.from_bytes(head[4:6], "big"), tuple(text.read(19) for _ in range(count)))
+    except OSError:
+        return None
+
+
+def grew(before, after):
+    """Whether a state has all that another had, so that their join is that state: no lower horizon, and each file that still counts. Of a
+    state that can't be read it is left to `desk` to say what is wrong."""
+    if before is None or after is None:
+        return True
+    floor = next((item[:11] for item in after.items if item[11:12] == b"F"), b"")
+    return before.horizon <= after.horizon and all(item in after.items for item in before.items if item[:11] >= floor)
+
+
+def reader_of(state, docker: Optional[str] = None, desk: Optional[str] = None):
+    """The way that this machine has: `desk` where it is found, else `docker`."""
+    docker = docker or os.environ.get("DOCKER") or "station-docker"
+    desk = shutil.which(desk or os.environ.get("DESK") or f"{docker}-desk")
+    if desk is not None:
+        return Desk(desk, state)
+    found = shutil.which(docker)
+    if found is None:
+        sys.exit(f"dockers.py: there is no program {docker}; DOCKER names it")
+    return Commands(found, state)
+
+
+def say(text):
+    print(f"dockers.py: {text.rstrip()}", file=sys.stderr)
+
+
+def print_known(reader):
+    """Writes of when the newest file is, and each gap."""
+    answer = reader.files()
+    if answer.status != 0:
+        say(answer.text.decode())
+        return answer.status
+    extracts = extracts_of(answer.text)
+    print(f"known up to {extracts[-1].name}" if extracts else "nothing is known: no extract was taken")
+    for reference, extract in missing(extracts):
+        print(f"missing: {reference}, which comes before the {extract.name}")
+    return 0
+
+
+def print_places(reader, date, lines):
+    """Writes the dockers of the places of a list. A refused one is told, and the others follow; where STATE or the day is refused, they would
+    be refused too."""
+    if not is_date(date):
+        say(reader.print_docker("A", date).text.decode())
+        return 2
+    worst = 0
+    for place in (line.strip() for line in lines):
+        if not place or place.startswith("#"):
+            continue
+        answer = reader.print_docker(place, date)
+        worst = max(worst, answer.status)
+        if answer.status != 0:
+            say(f"{place}: {answer.text.decode()}")
+            if answer.status == 1:
+                break
+        else:
+            sys.stdout.buffer.write(answer.text)
+            if not description_of(answer.text):
+                say(f"{place}: nobody knows this code; is it spelled right?")
+    sys.stdout.flush()
+    return worst
+
+
+def main():
+    match sys.argv[1:]:
+        case [state, "known"]:
+            job = print_known
+        case [state, "print", date]:
+            def job(reader):
+                return print_places(reader, date, sys.stdin)
+        case _:
+            sys.exit("dockers.py: usage: STATE known | STATE print DATE <PLACES")
+    reader = reader_of(state)
+    try:
+        sys.exit(job(reader))
+    finally:
+        reader.close()
+
+
+if __name__ == "__main__":
+    main()
