@@ -8,11 +8,13 @@ memory each time. Its answer is kept as long as STATE's file is the same one. Bo
 As a command:
   dockers.py STATE known               writes of when the newest file is, and which updates are missing before it
   dockers.py STATE print DATE <PLACES  writes the docker of each place of a list, one a line, and says which places nobody knows
+  dockers.py advice LINE               writes what a fault's line means and what to do
 DOCKER names the program `docker`, and DESK the program `desk`. The status is the greatest of all answers'.
 """
 import collections
 import datetime
 import os
+import pathlib
 import re
 import shutil
 import subprocess
@@ -74,6 +76,13 @@ def missing(extracts):
 def description_of(docker):
     """What the heading of a docker says of the place: nothing where nobody knows the code."""
     return docker[26:52].decode("ascii").strip()
+
+
+def advice(line):
+    """What a fault's line means and what to do, from the table of causes, which has no numbers. Nothing where it has no such fault."""
+    fault = re.sub(r"^usage: .*", "usage", re.sub(r"^docker: |: (record|offset) \d+| \d+$", "", line.strip()))
+    causes = (pathlib.Path(__file__).resolve().parent / "causes").read_text(encoding="utf-8").splitlines()
+    return next((f"{means}. {what}" for name, means, what in (cause.split("\t") for cause in causes) if name == fault), "")
 
 
 def identity(path):
@@ -281,19 +290,28 @@ def reader_of(state, docker: Optional[str] = None, desk: Optional[str] = None):
         return Desk(desk, state)
     found = shutil.which(docker)
     if found is None:
-        sys.exit(f"dockers.py: there is no program {docker}; DOCKER names it")
+        say(f"there is no program {docker}; DOCKER names it")
+        sys.exit(4)
     return Commands(found, state)
 
 
 def say(text):
-    print(f"dockers.py: {text.rstrip()}", file=sys.stderr)
+    print(f"station-office: {text}", file=sys.stderr)
+
+
+def say_fault(subject, answer):
+    """Says a fault's line, and what to do."""
+    line = answer.text.decode().rstrip()
+    say(f"{subject}: {line}")
+    if told := advice(line):
+        say(f"{subject}: {told}")
 
 
 def print_known(reader):
     """Writes of when the newest file is, and each gap."""
     answer = reader.files()
     if answer.status != 0:
-        say(answer.text.decode())
+        say_fault(reader.state, answer)
         return answer.status
     extracts = extracts_of(answer.text)
     print(f"known up to {extracts[-1].name}" if extracts else "nothing is known: no extract was taken")
@@ -306,7 +324,7 @@ def print_places(reader, date, lines):
     """Writes the dockers of the places of a list. A refused one is told, and the others follow; where STATE or the day is refused, they would
     be refused too."""
     if not is_date(date):
-        say(reader.print_docker("A", date).text.decode())
+        say_fault("print", reader.print_docker("A", date))
         return 2
     worst = 0
     for place in (line.strip() for line in lines):
@@ -315,7 +333,7 @@ def print_places(reader, date, lines):
         answer = reader.print_docker(place, date)
         worst = max(worst, answer.status)
         if answer.status != 0:
-            say(f"{place}: {answer.text.decode()}")
+            say_fault(place, answer)
             if answer.status == 1:
                 break
         else:
@@ -328,13 +346,17 @@ def print_places(reader, date, lines):
 
 def main():
     match sys.argv[1:]:
+        case ["advice", line]:
+            print(advice(line))
+            return
         case [state, "known"]:
             job = print_known
         case [state, "print", date]:
             def job(reader):
                 return print_places(reader, date, sys.stdin)
         case _:
-            sys.exit("dockers.py: usage: STATE known | STATE print DATE <PLACES")
+            print("dockers.py: usage: STATE known | STATE print DATE <PLACES | advice LINE", file=sys.stderr)
+            sys.exit(2)
     reader = reader_of(state)
     try:
         sys.exit(job(reader))

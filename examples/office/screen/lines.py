@@ -1,0 +1,77 @@
+"""A docker's text as its heading and its lines, by the columns that docs/FORMATS.md has."""
+from typing import NamedTuple
+
+KINDS = {"A": "arrives", "P": "passes", "D": "departs", "J": "is joined", "V": "divides", "N": "goes on"}
+# What leads from an association's kind to its partner: is joined by, divides into, goes on as.
+LINKS = {"J": "by", "V": "into", "N": "as"}
+
+
+class Line(NamedTuple):
+    """A line of a docker. An event has an origin and a destination, an association a partner."""
+    time: str
+    kind: str
+    train: str
+    uid: str
+    stp: str
+    suffix: str
+    platform: str
+    line: str
+    path: str
+    public: str
+    origin: str
+    destination: str
+    partner: str
+    partner_train: str
+
+    @property
+    def half_minutes(self):
+        """Since midnight."""
+        return int(self.time[:2]) * 120 + int(self.time[2:4]) * 2 + self.time.endswith("H")
+
+    @property
+    def clock(self):
+        return f"{self.time[:2]}:{self.time[2:4]}{'½' if self.time.endswith('H') else ''}"
+
+    @property
+    def public_clock(self):
+        return f"{self.public[:2]}:{self.public[2:]}" if self.public else ""
+
+    @property
+    def word(self):
+        return KINDS.get(self.kind, self.kind)
+
+    @property
+    def link(self):
+        """An association's partner in words: `by 2B20 A10002`; nothing of an event."""
+        if self.kind not in LINKS:
+            return ""
+        train = f"{self.partner_train} {self.partner}" if self.partner_train != "????" else f"{self.partner}, which doesn't run"
+        return f"{LINKS[self.kind]} {train}"
+
+
+class Docker(NamedTuple):
+    """What a docker says of a place on a day. The description is empty where nobody knows the code."""
+    tiploc: str
+    date: str
+    description: str
+    lines: list
+
+
+def line_of(text):
+    def columns(first, last):
+        return text[first - 1:last].strip()
+
+    links = text[6] in LINKS
+    ends = (columns(42, 48), columns(50, 56))
+    return Line(
+        columns(1, 5), text[6], columns(9, 12), columns(14, 19), columns(21, 21), columns(23, 23), columns(25, 27), columns(29, 31), columns(33, 35),
+        columns(37, 40), *(("", "") if links else ends), *((columns(42, 47), columns(50, 53)) if links else ("", "")),
+    )
+
+
+def docker_of(text):
+    """The docker that a text is: a heading, lines and `END`, each of 56 columns."""
+    heading, *lines, end, rest = text.decode("ascii").split("\n")
+    if not heading.startswith("DOCKER ") or end.rstrip() != "END" or rest or any(len(line) != 56 or line.startswith("DOCKER ") for line in lines):
+        raise ValueError("this is no docker")
+    return Docker(heading[7:14].strip(), heading[15:25], heading[26:52].strip(), [line_of(line) for line in lines])

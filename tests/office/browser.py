@@ -1,0 +1,59 @@
+"""A headless Chromium, driven by chromedriver over HTTP."""
+import base64
+import json
+import pathlib
+import re
+import subprocess
+import tempfile
+import urllib.request
+
+
+class Browser:
+    def __init__(self):
+        self.folder = tempfile.TemporaryDirectory()
+        self.driver = subprocess.Popen(["chromedriver", "--port=0"], stdout=subprocess.PIPE, stderr=subprocess.DEVNULL, text=True)
+        port = next(found[1] for line in self.driver.stdout if (found := re.search(r"on port (\d+)", line)) and found[1] != "0")
+        self.base = f"http://127.0.0.1:{port}/session"
+        words = ["--headless=new", "--no-sandbox", "--disable-gpu", "--disable-dev-shm-usage", "--force-device-scale-factor=1",
+                 f"--user-data-dir={self.folder.name}", "--hide-scrollbars"]
+        made = self.ask("", {"capabilities": {"alwaysMatch": {"browserName": "chrome", "goog:chromeOptions": {"args": words}}}})
+        self.base += f"/{made['sessionId']}"
+
+    def ask(self, path, words=None, method="POST"):
+        body = None if words is None else json.dumps(words).encode()
+        request = urllib.request.Request(self.base + path, body, {"Content-Type": "application/json"}, method=method)
+        with urllib.request.urlopen(request, timeout=60) as answer:
+            return json.load(answer)["value"]
+
+    def cdp(self, command, **words):
+        return self.ask("/goog/cdp/execute", {"cmd": command, "params": words})
+
+    def sized(self, width, height, is_phone=False):
+        """Gives the page so much room, on a screen or a phone's."""
+        self.cdp("Emulation.setDeviceMetricsOverride", width=width, height=height, deviceScaleFactor=1, mobile=is_phone)
+
+    def open(self, address):
+        self.ask("/url", {"url": address})
+
+    def run(self, script, *words):
+        """What a function's body of JavaScript gives in the page."""
+        return self.ask("/execute/sync", {"script": script, "args": list(words)})
+
+    def media(self, media):
+        self.cdp("Emulation.setEmulatedMedia", media=media)
+
+    def picture(self, path):
+        pathlib.Path(path).write_bytes(base64.b64decode(self.ask("/screenshot", method="GET")))
+
+    def paper(self):
+        """The page as printed on A4, as PDF."""
+        return base64.b64decode(self.ask("/print", {"page": {"width": 21.0, "height": 29.7}, "background": False}))
+
+    def close(self):
+        try:
+            self.ask("", method="DELETE")
+        finally:
+            self.driver.terminate()
+            self.driver.wait()
+            self.driver.stdout.close()
+            self.folder.cleanup()
