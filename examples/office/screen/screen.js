@@ -2,6 +2,8 @@
 "use strict";
 const page = document.documentElement;
 const london = new Intl.DateTimeFormat("sv-SE", {timeZone: "Europe/London", dateStyle: "short", timeStyle: "medium"});
+// Whether the page is always of today: /TIPLOC, without a date.
+const isOfToday = location.pathname.split("/").length === 2;
 let isUnfolded = false;
 let lastAnswer = null;
 
@@ -16,12 +18,12 @@ function halfMinutes(time) {
   return hours * 120 + minutes * 2;
 }
 
-// Folds the trains of the minutes before this one away; of another day than today none.
+// Folds the trains of the minutes before this one away; of another day than today none, unless the day has just ended.
 function fold() {
   const [date, time] = now();
   const table = document.getElementById("docker");
   if (!table) return;
-  const start = date === page.dataset.date ? halfMinutes(time) : 0;
+  const start = date === page.dataset.date ? halfMinutes(time) : isOfToday && date > page.dataset.date ? Infinity : 0;
   let past = 0;
   for (const row of table.tBodies[0].rows) {
     const isPast = Number(row.dataset.at) < start;
@@ -62,6 +64,12 @@ function tick() {
   fold();
   age();
   mark();
+}
+
+// What is done every few seconds: at midnight the next day's docker is asked for at once.
+function step() {
+  tick();
+  if (isOfToday && now()[0] !== page.dataset.date) renew();
 }
 
 // Shows what another answer of the server has, in one go.
@@ -106,5 +114,5 @@ document.addEventListener("toggle", (event) => {
 }, true);
 lastAnswer = now()[1].slice(0, 5);
 tick();
-setInterval(tick, 5000);
+setInterval(step, 5000);
 setInterval(renew, Number(new URLSearchParams(location.hash.slice(1)).get("renew") || 60) * 1000);
