@@ -1,0 +1,15 @@
+use Rattle.std.proofs.Common.{◌≡◌, ◌≤◌, length}
+use Rattle.cif_line.specs.Device.{Reads}
+use Rattle.docker_desk.specs.Lines.{with_ahead}
+use Rattle.docker_desk.proofs.LineLemmas.{ArePrintable}
+use Rattle.docker_desk.proofs.lines.next_line.Given as goal
+
+-- the line so far was read, a byte a turn
+abbrev pub invariant-loop : goal.invariant-loop
+invariant-loop g l = record {
+  so_far : Reads (with_ahead l.fn.ahead (g.S.Source.left l.fn.source)) l.line.items (with_ahead l.ahead (g.S.Source.left l.source));
+  printable : ArePrintable l.line.items;
+  short : length l.line.items ≤ 255;
+  counted : length l.line.items ≡ l.counter;
+  no_failure : g.S.Source.failures l.source ≡ g.S.Source.failures l.fn.source;
+}

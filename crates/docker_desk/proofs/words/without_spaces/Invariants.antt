@@ -1,0 +1,14 @@
+use Rattle.std.proofs.Common.{◌≡◌, length}
+use Rattle.std.specs.Prelude.{IsUtf8}
+use Rattle.docker_desk.specs.Requests.{without_spaces}
+use Rattle.docker_desk.proofs.words.without_spaces.Given as goal
+
+-- the rest is the text without some of the spaces that it begins with
+abbrev pub invariant-loop-piece : goal.invariant-loop-piece
+invariant-loop-piece l = record {
+  same : without_spaces l.rest ≡ without_spaces l.fn.text;
+  text : IsUtf8 l.rest;
+}
+
+abbrev pub decreases-loop-piece : goal.decreases-loop-piece
+decreases-loop-piece l = length l.rest

@@ -1,0 +1,95 @@
+//! Bytes of a source that were read ahead.
+ghost use Rattle.std.specs.Prelude.{◌≡◌, ◌≢◌, ◌+◌, ◌-◌, ◌^◌, ◌<◌, ◌↔◌, [], ◌∷◌, IsTrue, IfOk, OnOk, OnErr, MatchOption};
+ghost use Rattle.cif_line.specs.Device.{IsEnd};
+ghost use Rattle.docker_job.specs.JobLine.{ReadsByte};
+ghost use Rattle.docker_desk.specs.Lines.{with_ahead};
+
+use cif_line::{Failed, Source};
+use std::marker::Model;
+
+/// How many bytes are read at once.
+const PIECE: usize = 4096;
+
+/// Bytes that a source gave, and that no line has taken yet.
+#[derive(Debug, Drop)]
+pub struct Ahead {
+    bytes: [u8; PIECE],
+    at: usize,
+    end: usize,
+}
+
+impl Model for Ahead {
+    ghost use Rattle.std.specs.Prelude.{List, ℕ, ◌≤◌, length, take, drop};
+
+    ghost Value = { List ℕ };
+
+    ghost view = { λ ahead. drop ahead.at (take ahead.end ahead.bytes) };
+
+    ghost invariant = { λ ahead. (ahead.at ≤ ahead.end) × (ahead.end ≤ length ahead.bytes) };
+}
+
+impl Ahead {
+    /// None yet.
+    pub fn new() -> Ahead
+        ensures { result ≡ [] }
+    {
+        Ahead {
+            bytes: [0; PIECE],
+            at: 0,
+            end: 0,
+        }
+    }
+
+    /// Whether there are none.
+    fn is_empty(&self) -> bool
+        ensures { IsTrue result ↔ (self.now ≡ []) }
+    {
+        self.at == self.end
+    }
+
+    /// Takes the first of them; none where there are none.
+    fn take_first(&mut self) -> Option<u8>
+        ensures { MatchOption result ((self.old ≡ []) × (self.new ≡ []))
+            (λ byte. self.old ≡ byte ∷ self.new) }
+    {
+        if self.at == self.end {
+            return None;
+        }
+        let byte = self.bytes[self.at];
+        self.at += 1;
+        Some(byte)
+    }
+
+    /// Reads once where there are none, so that then there are none only at the end.
+    fn make_ready<S: Source>(&mut self, source: &mut S) -> Result<(), Failed>
+        requires { S.failures source.old < 2 ^ 64 - 1 }
+        ensures same { with_ahead self.new (S.left source.new)
+            ≡ with_ahead self.old (S.left source.old) }
+        ensures end { OnOk result (self.new ≡ []
+            → IsEnd (with_ahead self.new (S.left source.new))) }
+        ensures no_failure { OnOk result (S.failures source.new ≡ S.failures source.old) }
+        ensures counted { OnErr result (S.failures source.new ≡ S.failures source.old + 1) }
+    {
+        if !self.is_empty() {
+            return Ok(());
+        }
+        self.at = 0;
+        self.end = 0;
+        self.end = source.read(&mut self.bytes)?;
+        Ok(())
+    }
+
+    /// Takes the next byte of a source; none at its end.
+    pub(crate) fn next_byte<S: Source>(&mut self, source: &mut S) -> Result<Option<u8>, Failed>
+        requires { S.failures source.old < 2 ^ 64 - 1 }
+        ensures byte { IfOk result (λ byte. ReadsByte (with_ahead self.old (S.left source.old))
+            byte (with_ahead self.new (S.left source.new))) }
+        ensures unmoved { OnErr result (with_ahead self.new (S.left source.new)
+            ≡ with_ahead self.old (S.left source.old)) }
+        ensures no_failure { OnOk result (S.failures source.new ≡ S.failures source.old) }
+        ensures counted { OnErr result (S.failures source.new ≡ S.failures source.old + 1) }
+    {
+        self.make_ready(source)?;
+        Ok(self.take_first())
+    }
+}

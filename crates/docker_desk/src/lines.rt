@@ -1,0 +1,103 @@
+//! The lines of a source.
+ghost use Rattle.std.specs.Prelude.{◌≡◌, ◌≢◌, ◌+◌, ◌-◌, ◌^◌, ◌<◌, ◌↔◌, Option, List, ℕ, Err};
+ghost use Rattle.docker_desk.specs.Lines.{EndsLine, EndsSkipping, asked_meant, cut_or_end, with_ahead};
+
+use crate::ahead::Ahead;
+use arrayvec::ArrayVec;
+use cif_line::{Source, is_printable};
+
+/// The most bytes that a line has before its line feed.
+const LONGEST: usize = 255;
+
+/// A line without its line feed.
+pub type Line = ArrayVec<u8, LONGEST>;
+
+/// What the next line of a source is.
+#[derive(Debug)]
+pub enum Asked {
+    /// At most 255 printable bytes, without the line feed behind them.
+    Line(Line),
+    /// More bytes, or one that isn't printable: it was read to its line feed.
+    Bad,
+    /// What stands behind the last line feed.
+    Cut,
+    /// The source is at its end.
+    End,
+}
+
+/// Why no line could be read.
+#[derive(Clone, Copy, PartialEq, Eq, Debug)]
+pub enum InputFault {
+    /// The source failed.
+    Failed,
+    /// The line has at least 2 ^ 64 - 1 bytes.
+    Endless,
+}
+
+impl From<cif_line::Failed> for InputFault {
+    ghost use Rattle.docker_desk.specs.declared.lines.InputFault.TheVariants as fault;
+    ghost use Rattle.std.specs.Prelude.{◌≡◌};
+
+    ghost from_gives = { λ _ told. told ≡ fault.Failed };
+
+    fn from(_failed: cif_line::Failed) -> InputFault {
+        InputFault::Failed
+    }
+}
+
+/// Reads the next line of a source, whose bytes may have been read ahead. The source is left behind its line feed.
+pub fn next_line<S: Source>(ahead: &mut Ahead, source: &mut S) -> Result<Asked, InputFault>
+    requires { S.failures source.old < 2 ^ 64 - 1 }
+    ensures ends { EndsLine (with_ahead ahead.old (S.left source.old)) result
+        (with_ahead ahead.new (S.left source.new)) }
+    ensures failed { (result ≡ Err InputFault.Failed)
+        ↔ (S.failures source.new ≡ S.failures source.old + 1) }
+    ensures no_failure { result ≢ Err InputFault.Failed
+        → S.failures source.new ≡ S.failures source.old }
+{
+    let mut line = Line::new();
+    for _ in 0..=LONGEST {
+        let Some(byte) = ahead.next_byte(source)? else {
+            return Ok(without_feed(&line));
+        };
+        if byte == b'\n' {
+            return Ok(Asked::Line(line));
+        }
+        if line.is_full() || !is_printable(byte) {
+            return skip_line(ahead, source);
+        }
+        line.push(byte);
+    }
+    unreachable!()
+}
+
+/// What a line is that has these bytes and then no more: the end, if it has none.
+fn without_feed(line: &Line) -> Asked
+    ensures { asked_meant result ≡ cut_or_end line.now.items }
+{
+    if line.is_empty() {
+        Asked::End
+    } else {
+        Asked::Cut
+    }
+}
+
+/// Reads what is left of a line that isn't whole.
+fn skip_line<S: Source>(ahead: &mut Ahead, source: &mut S) -> Result<Asked, InputFault>
+    requires { S.failures source.old < 2 ^ 64 - 1 }
+    ensures ends { EndsSkipping (with_ahead ahead.old (S.left source.old)) result
+        (with_ahead ahead.new (S.left source.new)) }
+    ensures failed { (result ≡ Err InputFault.Failed)
+        ↔ (S.failures source.new ≡ S.failures source.old + 1) }
+    ensures no_failure { result ≢ Err InputFault.Failed
+        → S.failures source.new ≡ S.failures source.old }
+{
+    for _ in 0..u64::MAX {
+        match ahead.next_byte(source)? {
+            None => return Ok(Asked::Cut),
+            Some(b'\n') => return Ok(Asked::Bad),
+            Some(_) => {}
+        }
+    }
+    Err(InputFault::Endless)
+}

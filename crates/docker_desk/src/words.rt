@@ -1,0 +1,93 @@
+//! The words of a line.
+ghost use Rattle.std.specs.Prelude.{◌≡◌, ◌+◌, ◌<◌, [], ◌∷◌, length, MatchOption, IfSome, IsNone, ◌↔◌, false, option_map};
+ghost use Rattle.std.specs.List.{position_or_len, before_first, after_first};
+ghost use Rattle.docker_job.specs.JobLine.{IsLineText, is_space, words_in};
+ghost use Rattle.docker_desk.specs.Requests.{HasOneWord, HasTwoWords, behind_word, first_word, without_spaces};
+
+use std::str;
+
+/// A line as text.
+pub(crate) fn text_of(line: &[u8]) -> &str
+    requires { IsLineText line.now }
+    ensures { result.now ≡ line.now }
+{
+    match str::from_utf8(line) {
+        Ok(text) => text,
+        Err(_) => unreachable!(),
+    }
+}
+
+/// The piece before the first space, and what stands behind that.
+fn split_at_space(text: &str) -> Option<(&str, &str)>
+    ensures pieces { MatchOption result (position_or_len is_space text.now
+        ≡ length text.now) (λ parts.
+        (parts.0.now ≡ before_first is_space text.now)
+        × (parts.1.now ≡ after_first is_space text.now)
+        × (position_or_len is_space text.now < length text.now)) }
+    ensures lengths { IfSome result (λ parts.
+        length parts.0.now + 1 + length parts.1.now ≡ length text.now) }
+{
+    text.split_once(' ')
+}
+
+/// A text without the spaces that it begins with.
+fn without_spaces(text: &str) -> &str
+    ensures { result.now ≡ without_spaces text.now }
+{
+    let mut rest = text;
+    while let Some((piece, behind)) = split_at_space(rest) {
+        if !piece.is_empty() {
+            return rest;
+        }
+        rest = behind;
+    }
+    rest
+}
+
+/// The first word of a text, and what stands behind it and the spaces between. None where the text has no word.
+pub(crate) fn next_word(text: &str) -> Option<(&str, &str)>
+    ensures none { IsNone result → (words_in text.now ≡ []) × (first_word text.now ≡ []) }
+    ensures word { IfSome result (λ cut. cut.0.now ≡ first_word text.now) }
+    ensures behind { IfSome result (λ cut. cut.1.now ≡ behind_word text.now) }
+    ensures words { IfSome result (λ cut. words_in text.now ≡ cut.0.now ∷ words_in cut.1.now) }
+{
+    let text = without_spaces(text);
+    if text.is_empty() {
+        return None;
+    }
+    match split_at_space(text) {
+        Some((word, behind)) => Some((word, without_spaces(behind))),
+        None => Some((text, "")),
+    }
+}
+
+/// The two words of a text that has two.
+pub(crate) fn two_words(text: &str) -> Option<(&str, &str)>
+    ensures { HasTwoWords text.now
+        (option_map (λ words. (words.0.now, words.1.now)) result) }
+{
+    let (first, behind) = next_word(text)?;
+    let (second, behind) = next_word(behind)?;
+    if has_word(behind) {
+        return None;
+    }
+    Some((first, second))
+}
+
+/// The word of a text that has one.
+pub(crate) fn one_word(text: &str) -> Option<&str>
+    ensures { HasOneWord text.now (option_map (λ word. word.now) result) }
+{
+    let (word, behind) = next_word(text)?;
+    if has_word(behind) {
+        return None;
+    }
+    Some(word)
+}
+
+/// Whether a text has a word.
+pub(crate) fn has_word(text: &str) -> bool
+    ensures { (result ≡ false) ↔ (words_in text.now ≡ []) }
+{
+    next_word(text).is_some()
+}
