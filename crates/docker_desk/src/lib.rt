@@ -2,11 +2,15 @@
 #![tactic(auto)]
 
 mod ahead;
+mod answers;
 mod lines;
+mod page;
 mod requests;
 mod verbs;
 mod words;
 
 pub use ahead::Ahead;
+pub use answers::write_answer;
 pub use lines::{Asked, InputFault, next_line};
+pub use page::Page;
 pub use requests::{Request, request_in};
