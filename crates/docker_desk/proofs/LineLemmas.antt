@@ -43,14 +43,14 @@ pub printable_more : (line : List ℕ) (b : ℕ) → ArePrintable line → is_pr
 printable_more [] b good here = (here, tt)
 printable_more (y ∷ line) b good here = (good.0, printable_more line b good.1 here)
 
--- both texts are without a line feed, and so is what stands one behind the other
+-- both texts are without a line feed, and so are the two, one after the other
 without_both : (xs ys : List ℕ) → IsWithoutFeed xs → IsWithoutFeed ys → IsWithoutFeed (xs ++ ys)
 without_both [] ys first second = second
 without_both (x ∷ xs) ys first second = (first.0, without_both xs ys first.1 second)
 
 -- ---- reading on
 
--- what is read behind what was read
+-- what is read after what was read
 pub reads_on : (old now new : Option (List ℕ)) (line more : List ℕ) → Reads old line now → Reads now more new → Reads old (line ++ more) new
 reads_on old now None line more first then_more = first ∙ ap (option_map (λ rest. line ++ rest)) then_more
 reads_on old now (Some rest) line more first then_more =
@@ -61,7 +61,7 @@ pub reads_none : (left : Option (List ℕ)) → Reads left [] left
 reads_none None = refl
 reads_none (Some bytes) = refl
 
--- at least so many bytes were read
+-- at least this number of bytes was read
 pub many_none : (left : Option (List ℕ)) → ReadsMany 0 left left
 many_none left = record { lost = []; many = omega arith; read = reads_none left }
 
@@ -77,7 +77,7 @@ many_more n old now new byte many then_one = record {
 pub some_read : (n : ℕ) (old now new : Option (List ℕ)) → ReadsMany n old now → new ≡ now → ReadsMany 0 old new
 some_read n old now new many same = record { lost = many.lost; many = omega arith; read = subst (Reads old many.lost) (sym same) many.read }
 
--- of a line so far, and what was read behind it
+-- of a line so far, and what was read after it
 pub many_behind : (n : ℕ) (old now new : Option (List ℕ)) (line : List ℕ) → Reads old line now → ReadsMany n now new → ReadsMany n old new
 many_behind n old now new line first many = record {
   lost = line ++ many.lost;
@@ -138,7 +138,7 @@ reads_whole old now new line first feed good short = by old new (reads_on old no
         let same : text ≡ (line ++ 10 ∷ []) ++ rest = cc in
         (rest, (record { whole = same ∙ append_assoc line (10 ∷ []) rest; line_text = is_text }, refl))
 
--- no line feed stands behind a line
+-- no line feed stands after a line
 pub reads_cut : (old now new : Option (List ℕ)) (line : List ℕ) → Reads old line now → IsEnd now → new ≡ now → ArePrintable line
     → ReadsAsked old (cut_or_end line) new
 reads_cut old now new [] read end same good = at_end old now new read end same
@@ -171,7 +171,7 @@ pub record IsSpoiled (line : List ℕ) (b : ℕ) : Type 0 where
   pub other : b ≢ 10
   pub why : (length line ≡ 255) ⊎ (is_printable b ≡ false)
 
--- whatever stands behind it
+-- whatever stands after it
 not_text : (line : List ℕ) (b : ℕ) (more : List ℕ) → IsSpoiled line b → ¬ IsLineText (line ++ b ∷ more)
 not_text line b more spoiled text = by spoiled.why
   where

@@ -32,7 +32,7 @@ some_word piece some = by (length piece == 0) refl
     by false is = refl
     by true is = let none : length piece ≡ 0 = search (rules, tests) in absurd (omega (arith, some, none))
 
--- a text with a space: the piece before it, and the words behind it
+-- a text with a space: the piece before it, and the words after it
 at_space : (text : List ℕ) → position_or_len is_space text < length text
     → words_in text ≡ word_or_none (before_first is_space text) ++ words_in (after_first is_space text)
 at_space text here =
@@ -73,7 +73,7 @@ words_behind_spaces (b ∷ text) = by (is_space b) refl (words_behind_spaces tex
     by false here rest = refl
     by true here rest = ap (filter (λ word. not (length word == 0))) (slice_split-cons_yes is_space b text here) ∙ rest
 
--- behind them stands a word, or nothing
+-- after them stands a word, or nothing
 word_leads : (text : List ℕ) → without_spaces text ≢ [] → 0 < position_or_len is_space (without_spaces text)
 word_leads [] some = absurd (some refl)
 word_leads (b ∷ text) some = by (is_space b) refl some (word_leads text)
@@ -86,7 +86,7 @@ word_leads (b ∷ text) some = by (is_space b) refl some (word_leads text)
 
 -- ---- the first word
 
--- where a space stands behind it
+-- if a space stands after it
 pub words_cut : (text : List ℕ) → without_spaces text ≢ [] → position_or_len is_space (without_spaces text) < length (without_spaces text)
     → words_in text ≡ first_word text ∷ words_in (behind_word text)
 words_cut text some here =
@@ -121,7 +121,7 @@ words_last text some end = (words_behind_spaces text ∙ without_space rest end 
     behind : without_spaces (after_first is_space rest) ≡ []
     behind = nothing (after_first is_space rest) (let size = length-drop (position_or_len is_space rest + 1) rest in omega (arith, size, end))
 
--- the same of a text that was stripped, and then cut
+-- likewise for a text that was stripped, and then cut
 pub words_cut_as : (text rest word behind more : List ℕ) → rest ≡ without_spaces text → rest ≢ [] → position_or_len is_space rest < length rest
     → word ≡ before_first is_space rest → behind ≡ after_first is_space rest → more ≡ without_spaces behind → words_in text ≡ word ∷ words_in more
 words_cut_as text rest word behind more stripped some here first after last =
@@ -129,7 +129,7 @@ words_cut_as text rest word behind more stripped some here first after last =
     (sym stripped) (words_cut text) some here
     ∙ (λ i. sym first i ∷ words_in (sym (last ∙ ap without_spaces after) i))
 
--- the same where no space stands behind it
+-- likewise if no space stands after it
 pub words_last_as : (text rest : List ℕ) → rest ≡ without_spaces text → rest ≢ [] → position_or_len is_space rest ≡ length rest → words_in text ≡ rest ∷ []
 words_last_as text rest stripped some end =
     subst (λ r. r ≢ [] → position_or_len is_space r ≡ length r → words_in text ≡ r ∷ words_in []) (sym stripped) (λ some end. (words_last text some end).0) some end

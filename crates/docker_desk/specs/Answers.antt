@@ -1,4 +1,4 @@
--- An answer: a header, and the text that it tells the size of.
+-- An answer: a header, and the text whose size it has.
 use Rattle.std.specs.Prelude.{ℕ, ◌+◌, ◌==◌, if◌then◌else◌, List, [], ◌∷◌, ◌++◌, length, codes, decimal}
 
 -- how many of the bytes are line feeds: the lines of a text of whole lines

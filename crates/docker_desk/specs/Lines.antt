@@ -8,7 +8,7 @@ use Rattle.docker_desk.specs.declared.lines.Asked.TheVariants as asked
 use Rattle.docker_desk.specs.declared.lines.InputFault.{InputFault}
 use Rattle.docker_desk.specs.declared.lines.InputFault.TheVariants.{Failed, Endless}
 
--- a line: its bytes before the line feed; one that is longer, or has another byte; or what stands behind the last line feed
+-- a line: its bytes before the line feed; one that is longer, or has another byte; or what stands after the last line feed
 pub data LineView : Type 0 where
   whole_line : (line : List ℕ) → LineView
   bad_line : LineView
@@ -41,18 +41,18 @@ abbrev pub AreLines : List ℕ → List LineView → Type 0
 AreLines text [] = text ≡ []
 AreLines text (line ∷ lines) = (rest : List ℕ) × (IsNextLine text line rest × AreLines rest lines)
 
--- where the bytes of a line can't be told
+-- what holds of a line if the source can't name its bytes
 abbrev pub IsSomeLine : LineView → Type 0
 IsSomeLine (whole_line line) = IsLineText line
 IsSomeLine bad_line = ⊤
 IsSomeLine cut_line = ⊤
 
--- where the bytes are told, they began with this line, and the rest is left
+-- if the source names its bytes, they began with this line, and the rest is left
 abbrev pub ReadsNext : Option (List ℕ) → LineView → Option (List ℕ) → Type 0
 ReadsNext None line new = IsSomeLine line
 ReadsNext (Some text) line new = (rest : List ℕ) × (IsNextLine text line rest × (new ≡ Some rest))
 
--- what is left of a source behind these bytes, which were read ahead
+-- what is left of a source after these bytes, which were read ahead
 abbrev pub with_ahead : List ℕ → Option (List ℕ) → Option (List ℕ)
 with_ahead ahead left = option_map (λ rest. ahead ++ rest) left
 
@@ -68,7 +68,7 @@ abbrev pub ReadsAsked : Option (List ℕ) → Option LineView → Option (List �
 ReadsAsked old None new = IsEnd old × (new ≡ old)
 ReadsAsked old (Some line) new = ReadsNext old line new
 
--- some bytes were read, at least so many
+-- some bytes were read, at least this number
 pub record ReadsMany (least : ℕ) (old new : Option (List ℕ)) : Type 0 where
   pub lost : List ℕ
   pub many : least ≤ length lost
@@ -85,7 +85,7 @@ abbrev pub cut_or_end : List ℕ → Option LineView
 cut_or_end [] = None
 cut_or_end (byte ∷ bytes) = Some cut_line
 
--- the text goes on with other bytes of a line and its line feed, and what stands behind that is left
+-- the text goes on with other bytes of a line and its line feed, and what stands after that is left
 pub record SkipsTo (text : List ℕ) (left : Option (List ℕ)) : Type 0 where
   pub skipped : List ℕ
   pub rest : List ℕ
@@ -93,12 +93,12 @@ pub record SkipsTo (text : List ℕ) (left : Option (List ℕ)) : Type 0 where
   pub one : IsWithoutFeed skipped
   pub behind : left ≡ Some rest
 
--- where the bytes are told, a line's other bytes and its line feed were read
+-- if the source names its bytes, a line's other bytes and its line feed were read
 abbrev pub SkipsLine : Option (List ℕ) → Option (List ℕ) → Type 0
 SkipsLine None new = ⊤
 SkipsLine (Some text) new = SkipsTo text new
 
--- where the bytes are told, none of those that were left is a line feed, and all were read
+-- if the source names its bytes, none of those that were left is a line feed, and all were read
 abbrev pub SkipsAll : Option (List ℕ) → Option (List ℕ) → Type 0
 SkipsAll None new = ⊤
 SkipsAll (Some text) new = IsWithoutFeed text × (new ≡ Some [])

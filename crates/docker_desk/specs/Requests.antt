@@ -1,4 +1,4 @@
--- What a line asks for. Its first word names a request, and what stands behind that has to fit.
+-- What a line asks for. Its first word names a request, and what stands after that has to fit.
 use Rattle.std.specs.Prelude.{◌≡◌, ℕ, Bool, true, false, if◌then◌else◌, List, [], ◌∷◌, Option, Some, None, IsTrue, codes}
 use Rattle.std.specs.Str.{bytes_eq}
 use Rattle.std.specs.List.{before_first, after_first}
@@ -67,7 +67,7 @@ verb_named name =
     (if bytes_eq name (codes "horizon") then Some verb.Horizon else
     (if bytes_eq name (codes "save") then Some verb.Save else None)))))))
 
--- it changes what is known, or the file: it is allowed only where the desk may write
+-- it changes what is known, or the file: it is allowed only if the desk may write
 abbrev pub is_writing : Verb → Bool
 is_writing verb.Print = false
 is_writing verb.Train = false
@@ -87,7 +87,7 @@ without_spaces (byte ∷ bytes) = if is_space byte then without_spaces bytes els
 abbrev pub first_word : List ℕ → Text
 first_word text = before_first is_space (without_spaces text)
 
--- what stands behind its first word, without the spaces between
+-- what stands after its first word, without the spaces between
 abbrev pub behind_word : List ℕ → List ℕ
 behind_word text = without_spaces (after_first is_space (without_spaces text))
 
@@ -108,7 +108,7 @@ pub record ArePlaceAndDay (place : List ℕ) (day : ℕ) (tiploc date : Text) : 
   pub named : NamesPlace tiploc place
   pub dated : NamesDay date day
 
--- what stands behind the word that names a request: its words, or the name of its file with all that stands behind it
+-- what stands after the word that names a request: its words, or its file, which is all that stands there
 abbrev pub HasRest : RequestView → List ℕ → Type 0
 HasRest (print_request place day) rest = OfTwo (ArePlaceAndDay place day) (words_in rest)
 HasRest (train_request uid day) rest = OfTwo (λ word date. NamesTrain word uid × NamesDay date day) (words_in rest)

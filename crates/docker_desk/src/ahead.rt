@@ -47,7 +47,7 @@ impl Ahead {
         self.at == self.end
     }
 
-    /// Takes the first of them; none where there are none.
+    /// Takes the first of them, if there is one.
     fn take_first(&mut self) -> Option<u8>
         ensures { MatchOption result ((self.old ≡ []) × (self.new ≡ []))
             (λ byte. self.old ≡ byte ∷ self.new) }

@@ -15,11 +15,11 @@ pub type Line = ArrayVec<u8, LONGEST>;
 /// What the next line of a source is.
 #[derive(Debug)]
 pub enum Asked {
-    /// At most 255 printable bytes, without the line feed behind them.
+    /// At most 255 printable bytes, without the line feed after them.
     Line(Line),
     /// More bytes, or one that isn't printable: it was read to its line feed.
     Bad,
-    /// What stands behind the last line feed.
+    /// What stands after the last line feed.
     Cut,
     /// The source is at its end.
     End,
@@ -45,7 +45,7 @@ impl From<cif_line::Failed> for InputFault {
     }
 }
 
-/// Reads the next line of a source, whose bytes may have been read ahead. The source is left behind its line feed.
+/// Reads the next line of a source, whose bytes may have been read ahead. The source is left after its line feed.
 pub fn next_line<S: Source>(ahead: &mut Ahead, source: &mut S) -> Result<Asked, InputFault>
     requires { S.failures source.old < 2 ^ 64 - 1 }
     ensures ends { EndsLine (with_ahead ahead.old (S.left source.old)) result

@@ -5,7 +5,7 @@ use cif_line::{Failed, Sink};
 use std::alloc::Global;
 use std::marker::Model;
 
-/// A sink in memory, which grows as it is written. It fails only where a growth is refused.
+/// A sink in memory, which grows as it is written. It fails only if a growth is refused.
 #[derive(Debug, Drop)]
 pub struct Page {
     bytes: Vec<u8>,

@@ -43,7 +43,7 @@ pub enum Request<'a> {
     Save,
 }
 
-/// What a line asks for, of a desk that may write or not. None where it asks for nothing, or for what only a desk does that may write.
+/// What a line asks for, of a desk that may write or not. None if it asks for nothing, or if the desk would have to write for it and may not.
 pub fn request_in(line: &[u8], may_write: bool) -> Option<Request<'_>>
     requires { IsLineText line.now }
     ensures { AsksFor may_write line.now (option_map request_meant result) }

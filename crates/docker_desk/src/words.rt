@@ -17,7 +17,7 @@ pub(crate) fn text_of(line: &[u8]) -> &str
     }
 }
 
-/// The piece before the first space, and what stands behind that.
+/// The piece before the first space, and what stands after that.
 fn split_at_space(text: &str) -> Option<(&str, &str)>
     ensures pieces { MatchOption result (position_or_len is_space text.now
         ≡ length text.now) (λ parts.
@@ -44,7 +44,7 @@ fn without_spaces(text: &str) -> &str
     rest
 }
 
-/// The first word of a text, and what stands behind it and the spaces between. None where the text has no word.
+/// The first word of a text, and what stands after it and the spaces between. None if the text has no word.
 pub(crate) fn next_word(text: &str) -> Option<(&str, &str)>
     ensures none { IsNone result → (words_in text.now ≡ []) × (first_word text.now ≡ []) }
     ensures word { IfSome result (λ cut. cut.0.now ≡ first_word text.now) }
