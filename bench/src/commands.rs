@@ -1,5 +1,5 @@
-//! Time and memory of the commands of an office, beside `wc -l` of the bytes that each reads and beside the plain program of the bench, which
-//! has to give the same bytes.
+//! Time and memory of an office's commands, beside `wc -l` of the bytes that each reads, and beside the bench's plain program, which has to give
+//! the same bytes.
 
 use crate::measure::{machine, run, Input, Spent};
 use std::collections::HashMap;
@@ -8,7 +8,7 @@ use std::io::{copy, BufRead, BufReader, Error, Result, Seek, SeekFrom, Write};
 
 const ROUNDS: usize = 5;
 
-/// A command: what STATE is before it, its words, the files that it reads, and the bytes of the texts of the states that it holds.
+/// A command: what STATE is before it, its words, the files that it reads, and how many bytes the texts of the states in its memory have.
 struct Job<'a> {
     name: &'static str,
     before: Option<&'a str>,
@@ -16,12 +16,12 @@ struct Job<'a> {
     reads: Vec<&'a str>,
     states: u64,
     counting: Vec<f64>,
-    /// Of the program, and of the plain one.
+    /// The runs of the program, and of the plain one.
     took: [Took; 2],
     lines: usize,
 }
 
-/// What the runs of a program took.
+/// What a program's runs took.
 #[derive(Default)]
 struct Took {
     seconds: Vec<f64>,
@@ -43,7 +43,7 @@ fn median(values: &[f64]) -> f64 {
     values[values.len() / 2]
 }
 
-/// The paths of the states that the commands begin with.
+/// The paths of the states that the commands start from.
 struct States {
     empty: String,
     full: String,
@@ -124,7 +124,7 @@ pub fn table(program: &str, extract: &str, update: &str, folder: &str) -> Result
     print(&jobs)
 }
 
-/// Makes the states that the commands begin with.
+/// Makes the states that the commands start from.
 fn make_states(program: &str, extract: &str, update: &str, folder: &str) -> Result<States> {
     let path = |name: &str| format!("{folder}/{name}.state");
     let states = States { empty: path("empty"), full: path("full"), update: path("update"), old: path("old"), own: path("own") };
@@ -142,7 +142,7 @@ fn make_states(program: &str, extract: &str, update: &str, folder: &str) -> Resu
     Ok(states)
 }
 
-/// Runs a command that has to end well; what it took and said.
+/// Runs a command that has to succeed, and returns what it took and printed.
 fn done(words: &[&str]) -> Result<Spent> {
     let spent = run(words, Input::None)?;
     match (spent.status, &*spent.errors) {
@@ -151,7 +151,7 @@ fn done(words: &[&str]) -> Result<Spent> {
     }
 }
 
-/// The timing point that the most location records name, and the day of the header, as `YYYY-MM-DD`.
+/// The timing point that most location records name, and the header's day as `YYYY-MM-DD`.
 fn busiest(extract: &str) -> Result<(String, String)> {
     let mut counts: HashMap<[u8; 7], usize> = HashMap::new();
     let mut date = String::new();
@@ -169,8 +169,8 @@ fn busiest(extract: &str) -> Result<(String, String)> {
     Ok((place, format!("20{}-{}-{}", &date[4..6], &date[2..4], &date[..2])))
 }
 
-/// Runs both programs in turn; they have to print the same, and to leave the same STATE. No state is held in memory here: a process that is
-/// started begins with the peak of this one.
+/// Runs both programs in turn. They have to print the same and leave the same STATE. This process holds no state in memory, because a process that it
+/// starts begins with its peak.
 fn measure(job: &mut Job, programs: [&[&str]; 2], own: &str) -> Result<()> {
     let mut counting = 0.0;
     for path in &job.reads {

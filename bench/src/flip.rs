@@ -1,4 +1,4 @@
-//! One byte of an extract becomes another, and the program's answer is compared with the plain reader's.
+//! Changes one byte of an extract, and compares the program's answer with the plain reader's.
 
 use crate::judge::{judge_text, line_of, Cause, LIMIT};
 use crate::measure::{run, Input};
@@ -11,7 +11,7 @@ use std::os::unix::fs::FileExt;
 
 pub struct Flip {
     pub offset: usize,
-    /// Both count from 1; a line end stands behind column 80.
+    /// Both count from 1. The line end is column 81.
     pub record: u64,
     pub column: usize,
     pub old: u8,
@@ -26,7 +26,7 @@ impl fmt::Display for Flip {
 }
 
 const IDENTITIES: [&[u8; 2]; 12] = [b"HD", b"TI", b"TA", b"TD", b"AA", b"BS", b"BX", b"LO", b"LI", b"CR", b"LT", b"ZZ"];
-/// Columns that decide something in some kind of record; 81 is the line end.
+/// Columns that decide something in some kind of record. The line end is column 81.
 const DECIDING: [usize; 36] = [
     1, 1, 2, 2, 2, 3, 3, 10, 11, 12, 13, 14, 15, 16, 17, 18, 19, 20, 21, 22, 23, 24, 25, 26, 27, 28, 29, 30, 31, 38, 47, 73, 80,
     80, 81, 81,
@@ -35,8 +35,9 @@ const DECIDING: [usize; 36] = [
 const TELLING: &[u8] = b"  00112345999ABCDFHILNNOOPPRSTUXZ";
 
 impl Flip {
-    /// In equal parts anywhere; in a record of a kind that is drawn first; in such a record at a column that decides something
-    /// in some kind; and at a time of a call past midnight or of one soon behind it.
+    /// Draws a byte and its new value. Equally often, the byte is anywhere; or in a record of a kind that is drawn first. Or it is in
+    /// such a record, at a column that decides something in some kind. Or it is a time of a call past midnight, or the same column of
+    /// one of the two records after it.
     pub fn draw(text: &[u8], random: &mut Random) -> Flip {
         let mut offset = random.below(text.len());
         let identity = *random.pick(&IDENTITIES);
@@ -71,7 +72,7 @@ fn start_of_line(before: &[u8]) -> usize {
     before.iter().rposition(|&byte| byte == b'\n').map_or(0, |at| at + 1)
 }
 
-/// The byte at column 1 or 2 of an identity that has the record's other letter, or of any where none has.
+/// The byte at column 1 or 2 of an identity whose other letter is the record's; if there is none, of any identity.
 fn other_kind(text: &[u8], offset: usize, column: usize, random: &mut Random) -> u8 {
     let other = text.get(if column == 1 { offset + 1 } else { offset - 1 });
     let alike: Vec<u8> =
@@ -82,7 +83,7 @@ fn other_kind(text: &[u8], offset: usize, column: usize, random: &mut Random) ->
     *random.pick(&alike)
 }
 
-/// The start of the first such record from an offset on, or else from the text's beginning.
+/// The start of the first such record from an offset on; if there is none, from the text's beginning.
 fn next_record(text: &[u8], offset: usize, wanted: impl Fn(&[u8]) -> bool) -> Option<usize> {
     let from = |mut start: usize| loop {
         let line = &text[start..];
@@ -94,7 +95,7 @@ fn next_record(text: &[u8], offset: usize, wanted: impl Fn(&[u8]) -> bool) -> Op
     from(start_of_line(&text[..offset])).or_else(|| from(0))
 }
 
-/// A call that departs before the time at which it arrives.
+/// Whether a call departs at an earlier time of day than it arrives.
 fn is_over_midnight(line: &[u8]) -> bool {
     line.starts_with(b"LI") && line.len() > 80 && line[15] != b' ' && line[15..20] < line[10..15]
 }
@@ -119,8 +120,8 @@ struct Tally {
     unlike: usize,
 }
 
-/// Asks the program of the file as it is and with each of so many flips in turn; false where it answers otherwise than the plain
-/// reader. The file is as it was in the end.
+/// Gives the program the file as it is, and then with one flip at a time. Returns whether each answer was the plain reader's. At the
+/// end the file is as it was.
 pub fn compare(program: &str, path: &str, seed: u64, flips: usize) -> Result<bool> {
     let mut text = fs::read(path)?;
     let file = OpenOptions::new().write(true).open(path)?;
@@ -158,13 +159,13 @@ pub fn compare(program: &str, path: &str, seed: u64, flips: usize) -> Result<boo
     Ok(tally.unlike == 0)
 }
 
-/// Whether the program prints that line, on standard output and with status 0 where the file is accepted.
+/// Whether the program prints this line: on standard output with status 0 if the file is accepted, else on standard error with status 1.
 fn agrees(program: &str, path: &str, line: &str, accepted: bool, what: &str) -> Result<bool> {
     let spent = run(&[program, "check", path], Input::None)?;
     let wanted = if accepted { (0, line, "") } else { (1, "", line) };
     let got = (spent.status, &*spent.output, &*spent.errors);
     if got != wanted {
-        println!("unlike: {what}\n  wanted {wanted:?}\n  got    {got:?}");
+        println!("different: {what}\n  wanted {wanted:?}\n  got    {got:?}");
     }
     Ok(got == wanted)
 }
@@ -185,8 +186,8 @@ fn name(cause: Cause) -> &'static str {
 
 fn print_tally(tally: &Tally, flips: usize) {
     let Tally { accepted, here, elsewhere, causes, unlike } = tally;
-    println!("{flips} flips: {unlike} answered otherwise than by the plain reader");
-    println!("  accepted, since the flipped text is a file too: {accepted}");
+    println!("{flips} flips: {unlike} answers differ from the plain reader's");
+    println!("  accepted, because the flipped text is a file too: {accepted}");
     println!("  refused at the flipped record: {here}");
     println!("  refused at a later record: {elsewhere}");
     let causes: Vec<String> = causes.iter().map(|(name, count)| format!("{name} {count}")).collect();

@@ -1,5 +1,5 @@
-//! A plain reader of the grammar of CIF files. It keeps no line: it counts records and changes, or names the first record at
-//! fault and its cause. It is written on its own, to be compared with the program.
+//! A plain reader of the grammar of CIF files. It keeps no line. It counts records and changes, or names the first record at
+//! fault and its cause. It shares no code with the program, so that the two can be compared.
 
 use std::fmt;
 use std::io::{Read, Result as Done};
@@ -46,7 +46,7 @@ impl fmt::Display for Cause {
     }
 }
 
-/// The program's line on an answer: its standard output where the file is accepted, else its standard error.
+/// The line that the program prints for an answer: on standard output if the file is accepted, else on standard error.
 pub fn line_of(answer: &Answer) -> String {
     match answer {
         Ok(counts) => format!("accepted: {} records, {} changes\n", counts.records, counts.changes),
@@ -102,7 +102,7 @@ fn kind(line: &Line) -> Option<Kind> {
     })
 }
 
-/// Where in the file the next record stands.
+/// Where in a file the next record comes.
 #[derive(Clone, Copy, PartialEq, Eq)]
 enum Place {
     Start,
@@ -120,9 +120,9 @@ pub struct Judge {
     place: Place,
     /// The schedule may stand without a journey.
     journey_optional: bool,
-    /// The schedule is a deletion, whose lines behind BS are checked for kind and place alone.
+    /// The schedule is a deletion: of its lines after BS only kind and place are checked.
     deletion: bool,
-    /// Half minutes of the journey's last event, and its falls so far.
+    /// The half minutes of the journey's last event, and how often the times fell so far.
     last_event: Option<u16>,
     falls: u8,
 }
@@ -179,7 +179,7 @@ impl Judge {
         Ok(())
     }
 
-    /// Where the record behind one of this kind stands, if one of this kind may stand here.
+    /// Where the record after one of this kind comes; none if no record of this kind can come here.
     fn next(&self, kind: Kind) -> Option<Place> {
         let unit = match kind {
             Kind::Tiploc | Kind::Amended | Kind::Deleted | Kind::Association => Some(Place::BetweenUnits),
@@ -238,7 +238,7 @@ impl Judge {
         }
     }
 
-    /// Follows the events of a journey; true where the record holds that of a third fall.
+    /// Follows the events of a journey. Returns whether the times fall for the third time in this record.
     fn falls_thrice(&mut self, kind: Kind, line: &Line) -> bool {
         let columns: &[usize] = match kind {
             Kind::Basic => {
@@ -279,7 +279,7 @@ impl ScheduleJudge {
         ScheduleJudge(judge)
     }
 
-    /// Whether a schedule goes on with this line: the first is a basic schedule, and no other is.
+    /// Whether the schedule can go on with this line. The first line is a basic schedule, and no other is.
     pub fn line(&mut self, line: &[u8]) -> bool {
         let judge = &mut self.0;
         let first = judge.counts.records == 0;
@@ -350,7 +350,7 @@ const TRANSACTION: Check = Check::OneOf(b"NDR");
 const STP: Check = Check::OneOf(b"PNOC");
 
 impl Check {
-    /// Of a field that begins with these bytes.
+    /// Whether the field that begins with these bytes is good.
     #[inline(always)]
     fn holds(self, field: &[u8]) -> bool {
         match self {
@@ -376,7 +376,7 @@ fn two(digits: &[u8]) -> Option<u16> {
     (tens < 10 && ones < 10).then(|| u16::from(tens) * 10 + u16::from(ones))
 }
 
-/// Whether it is a day of the calendar. The years are 1960 to 2059, of which every fourth is a leap year.
+/// Whether this is a day of the calendar. The years are 1960 to 2059, and every fourth is a leap year.
 fn is_date(year: &[u8], month: &[u8], day: &[u8]) -> bool {
     let (Some(year), Some(month), Some(day)) = (two(year), two(month), two(day)) else {
         return false;
@@ -407,7 +407,7 @@ fn half_minutes(field: &[u8]) -> Option<u16> {
     Some(minutes(field)? * 2 + half)
 }
 
-/// The half minutes of a field that was judged: a time, or spaces.
+/// The half minutes of a field that was judged before; none if it is spaces.
 #[inline(always)]
 pub fn judged_time(field: &[u8]) -> Option<u16> {
     let digit = |at: usize| u16::from(field[at] - b'0');
@@ -458,7 +458,7 @@ pub fn judge_stream(source: &mut impl Read, limit: u64) -> Done<Answer> {
     Ok(judge.finish())
 }
 
-/// Judges each line that ends in a line feed, and gives how many bytes they are.
+/// Judges each line that ends in a line feed, and returns how many bytes they have.
 fn take_lines(judge: &mut Judge, text: &[u8]) -> Result<usize, Fault> {
     let mut used = 0;
     while let Some(end) = end_of_line(&text[used..]) {
@@ -468,7 +468,7 @@ fn take_lines(judge: &mut Judge, text: &[u8]) -> Result<usize, Fault> {
     Ok(used)
 }
 
-/// Where the first line feed stands; mostly behind 80 other bytes.
+/// The index of the first line feed. Mostly 80 other bytes come before it.
 pub fn end_of_line(text: &[u8]) -> Option<usize> {
     if text.len() > 80 && text[80] == b'\n' && text[..80].iter().fold(true, |none, &byte| none & (byte != b'\n')) {
         return Some(80);

@@ -1,4 +1,4 @@
-//! Makes extracts, judges them by a plain reader, flips bytes of them, and measures the program on them.
+//! Makes extracts, judges them with a plain reader, flips their bytes, and measures the program on them.
 
 mod commands;
 mod flip;
@@ -41,7 +41,7 @@ fn main() -> ExitCode {
     }
 }
 
-/// The exit status of the job that the words name, if they name one.
+/// Does the job that the words name, if they name one, and returns its exit status.
 fn job(words: &[&str]) -> Option<Result<u8>> {
     let number = |word: &str| word.parse::<u64>().ok();
     let count = |word: &str| number(word).filter(|&count| (1..=10_000_000).contains(&count)).map(|count| count as usize);

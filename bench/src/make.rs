@@ -63,7 +63,7 @@ impl Extract {
 
     // ------------------------------------------------------------ associations
 
-    /// The association whose base is a UID, if it has one: partner, place and category.
+    /// The association of this base UID, if it has one: partner, place and category.
     fn association(&self, base: usize) -> Option<Association> {
         let mut random = self.plans.random(base, 1);
         let schedule = self.plans.of(base).into_iter().find(|schedule| schedule.stp == b'P')?;
@@ -143,7 +143,7 @@ impl Extract {
         self.out.put(&extra)
     }
 
-    /// A schedule. `revision` names further times of the same schedule.
+    /// A schedule. `revision` selects other times for the same schedule.
     fn schedule(&mut self, transaction: u8, number: usize, schedule: &Schedule, revision: u64) -> Result<()> {
         let route = route(&self.network, &mut self.plans.random(number, 2));
         self.basic(transaction, number, schedule, &route)?;
@@ -153,11 +153,11 @@ impl Extract {
         self.journey(number, schedule, &route, revision)
     }
 
-    /// LO to LT, past midnight at most twice.
+    /// The records from LO to LT, which pass midnight at most twice.
     fn journey(&mut self, number: usize, schedule: &Schedule, route: &Route, revision: u64) -> Result<()> {
         let mut random = self.plans.random(number, 4 + schedule.variant * 1000 + revision);
         let change_at = if random.chance(1.2) { random.below(route.stops.len()) } else { 0 };
-        // Overlays and revisions leave some minutes away from the base.
+        // Overlays and revisions leave some minutes earlier or later than the base.
         let mut time = route.departure;
         if schedule.variant > 0 || revision > 0 {
             time = (time + random.range(-16, 16)).max(0);
@@ -189,7 +189,7 @@ impl Extract {
                 self.out.put(&record)?;
                 continue;
             }
-            // 1 to 6 minutes from place to place, mostly in whole or half minutes as the road is.
+            // 1 to 6 minutes from place to place, in half minutes. Most of it depends on the road.
             let road = u64::from(place) * 7 + u64::from(route.stops[at - 1].0) * 3;
             time += 2 + (road % 8) as i32 + (bits >> 60 & 3) as i32;
             let stays = stays_at.contains(&at);
@@ -270,7 +270,7 @@ impl Extract {
 struct Association {
     base: usize,
     partner: usize,
-    /// Its dates, days and STP.
+    /// The dates, days and STP indicator of a schedule.
     schedule: Schedule,
     place: u32,
     suffix: u8,
@@ -299,7 +299,7 @@ pub fn full(schedules: usize, seed: u64, out: &str) -> Result<()> {
     extract.finish()
 }
 
-/// An update, `day` days behind the full extract of the seed `base`.
+/// An update, `day` days after the full extract of the seed `base`.
 pub fn update(schedules: usize, base: u64, seed: u64, day: i32, out: &str) -> Result<()> {
     let mut extract = Extract::new(base, schedules, out)?;
     // The full extract has the letter A.
@@ -322,7 +322,7 @@ pub fn update(schedules: usize, base: u64, seed: u64, day: i32, out: &str) -> Re
     for base in some(&mut random, 1 + schedules / 8 / 10, uids) {
         extract.changed_association(base, &mut random)?;
     }
-    // UIDs behind those of the full extract are new trains.
+    // The UIDs after the full extract's are new trains.
     for number in some(&mut random, 1 + schedules / 50, uids + uids / 100 + 1) {
         extract.changed_schedule(number, seed, &mut random)?;
     }
@@ -363,7 +363,7 @@ impl Extract {
         let mut random = self.plans.random(base, 5);
         let transaction = random.weigh(&[(97, b'N'), (2, b'R'), (1, b'D')]);
         self.put_association(transaction, &association)?;
-        // Some don't hold on some days, as cancellation or overlay.
+        // Some don't hold on some days: a cancellation or an overlay.
         if random.chance(12.0) {
             let stp = *random.pick(b"CCO");
             if let Some(change) = Plans::change(std::slice::from_ref(&association.schedule), stp, &mut random) {
@@ -379,7 +379,7 @@ impl Extract {
         let mut random = self.plans.random(number, 900 + at as u64);
         if random.chance(0.5) {
             self.schedule(b'D', number, schedule, 0)?;
-            // One in ten deletions has its journey all the same.
+            // One in ten deletions has a journey nevertheless.
             if schedule.has_journey() && random.chance(10.0) {
                 let route = route(&self.network, &mut self.plans.random(number, 2));
                 self.journey(number, schedule, &route, 0)?;

@@ -6,14 +6,14 @@ use std::io::{Error, Read, Result};
 use std::process::{Child, Command, Stdio};
 use std::time::Instant;
 
-/// What a program took and said.
+/// What a program took and printed.
 pub struct Spent {
     pub seconds: f64,
-    /// Seconds on a processor, of the program and of the system for it.
+    /// Seconds on a processor, in the program and in the system for it.
     pub processor: f64,
     /// Peak resident memory in bytes.
     pub memory: u64,
-    /// The exit status; -1 where a signal ended it.
+    /// The exit status, or -1 if a signal ended it.
     pub status: i32,
     pub output: String,
     pub errors: String,
@@ -39,11 +39,11 @@ extern "C" {
     fn wait4(process: c_int, status: *mut c_int, options: c_int, usage: *mut Usage) -> c_int;
 }
 
-/// Waits for a program's end; its exit status, its seconds on a processor and its peak memory.
+/// Waits until a program ends, and returns its exit status, its seconds on a processor and its peak memory.
 fn wait(child: &Child) -> Result<(i32, f64, u64)> {
     let mut usage = Usage { times: [0; 4], peak_resident: 0, others: [0; 13] };
     let mut status = 0;
-    // The child is ours and not yet waited for; both pointers are good for the call.
+    // SAFETY: the child is this process's and wasn't waited for yet, and both pointers are valid during the call.
     let process = unsafe { wait4(child.id() as c_int, &mut status, 0, &mut usage) };
     if process < 0 {
         return Err(Error::last_os_error());
@@ -65,7 +65,7 @@ pub fn run(words: &[&str], input: Input) -> Result<Spent> {
         Some(pipe) => Stdio::from(pipe),
         None => Stdio::null(),
     };
-    // What `cat` copies isn't kept.
+    // What `cat` prints is thrown away.
     let keeps = words[0] != "cat";
     let mut child = start(words, stdin, if keeps { Stdio::piped() } else { Stdio::null() })?;
     let (mut output, mut errors) = (Vec::new(), Vec::new());
@@ -102,20 +102,20 @@ struct Row<'a> {
     name: &'static str,
     words: Vec<&'a str>,
     input: Input<'a>,
-    /// What it must print, where that is known.
+    /// What it must print, if that is known.
     wanted: Option<&'a str>,
     best: f64,
     best_processor: f64,
     memory: u64,
 }
 
-/// What is compared from file to file: the bytes, and of `check` of a file and of a pipe the seconds and the memory.
+/// What is compared from file to file: the bytes, and for `check` of a file and of a pipe the seconds and the memory.
 struct Growth {
     bytes: f64,
     checks: Vec<(f64, f64)>,
 }
 
-/// Prints the table of each file, and how the program's time grew from file to file.
+/// Prints a table for each file, and how the program's time grew from file to file.
 pub fn tables(program: &str, paths: &[&str]) -> Result<()> {
     println!("{}", machine());
     let mut before: Option<Growth> = None;
@@ -133,7 +133,7 @@ fn table(program: &str, path: &str) -> Result<Growth> {
     let bytes = fs::metadata(path)?.len();
     let own = std::env::current_exe()?;
     let own = own.to_str().ok_or_else(|| Error::other("this program's path isn't text"))?;
-    // The first reading also brings the file into memory.
+    // The first reading also brings the file into the page cache.
     let wanted = run(&[own, "judge", path], Input::None)?;
     if wanted.status != 0 {
         return Err(Error::other(format!("the plain reader refuses the extract: {}", wanted.errors)));

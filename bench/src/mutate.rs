@@ -1,4 +1,4 @@
-//! Mutated files and states: what an office's program answers of them is compared with what the plain program does, to the letter.
+//! Mutates files and states, and compares the program's answers with the plain program's, to the letter.
 
 use crate::measure::{run, Input, Spent};
 use crate::plain::{answer, Answer};
@@ -11,7 +11,7 @@ use std::{fs, thread};
 /// Bytes that mean something in some column or part.
 const TELLING: &[u8] = b"  00112345999ABCDFHILNNOOPPRSTUXZ\n\r\x00\x01\x02\x03\xFF";
 
-/// What is mutated: a file that STATE takes, a state that it merges, or an older state that it becomes.
+/// What is mutated: a file to take, a state to merge, or a STATE of the older format to migrate.
 #[derive(Clone, Copy, PartialEq, Eq)]
 enum Subject {
     File,
@@ -29,12 +29,12 @@ impl Subject {
     }
 }
 
-/// Mutates a text in one way, and tells how.
+/// Mutates a text in one way, and returns the name of that way.
 fn mutate(text: &mut Vec<u8>, subject: Subject, random: &mut Random) -> &'static str {
     let way = random.below(9);
     if text.is_empty() {
         text.push(*random.pick(TELLING));
-        return "put in";
+        return "inserted";
     }
     let at = random.below(text.len());
     let some = |random: &mut Random, most: usize| 1 + random.below(most);
@@ -50,12 +50,12 @@ fn mutate(text: &mut Vec<u8>, subject: Subject, random: &mut Random) -> &'static
         3 => {
             let bytes: Vec<u8> = (0..some(random, 4)).map(|_| *random.pick(TELLING)).collect();
             text.splice(at..at, bytes);
-            "put in"
+            "inserted"
         }
         4 => {
             let end = text.len().min(at + some(random, 4));
             text.drain(at..end);
-            "taken out"
+            "removed"
         }
         5 => {
             text.truncate(at);
@@ -67,7 +67,7 @@ fn mutate(text: &mut Vec<u8>, subject: Subject, random: &mut Random) -> &'static
     }
 }
 
-/// The starts of records: what stands behind a line feed in a file, and the lines of bodies in a state.
+/// The starts of records: in a file what comes after a line feed, in a state the lines of bodies.
 fn records(text: &[u8]) -> Vec<usize> {
     let begins = |at: &usize| {
         let identity = text.get(*at..*at + 2);
@@ -91,11 +91,11 @@ fn exchange(text: &mut [u8], random: &mut Random) -> &'static str {
     "records exchanged"
 }
 
-/// Takes a record out, or puts one in twice.
+/// Drops a record, or repeats one.
 fn repeat(text: &mut Vec<u8>, subject: Subject, random: &mut Random) -> &'static str {
     let starts = records(text);
     if starts.is_empty() {
-        return "records repeated";
+        return "records repeated or dropped";
     }
     let start = *random.pick(&starts);
     let length = if subject == Subject::File { 81 } else { 80 };
@@ -106,10 +106,10 @@ fn repeat(text: &mut Vec<u8>, subject: Subject, random: &mut Random) -> &'static
         let record = text[start..end].to_vec();
         text.splice(start..start, record);
     }
-    "records repeated"
+    "records repeated or dropped"
 }
 
-/// Changes a number of items, of entries or of lines, which stands in eight bytes or in the four before a basic schedule.
+/// Changes the number of items or of entries, which has eight bytes, or the number of lines, the four bytes before a basic schedule.
 fn change_count(text: &mut [u8], random: &mut Random) -> &'static str {
     let mut last_bytes: Vec<usize> = vec![11, 13];
     last_bytes.extend((4..text.len().saturating_sub(3)).filter(|&at| &text[at..at + 3] == b"BSN").map(|at| at - 1));
@@ -130,7 +130,7 @@ fn change_count(text: &mut [u8], random: &mut Random) -> &'static str {
     "counts changed"
 }
 
-/// How many of one subject were of each way, and had each answer.
+/// For one subject, how many were mutated in each way, and how many had each answer.
 #[derive(Default)]
 struct Tally {
     count: usize,
@@ -152,10 +152,10 @@ impl Tally {
     }
 }
 
-/// Of files, of states, and of states of the older format.
+/// For files, for states, and for states of the older format.
 type Tallies = [Tally; 3];
 
-/// The states of the files, that of all of them, and that under a horizon.
+/// The state of each file, the state of all files, and the latter under a horizon.
 fn states_of(files: &[Vec<u8>]) -> Option<Vec<Vec<u8>>> {
     let kept = |words: &[&str], files: &[Vec<u8>]| answer(words, files).state;
     let empty = kept(&["new", "STATE"], &[])?;
@@ -179,8 +179,8 @@ struct Bench<'a> {
     states: Vec<Vec<u8>>,
 }
 
-/// Compares so many mutations of these files and of their states, half of each; false where an answer differs. Each mutation is made from the seed and
-/// its own number, so that it is the same however many processors there are.
+/// Compares this many mutations, half of them of these files and half of their states. Returns whether all answers are the same. Each mutation depends
+/// only on the seed and its own number, so it is the same on any number of processors.
 pub fn compare(program: &str, folder: &str, seed: u64, count: usize, paths: &[&str]) -> Result<bool> {
     let files = paths.iter().map(fs::read).collect::<Result<Vec<_>>>()?;
     let states = states_of(&files).ok_or_else(|| Error::other("a file is refused as it is"))?;
@@ -200,7 +200,7 @@ pub fn compare(program: &str, folder: &str, seed: u64, count: usize, paths: &[&s
 }
 
 impl Bench<'_> {
-    /// The mutations of every so-manieth number, in files of their own.
+    /// Tries the mutations of one worker, in its own files: their numbers are `workers` apart.
     fn work(&self, first: usize, workers: usize, count: usize) -> Result<Tallies> {
         let mut tallies = Tallies::default();
         let (state, other) = (format!("{}/{first}.state", self.folder), format!("{}/{first}.other", self.folder));
@@ -223,13 +223,13 @@ impl Bench<'_> {
             }
             if !self.agrees(subject, [&state, &other], &own, &text, tally)? {
                 tally.unlike += 1;
-                println!("unlike: mutation {number} of seed {}", self.seed);
+                println!("different: mutation {number} of seed {}", self.seed);
             }
         }
         Ok(tallies)
     }
 
-    /// Whether the program answers as the plain one does, and leaves STATE as that would.
+    /// Whether the program answers as the plain one does, and leaves the same STATE.
     fn agrees(&self, subject: Subject, paths: [&str; 2], own: &[u8], text: &[u8], tally: &mut Tally) -> Result<bool> {
         let [state, other] = paths;
         let (words, files) = match subject {
@@ -260,7 +260,7 @@ fn cause_of(errors: &str) -> String {
 
 fn print_tallies(tallies: &Tallies, seed: u64) {
     for (name, tally) in ["files", "states", "states of the older format"].iter().zip(tallies) {
-        println!("{} mutated {name} of seed {seed}: {} answered otherwise than by the plain program", tally.count, tally.unlike);
+        println!("{} mutated {name} of seed {seed}: {} answers differ from the plain program's", tally.count, tally.unlike);
         println!("  ways: {}", listed(&tally.ways));
         println!("  answers: {}", listed(&tally.answers));
     }

@@ -1,5 +1,5 @@
-//! What is planned under each UID. A plan is a function of the seed and the UID's number alone,
-//! so that an update is made without the full extract before it.
+//! What is planned under each UID. A plan depends only on the seed and the UID's number, so an update is made without the full
+//! extract before it.
 
 use crate::network::Network;
 use crate::random::Random;
@@ -18,7 +18,7 @@ pub struct Schedule {
     /// Monday is bit 0.
     pub days: u8,
     pub stp: u8,
-    /// Names the times of this schedule among those of its UID.
+    /// Distinguishes the times of this schedule from the other times of its UID.
     pub variant: u64,
 }
 
@@ -63,7 +63,7 @@ pub struct Plans {
     seed: u64,
     /// The UIDs of the full extract.
     pub uids: usize,
-    /// How many schedules of the last UID are in it.
+    /// How many schedules of the last UID are in the full extract.
     last: usize,
 }
 
@@ -87,7 +87,7 @@ impl Plans {
         Random::of(&[self.seed, 2, uid as u64, names])
     }
 
-    /// True where the UID is of the permanent timetable.
+    /// Whether the UID belongs to the permanent timetable.
     fn permanent(random: &mut Random) -> bool {
         random.chance(78.4)
     }
@@ -137,7 +137,7 @@ fn permanent(random: &mut Random) -> Vec<Schedule> {
         from = to + 1 + if random.chance(30.0) { random.range(1, 3) * 7 } else { 0 };
     }
     if plan.is_empty() {
-        // Behind the timetable's end or between its days: a single day.
+        // After the timetable's end, or between its days, it is a single day.
         let days = 1 << ((END + 4) % 7);
         plan.push(Schedule { first: END, last: END, days, stp: b'P', variant: 0 });
     }
@@ -162,7 +162,7 @@ fn overlay(plan: &[Schedule], base: &Schedule, stp: u8, random: &mut Random) -> 
     let taken = |day: i32| plan.iter().any(|s| s.stp == stp && s.first == day);
     let first = (from..=base.last).find(|&day| runs(base.days, day) && !taken(day))?;
     let last = to.clamp(first, base.last);
-    // A change of less than a week names its own days alone.
+    // A change of less than a week names only its own days.
     let week = (first..=last).take(7).fold(0, |days, day| days | 1u8 << ((day + 4) % 7));
     let days = base.days & week;
     let (first, last) = trim(days, first, last)?;

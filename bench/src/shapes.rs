@@ -1,4 +1,4 @@
-//! Memory by the shape of a file: extracts of one kind of change alone, beside one of national shape.
+//! Memory by the shape of a file: extracts with only one kind of change, beside one of national shape.
 
 use crate::make;
 use crate::measure::{machine, run, Input, Spent};
@@ -7,10 +7,10 @@ use crate::records::{Out, Record};
 use std::fs;
 use std::io::{Error, Result};
 
-/// Records of a schedule of national shape, about.
+/// About how many records a schedule of national shape has.
 const NATIONAL: usize = 18;
 
-/// A name of so many letters of its own for each number.
+/// A name of `WIDTH` letters, another one for each number.
 pub fn letters<const WIDTH: usize>(mut number: usize) -> [u8; WIDTH] {
     let mut name = [b'A'; WIDTH];
     for letter in name.iter_mut().rev() {
@@ -36,14 +36,14 @@ fn rename(number: usize) -> Record {
     record
 }
 
-/// A call of the one schedule that has so many: its first, its last, or one between.
+/// A call of the one schedule that has all of them: its first, its last, or one between.
 fn call(number: usize, calls: usize) -> Record {
     let mut record = Record::new(if number == 0 { b"LO" } else { b"LI" });
     if number + 1 == calls {
         record = Record::new(b"LT");
     }
     record.at(3, &letters::<7>(number % 3000));
-    // All in one day.
+    // All are on one day.
     let time = (number * 2880 / calls) as i32;
     if number == 0 || number + 1 == calls {
         record.time(11, time).public(16, None);
@@ -53,7 +53,7 @@ fn call(number: usize, calls: usize) -> Record {
     record
 }
 
-/// Writes a file of so many records of a shape.
+/// Writes a file of a shape, with this many records.
 fn write(shape: &str, records: usize, seed: u64, path: &str) -> Result<()> {
     if shape == "national" {
         return make::full(records / NATIONAL, seed, path);
@@ -78,7 +78,7 @@ fn write(shape: &str, records: usize, seed: u64, path: &str) -> Result<()> {
     out.flush()
 }
 
-/// Runs a command that has to end well.
+/// Runs a command that has to succeed.
 fn done(words: &[&str]) -> Result<Spent> {
     let spent = run(words, Input::None)?;
     match (spent.status, &*spent.errors) {
@@ -87,7 +87,7 @@ fn done(words: &[&str]) -> Result<Spent> {
     }
 }
 
-/// Prints a table of the memory that `check` and `take` need for files of so many records of each shape.
+/// Prints a table of the memory that `check` and `take` need for a file of each shape, with this many records.
 pub fn table(program: &str, records: usize, seed: u64, folder: &str) -> Result<()> {
     let plain = std::env::current_exe()?;
     let plain = plain.to_str().ok_or_else(|| Error::other("this program's path isn't text"))?;
@@ -95,10 +95,10 @@ pub fn table(program: &str, records: usize, seed: u64, folder: &str) -> Result<(
     let mut lines = Vec::new();
     let shapes = [
         ("national", "national"),
-        ("deletions", "deletions of schedules alone"),
-        ("cancellations", "cancellations alone"),
-        ("renames", "renamed timing points alone"),
-        ("calls", "one schedule of so many calls"),
+        ("deletions", "only deletions of schedules"),
+        ("cancellations", "only cancellations"),
+        ("renames", "only renamed timing points"),
+        ("calls", "one schedule with all the calls"),
     ];
     for (shape, name) in shapes {
         write(shape, records, seed, &file)?;

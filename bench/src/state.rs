@@ -7,16 +7,16 @@ use std::io::{BufRead, BufReader, Error, Result};
 
 const ROUNDS: usize = 5;
 
-/// A stage: its name in the table, and its name in what the program says on standard error.
+/// A stage: its name in the table, and its name in what the program prints on standard error.
 struct Stage {
     name: &'static str,
     said: &'static str,
-    /// The bytes that its speed is told by: of the extract, or of the text.
+    /// Whether its speed is in bytes of the text, and not of the extract.
     of_text: bool,
     best: f64,
 }
 
-/// A run of the program, its stages, and the bytes of the states that it holds.
+/// A run of the program, its stages, and how many bytes the states in its memory have.
 struct Job<'a> {
     name: &'static str,
     words: Vec<&'a str>,
@@ -59,7 +59,7 @@ pub fn table(program: &str, extract: &str, update: &str, folder: &str) -> Result
         Job {
             name: "`join`",
             words: vec![program, "join", &text, &other],
-            stages: vec![stage("joining it with the update's", "the join", true)],
+            stages: vec![stage("joining it with the update's state", "the join", true)],
             states: state + beside,
             memory: 0,
         },
@@ -84,15 +84,15 @@ pub fn table(program: &str, extract: &str, update: &str, folder: &str) -> Result
                 memory: 0,
             },
             receive("`receive`", &text, "receiving the same state, with nothing new"),
-            receive("`receive`", &other, "receiving the update's"),
+            receive("`receive`", &other, "receiving the update's state"),
             Job {
                 name: "`walk`",
                 words: vec![program, "walk", &text, &place, NOWHERE, &uid],
                 stages: vec![
-                    stage("what calls at its busiest place", "what calls there", true),
-                    stage("what is linked there", "what is linked there", true),
-                    stage("what calls at a place without a call", "what calls at the other", true),
-                    stage("the schedules of the UID that has most", "what is of the UID", true),
+                    stage("walking what calls at its busiest place", "what calls there", true),
+                    stage("walking what is linked there", "what is linked there", true),
+                    stage("finding that nothing calls at a place", "what calls at the other", true),
+                    stage("walking the schedules of the UID that has most", "what is of the UID", true),
                 ],
                 states: state,
                 memory: 0,
@@ -115,7 +115,7 @@ pub fn table(program: &str, extract: &str, update: &str, folder: &str) -> Result
 /// A TIPLOC that no extract has.
 const NOWHERE: &str = "ZZZZZZZ";
 
-/// The TIPLOC that most location records of an extract name, and the UID that most of its schedules have.
+/// The TIPLOC that most location records of an extract name, and the UID of most of its schedules.
 fn busiest(extract: &str) -> Result<(String, String)> {
     let (mut places, mut uids) = (HashMap::new(), HashMap::new());
     for line in BufReader::new(File::open(extract)?).split(b'\n') {
@@ -133,7 +133,7 @@ fn busiest(extract: &str) -> Result<(String, String)> {
     most(places).zip(most(uids)).ok_or_else(|| Error::other("the extract has no schedule"))
 }
 
-/// The day before which half of the schedules of an extract end, as `YYYY-MM-DD`.
+/// The day before which half of an extract's schedules end, as `YYYY-MM-DD`.
 fn middle_end(extract: &str) -> Result<String> {
     let mut ends = Vec::new();
     for line in BufReader::new(File::open(extract)?).split(b'\n') {
@@ -147,7 +147,7 @@ fn middle_end(extract: &str) -> Result<String> {
     Ok(format!("20{}-{}-{}", &middle[..2], &middle[2..4], &middle[4..6]))
 }
 
-/// What the program said on standard error, of a run that ended well.
+/// What the program printed on standard error, if its run succeeded.
 fn said_by(spent: &Spent) -> Result<&str> {
     match spent.status {
         0 => Ok(&spent.errors),
@@ -155,7 +155,8 @@ fn said_by(spent: &Spent) -> Result<&str> {
     }
 }
 
-/// The seconds that the program said of a stage: in the first line of its name, since a join reads two texts, and of a walk that is made often in the least.
+/// The seconds that the program printed for a stage. The first line of its name counts, because a join reads two texts. For a walk, which is made often, the
+/// least counts.
 fn seconds(said: &str, stage: &str) -> Option<f64> {
     let mut told = said.lines().filter_map(|line| line.strip_prefix(stage)?.strip_prefix(": "));
     let first = told.next()?;
@@ -172,7 +173,7 @@ fn measure(job: &mut Job) -> Result<()> {
     let spent = run(&job.words, Input::None)?;
     let said = said_by(&spent)?;
     for stage in &mut job.stages {
-        let took = seconds(said, stage.said).ok_or_else(|| Error::other(format!("nothing said of {}", stage.said)))?;
+        let took = seconds(said, stage.said).ok_or_else(|| Error::other(format!("no time printed for {}", stage.said)))?;
         stage.best = stage.best.min(took);
     }
     job.memory = job.memory.max(spent.memory);
@@ -196,7 +197,7 @@ fn print(jobs: &[Job], [bytes, state]: [u64; 2], [of_extract, of_text]: [f64; 2]
                 true => format!("{:.1} | {:.2}", megabytes(job.memory), job.memory as f64 / job.states as f64),
                 false => " | ".to_string(),
             };
-            // A walk reads a part of the state alone.
+            // A walk reads only a part of the state.
             if job.name == "`walk`" {
                 println!("| {}: {} | {:.7} | | | {memory} |", job.name, stage.name, stage.best);
                 continue;

@@ -96,7 +96,7 @@ fn small() -> Vec<String> {
 
 // ---------------------------------------------------------------- answers
 
-/// Gives its bytes one by one.
+/// A source that gives its bytes one by one.
 struct Bytewise<'a>(&'a [u8]);
 
 impl Read for Bytewise<'_> {
@@ -151,11 +151,11 @@ fn midnights() {
     accepted(&journey("0006"), 1);
     accepted(&journey("0005"), 1);
     accepted(&journey("0005H"), 1);
-    // Arrival, pass, departure, whatever the columns: two falls in one record.
+    // The order is arrival, pass, departure, whatever the columns: the times fall twice in one record.
     let twice = call("2300", "0001", "0100");
     accepted(&[header("U"), permanent(), origin("2200"), twice.clone(), terminus("0930"), trailer()], 1);
     refused(&[header("U"), permanent(), origin("2350"), twice.clone(), terminus("0930"), trailer()], 4, Cause::Midnights);
-    // A deletion's journey has no times, and each schedule counts for itself.
+    // The times of a deletion's journey don't count, and each schedule is counted by itself.
     accepted(&[header("U"), deletion(), origin("2350"), twice.clone(), terminus("0930"), trailer()], 1);
     let one = [permanent(), origin("2200"), twice, terminus("0930")];
     accepted(&[&[header("U")], &one[..], &one[..], &[trailer()]].concat(), 2);
@@ -184,7 +184,7 @@ fn limits() {
     assert_eq!(judged(&text(&small()), 5), counts);
     assert_eq!(judged(&text(&small()[..4]), 4), Err(Fault { record: 5, cause: Cause::NoEnd }));
     assert_eq!(judged(b"", 0), Err(Fault { record: 1, cause: Cause::NoEnd }));
-    // Behind the trailer and above the limit: the limit is told.
+    // The record is after the trailer and above the limit: the fault is the limit.
     let longer = [&text(&small())[..], b"x"].concat();
     assert_eq!(judged(&longer, 5), Err(Fault { record: 6, cause: Cause::TooMany }));
 }
@@ -277,7 +277,7 @@ fn fields() {
     for (column, text) in [(3, " "), (11, "     "), (16, "24  ")] {
         fourth(with(&terminus("0930"), column, text), column);
     }
-    // The leap days are those of every fourth year.
+    // Every fourth year has a leap day.
     for date in ["000229", "240229", "600229", "591231", "600101"] {
         accepted(&[header("U"), with(&deletion(), 10, date), trailer()], 1);
     }
@@ -351,7 +351,7 @@ fn flips_change_one_byte() {
 
 // ---------------------------------------------------------------- the plain program
 
-/// The office's extracts of the examples, and what the plain program makes of them.
+/// The extracts of the example office, and what the plain program makes of them.
 fn example(name: &str) -> Vec<u8> {
     fs::read(format!("{}/../examples/office/{name}", env!("CARGO_MANIFEST_DIR"))).unwrap()
 }
@@ -389,21 +389,21 @@ fn dockers_of_a_morning() {
 
 // ---------------------------------------------------------------- hostile shapes
 
-/// How many lines the docker of a shape of so many rows has, without its heading and its last line.
+/// How many lines the docker of a shape with this many rows has, without its heading and its last line.
 fn lines_of(shape: &str, rows: usize) -> usize {
     match shape {
         // One of them runs.
-        "schedules of one UID" | "schedules of one UID, those of two states in turn" | "changes of one key" => 1,
-        // The association, and its trains.
+        "schedules of one UID" | "schedules of one UID, from two states in turn" | "changes of one key" => 1,
+        // The association and both its trains.
         "associations of one group" => 3,
-        // For each suffix a pass and an association, and the associated train.
+        // A pass and an association for each suffix, and the associated train.
         "associations of two suffixes in turn" => 5,
         // Each base with its association, and the partner.
         "bases of one partner" | "bases of one partner, which has as many schedules" => 2 * rows + 1,
-        "partners of one base, whose call is behind as many lines" | "partners of one base, which has as many schedules" => {
+        "partners of one base, whose call comes after as many lines" | "partners of one base, which has as many schedules" => {
             rows + 1
         }
-        "partners of one base, whose call is behind as many of another suffix" => 2 * rows + 1,
+        "partners of one base, whose call comes after as many with another suffix" => 2 * rows + 1,
         "calls of one schedule at one place" => rows + 1,
         "calls of one schedule at as many places" => 1,
         // The origin and each 64th call.

@@ -1,4 +1,4 @@
-//! How the time of each command grows with hostile shapes: where twice the rows take far more than twice the time, the work grows with the square.
+//! How the time of each command grows with hostile shapes. If twice the rows take far more than twice the time, the work grows with the square.
 
 pub mod shapes;
 
@@ -12,11 +12,11 @@ use std::io::{Error, Result};
 /// The greatest ratio that passes.
 const RATIO: f64 = 2.6;
 
-/// Seconds on a processor: what the fewer rows are to take, and below what nothing is told of a ratio.
+/// Seconds on a processor: what the smaller number of rows should take, and below what no ratio is printed.
 const WANTED: f64 = 0.03;
 const FLOOR: f64 = 0.02;
 
-/// How often each is measured, and how often at most where the ratio is too great: what else the machine does can double a time.
+/// How often each is measured, and how often at most if the ratio is too great, because whatever else the machine does can double a time.
 const ROUNDS: usize = 2;
 const MOST_ROUNDS: usize = 6;
 
@@ -30,11 +30,11 @@ struct Command {
 const COMMANDS: &[Command] = &[
     command("`check`", None, &["check", "FILE"]),
     command("`day`", None, &["day", "FILE", PLACE, DATE]),
-    command("`take`, knowing nothing", Some("EMPTY"), &["take", "STATE", "FILE"]),
-    command("`take` again", Some("FULL"), &["take", "STATE", "FILE"]),
-    command("`take` of a newer one", Some("FULL"), &["take", "STATE", "NEWER"]),
-    command("`merge` of a newer one", Some("FULL"), &["merge", "STATE", "NEXT"]),
-    command("`merge`, nothing new", Some("FULL"), &["merge", "STATE", "FULL"]),
+    command("`take` by an office that knows nothing", Some("EMPTY"), &["take", "STATE", "FILE"]),
+    command("`take` of the same file again", Some("FULL"), &["take", "STATE", "FILE"]),
+    command("`take` of a newer file", Some("FULL"), &["take", "STATE", "NEWER"]),
+    command("`merge` of a newer state", Some("FULL"), &["merge", "STATE", "NEXT"]),
+    command("`merge` with nothing new", Some("FULL"), &["merge", "STATE", "FULL"]),
     command("`print`", None, &["print", "FULL", PLACE, DATE]),
     command("`files`", None, &["files", "FULL"]),
     command("`horizon`", Some("FULL"), &["horizon", "STATE", HORIZON]),
@@ -45,7 +45,7 @@ const fn command(name: &'static str, before: Option<&'static str>, words: &'stat
     Command { name, before, words }
 }
 
-/// The files of a shape, of the sizes that were asked for.
+/// The files of a shape, in the sizes that were asked for.
 struct Folder<'a> {
     shape: &'a Shape,
     path: &'a str,
@@ -53,7 +53,7 @@ struct Folder<'a> {
 }
 
 impl Folder<'_> {
-    /// The path of what a word names, and any other word as it is.
+    /// The path of the file that a word names. Any other word stays as it is.
     fn path(&self, word: &str, rows: usize) -> String {
         match word {
             "STATE" => format!("{}/own.state", self.path),
@@ -62,7 +62,7 @@ impl Folder<'_> {
         }
     }
 
-    /// Makes what the commands begin with, for so many rows.
+    /// Makes the files that the commands start from, with this many rows.
     fn make(&mut self, rows: usize) -> Result<()> {
         if !self.made.insert(rows) {
             return Ok(());
@@ -80,7 +80,7 @@ impl Folder<'_> {
         fs::write(self.path("NEXT", rows), &states[1])
     }
 
-    /// Makes a file; its state, by the plain program.
+    /// Makes a file, and returns its state, by the plain program.
     fn taken(&self, word: &str, rows: usize) -> Result<Vec<u8>> {
         let path = self.path(word, rows);
         self.shape.write(rows, word == "NEWER", &path)?;
@@ -88,7 +88,7 @@ impl Folder<'_> {
         answer.state.ok_or_else(|| Error::other(format!("{}: {}", self.shape.name, answer.errors)))
     }
 
-    /// Seconds on a processor of a command on so many rows, and what it printed.
+    /// The seconds on a processor of a command on this many rows, and what it printed.
     fn seconds(&mut self, program: &[&str], command: &Command, rows: usize) -> Result<(f64, String)> {
         self.make(rows)?;
         let own = self.path("STATE", rows);
@@ -104,7 +104,7 @@ impl Folder<'_> {
         }
     }
 
-    /// So many rows that a command takes long enough to be measured, as far as the shape has them.
+    /// How many rows make a command take long enough to be measured, up to the most of the shape.
     fn rows(&mut self, program: &[&str], command: &Command) -> Result<usize> {
         let mut rows = self.shape.least;
         loop {
@@ -118,7 +118,7 @@ impl Folder<'_> {
         }
     }
 
-    /// The least seconds of some rounds, of so many rows and of twice as many.
+    /// The least seconds of some rounds, with this many rows and with twice as many.
     fn growth(&mut self, program: &[&str], command: &Command, rows: usize) -> Result<[f64; 2]> {
         let mut least = [f64::INFINITY; 2];
         for round in 0..MOST_ROUNDS {
@@ -155,7 +155,8 @@ impl Folder<'_> {
 /// The text of the state of an office that knows nothing.
 const EMPTY: &[u8] = b"DKS2\0\0\0\0\0\0\0\0\0\0\0\0\0\0\0\0\0\0";
 
-/// Prints a table of each shape whose name has one of these words, or of all where there is none; false where a command grows too fast.
+/// Prints a table for each shape whose name contains one of these words, or for all shapes if there are no words. Returns whether no command's time grows
+/// too fast.
 pub fn tables(program: &str, path: &str, words: &[&str]) -> Result<bool> {
     let plain = std::env::current_exe()?;
     let plain = plain.to_str().ok_or_else(|| Error::other("this program's path isn't text"))?;
@@ -174,12 +175,12 @@ pub fn tables(program: &str, path: &str, words: &[&str]) -> Result<bool> {
         fs::remove_dir_all(path)?;
         fs::create_dir(path)?;
     }
-    println!("\n{} of them took over {RATIO} times the time for twice the rows", over.len());
+    println!("\ncommands that took more than {RATIO} times the time for twice the rows: {}", over.len());
     over.iter().for_each(|name| println!("- {name}"));
     Ok(over.is_empty())
 }
 
-/// Prints the line of a command; false where the program grows too fast.
+/// Prints the row of a command. Returns whether the program's time doesn't grow too fast.
 fn row(folder: &mut Folder, programs: [&[&str]; 2], command: &Command) -> Result<bool> {
     let mut rows = folder.rows(programs[0], command)?;
     folder.agree(programs, command, rows)?;
@@ -188,7 +189,7 @@ fn row(folder: &mut Folder, programs: [&[&str]; 2], command: &Command) -> Result
         rows *= 2;
         own = folder.growth(programs[0], command, rows)?;
     }
-    // A spell or a step, as where an allocator begins to ask the system for each room, isn't there again at twice as many.
+    // A busy spell, or a step as when an allocator begins to ask the system for each block, doesn't show again with twice the rows.
     if own[1] > RATIO * own[0] {
         rows *= 2;
         own = folder.growth(programs[0], command, rows)?;

@@ -1,33 +1,33 @@
-//! Files and states of hostile shapes: what a check accepts, and what would take an office long if the work grew with the square.
+//! Files and states of hostile shapes. The program accepts them all, and they would take it long if its work grew with the square.
 
 use crate::plan::EXTRACT;
 use crate::records::{Out, Record};
 use crate::shapes::letters;
 use std::io::Result;
 
-/// The place at which all meet, the day of the docker (2059-12-30), and the day behind it.
+/// The place at which all meet, the day of the docker (2059-12-30), and the next day.
 pub const PLACE: &str = "MEETING";
 pub const DATE: &str = "2059-12-30";
 pub const HORIZON: &str = "2059-12-31";
 const DAY: i32 = 36_523;
 
-/// How many first days a key is given; all are before the day, so that each runs on it.
+/// How many first days a key may have. All are before the docker's day, so each schedule runs on it.
 const FIRSTS: usize = 36_000;
 const STPS: &[u8; 3] = b"PNO";
 
-/// A shape of so many rows.
+/// A shape, for any number of rows.
 pub struct Shape {
     pub name: &'static str,
-    /// With how many rows it is tried first, and the most.
+    /// How many rows are tried first, and the most.
     pub least: usize,
     pub most: usize,
     pub makes: Makes,
 }
 
 pub enum Makes {
-    /// The units of a file, or of one that is newer.
+    /// Writes the units of a file, or of a newer one.
     File(fn(&mut Out, usize, bool) -> Result<()>),
-    /// A ledger and an entry for each of its items, or such ones between them.
+    /// A ledger with an entry for each of its items; the newer state has items between these.
     Ledger,
 }
 
@@ -35,13 +35,13 @@ const MOST: usize = 1 << 18;
 
 pub const SHAPES: &[Shape] = &[
     file("schedules of one UID", one_uid),
-    file("schedules of one UID, those of two states in turn", two_states),
+    file("schedules of one UID, from two states in turn", two_states),
     file("associations of one group", one_group),
     file("associations of two suffixes in turn", two_suffixes),
     file("bases of one partner", many_bases),
     file("bases of one partner, which has as many schedules", partner_of_schedules),
-    file("partners of one base, whose call is behind as many lines", behind_lines),
-    file("partners of one base, whose call is behind as many of another suffix", behind_calls),
+    file("partners of one base, whose call comes after as many lines", behind_lines),
+    file("partners of one base, whose call comes after as many with another suffix", behind_calls),
     file("partners of one base, which has as many schedules", base_of_schedules),
     file("changes of one key", one_key),
     file("TIPLOCs renamed in a ring", ring),
@@ -59,7 +59,7 @@ const fn file(name: &'static str, write: fn(&mut Out, usize, bool) -> Result<()>
 }
 
 impl Shape {
-    /// Writes a file of so many rows, or one a day newer.
+    /// Writes a file of this many rows, or one that is a day newer.
     pub fn write(&self, rows: usize, newer: bool, path: &str) -> Result<()> {
         let mut out = Out::create(path)?;
         let mut head = Record::new(b"HD");
@@ -82,7 +82,7 @@ fn uid(kind: u8, number: usize) -> [u8; 6] {
     [kind, a, b, c, d, e]
 }
 
-/// A basic schedule from a first day on. Of some the last day is that of the docker, so that they lapse under a horizon.
+/// A basic schedule from a first day on. Some end on the docker's day, so that they lapse under a horizon.
 fn basic(uid: &[u8; 6], first: usize, stp: u8) -> Record {
     let mut record = Record::new(b"BS");
     record.at(3, b"N").at(4, uid).yymmdd(10, first as i32).at(16, b"999999").days(22, 0x7F).at(33, b"1A00").at(80, &[stp]);
@@ -112,7 +112,8 @@ fn leaves(out: &mut Out, uid: &[u8; 6], first: usize, stp: u8) -> Result<()> {
     out.put(&end(b"LT", b"BEYOND", 1300))
 }
 
-/// The first day and the STP indicator of a key of one UID or group, and how many full UIDs or groups are before it.
+/// The first day and the STP indicator of the key with this number in one UID or group. If that is full, the next is begun: the last number says how many
+/// are full.
 fn of_one(number: usize) -> (usize, u8, usize) {
     (number / 3 % FIRSTS, STPS[number % 3], number / 3 / FIRSTS)
 }
@@ -142,7 +143,7 @@ fn one_uid(out: &mut Out, rows: usize, _: bool) -> Result<()> {
     })
 }
 
-/// Each other row is one of the newer file.
+/// Every other row is in the newer file.
 fn two_states(out: &mut Out, rows: usize, newer: bool) -> Result<()> {
     (0..rows).try_for_each(|number| {
         let (first, stp, before) = of_one(2 * number + usize::from(newer));
@@ -150,7 +151,7 @@ fn two_states(out: &mut Out, rows: usize, newer: bool) -> Result<()> {
     })
 }
 
-/// A key that is new, revised and deleted in turn, and put in the end.
+/// One key that is new, revised and deleted in turn, and is put at the end.
 fn one_key(out: &mut Out, rows: usize, _: bool) -> Result<()> {
     for number in 0..rows {
         let left = (rows - 1 - number) % 3;
@@ -182,7 +183,7 @@ fn both_ends(out: &mut Out, rows: usize, _: bool) -> Result<()> {
 
 // ---------------------------------------------------------------- calls and places
 
-/// A schedule of so many calls, each at the place that a number has.
+/// A schedule of this many calls. The place of each depends on its number.
 fn calls(out: &mut Out, rows: usize, place: impl Fn(usize) -> [u8; 7]) -> Result<()> {
     out.put(&basic(&uid(b'A', 0), 0, b'P'))?;
     out.put(&end(b"LO", PLACE.as_bytes(), 1200))?;
@@ -198,7 +199,7 @@ fn many_places(out: &mut Out, rows: usize, _: bool) -> Result<()> {
     calls(out, rows, letters::<7>)
 }
 
-/// Places of one slot of the memo in which `cif_places` keeps where it found a place last: the highest sixteen bits of a product.
+/// Places that share one slot of the memo in which `cif_places` keeps where it last found a place. The slot is the highest sixteen bits of a product.
 fn one_slot(out: &mut Out, rows: usize, _: bool) -> Result<()> {
     let slot = |code: &[u8; 7]| {
         let [a, b, c, d, e, f, g] = *code;
@@ -209,7 +210,7 @@ fn one_slot(out: &mut Out, rows: usize, _: bool) -> Result<()> {
     calls(out, rows, |number| met[number % met.len()])
 }
 
-/// Each is named as the next one, and the last as the first.
+/// Each TIPLOC is renamed to the next one, and the last to the first.
 fn ring(out: &mut Out, rows: usize, _: bool) -> Result<()> {
     (0..rows).try_for_each(|number| out.put(&place(b"TA", number, Some((number + 1) % rows))))
 }
@@ -225,7 +226,7 @@ fn one_group(out: &mut Out, rows: usize, _: bool) -> Result<()> {
     leaves(out, &uid(b'B', 0), 0, b'P')
 }
 
-/// One pair of trains, of which the base calls twice.
+/// One pair of trains, whose base train calls twice.
 fn two_suffixes(out: &mut Out, rows: usize, _: bool) -> Result<()> {
     for number in 0..rows {
         let (first, stp, before) = of_one(number / 6 * 3 + number % 3);
@@ -257,7 +258,7 @@ fn partners(out: &mut Out, rows: usize, suffix: u8) -> Result<()> {
     (0..rows).try_for_each(|number| out.put(&link(&uid(b'A', 0), &uid(b'B', number), 0, suffix, b'P')))
 }
 
-/// A base that calls for its partners behind as many other calls.
+/// A base train that calls there after as many other calls as it has partners.
 fn behind(out: &mut Out, rows: usize, other: &Record) -> Result<()> {
     partners(out, rows, b'2')?;
     out.put(&basic(&uid(b'A', 0), 0, b'P'))?;
@@ -282,7 +283,7 @@ fn base_of_schedules(out: &mut Out, rows: usize, newer: bool) -> Result<()> {
 
 // ---------------------------------------------------------------- ledgers
 
-/// The text of a state of so many files, each of which deleted a TIPLOC; or of files between those.
+/// The text of a state of this many files, each of which deleted a TIPLOC; or of as many files between those.
 pub fn ledger(files: usize, between: bool) -> Vec<u8> {
     let count = (files as u64).to_be_bytes();
     // Two files a minute, from 1984 on.

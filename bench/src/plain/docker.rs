@@ -15,7 +15,7 @@ struct Line {
     text: Text,
 }
 
-/// A line of spaces with texts from columns on, which count from 1.
+/// A line of spaces with some texts, each from its column on. Columns count from 1.
 fn columns<const N: usize>(texts: &[(usize, &[u8])]) -> [u8; N] {
     let mut line = [b' '; N];
     line[N - 1] = b'\n';
@@ -25,12 +25,12 @@ fn columns<const N: usize>(texts: &[(usize, &[u8])]) -> [u8; N] {
     line
 }
 
-/// The number in two digits.
+/// A number as two digits.
 fn two(number: u16) -> [u8; 2] {
     [b'0' + (number / 10) as u8, b'0' + (number % 10) as u8]
 }
 
-/// A line of an event as far as an association has it too. Times of half minutes are printed with an H.
+/// A line with the columns that events and associations share. A half minute is printed as an H.
 fn line_at(event: &Event, kind: u8, uid: &[u8], stp: u8) -> Text {
     let (minutes, line) = (event.half_minutes / 2, &event.line);
     let platform = if &line[..2] == b"LI" { 33 } else { 19 };
@@ -47,7 +47,7 @@ fn line_at(event: &Event, kind: u8, uid: &[u8], stp: u8) -> Text {
     ])
 }
 
-/// Puts line, path and public time of an event into its line.
+/// Puts an event's line, path and public time into its columns.
 fn add_own(text: &mut Text, event: &Event) {
     let line = &event.line;
     let mut put = |column: usize, field: &[u8]| text[column - 1..column - 1 + field.len()].copy_from_slice(field);
@@ -79,7 +79,8 @@ fn kind_rank(kind: u8) -> usize {
     b"APJVND".iter().position(|&letter| letter == kind).unwrap_or(6)
 }
 
-/// Of rows that run on a day of an index the one of the least STP indicator, and of equals the latest first day; unless it is a cancellation.
+/// The row that counts on the day with this index. Of the rows that run then it is the one with the least STP indicator and, among equals, the latest first
+/// day. None if that is a cancellation.
 fn chosen<T>(rows: &[T], index: usize, choice: impl Fn(&T) -> (u8, u8, u16)) -> Option<&T> {
     let running = rows.iter().filter(|row| choice(row).0 >> index & 1 == 1);
     let best = running.min_by_key(|row| {
@@ -96,7 +97,7 @@ fn running(rows: &[Train]) -> Running<'_> {
     std::array::from_fn(|index| chosen(rows, index, |train| (train.runs, train.stp, train.first)))
 }
 
-/// The trains by UID; what was asked of a UID once is known.
+/// The trains by UID. Whatever was looked up for a UID once is kept.
 struct Trains<'a> {
     rows: &'a [Train],
     known: HashMap<[u8; 6], Running<'a>>,
@@ -121,7 +122,7 @@ pub fn docker(excerpt: &Excerpt) -> String {
         }
     }
     let mut trains = Trains { rows: &excerpt.trains, known: HashMap::new() };
-    // Base UID, associated UID and base suffix; the first days stand between them in the key.
+    // Base UID, associated UID and base suffix. In the key, the first days come between them.
     let group = |link: &Link| (at::<12>(&link.key, 1), link.key[22]);
     let mut links: Vec<&Link> = excerpt.links.iter().collect();
     links.sort_by_key(|link| group(link));
@@ -155,7 +156,7 @@ fn add_events(lines: &mut Vec<Line>, running: &Running) {
     }
 }
 
-/// The line of a group of associations whose base train starts on the day of an index.
+/// The line of a group of associations whose base train starts on the day with this index.
 fn link_line(trains: &mut Trains, rows: &[&Link], index: usize) -> Option<Line> {
     let link = chosen(rows, index, |link| (link.runs, link.key[23], pair(&link.key, 13)))?;
     let kind = match &link.category {
@@ -184,7 +185,7 @@ fn link_line(trains: &mut Trains, rows: &[&Link], index: usize) -> Option<Line> 
     Some(Line { order, text })
 }
 
-/// A line for each file that counts.
+/// The list of files: a line for each file that counts.
 pub fn files(ledger: &[Item]) -> String {
     let line = |item: &Item| -> [u8; 34] {
         let (day, minute) = (pair(item, 0), pair(item, 2));

@@ -6,14 +6,14 @@ use super::key::{Key, Stamp, ASSOCIATION, SCHEDULE, TIPLOC};
 use crate::judge::judged_time;
 use std::collections::HashSet;
 
-/// The days that count, from three before to the next: trains of a docker start on the day or on the two before it, and an associated train up to a day
-/// before or after its base.
+/// How many days count: from three days before the docker's day to the day after it. Trains of a docker start on that day or on the two days before, and an
+/// associated train up to a day before or after its base.
 pub const DAYS: usize = 5;
 
-/// The index of the day itself among them.
+/// The index of the docker's day among them.
 pub const TODAY: usize = 3;
 
-/// An event at the place: its record, with its kind and time, the identity there, and how many times fell before it.
+/// An event at the place: its record, its kind and time, the train's identity there, and how often the times fell before it.
 pub struct Event {
     pub number: u64,
     pub kind: u8,
@@ -33,7 +33,7 @@ pub struct Calls {
     pub firsts: Vec<usize>,
 }
 
-/// A schedule, on which of the days it runs, and what it has at the place. One that runs on none may be deleted.
+/// A schedule, the days on which it runs, and its calls at the place. A deleted one runs on none.
 pub struct Train {
     pub uid: [u8; 6],
     pub first: u16,
@@ -43,7 +43,7 @@ pub struct Train {
     pub calls: Option<Box<Calls>>,
 }
 
-/// An association at the place, and on which of the days it runs.
+/// An association at the place, and the days on which it runs.
 pub struct Link {
     pub key: Key,
     pub runs: u8,
@@ -57,24 +57,24 @@ pub struct Excerpt {
     pub description: Option<[u8; 26]>,
     pub links: Vec<Link>,
     pub trains: Vec<Train>,
-    /// Of a state, whose keys come in order: the UIDs that associations name, which stand before the schedules.
+    /// For a state, whose keys come in order: the UIDs that associations name. They come before the schedules.
     partners: Option<HashSet<[u8; 6]>>,
-    /// The walk over the schedule whose lines come.
+    /// The walk over the schedule whose lines are coming.
     walk: Option<Walk>,
 }
 
 impl Excerpt {
-    /// Of a file, where each key may come more than once.
+    /// For a file, in which a key may come more than once.
     pub fn of_file(place: [u8; 7], day: u16) -> Excerpt {
         Excerpt { place, day, description: None, links: Vec::new(), trains: Vec::new(), partners: None, walk: None }
     }
 
-    /// Of a state.
+    /// For a state.
     pub fn of_state(place: [u8; 7], day: u16) -> Excerpt {
         Excerpt { partners: Some(HashSet::new()), ..Excerpt::of_file(place, day) }
     }
 
-    /// The associations and the trains in order, of each key what came last.
+    /// The associations and the trains in order, with what came last for each key.
     pub fn finish(mut self) -> Excerpt {
         self.close();
         self.links.sort_by(|one, other| one.key.cmp(&other.key));
@@ -91,7 +91,7 @@ impl Excerpt {
         }
     }
 
-    /// On which of the days runs what has this first and last day and these marks.
+    /// On which of the days something runs that has this first and last day and these marks.
     fn runs(&self, first: u16, last: u16, marks: &[u8]) -> u8 {
         let mut runs = 0;
         for index in 0..DAYS as u16 {
@@ -128,14 +128,14 @@ impl Excerpt {
         if self.partners.is_some() && train.runs == 0 {
             return;
         }
-        // Its lines are of use where it starts on the day or on one of the two before it.
+        // Its lines are needed if it starts on the day or on one of the two days before.
         if train.runs & 0b1110 > 0 {
             self.walk = Some(Walk::new(train.identity));
         }
         self.trains.push(train);
     }
 
-    /// Where keys come in order: at another UID the trains of the one before go, if the docker has no use for them.
+    /// If keys come in order, drops the trains of the UID before as soon as another UID comes, unless the docker needs them.
     fn forget_before(&mut self, uid: &[u8; 6]) {
         let (Some(partners), Some(last)) = (&self.partners, self.trains.last()) else { return };
         if last.uid == *uid || partners.contains(&last.uid) {
@@ -148,7 +148,7 @@ impl Excerpt {
     }
 }
 
-/// Whether two rows are of one key. The later one takes the place of the earlier.
+/// Whether two rows have one key. The later one replaces the earlier.
 fn replaces<T, K: PartialEq>(later: &mut T, earlier: &mut T, key: impl Fn(&T) -> K) -> bool {
     let same = key(later) == key(earlier);
     if same {
@@ -201,7 +201,7 @@ impl Walk {
     }
 
     fn line(&mut self, line: &[u8], place: &[u8; 7]) {
-        // Columns of the times, each with its kind; in the order arrival, pass, departure.
+        // The columns of the times, each with its kind, in the order arrival, pass, departure.
         let times: &[(usize, u8)] = match &line[..2] {
             b"LI" => &[(11, b'A'), (21, b'P'), (16, b'D')],
             b"LO" => &[(11, b'D')],
@@ -241,7 +241,7 @@ impl Walk {
         });
     }
 
-    /// The calls at the place, if there are some.
+    /// The calls at the place; none if there are none.
     fn finish(self) -> Option<Calls> {
         (!self.calls.events.is_empty()).then_some(self.calls)
     }

@@ -1,6 +1,6 @@
 //! Fields of records, as numbers and bytes.
 
-/// An end date of no end, and the end of what has none.
+/// The number for no end, of an end date or of what has no end date.
 pub const NO_END: u16 = 65_535;
 
 /// The number of the last day, 2059-12-31.
@@ -13,7 +13,7 @@ pub fn at<const N: usize>(bytes: &[u8], from: usize) -> [u8; N] {
     part
 }
 
-/// The number that the two bytes from an index on tell.
+/// The number in the two bytes from an index on.
 pub fn pair(bytes: &[u8], from: usize) -> u16 {
     u16::from_be_bytes(at(bytes, from))
 }
@@ -24,7 +24,7 @@ fn two(digits: &[u8]) -> u16 {
 
 const BEFORE_MONTH: [u16; 12] = [0, 31, 59, 90, 120, 151, 181, 212, 243, 273, 304, 334];
 
-/// The day number of a year of two digits, a month and a day that are a date. Every fourth year is a leap year, 1960 the first.
+/// The day number of a year of two digits, a month and a day, which are a date. Every fourth year is a leap year; 1960 is the first.
 fn number(year: &[u8], month: &[u8], day: &[u8]) -> u16 {
     let years = (two(year) + 40) % 100;
     let month = usize::from(two(month)) - 1;
@@ -32,17 +32,17 @@ fn number(year: &[u8], month: &[u8], day: &[u8]) -> u16 {
     years * 365 + (years + 3) / 4 + BEFORE_MONTH[month] + leap + two(day) - 1
 }
 
-/// Of a date YYMMDD.
+/// The day number of a date YYMMDD.
 pub fn day(field: &[u8]) -> u16 {
     number(&field[..2], &field[2..4], &field[4..6])
 }
 
-/// Of a date DDMMYY.
+/// The day number of a date DDMMYY.
 pub fn day_first(field: &[u8]) -> u16 {
     number(&field[4..6], &field[2..4], &field[..2])
 }
 
-/// Of an end date.
+/// The day number of an end date.
 pub fn end(field: &[u8]) -> u16 {
     if &field[..6] == b"999999" {
         NO_END
@@ -51,7 +51,7 @@ pub fn end(field: &[u8]) -> u16 {
     }
 }
 
-/// Of a date YYYY-MM-DD of the calendar, from 1960 to 2059.
+/// The day number of a date YYYY-MM-DD; none unless it is a date from 1960 to 2059.
 pub fn iso_number(date: &str) -> Option<u16> {
     let bytes = date.as_bytes();
     let digits = |from: usize, to: usize| bytes.get(from..to).filter(|part| part.iter().all(u8::is_ascii_digit));

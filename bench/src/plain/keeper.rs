@@ -7,11 +7,11 @@ use super::key::{Key, Stamp};
 pub enum Act<'a> {
     Delete,
     Lapse,
-    /// The last day of what is put, and its bytes: of a schedule its first line.
+    /// The last day of what is put, and its bytes. For a schedule these are its first line.
     Put(u16, &'a [u8]),
 }
 
-/// Keeps what it needs of the changes of a file or the entries of a state, as they are read.
+/// Is given the changes of a file or the entries of a state as they are read, and keeps what it needs of them.
 pub trait Keeper {
     fn change(&mut self, key: &Key, stamp: &Stamp, act: Act);
 

@@ -1,4 +1,4 @@
-//! Keys, stamps and ledger items as the bytes that the text of a state has, which are in order as what they mean is.
+//! Keys, stamps and ledger items as the bytes of a state's text. These have the same order as what they mean.
 
 use super::fields::{day, day_first};
 
@@ -17,7 +17,7 @@ pub const TIPLOC: u8 = 1;
 pub const ASSOCIATION: u8 = 2;
 pub const SCHEDULE: u8 = 3;
 
-/// How many bytes the key of a tag has, with the tag.
+/// How many bytes a key with this tag has, the tag included.
 pub fn width(tag: u8) -> usize {
     match tag {
         TIPLOC => 8,
@@ -40,18 +40,18 @@ pub fn tiploc(code: &[u8]) -> Key {
     joined(&[&[TIPLOC], code])
 }
 
-/// Of an association's line: base and associated UID, first day, location, base suffix and STP indicator.
+/// The key of an association's line: base and associated UID, first day, location, base suffix and STP indicator.
 pub fn association(line: &[u8]) -> Key {
     let first = day(&line[15..]).to_be_bytes();
     joined(&[&[ASSOCIATION], &line[3..15], &first, &line[37..45], &line[79..80]])
 }
 
-/// Of a basic schedule: UID, first day and STP indicator.
+/// The key of a basic schedule: UID, first day and STP indicator.
 pub fn schedule(line: &[u8]) -> Key {
     joined(&[&[SCHEDULE], &line[3..9], &day(&line[9..]).to_be_bytes(), &line[79..80]])
 }
 
-/// Of a header.
+/// The ledger item of a header.
 pub fn item(line: &[u8]) -> Item {
     let minute = line[28..32].iter().fold(0, |minute, digit| minute * 10 + u16::from(digit - b'0'));
     let minute = minute / 100 * 60 + minute % 100;

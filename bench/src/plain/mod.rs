@@ -1,6 +1,6 @@
-//! The program written plainly, without proofs: the same bytes for the same words. It reads each source once, and keeps of it nothing or an excerpt where that
-//! is enough, and else its entries in one arena. It is compared with the program, in what it answers and in the time that it takes. Words are not checked,
-//! and no source is standard input.
+//! The program written plainly, without proofs: for the same words it gives the same bytes. It reads each source once. It keeps nothing of it, or an excerpt, if
+//! that is enough; otherwise it keeps the entries in one arena. Its answers and its times are compared with the program's. It doesn't check words, and it
+//! doesn't read standard input.
 
 mod docker;
 mod excerpt;
@@ -20,7 +20,7 @@ use std::fs::{self, File};
 use std::io::{self, BufWriter, Read};
 use text::{Format, StateFault};
 
-/// What a command answers: its status, what it prints, what it says on standard error, and what STATE becomes.
+/// What a command answers: its status, its standard output, its standard error, and what STATE becomes.
 #[derive(Debug, Default, PartialEq, Eq)]
 pub struct Answer {
     pub status: u8,
@@ -29,7 +29,7 @@ pub struct Answer {
     pub state: Option<Vec<u8>>,
 }
 
-/// Why a command isn't done: a device that failed, or a line of standard error.
+/// Why a command isn't done: a device failed, or this line goes to standard error.
 pub enum Stop {
     Device(io::Error),
     Refused(String),
@@ -59,7 +59,7 @@ enum Done {
     Kept(State),
 }
 
-/// Does what the words ask of their files, in the order of the words.
+/// Does what the words ask for. The files come in the order of the words.
 fn perform<R: Read>(words: &[&str], files: Vec<R>) -> Result<Done, Stop> {
     let mut files = files.into_iter();
     let mut file = || files.next().expect("a file for each path");
@@ -102,7 +102,7 @@ fn check(mut file: impl Read) -> Result<String, Stop> {
     Ok(line_of(&Ok(counts)))
 }
 
-/// The state whose text a file has.
+/// The state whose text is in a file.
 fn own(file: impl Read, format: Format) -> Result<State, Stop> {
     let mut state = State::default();
     (state.horizon, state.ledger) = text::read(file, format, &mut state.table)?;
@@ -129,7 +129,7 @@ fn print(file: impl Read, place: [u8; 7], day: u16) -> Result<String, Stop> {
     Ok(docker::docker(&excerpt.finish()))
 }
 
-/// What a command answers, by the bytes of its files in the order of its words.
+/// What a command answers, given the bytes of its files in the order of its words.
 pub fn answer(words: &[&str], files: &[Vec<u8>]) -> Answer {
     match perform(words, files.iter().map(Vec::as_slice).collect()) {
         Ok(Done::Printed(output)) => Answer { output, ..Answer::default() },
@@ -153,7 +153,7 @@ fn paths<'a>(words: &[&'a str]) -> Vec<&'a str> {
     }
 }
 
-/// Does what the words ask, and answers the exit status.
+/// Does what the words ask for, and returns the exit status.
 pub fn run(words: &[&str]) -> io::Result<u8> {
     let files = paths(words).iter().map(File::open).collect::<io::Result<Vec<_>>>()?;
     match perform(words, files) {
@@ -168,7 +168,7 @@ pub fn run(words: &[&str]) -> io::Result<u8> {
     Ok(0)
 }
 
-/// Writes a state beside its file, and to the disk, and then puts it in the file's place.
+/// Writes a state beside its file, flushes it to the disk, and renames it over the file.
 fn replace(path: &str, state: &State) -> io::Result<()> {
     let draft = format!("{path}.new");
     let mut out = BufWriter::with_capacity(1 << 16, File::create(&draft)?);

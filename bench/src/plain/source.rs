@@ -5,7 +5,7 @@ use std::io::{Read, Result};
 
 const ROOM: usize = 1 << 18;
 
-/// The most bytes of a line that are looked at: no record has more than 80 and a carriage return.
+/// How many bytes of a line are looked at, at most. No record has more than 80 and a carriage return.
 const LONGEST: usize = 82;
 
 pub struct Source<R> {
@@ -22,7 +22,7 @@ impl<R: Read> Source<R> {
         Source { from, buffer: vec![0; ROOM], begin: 0, end: 0, used: 0 }
     }
 
-    /// Whether so many bytes are left, which are then at hand.
+    /// Whether this many bytes are left. If so, they are in the buffer afterwards.
     #[inline]
     pub fn has(&mut self, length: usize) -> Result<bool> {
         if self.end - self.begin < length {
@@ -31,7 +31,7 @@ impl<R: Read> Source<R> {
         Ok(self.end - self.begin >= length)
     }
 
-    /// Reads on until so many bytes are at hand, or to the end.
+    /// Reads until this many bytes are in the buffer, or to the end.
     fn fill(&mut self, length: usize) -> Result<()> {
         self.buffer.copy_within(self.begin..self.end, 0);
         self.end -= self.begin;
@@ -45,7 +45,7 @@ impl<R: Read> Source<R> {
         Ok(())
     }
 
-    /// The next bytes, which are at hand.
+    /// The next bytes, which are in the buffer already.
     #[inline]
     pub fn take(&mut self, length: usize) -> &[u8] {
         let begin = self.begin;
@@ -54,7 +54,7 @@ impl<R: Read> Source<R> {
         &self.buffer[begin..begin + length]
     }
 
-    /// The next line without its line feed. Of a line that is too long to be a record only so much as shows it.
+    /// The next line without its line feed. A line that is too long for a record is cut, but not so short that it could be one.
     pub fn line(&mut self) -> Result<Option<&[u8]>> {
         self.has(LONGEST)?;
         let ahead = &self.buffer[self.begin..self.end.min(self.begin + LONGEST)];

@@ -1,4 +1,4 @@
-//! What an office knows: of each file a ledger item, and of each key the greatest entry, from the newest full extract on.
+//! What an office knows, from the newest full extract on: a ledger item for each file, and the greatest entry for each key.
 
 use super::keeper::{Act, Keeper};
 use super::key::{is_full, width, Item, Key, Stamp, FILE_STAMP, SCHEDULE};
@@ -10,10 +10,10 @@ pub const DELETED: u8 = 0;
 pub const PUT: u8 = 1;
 pub const LAPSED: u8 = 2;
 
-/// The bytes of an entry before its body: its stamp and its op.
+/// How many bytes of an entry come before its body: its stamp and its op.
 const HEAD: usize = 16;
 
-/// A key, where its entry stands, and on which day that ends.
+/// A key, where its entry is in the arena, and the day on which that ends.
 #[derive(Clone, Copy)]
 struct Row {
     key: Key,
@@ -22,7 +22,7 @@ struct Row {
     end: u16,
 }
 
-/// Entries in one arena, of each stamp, op and body; and a row for each.
+/// The entries in one arena, each with stamp, op and body, and a row for each.
 #[derive(Default)]
 pub struct Table {
     arena: Vec<u8>,
@@ -52,7 +52,7 @@ impl Keeper for Table {
 }
 
 impl Table {
-    /// Sorts the changes of a file, and leaves of each key the last, which is the greatest.
+    /// Sorts the changes of a file, and leaves the last one for each key, which is the greatest.
     pub fn sort(&mut self) {
         self.rows.sort_by(|one, other| one.key.cmp(&other.key));
         self.rows.dedup_by(|later, earlier| {
@@ -68,7 +68,7 @@ impl Table {
         &self.arena[row.at..row.at + row.length]
     }
 
-    /// The order of two entries of a key: by stamp, op, last day and body.
+    /// The order of two entries with one key: by stamp, op, last day and body.
     fn order(&self, one: &Row, other: &Row) -> Ordering {
         let parts = |row: &Row| {
             let (head, body) = self.entry(row).split_at(HEAD);
@@ -79,7 +79,7 @@ impl Table {
         one.cmp(&other)
     }
 
-    /// The rows of each key of two ascending lists, of both the greater.
+    /// The rows of two ascending lists. If both have a key, the greater row is taken.
     fn union(&self, own: Vec<Row>, others: Vec<Row>) -> Vec<Row> {
         let mut rows = Vec::with_capacity(own.len() + others.len());
         let mut others = others.into_iter().peekable();
@@ -107,7 +107,7 @@ pub struct State {
 }
 
 impl State {
-    /// Joins this state with another one, which is read by the call into the same arena: its horizon and its ledger.
+    /// Joins this state with another one. `read` reads its entries into the same arena, and returns its horizon and its ledger.
     pub fn join<E>(
         &mut self,
         read: impl FnOnce(&mut Table) -> std::result::Result<(u16, Vec<Item>), E>,
@@ -129,7 +129,7 @@ impl State {
         Ok(())
     }
 
-    /// Takes the greater horizon, and lets what ends before it lapse.
+    /// Raises the horizon to this one if that is greater, and makes what ends before it lapse.
     pub fn raise(&mut self, horizon: u16) {
         self.horizon = self.horizon.max(horizon);
         let Table { arena, rows } = &mut self.table;

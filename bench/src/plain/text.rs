@@ -30,7 +30,7 @@ pub struct StateFault {
     pub cause: StateCause,
 }
 
-/// Which format a text has: with a horizon, or the older without.
+/// The format of a text: today's, with a horizon, or the older one without.
 #[derive(Clone, Copy, PartialEq, Eq)]
 pub enum Format {
     Dks1,
@@ -49,7 +49,7 @@ struct Reader<R> {
     item: u64,
 }
 
-/// Reads a text to its end, or to its fault, gives its entries to a keeper, and answers its horizon and its ledger.
+/// Reads a text to its end or its fault, gives its entries to a keeper, and returns its horizon and its ledger.
 pub fn read(from: impl Read, format: Format, keeper: &mut impl Keeper) -> Result<(u16, Vec<Item>), Stop> {
     let mut reader = Reader { source: Source::new(from), format, horizon: 0, ledger: Vec::new(), item: 0 };
     reader.front()?;
@@ -67,7 +67,7 @@ pub fn read(from: impl Read, format: Format, keeper: &mut impl Keeper) -> Result
 }
 
 impl<R: Read> Reader<R> {
-    /// The next part of so many bytes.
+    /// The next part, of this many bytes.
     #[inline]
     fn part(&mut self, length: usize) -> Result<&[u8], Stop> {
         let within = LIMIT - self.source.used;
@@ -86,7 +86,7 @@ impl<R: Read> Reader<R> {
         Ok(bytes)
     }
 
-    /// The number of what comes, which is an item.
+    /// The number of items or entries to come, which is an item itself.
     fn count(&mut self) -> Result<u64, Stop> {
         self.item = self.source.used;
         Ok(u64::from_be_bytes(self.bytes()?))
@@ -131,7 +131,7 @@ impl<R: Read> Reader<R> {
         Ok(())
     }
 
-    /// An entry whose key is above the last one, which it then is.
+    /// Reads an entry. Its key has to be above the last key, and becomes the last key.
     fn entry(&mut self, last: &mut Key, keeper: &mut impl Keeper) -> Result<(), Stop> {
         self.item = self.source.used;
         let key = self.key()?;
