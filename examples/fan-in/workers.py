@@ -1,37 +1,96 @@
 #!/usr/bin/python3
-"""Merges states by the processes of a Dask cluster on this machine: whichever two are there first are merged next, so that the tree is
-another in each run. Words: the program, the file to be written, the states."""
+"""Merges states by the workers of a Dask cluster: whichever two are there first are merged next, so that the tree is another in each run.
+
+  workers.py [--scheduler ADDRESS] DOCKER FOLDER TARGET STATE..
+
+DOCKER is the program. FOLDER is one that all workers share; the states lie where they can read them, plain or packed by zstd. Only names of
+files go through the cluster: a worker reads two states, merges them on a disk of its own, and puts the packed merge into FOLDER. TARGET is
+written plain. Without a scheduler's address three processes of this machine do it."""
+import argparse
+import contextlib
+import os
 import pathlib
+import shutil
 import subprocess
-import sys
 import tempfile
+import uuid
 
 from distributed import Client, LocalCluster, as_completed
 
+ZSTD = b"\x28\xb5\x2f\xfd"
 
-def merged(program, first, second):
-    """The state of both, as bytes."""
-    with tempfile.TemporaryDirectory() as folder:
-        own, other = pathlib.Path(folder, "own"), pathlib.Path(folder, "other")
-        own.write_bytes(first)
-        other.write_bytes(second)
-        subprocess.run([program, "merge", own, other], check=True)
-        return own.read_bytes()
+
+@contextlib.contextmanager
+def unpacked(name):
+    """The bytes of a state's file, packed or not, as a stream."""
+    with open(name, "rb") as file:
+        if file.read(4) != ZSTD:
+            file.seek(0)
+            yield file
+            return
+    with subprocess.Popen(["zstd", "-dcq", name], stdout=subprocess.PIPE) as unpacking:
+        yield unpacking.stdout
+    if unpacking.returncode != 0:
+        raise OSError(f"{name}: zstd can't unpack it")
+
+
+def merged(program, folder, first, second):
+    """Puts the merge of two states into the folder, and gives its name. It may be done twice, as when a worker is lost: the states stay, and
+    each merge has a name of its own that it gets when it is whole."""
+    target = pathlib.Path(folder, f"{uuid.uuid4()}.zst")
+    part = target.with_suffix(".part")
+    with tempfile.TemporaryDirectory() as own:
+        state = pathlib.Path(own, "state")
+        with unpacked(first) as text, open(state, "wb") as file:
+            shutil.copyfileobj(text, file)
+        with unpacked(second) as text:
+            subprocess.run([program, "merge", state, "stdin"], stdin=text, check=True)
+        subprocess.run(["zstd", "-q", state, "-o", part], check=True)
+    part.rename(target)
+    return str(target)
+
+
+def words():
+    parser = argparse.ArgumentParser(prog="workers.py", description="Merges states by the workers of a Dask cluster.")
+    parser.add_argument("--scheduler", metavar="ADDRESS", help="as tcp://10.0.0.1:8786")
+    parser.add_argument("docker", metavar="DOCKER")
+    for name in ("folder", "target"):
+        parser.add_argument(name, type=pathlib.Path, metavar=name.upper())
+    parser.add_argument("states", nargs="+", metavar="STATE")
+    return parser.parse_args()
+
+
+def merge_all(client, docker, folder, states):
+    """The name of the merge of all states: of two that are there a worker makes one, until there is one."""
+    waiting, running, parents = list(states), as_completed(), {}
+    while True:
+        while len(waiting) > 1:
+            pair = waiting.pop(), waiting.pop()
+            merge = client.submit(merged, docker, folder, *pair, pure=False)
+            parents[merge.key] = pair
+            running.add(merge)
+        if not parents:
+            return waiting[0]
+        merge = next(running)
+        waiting.append(merge.result())
+        for name in parents.pop(merge.key):
+            # What the offices gave stays.
+            if name not in states:
+                pathlib.Path(name).unlink()
 
 
 def main():
-    program, target, *names = sys.argv[1:]
-    states = [pathlib.Path(name).read_bytes() for name in names]
-    with LocalCluster(n_workers=3, threads_per_worker=1, dashboard_address=None) as cluster, Client(cluster) as client:
-        ready = as_completed(client.scatter(states, hash=False))
-        waiting = None
-        for state in ready:
-            if waiting is None:
-                waiting = state
-                continue
-            ready.add(client.submit(merged, program, waiting, state, pure=False))
-            waiting = None
-        pathlib.Path(target).write_bytes(waiting.result())
+    asked = words()
+    docker = os.path.abspath(asked.docker) if "/" in asked.docker else asked.docker
+    with contextlib.ExitStack() as open_now:
+        folder = open_now.enter_context(tempfile.TemporaryDirectory(prefix="merging.", dir=asked.folder.resolve()))
+        # The workers may be other users' processes.
+        os.chmod(folder, 0o777)
+        cluster = asked.scheduler or open_now.enter_context(LocalCluster(n_workers=3, threads_per_worker=1, dashboard_address=None))
+        client = open_now.enter_context(Client(cluster))
+        name = merge_all(client, docker, folder, [os.path.abspath(state) for state in asked.states])
+        with unpacked(name) as text, open(asked.target, "wb") as target:
+            shutil.copyfileobj(text, target)
 
 
 if __name__ == "__main__":
