@@ -18,10 +18,10 @@ use Rattle.docker_bytes.specs.declared.fault.Step.TheVariants.{Done, More}
 use Rattle.docker_bytes.specs.declared.read.ReadFault.{ReadFault}
 use Rattle.docker_bytes.specs.declared.read.ReadFault.TheVariants as fault
 use Rattle.docker_parts.specs.FaultMeaning.{cause_meant}
-use Rattle.docker_bytes.specs.Reading.{format_of, IsToldSoFar, IsFaultTold, IsToldAtEnd, IsUnended, IsWhole, IsWanting, IsStep, JoinsText}
-use Rattle.docker_bytes.specs.ParserRead.{ParserState, HasRead, IsUnread, own_of}
+use Rattle.docker_bytes.specs.Reading.{format_of, IsToldSoFar, IsFaultTold, IsToldAtEnd, IsUnended, IsWhole, IsWanting, IsMadeOf, IsStep, JoinsText}
+use Rattle.docker_bytes.specs.ParserRead.{ParserState, HasRead, IsUnread}
 use Rattle.docker_bytes.specs.StateTaken.{RefusesPart, StateTerms, TakesState}
-use Rattle.docker_bytes.specs.SourceRead.{Held, ReadsState, IsCauseOf, IsFaultOf, RefusesState, ReadsOnePieceMore, ReadsAll, WantsSoFar, WantsMemory, JoinsState}
+use Rattle.docker_bytes.specs.SourceRead.{Held, ReadsState, ReadsMade, IsCauseOf, IsFaultOf, RefusesState, ReadsOnePieceMore, ReadsAll, WantsSoFar, WantsMemory, JoinsState}
 use Rattle.docker_bytes.proofs.TextEnd.{sound_text}
 
 -- ---- causes
@@ -161,33 +161,31 @@ tail_told format limit text piece rest used More found below more at is = absurd
 -- ---- pieces
 
 -- the terms of a parser
-abbrev pub terms_of : ParserState → StateTerms
-terms_of parser = record { format = format_of parser.reading; limit = parser.reading.limit; own = own_of parser }
+abbrev pub terms_of : {K : Type 0} → ParserState K → StateTerms
+terms_of parser = record { format = format_of parser.reading; limit = parser.reading.limit }
 
 -- a parser that has read nothing has taken nothing
-pub at_start : (parser : ParserState) → IsUnread parser → parser.reading.limit < 2 ^ 64 → TakesState parser (terms_of parser) []
-at_start parser unread small = record { read = unread; own = refl; small = small }
+pub at_start : {K : Type 0} (parser : ParserState K) → IsUnread parser → parser.reading.limit < 2 ^ 64 → TakesState parser (terms_of parser) []
+at_start parser unread small = record { read = unread; small = small }
 
 -- a piece that was read was taken
-pub takes_more : (before after : ParserState) (piece : List ℕ) {A : Type 0} (result : Result A ReadFault)
+pub takes_more : {K : Type 0} (before after : ParserState K) (piece : List ℕ) {A : Type 0} (result : Result A ReadFault)
     → ((format : Format) (limit : ℕ) (text : List ℕ) → HasRead before format limit text → IsOk result → HasRead after format limit (text ++ piece))
-    → own_of after ≡ own_of before
     → OnOk result (BehindEach TakesState before (λ terms text. TakesState after terms (text ++ piece)))
-takes_more before after piece (Ok done) read own = λ terms text has.
-    record { read = read terms.format terms.limit text has.read refl; own = own ∙ has.own; small = has.small }
-takes_more before after piece (Err told) read own = tt
+takes_more before after piece (Ok done) read = λ terms text has.
+    record { read = read terms.format terms.limit text has.read refl; small = has.small }
+takes_more before after piece (Err told) read = tt
 
 -- and a fault that was told refuses it
-pub refuses_more : (before after : ParserState) (piece : List ℕ) {A : Type 0} (result : Result A ReadFault)
+pub refuses_more : {K : Type 0} (before after : ParserState K) (piece : List ℕ) {A : Type 0} (result : Result A ReadFault)
     → ((format : Format) (limit : ℕ) (text : List ℕ) → HasRead before format limit text → (found : StateFault) → result ≡ Err (fault.State found)
     → (rest : List ℕ) → IsFaultOf format limit ((text ++ piece) ++ rest) found)
     → ((format : Format) (limit : ℕ) (text : List ℕ) → HasRead before format limit text → result ≡ Err fault.Memory
     → (at : ℕ) × IsWanting format limit text piece at)
-    → result ≢ Err fault.Source → own_of after ≡ own_of before
+    → result ≢ Err fault.Source
     → IfErr result (λ told. BehindEach TakesState before (λ terms text. RefusesPart after terms text piece told))
-refuses_more before after piece (Ok done) state memory source own = tt
-refuses_more before after piece (Err told) state memory source own = λ terms text has. record {
-  own = own ∙ has.own;
+refuses_more before after piece (Ok done) state memory source = tt
+refuses_more before after piece (Err told) state memory source = λ terms text has. record {
   state = λ found is. state terms.format terms.limit text has.read found (ap Err is);
   memory = λ is. memory terms.format terms.limit text has.read (ap Err is);
   apart = λ is. source (ap Err is);
@@ -202,38 +200,49 @@ held_all (Some told) (Some rest) text lost end =
     same ∙ ap (λ r. text ++ r) end ∙ append-nil text
 
 -- a parser that has taken all up to the end has read all
-pub reads_all : (terms : StateTerms) (count : ℕ) (initial now : Option (List ℕ)) (parser : ParserState)
+pub reads_all : {K : Type 0} (terms : StateTerms) (count : ℕ) (initial now : Option (List ℕ)) (parser : ParserState K)
     → HasFed TakesState count terms [] initial now parser → IsEnd now → ReadsAll terms.format terms.limit initial parser
 reads_all terms count initial now parser at end =
     record { text = at.bytes; held = held_all initial now at.bytes at.lost end; read = at.taken.read }
 
 -- a parser that has read nothing of a format under a limit
-pub unread : (parser : ParserState) (format : Format) (limit : ℕ) (text : List ℕ) → HasRead parser format limit text
+pub unread : {K : Type 0} (parser : ParserState K) (format : Format) (limit : ℕ) (text : List ℕ) → HasRead parser format limit text
     → HasRead parser (format_of parser.reading) parser.reading.limit text
 unread parser format limit text has =
     record { no_fault = has.no_fault; sound = has.sound; format_is = refl; limit_is = refl; text_is = has.text_is }
 
 -- what holds of the parser's format and limit holds of those that it was made for
-pub as_asked : (parser : ParserState) (format : Format) (limit : ℕ) (text : List ℕ) (P : Format → ℕ → Type 0) → HasRead parser format limit text
+pub as_asked : {K : Type 0} (parser : ParserState K) (format : Format) (limit : ℕ) (text : List ℕ) (P : Format → ℕ → Type 0) → HasRead parser format limit text
     → P (format_of parser.reading) parser.reading.limit → P format limit
 as_asked parser format limit text P has told = subst (λ n. P format n) has.limit_is (subst (λ f. P f parser.reading.limit) has.format_is told)
 
--- the state of a text that was read to its end
-pub state_of_all : (format : Format) (limit : ℕ) (initial : Option (List ℕ)) (parser : ParserState) (result : Result State ReadFault)
-    → ReadsAll format limit initial parser
-    → ((text : List ℕ) → HasRead parser format limit text → IfOk result (λ state. IsStateText format limit text state))
-    → IfOk result (ReadsState format limit initial)
-state_of_all format limit initial parser result all is =
-    IfOk-weaker result _ (ReadsState format limit initial) (λ state told. record { text = all.text; held = all.held; is = told }) (is all.text all.read)
+-- what was made of a text that was read to its end
+pub made_of_all : {K Made : Type 0} (makes : Made → State → Type 0) (format : Format) (limit : ℕ) (initial : Option (List ℕ)) (parser : ParserState K)
+    (result : Result Made ReadFault) → ReadsAll format limit initial parser
+    → ((text : List ℕ) → HasRead parser format limit text → IfOk result (IsMadeOf makes format limit text)) → IfOk result (ReadsMade makes format limit initial)
+made_of_all makes format limit initial parser result all of =
+    IfOk-weaker result _ (ReadsMade makes format limit initial) (λ made told. record { text = all.text; held = all.held; of = told }) (of all.text all.read)
+
+-- what is made of a state, where that is the state itself
+pub made_itself : (format : Format) (limit : ℕ) (text : List ℕ) (made : State) → IsMadeOf (λ made state. made ≡ state) format limit text made
+    → IsStateText format limit text made
+made_itself format limit text made of = subst (IsStateText format limit text) (sym of.made_of) of.is
+
+-- and so of what a source held
+pub read_itself : (format : Format) (limit : ℕ) (initial : Option (List ℕ)) (result : Result State ReadFault)
+    → IfOk result (ReadsMade (λ made state. made ≡ state) format limit initial) → IfOk result (ReadsState format limit initial)
+read_itself format limit initial result =
+    IfOk-weaker result (ReadsMade (λ made state. made ≡ state) format limit initial) (ReadsState format limit initial)
+    (λ made read. record { text = read.text; held = read.held; is = made_itself format limit read.text made read.of })
 
 -- the fault of a text that was read to its end
-pub refused_of_all : (format : Format) (limit : ℕ) (initial : Option (List ℕ)) (parser : ParserState) (found : StateFault)
+pub refused_of_all : {K : Type 0} (format : Format) (limit : ℕ) (initial : Option (List ℕ)) (parser : ParserState K) (found : StateFault)
     → ReadsAll format limit initial parser → ((text : List ℕ) → HasRead parser format limit text → IsFaultOf format limit text found)
     → RefusesState format limit initial found
 refused_of_all format limit initial parser found all is = record { text = all.text; held = all.held; is = is all.text all.read }
 
 -- want of memory at the end of a text
-pub wants_of_all : (format : Format) (most limit : ℕ) (initial next : Option (List ℕ)) (parser : ParserState) → ReadsAll format limit initial parser
+pub wants_of_all : {K : Type 0} (format : Format) (most limit : ℕ) (initial next : Option (List ℕ)) (parser : ParserState K) → ReadsAll format limit initial parser
     → ((text : List ℕ) → HasRead parser format limit text → IsWhole format limit text) → WantsMemory format most limit initial next
 wants_of_all format most limit initial next parser all is =
     let whole = is all.text all.read in
@@ -246,7 +255,7 @@ wants_more format most limit initial next (inl nothing) = inl nothing
 wants_more format most limit initial next (inr part) = inr (inl part)
 
 -- the join with the state of a text that was read to its end
-pub joined_of_all : (format : Format) (limit : ℕ) (initial : Option (List ℕ)) (parser : ParserState) (own after : State)
+pub joined_of_all : {K : Type 0} (format : Format) (limit : ℕ) (initial : Option (List ℕ)) (parser : ParserState K) (own after : State)
     → ReadsAll format limit initial parser → ((text : List ℕ) → HasRead parser format limit text → JoinsText format limit text own after)
     → JoinsState format limit initial own after
 joined_of_all format limit initial parser own after all is =
@@ -254,7 +263,7 @@ joined_of_all format limit initial parser own after all is =
     record { received = joins.received; read = record { text = all.text; held = all.held; is = joins.is }; join = joins.join }
 
 -- the fault of a piece is that of what the source held
-pub refused_within : (terms : StateTerms) (initial next : Option (List ℕ)) (parser : ParserState) (told : ReadFault) {A : Type 0} (found : StateFault)
+pub refused_within : {K : Type 0} (terms : StateTerms) (initial next : Option (List ℕ)) (parser : ParserState K) (told : ReadFault) {A : Type 0} (found : StateFault)
     → HasRefused TakesState RefusesPart 65536 terms [] initial next parser told → ◌≡◌ {A = Result A ReadFault} (Err told) (Err (fault.State found))
     → RefusesState terms.format terms.limit initial found
 refused_within terms initial next parser told found has is = by initial next has.more.lost
@@ -271,7 +280,7 @@ refused_within terms initial next parser told found has is = by initial next has
     by (Some left) (Some rest) lost = record { text = text ++ rest; held = cc; is = of rest }
 
 -- it loses no more than one piece behind a text that is not at fault
-pub loses_few : (terms : StateTerms) (initial next : Option (List ℕ)) → LosesOnePieceMore TakesState 65536 terms [] initial next
+pub loses_few : {K : Type 0} (terms : StateTerms) (initial next : Option (List ℕ)) → LosesOnePieceMore (TakesState {K = K}) 65536 terms [] initial next
     → ReadsOnePieceMore terms.format 65536 terms.limit initial next
 loses_few terms initial next more = record {
   text = more.bytes;
@@ -282,7 +291,7 @@ loses_few terms initial next more = record {
 }
 
 -- want of memory for a part of a piece
-pub wants_part : (terms : StateTerms) (initial next : Option (List ℕ)) (parser : ParserState) (told : ReadFault) {A : Type 0}
+pub wants_part : {K : Type 0} (terms : StateTerms) (initial next : Option (List ℕ)) (parser : ParserState K) (told : ReadFault) {A : Type 0}
     → HasRefused TakesState RefusesPart 65536 terms [] initial next parser told → ◌≡◌ {A = Result A ReadFault} (Err told) (Err fault.Memory)
     → WantsSoFar terms.format 65536 terms.limit initial next
 wants_part terms initial next parser told has is =
@@ -292,7 +301,7 @@ wants_part terms initial next parser told has is =
     inr (record { text = more.bytes; piece = more.piece; lost = more.lost; few = more.few; at = wanting.0; wanting = wanting.1 })
 
 -- a refused piece is no failure of the source
-pub refused_apart : (terms : StateTerms) (initial next : Option (List ℕ)) (parser : ParserState) (told : ReadFault) {A : Type 0} (old new : ℕ)
+pub refused_apart : {K : Type 0} (terms : StateTerms) (initial next : Option (List ℕ)) (parser : ParserState K) (told : ReadFault) {A : Type 0} (old new : ℕ)
     → HasRefused TakesState RefusesPart 65536 terms [] initial next parser told → new ≡ old
     → ◌≡◌ {A = Result A ReadFault} (Err told) (Err fault.Source) ↔ (new ≡ old + 1)
 refused_apart terms initial next parser told old new has same =

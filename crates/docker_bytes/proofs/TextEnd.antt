@@ -30,40 +30,40 @@ state_at_end (stage.Line count key stamp n) parts state lines is = cc
 state_at_end stage.End parts state lines is = cc
 
 -- where no part is next, all parts are told
-at_its_end : (reading : Reading) → IsReading reading → width (before_of reading) ≡ 0 → before_of reading ≡ at_end reading.parts.told
+at_its_end : {K : Type 0} (reading : Reading K) → IsReading reading → width (before_of reading) ≡ 0 → before_of reading ≡ at_end reading.parts
 at_its_end reading is none = by (end_or_part (format_of reading) (before_of reading) is.ready.good)
   where
-    by : ((state : State) × (before_of reading ≡ at_end state)) ⊎ (0 < width (before_of reading)) → before_of reading ≡ at_end reading.parts.told
+    by : ((state : State) × (before_of reading ≡ at_end state)) ⊎ (0 < width (before_of reading)) → before_of reading ≡ at_end reading.parts
     by (inr some) = absurd (omega arith)
-    by (inl told) = told.1 ∙ ap at_end (state_at_end reading.stage reading.parts.told told.0 reading.lines told.1)
+    by (inl told) = told.1 ∙ ap at_end (state_at_end reading.stage reading.parts told.0 reading.lines told.1)
 
 -- where no part is next, the text is that of the parts
-pub whole_text : (reading : Reading) → IsReading reading → width (before_of reading) ≡ 0
-    → IsStateText (format_of reading) reading.limit (text_of reading) reading.parts.told
+pub whole_text : {K : Type 0} (reading : Reading K) → IsReading reading → width (before_of reading) ≡ 0
+    → IsStateText (format_of reading) reading.limit (text_of reading) reading.parts
 whole_text reading is none = record {
   valid = subst (AreGood (format_of reading)) end is.ready.good;
   is = ap (λ b. text_before (format_of reading) b ++ reading.partial.items) end
-      ∙ ap (λ xs. (state_text (format_of reading) reading.parts.told ++ []) ++ xs) (nil_from_length reading.partial.items empty)
-      ∙ append-nil (state_text (format_of reading) reading.parts.told ++ []) ∙ append-nil (state_text (format_of reading) reading.parts.told);
+      ∙ ap (λ xs. (state_text (format_of reading) reading.parts ++ []) ++ xs) (nil_from_length reading.partial.items empty)
+      ∙ append-nil (state_text (format_of reading) reading.parts ++ []) ∙ append-nil (state_text (format_of reading) reading.parts);
   within = (let size = length-append (text_before (format_of reading) (before_of reading)) reading.partial.items in let reached = is.reached_is in
       let within = is.within in omega arith);
 }
   where
-    end : before_of reading ≡ at_end reading.parts.told
+    end : before_of reading ≡ at_end reading.parts
     end = at_its_end reading is none
 
     empty : length reading.partial.items ≡ 0
     empty = let short = is.short in omega arith
 
 -- and its end is where the next item would begin
-pub wanting_at_end : (reading : Reading) → IsReading reading → width (before_of reading) ≡ 0
+pub wanting_at_end : {K : Type 0} (reading : Reading K) → IsReading reading → width (before_of reading) ≡ 0
     → IsToldAtEnd (format_of reading) reading.limit (text_of reading) reading.item_at None
 wanting_at_end reading is none =
     let whole = whole_text reading is none in
-    ((reading.parts.told, whole), is.item_is ∙ ap length (ap (items_before (format_of reading)) (at_its_end reading is none) ∙ sym whole.is))
+    ((reading.parts, whole), is.item_is ∙ ap length (ap (items_before (format_of reading)) (at_its_end reading is none) ∙ sym whole.is))
 
 -- where a part is next the text is too short, and that is told of its item
-pub short_at_end : (reading : Reading) → IsReading reading → 0 < width (before_of reading)
+pub short_at_end : {K : Type 0} (reading : Reading K) → IsReading reading → 0 < width (before_of reading)
     → IsShort (format_of reading) reading.limit (text_of reading) (record { at = reading.item_at; cause = too_short })
 short_at_end reading is some = record {
   before = before_of reading;
@@ -78,7 +78,7 @@ short_at_end reading is some = record {
 }
 
 -- where a part is next the text is open
-pub open_reading : (reading : Reading) → IsReading reading → 0 < width (before_of reading) → IsOpen (format_of reading) reading.limit (text_of reading)
+pub open_reading : {K : Type 0} (reading : Reading K) → IsReading reading → 0 < width (before_of reading) → IsOpen (format_of reading) reading.limit (text_of reading)
 open_reading reading is some = (
   record { at = length (items_before (format_of reading) (before_of reading)); cause = too_short },
   record {
@@ -99,7 +99,7 @@ pub not_both : (format : Format) (limit : ℕ) (text : List ℕ) → IsOpen form
 not_both format limit text open_one whole = no_fault_of_state format limit text whole.0 open_one.0 whole.1 (inr (inr (inl open_one.1)))
 
 -- what a parser has read is not at fault
-pub sound_text : (parser : ParserState) (format : Format) (limit : ℕ) (text : List ℕ) → HasRead parser format limit text
+pub sound_text : {K : Type 0} (parser : ParserState K) (format : Format) (limit : ℕ) (text : List ℕ) → HasRead parser format limit text
     → IsOpen format limit text ⊎ IsWhole format limit text
 sound_text parser format limit text has =
     subst (λ f. IsOpen f limit text ⊎ IsWhole f limit text) has.format_is
@@ -111,10 +111,10 @@ sound_text parser format limit text has =
         → IsOpen (format_of parser.reading) parser.reading.limit (text_of parser.reading) ⊎ IsWhole (format_of parser.reading) parser.reading.limit
         (text_of parser.reading)
     by (inl some) = inl (open_reading parser.reading has.sound some)
-    by (inr none) = inr (parser.reading.parts.told, whole_text parser.reading has.sound (omega arith))
+    by (inr none) = inr (parser.reading.parts, whole_text parser.reading has.sound (omega arith))
 
 -- what a parser has read where a part is next is not whole
-pub not_whole_yet : (parser : ParserState) (reading : Reading) (format : Format) (limit : ℕ) (text : List ℕ) → parser.reading ≡ reading
+pub not_whole_yet : {K : Type 0} (parser : ParserState K) (reading : Reading K) (format : Format) (limit : ℕ) (text : List ℕ) → parser.reading ≡ reading
     → HasRead parser format limit text → ¬ (width (before_of reading) ≡ 0) → ¬ IsWhole format limit text
 not_whole_yet parser reading format limit text same has some whole =
     let read = open_reading parser.reading has.sound

@@ -18,34 +18,34 @@ use Rattle.docker_parts.specs.declared.stage.Stage.{Stage}
 use Rattle.docker_parts.specs.declared.stage.Stage.TheVariants.{Line}
 
 -- the format of the text
-abbrev pub format_of : Reading → Format
+abbrev pub format_of : {K : Type 0} → Reading K → Format
 format_of reading = format_meant reading.format
 
 -- what stands before the part that is being read
-abbrev pub before_of : Reading → Before
-before_of reading = stage_meant reading.stage reading.parts.told reading.lines
+abbrev pub before_of : {K : Type 0} → Reading K → Before
+before_of reading = stage_meant reading.stage reading.parts reading.lines
 
 -- the bytes that were read
-abbrev pub text_of : Reading → List ℕ
+abbrev pub text_of : {K : Type 0} → Reading K → List ℕ
 text_of reading = text_before (format_of reading) (before_of reading) ++ reading.partial.items
 
 -- all parts before are good, and of the next one a front was read, within the limit
-pub record IsReading (reading : Reading) : Type 0 where
-  pub ready : IsReady (format_of reading) reading.stage reading.parts.told reading.lines
+pub record IsReading {K : Type 0} (reading : Reading K) : Type 0 where
+  pub ready : IsReady (format_of reading) reading.stage reading.parts reading.lines
   pub short : length reading.partial.items ≤ width (before_of reading) - 1
   pub reached_is : reading.reached ≡ length (text_before (format_of reading) (before_of reading))
   pub item_is : reading.item_at ≡ length (items_before (format_of reading) (before_of reading))
   pub within : reading.reached + length reading.partial.items ≤ reading.limit
 
 -- the reader goes on reading with these bytes behind what it had read
-pub record ReadsOn (old new : Reading) (bytes : List ℕ) : Type 0 where
+pub record ReadsOn {K : Type 0} (old new : Reading K) (bytes : List ℕ) : Type 0 where
   pub reading : IsReading new
   pub text : text_of new ≡ text_of old ++ bytes
   pub limit : new.limit ≡ old.limit
   pub format : format_of new ≡ format_of old
 
 -- the part that is next is bad, or memory was wanting for it; the offset is that of its item
-abbrev pub IsPartRefused : Reading → List ℕ → StateFault → Type 0
+abbrev pub IsPartRefused : {K : Type 0} → Reading K → List ℕ → StateFault → Type 0
 IsPartRefused reading bytes fault = (fault.at ≡ reading.item_at) × IsBadHere (format_of reading) (before_of reading) bytes (cause_meant fault.cause)
 
 -- memory was wanting for a part whose last byte stands in a piece behind a text, and no part up to it is bad; the offset is that of its item
@@ -90,6 +90,12 @@ IsUnended format limit text fault = IsToldAtEnd format limit text fault.at (caus
 abbrev pub IsStep : Format → ℕ → List ℕ → List ℕ → ℕ × Step → Type 0
 IsStep format limit text piece (n, Done) = IsWhole format limit (text ++ take n piece)
 IsStep format limit text piece (n, More) = (n ≡ length piece) × IsOpen format limit (text ++ piece)
+
+-- it is made of the state of a text
+pub record IsMadeOf {Made : Type 0} (makes : Made → State → Type 0) (format : Format) (limit : ℕ) (text : List ℕ) (made : Made) : Type 0 where
+  pub state : State
+  pub is : IsStateText format limit text state
+  pub made_of : makes made state
 
 -- a state was joined with that of a text
 pub record JoinsText (format : Format) (limit : ℕ) (text : List ℕ) (own after : State) : Type 0 where

@@ -7,7 +7,7 @@ use Rattle.docker_model.specs.state.StateFault.{IsStateFault, IsStateText}
 use Rattle.docker_model.specs.state.StateFault as model
 use Rattle.docker_bytes.specs.declared.fault.StateFault.{StateFault}
 use Rattle.docker_parts.specs.FaultMeaning.{cause_meant}
-use Rattle.docker_bytes.specs.Reading.{IsWhole, IsOpen, IsWanting}
+use Rattle.docker_bytes.specs.Reading.{IsMadeOf, IsWhole, IsOpen, IsWanting}
 use Rattle.docker_bytes.specs.ParserRead.{ParserState, HasRead}
 
 -- a source that tells its bytes held this text
@@ -20,6 +20,12 @@ pub record ReadsState (format : Format) (limit : ℕ) (left : Option (List ℕ))
   pub text : List ℕ
   pub held : Held left text
   pub is : IsStateText format limit text state
+
+-- it is made of the state whose text in a format the source held, within the limit
+pub record ReadsMade {Made : Type 0} (makes : Made → State → Type 0) (format : Format) (limit : ℕ) (left : Option (List ℕ)) (made : Made) : Type 0 where
+  pub text : List ℕ
+  pub held : Held left text
+  pub of : IsMadeOf makes format limit text made
 
 -- the fault is the text's. Want of memory is none
 abbrev pub IsCauseOf : Format → ℕ → List ℕ → ℕ → Option model.StateCause → Type 0
@@ -57,7 +63,7 @@ abbrev pub WantsSoFar : Format → ℕ → ℕ → Option (List ℕ) → Option 
 WantsSoFar format most limit old new = Reads old [] new ⊎ WantsPart format most limit old new
 
 -- a parser has read all that a source held
-pub record ReadsAll (format : Format) (limit : ℕ) (left : Option (List ℕ)) (parser : ParserState) : Type 0 where
+pub record ReadsAll {K : Type 0} (format : Format) (limit : ℕ) (left : Option (List ℕ)) (parser : ParserState K) : Type 0 where
   pub text : List ℕ
   pub held : Held left text
   pub read : HasRead parser format limit text

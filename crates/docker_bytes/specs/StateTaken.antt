@@ -1,30 +1,27 @@
 -- What a parser of a state's text has taken of it, and what a fault says of a piece.
-use Rattle.std.specs.Prelude.{◌≡◌, ◌≢◌, ℕ, ◌^◌, ◌<◌, List, ◌++◌, length, Option}
+use Rattle.std.specs.Prelude.{◌≡◌, ◌≢◌, ℕ, ◌^◌, ◌<◌, List, ◌++◌, length}
 use Rattle.std.proofs.Common.{arith, ap, length-append}
-use Rattle.docker_model.specs.state.State.{State}
 use Rattle.docker_model.specs.state.StateText.{Format}
 use Rattle.docker_model.specs.state.StatePart.{text_before}
 use Rattle.docker_bytes.specs.declared.fault.StateFault.{StateFault}
 use Rattle.docker_bytes.specs.declared.read.ReadFault.{ReadFault}
 use Rattle.docker_bytes.specs.declared.read.ReadFault.TheVariants as fault
-use Rattle.docker_bytes.specs.ParserRead.{ParserState, HasRead, own_of}
+use Rattle.docker_bytes.specs.ParserRead.{ParserState, HasRead}
 use Rattle.docker_bytes.specs.Reading.{before_of, format_of, IsWanting}
 use Rattle.docker_bytes.specs.SourceRead.{IsFaultOf}
 
--- what stays as it is while a parser takes a text: the format, the limit on its bytes, and the state that receives it, if one does
+-- what stays as it is while a parser takes a text: the format, and the limit on its bytes
 pub record StateTerms : Type 0 where
   pub format : Format
   pub limit : ℕ
-  pub own : Option State
 
 -- the parser has read this text and told no fault, under a limit of 64 bits
-pub record TakesState (parser : ParserState) (terms : StateTerms) (text : List ℕ) : Type 0 where
+pub record TakesState {K : Type 0} (parser : ParserState K) (terms : StateTerms) (text : List ℕ) : Type 0 where
   pub read : HasRead parser terms.format terms.limit text
-  pub own : own_of parser ≡ terms.own
   pub small : terms.limit < 2 ^ 64
 
 -- a text that a parser has taken is within the limit
-pub taken_is_bounded : (parser : ParserState) (terms : StateTerms) (text : List ℕ) → TakesState parser terms text → length text < 2 ^ 64
+pub taken_is_bounded : {K : Type 0} (parser : ParserState K) (terms : StateTerms) (text : List ℕ) → TakesState parser terms text → length text < 2 ^ 64
 taken_is_bounded parser terms text has =
     let reading = parser.reading in
     let same = ap length has.read.text_is in
@@ -35,9 +32,8 @@ taken_is_bounded parser terms text has =
     let small = has.small in
     omega (arith, same, sum, reached, within, limit, small)
 
--- the fault is that of each text that begins with the text and the piece; or memory was wanting for a part that ends in the piece. Who receives is as before
-pub record RefusesPart (parser : ParserState) (terms : StateTerms) (text piece : List ℕ) (told : ReadFault) : Type 0 where
-  pub own : own_of parser ≡ terms.own
+-- the fault is that of each text that begins with the text and the piece; or memory was wanting for a part that ends in the piece. The parser may be any
+pub record RefusesPart {K : Type 0} (parser : ParserState K) (terms : StateTerms) (text piece : List ℕ) (told : ReadFault) : Type 0 where
   pub state : (found : StateFault) → told ≡ fault.State found → (rest : List ℕ) → IsFaultOf terms.format terms.limit ((text ++ piece) ++ rest) found
   pub memory : told ≡ fault.Memory → (at : ℕ) × IsWanting terms.format terms.limit text piece at
   pub apart : told ≢ fault.Source

@@ -1,18 +1,19 @@
 //! A state joined with the one that a source holds.
-ghost use Rattle.std.specs.Prelude.{◌≡◌, ◌≢◌, ℕ, ◌+◌, ◌-◌, ◌^◌, ◌<◌, ◌↔◌, List, IsOk, IsErr, IsSome, Err, Some};
-ghost use Rattle.docker_model.specs.state.State as states;
+ghost use Rattle.std.specs.Prelude.{◌≡◌, ◌≢◌, ℕ, ◌+◌, ◌-◌, ◌^◌, ◌<◌, ◌↔◌, List, IsOk, IsErr, Err};
 ghost use Rattle.docker_model.specs.state.State.{IsValid};
 ghost use Rattle.docker_model.specs.state.StateText.{dks_2};
 ghost use Rattle.docker_model.specs.state.StateText as formats;
-ghost use Rattle.docker_bytes.specs.ParserRead.{HasRead, own_of};
+ghost use Rattle.docker_bytes.specs.ParserRead.{HasRead};
 ghost use Rattle.docker_bytes.specs.Reading.{IsWhole, JoinsText};
 ghost use Rattle.docker_bytes.specs.SourceRead.{RefusesState, IsFaultOf, ReadsOnePieceMore, WantsMemory, JoinsState};
 
 use crate::parser::Parser;
 use crate::read::{ReadFault, fault_of, read_pieces};
 use cif_line::Source;
-use docker_parts::State;
+use docker_parts::format::Format;
+use docker_parts::{Received, Receiver, State};
 use std::alloc::Global;
+use std::marker::Brand;
 use std::mem;
 
 /// Joins a state with the one whose text of the mark `DKS2` a source holds, which is read as `read_state` reads it. Of the entries received only those are kept
@@ -40,13 +41,13 @@ pub fn join_state<S: Source>(
     // A state is valid, as its ledger tells.
     let _ledger = state.ledger();
     let own = mem::replace(state, State::empty(alloc));
-    let (after, result) = receive(alloc, own, source, limit);
+    let (after, result) = receive::<Brand, S>(alloc, own, source, limit);
     *state = after;
     result
 }
 
-/// The same of a state that is handed over, and back.
-fn receive<S: Source>(
+/// The same of a state that is handed over, and back: the one that the receiver names.
+fn receive<R: Receiver, S: Source>(
     alloc: Global,
     own: State,
     source: &mut S,
@@ -54,6 +55,7 @@ fn receive<S: Source>(
 ) -> (State, Result<(), ReadFault>)
     requires failures { S.failures source.old < 2 ^ 64 - 1 }
     requires valid { IsValid own }
+    requires own { own ≡ R.own }
     ensures ok { IsOk result.1 → JoinsState dks_2 limit (S.left source.old) own result.0 }
     ensures unchanged { IsErr result.1 → result.0 ≡ own }
     ensures state { (fault : _) → result.1 ≡ Err (ReadFault.State fault) →
@@ -66,7 +68,8 @@ fn receive<S: Source>(
     ensures no_failure { result.1 ≢ Err ReadFault.Source →
         S.failures source.new ≡ S.failures source.old }
 {
-    let mut parser = Parser::received_by(alloc, own, limit);
+    let received: Received<R> = Received::new(alloc, own);
+    let mut parser = Parser::new(alloc, Format::Dks2, limit, received);
     if let Err(fault) = read_pieces(alloc, source, &mut parser) {
         return (parser.into_own(), Err(fault));
     }
@@ -74,12 +77,11 @@ fn receive<S: Source>(
 }
 
 /// The state that receives what a parser was fed, joined with it.
-fn join(parser: Parser) -> (State, Result<(), ReadFault>)
-    requires { IsSome (own_of parser) }
+fn join<R: Receiver>(parser: Parser<Received<R>>) -> (State, Result<(), ReadFault>)
     ensures ok { (format : formats.Format) (limit : ℕ) (text : List ℕ) →
-        HasRead parser format limit text → IsOk result.1 → (own : states.State) →
-        own_of parser ≡ Some own → JoinsText format limit text own result.0 }
-    ensures back { IsErr result.1 → own_of parser ≡ Some result.0 }
+        HasRead parser format limit text → IsOk result.1 →
+        JoinsText format limit text R.own result.0 }
+    ensures back { IsErr result.1 → result.0 ≡ R.own }
     ensures state { (format : formats.Format) (limit : ℕ) (text : List ℕ) →
         HasRead parser format limit text → (fault : _) → result.1 ≡ Err (ReadFault.State fault) →
         IsFaultOf format limit text fault }

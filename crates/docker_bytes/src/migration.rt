@@ -5,8 +5,8 @@ ghost use Rattle.docker_bytes.specs.SourceRead.{ReadsState, RefusesState, ReadsO
 
 use crate::read::{ReadFault, read_format};
 use cif_line::Source;
-use docker_parts::State;
 use docker_parts::format::Format;
+use docker_parts::{State, Whole};
 use std::alloc::Global;
 
 /// Reads a source, as `read_state` does, whose text is of the mark `DKS1`: it tells no horizon, and the state has none. A text of the mark `DKS2` is refused at 0.
@@ -23,5 +23,5 @@ pub fn migrate<S: Source>(alloc: Global, source: &mut S, limit: u64) -> Result<S
     ensures no_failure { result ≢ Err ReadFault.Source →
         S.failures source.new ≡ S.failures source.old }
 {
-    read_format(alloc, Format::Dks1, source, limit)
+    read_format(alloc, Format::Dks1, Whole::new(alloc), source, limit)
 }

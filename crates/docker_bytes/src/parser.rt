@@ -1,58 +1,42 @@
-//! A parser that is fed the text of a state piece by piece, for a state of its own or for one that receives it.
-ghost use Rattle.std.specs.Prelude.{◌≡◌, ℕ, ◌+◌, ◌≤◌, List, [], ◌++◌, length, take, IsOk, IsErr, IfOk, IfErr, IsSome, Ok, Err, Some, None};
-ghost use Rattle.docker_model.specs.state.State as states;
-ghost use Rattle.docker_model.specs.state.State.{IsValid};
-ghost use Rattle.docker_model.specs.state.StateText.{dks_2};
+//! A parser that is fed the text of a state piece by piece, and gives its parts to a keeper.
+ghost use Rattle.std.specs.Prelude.{◌≡◌, ℕ, ◌+◌, ◌≤◌, List, [], ◌++◌, length, take, IsOk, IsErr, IfOk, IfErr, Ok, Err, None};
 ghost use Rattle.docker_model.specs.state.StateText as formats;
-ghost use Rattle.docker_model.specs.state.StateFault.{IsStateText};
 ghost use Rattle.docker_parts.specs.FormatMeaning.{format_meant};
-ghost use Rattle.docker_bytes.specs.Reading.{IsFaultTold, IsUnended, IsStep, IsWhole, JoinsText};
-ghost use Rattle.docker_bytes.specs.ParserRead.{HasRead, HasFailed, own_of};
+ghost use Rattle.docker_bytes.specs.Reading.{IsFaultTold, IsUnended, IsStep, IsMadeOf, IsWhole, JoinsText};
+ghost use Rattle.docker_bytes.specs.ParserRead.{HasRead, HasFailed};
 
 use crate::fault::{StateFault, Step};
 use crate::reading::Reading;
 use docker_parts::format::Format;
-use docker_parts::{State, Told};
+use docker_parts::{Keeper, Maker, Received, Receiver, State, Told};
 use std::alloc::Global;
 use std::marker::Model;
 
 /// A parser of the text of one state, which comes in pieces of any length. It keeps the parts so far, and at most 80 bytes of the one that comes next.
 #[derive(Debug, Drop)]
-pub(crate) struct Parser {
-    reading: Reading,
+pub(crate) struct Parser<K: Keeper> {
+    reading: Reading<K>,
     fault: Option<StateFault>,
 }
 
-impl Model for Parser {
+impl<K: Keeper> Model for Parser<K> {
     ghost use Rattle.docker_bytes.specs.ParserRead.{ParserState, IsSound};
 
-    ghost Value = { ParserState };
+    ghost Value = { ParserState K };
 
     ghost view = { λ parser. record { reading = parser.reading; fault = parser.fault } };
 
     ghost invariant = { λ parser. IsSound parser.reading parser.fault };
 }
 
-impl Parser {
-    /// A parser of a text of a format.
-    pub(crate) fn new(alloc: Global, format: Format, limit: u64) -> Parser
-        ensures read { HasRead result (format_meant format) limit [] }
-        ensures own { own_of result ≡ None }
+impl<K: Keeper> Parser<K> {
+    /// A parser of a text of a format, whose parts are given to a keeper that was given none.
+    pub(crate) fn new(alloc: Global, format: Format, limit: u64, keeper: K) -> Parser<K>
+        requires { K.given keeper ≡ record { horizon = 0; ledger = []; entries = [] } }
+        ensures { HasRead result (format_meant format) limit [] }
     {
         Parser {
-            reading: Reading::new(alloc, format, limit, Told::new(alloc)),
-            fault: None,
-        }
-    }
-
-    /// A parser of a text of the mark `DKS2` that a state receives.
-    pub(crate) fn received_by(alloc: Global, own: State, limit: u64) -> Parser
-        requires { IsValid own }
-        ensures read { HasRead result dks_2 limit [] }
-        ensures own { own_of result ≡ Some own }
-    {
-        Parser {
-            reading: Reading::new(alloc, Format::Dks2, limit, Told::received_by(alloc, own)),
+            reading: Reading::new(alloc, format, limit, Told::new(keeper)),
             fault: None,
         }
     }
@@ -77,7 +61,6 @@ impl Parser {
         ensures sound { IsOk result → self.new.fault ≡ None }
         ensures failed { IfErr result (λ fault. HasFailed self.new fault) }
         ensures again { (fault : _) → HasFailed self.old fault → result ≡ Err fault }
-        ensures own { own_of self.new ≡ own_of self.old }
     {
         if let Some(fault) = self.fault {
             return Err(fault);
@@ -102,14 +85,15 @@ impl Parser {
     {
         self.reading.offset()
     }
+}
 
-    /// The state whose text was read. `Short` where the text ends before the state does, at the item that is not whole; want of memory only of a whole text, at
-    /// its end. After a fault of `feed` it is that fault.
-    pub(crate) fn finish(self) -> Result<State, StateFault>
-        requires { own_of self ≡ None }
+impl<K: Maker> Parser<K> {
+    /// What is made of the state whose text was read. `Short` where the text ends before the state does, at the item that is not whole; want of memory only of a
+    /// whole text, at its end. After a fault of `feed` it is that fault.
+    pub(crate) fn finish(self) -> Result<K::Made, StateFault>
         ensures ok { (format : formats.Format) (limit : ℕ) (text : List ℕ) →
             HasRead self format limit text →
-            IfOk result (λ state. IsStateText format limit text state) }
+            IfOk result (IsMadeOf K.makes format limit text) }
         ensures err { (format : formats.Format) (limit : ℕ) (text : List ℕ) →
             HasRead self format limit text →
             IfErr result (λ fault. IsUnended format limit text fault) }
@@ -120,17 +104,18 @@ impl Parser {
             None => self.reading.finish(),
         }
     }
+}
 
+impl<R: Receiver> Parser<Received<R>> {
     /// The state that receives what was read, joined with the state whose text it is; or as it was, with the fault of `feed` or of a text that ends too early, or want of memory.
     pub(crate) fn join(self) -> (State, Result<(), StateFault>)
-        requires { IsSome (own_of self) }
         ensures ok { (format : formats.Format) (limit : ℕ) (text : List ℕ) →
-            HasRead self format limit text → IsOk result.1 → (own : states.State) →
-            own_of self ≡ Some own → JoinsText format limit text own result.0 }
+            HasRead self format limit text → IsOk result.1 →
+            JoinsText format limit text R.own result.0 }
         ensures err { (format : formats.Format) (limit : ℕ) (text : List ℕ) →
             HasRead self format limit text →
             IfErr result.1 (λ fault. IsUnended format limit text fault) }
-        ensures back { IsErr result.1 → own_of self ≡ Some result.0 }
+        ensures back { IsErr result.1 → result.0 ≡ R.own }
         ensures again { (fault : _) → HasFailed self fault → result.1 ≡ Err fault }
     {
         match self.fault {
@@ -141,8 +126,7 @@ impl Parser {
 
     /// The state that receives what is read, as it was.
     pub(crate) fn into_own(self) -> State
-        requires { IsSome (own_of self) }
-        ensures { own_of self ≡ Some result }
+        ensures { result ≡ R.own }
     {
         self.reading.into_own()
     }

@@ -1,19 +1,18 @@
 //! The state that a source holds.
-ghost use Rattle.std.specs.Prelude.{◌≡◌, ◌≢◌, ℕ, ◌+◌, ◌-◌, ◌^◌, ◌<◌, ◌↔◌, List, ◌++◌, length, IsOk, IfOk, Err, Some, None};
+ghost use Rattle.std.specs.Prelude.{◌≡◌, ◌≢◌, ℕ, ◌+◌, ◌-◌, ◌^◌, ◌<◌, ◌↔◌, List, [], ◌++◌, length, IsOk, IfOk, Err, Some};
 ghost use Rattle.docker_model.specs.state.StateText.{dks_2};
 ghost use Rattle.docker_model.specs.state.StateText as formats;
-ghost use Rattle.docker_model.specs.state.StateFault.{IsStateText};
 ghost use Rattle.docker_parts.specs.FormatMeaning.{format_meant};
-ghost use Rattle.docker_bytes.specs.ParserRead.{HasRead, IsUnread, own_of};
+ghost use Rattle.docker_bytes.specs.ParserRead.{HasRead, IsUnread};
 ghost use Rattle.docker_bytes.specs.ReadFaultText.{read_fault_text};
-ghost use Rattle.docker_bytes.specs.SourceRead.{ReadsState, RefusesState, IsFaultOf, ReadsOnePieceMore, ReadsAll, WantsSoFar, WantsMemory};
-ghost use Rattle.docker_bytes.specs.Reading.{format_of, IsWhole, IsWanting};
+ghost use Rattle.docker_bytes.specs.SourceRead.{ReadsState, ReadsMade, RefusesState, IsFaultOf, ReadsOnePieceMore, ReadsAll, WantsSoFar, WantsMemory};
+ghost use Rattle.docker_bytes.specs.Reading.{format_of, IsMadeOf, IsWhole, IsWanting};
 
 use crate::fault::StateFault;
 use crate::parser::Parser;
 use cif_line::{FeedFault, Source, Taker, feed_all};
 use docker_parts::format::Format;
-use docker_parts::{State, StateCause};
+use docker_parts::{Keeper, Maker, State, StateCause, Whole};
 use std::alloc::Global;
 use std::error::Error;
 use std::fmt;
@@ -58,18 +57,21 @@ pub fn read_state<S: Source>(alloc: Global, source: &mut S, limit: u64) -> Resul
     ensures no_failure { result ≢ Err ReadFault.Source →
         S.failures source.new ≡ S.failures source.old }
 {
-    read_format(alloc, Format::Dks2, source, limit)
+    read_format(alloc, Format::Dks2, Whole::new(alloc), source, limit)
 }
 
-/// The same of a text of a format.
-pub(crate) fn read_format<S: Source>(
+/// The same of a text of a format, whose parts are given to a keeper that was given none: what it makes of the state.
+pub(crate) fn read_format<S: Source, K: Maker>(
     alloc: Global,
     format: Format,
+    keeper: K,
     source: &mut S,
     limit: u64,
-) -> Result<State, ReadFault>
-    requires { S.failures source.old < 2 ^ 64 - 1 }
-    ensures ok { IfOk result (ReadsState (format_meant format) limit (S.left source.old)) }
+) -> Result<K::Made, ReadFault>
+    requires failures { S.failures source.old < 2 ^ 64 - 1 }
+    requires none { K.given keeper ≡ record { horizon = 0; ledger = []; entries = [] } }
+    ensures ok { IfOk result
+        (ReadsMade K.makes (format_meant format) limit (S.left source.old)) }
     ensures state { (fault : _) → result ≡ Err (ReadFault.State fault) →
         RefusesState (format_meant format) limit (S.left source.old) fault }
     ensures memory { result ≡ Err ReadFault.Memory →
@@ -81,16 +83,16 @@ pub(crate) fn read_format<S: Source>(
     ensures no_failure { result ≢ Err ReadFault.Source →
         S.failures source.new ≡ S.failures source.old }
 {
-    let mut parser = Parser::new(alloc, format, limit);
+    let mut parser = Parser::new(alloc, format, limit, keeper);
     read_pieces(alloc, source, &mut parser)?;
     finish(parser)
 }
 
 /// Feeds a parser that has read nothing all that a source has, in pieces of at most 65,536 bytes, all of which have to be of the state.
-pub(crate) fn read_pieces<S: Source>(
+pub(crate) fn read_pieces<S: Source, K: Keeper>(
     alloc: Global,
     source: &mut S,
-    parser: &mut Parser,
+    parser: &mut Parser<K>,
 ) -> Result<(), ReadFault>
     requires failures { S.failures source.old < 2 ^ 64 - 1 }
     requires unread { IsUnread parser.old }
@@ -110,7 +112,6 @@ pub(crate) fn read_pieces<S: Source>(
         (S.failures source.new ≡ S.failures source.old + 1) }
     ensures no_failure { result ≢ Err ReadFault.Source →
         S.failures source.new ≡ S.failures source.old }
-    ensures own { own_of parser.new ≡ own_of parser.old }
 {
     match feed_all(alloc, source, parser) {
         Ok(_) => Ok(()),
@@ -120,7 +121,7 @@ pub(crate) fn read_pieces<S: Source>(
     }
 }
 
-impl Taker for Parser {
+impl<K: Keeper> Taker for Parser<K> {
     ghost use Rattle.docker_bytes.specs.StateTaken.{RefusesPart, StateTerms, TakesState, taken_is_bounded};
 
     type Fault = ReadFault;
@@ -139,7 +140,7 @@ impl Taker for Parser {
 }
 
 /// Feeds bytes to a parser, all of which have to be of the state.
-fn feed(parser: &mut Parser, piece: &[u8]) -> Result<(), ReadFault>
+fn feed<K: Keeper>(parser: &mut Parser<K>, piece: &[u8]) -> Result<(), ReadFault>
     ensures read { (format : formats.Format) (limit : ℕ) (text : List ℕ) →
         HasRead parser.old format limit text → IsOk result →
         HasRead parser.new format limit (text ++ piece.now) }
@@ -150,7 +151,6 @@ fn feed(parser: &mut Parser, piece: &[u8]) -> Result<(), ReadFault>
         HasRead parser.old format limit text → result ≡ Err ReadFault.Memory
         → (at : ℕ) × IsWanting format limit text piece.now at }
     ensures source { result ≢ Err ReadFault.Source }
-    ensures own { own_of parser.new ≡ own_of parser.old }
 {
     match parser.feed(piece) {
         Ok((used, _)) => {
@@ -163,12 +163,10 @@ fn feed(parser: &mut Parser, piece: &[u8]) -> Result<(), ReadFault>
     }
 }
 
-/// The state that a parser was fed.
-fn finish(parser: Parser) -> Result<State, ReadFault>
-    requires { own_of parser ≡ None }
+/// What is made of the state that a parser was fed.
+fn finish<K: Maker>(parser: Parser<K>) -> Result<K::Made, ReadFault>
     ensures ok { (format : formats.Format) (limit : ℕ) (text : List ℕ) →
-        HasRead parser format limit text →
-        IfOk result (λ state. IsStateText format limit text state) }
+        HasRead parser format limit text → IfOk result (IsMadeOf K.makes format limit text) }
     ensures state { (format : formats.Format) (limit : ℕ) (text : List ℕ) →
         HasRead parser format limit text → (fault : _) → result ≡ Err (ReadFault.State fault) →
         IsFaultOf format limit text fault }
@@ -178,13 +176,13 @@ fn finish(parser: Parser) -> Result<State, ReadFault>
     ensures source { result ≢ Err ReadFault.Source }
 {
     match parser.finish() {
-        Ok(state) => Ok(state),
+        Ok(made) => Ok(made),
         Err(fault) => Err(fault_of(fault)),
     }
 }
 
 /// The fault of a byte behind what a parser has read.
-fn tail(parser: &Parser) -> StateFault
+fn tail<K: Keeper>(parser: &Parser<K>) -> StateFault
     requires { parser.now.fault ≡ None }
     ensures at { (format : formats.Format) (limit : ℕ) (text : List ℕ) →
         HasRead parser.now format limit text → result.at ≡ length text }

@@ -1,26 +1,27 @@
 //! The reading of a text in pieces, part by part.
-ghost use Rattle.std.specs.Prelude.{◌≡◌, ◌+◌, ◌-◌, ◌<◌, ◌≤◌, ◌↔◌, [], ◌++◌, length, take, IsTrue, IsOk, IsErr, IfOk, IfErr, IsSome, Some, None};
-ghost use Rattle.docker_model.specs.state.State as states;
+ghost use Rattle.std.specs.Prelude.{◌≡◌, ◌+◌, ◌-◌, ◌<◌, ◌≤◌, ◌↔◌, [], ◌++◌, length, take, IsTrue, IsOk, IsErr, IfOk, IfErr};
 ghost use Rattle.arrayvec.specs.ArrayVec.{array_vec_len};
 ghost use Rattle.docker_model.specs.state.StatePart.{width};
-ghost use Rattle.docker_model.specs.state.StateFault.{IsStateText};
 ghost use Rattle.docker_parts.specs.FormatMeaning.{format_meant};
-ghost use Rattle.docker_bytes.specs.Reading.{format_of, before_of, text_of, IsReading, ReadsOn, IsPartRefused, IsFaultTold, IsUnended, IsStep, JoinsText, IsLineOf};
+ghost use Rattle.docker_bytes.specs.Reading.{format_of, before_of, text_of, IsReading, ReadsOn, IsPartRefused, IsFaultTold, IsUnended, IsStep, IsMadeOf, JoinsText, IsLineOf};
 
 use crate::fault::{StateFault, Step};
 use arrayvec::ArrayVec;
 use docker_parts::format::{Format, LINE};
-use docker_parts::{Gathered, ScheduleKey, Stage, State, StateCause, Told, judged_line, step};
+use docker_parts::{
+    Gathered, Keeper, Maker, Received, Receiver, ScheduleKey, Stage, State, StateCause, Told,
+    judged_line, step,
+};
 use std::alloc::Global;
 
-/// A text so far: the state that its parts tell, the part that comes next with the bytes of it that came, and where its item began.
+/// A text so far: what its parts have told, the part that comes next with the bytes of it that came, and where its item began.
 #[derive(Debug, Drop)]
-pub(crate) struct Reading {
+pub(crate) struct Reading<K: Keeper> {
     alloc: Global,
     format: Format,
     limit: u64,
     stage: Stage,
-    parts: Told,
+    parts: Told<K>,
     lines: Gathered,
     partial: ArrayVec<u8, LINE>,
     item_at: u64,
@@ -37,15 +38,14 @@ fn extend(partial: &mut ArrayVec<u8, LINE>, more: &[u8])
     }
 }
 
-impl Reading {
+impl<K: Keeper> Reading<K> {
     /// No byte yet, of at most `limit` of a text of the format, and no part.
-    pub(crate) fn new(alloc: Global, format: Format, limit: u64, parts: Told) -> Reading
-        requires { parts.told ≡ record { horizon = 0; ledger = []; entries = [] } }
+    pub(crate) fn new(alloc: Global, format: Format, limit: u64, parts: Told<K>) -> Reading<K>
+        requires { parts ≡ record { horizon = 0; ledger = []; entries = [] } }
         ensures reading { IsReading result }
         ensures text { text_of result ≡ [] }
         ensures limit { result.limit ≡ limit }
         ensures format { format_of result ≡ format_meant format }
-        ensures own { result.parts.own ≡ parts.own }
     {
         Reading {
             alloc,
@@ -105,7 +105,6 @@ impl Reading {
         requires fits { self.old.reached + length bytes.now ≤ self.old.limit }
         ensures ok { IsOk result → ReadsOn self.old self.new bytes.now }
         ensures err { IfErr result (λ fault. IsPartRefused self.old bytes.now fault) }
-        ensures own { self.new.parts.own ≡ self.old.parts.own }
         ensures stage { self.new.stage ≡ self.old.stage }
         ensures partial { self.new.partial.items ≡ self.old.partial.items }
     {
@@ -142,7 +141,6 @@ impl Reading {
             ReadsOn self.old self.new (take (length piece.now - length behind.now) piece.now)) }
         ensures err { IfErr result (λ fault. IsFaultTold (format_of self.old) self.old.limit
             (text_of self.old) piece.now fault) }
-        ensures own { self.new.parts.own ≡ self.old.parts.own }
     {
         let Stage::Line(_entries, key, _stamp, count) = self.stage else {
             return Ok(piece);
@@ -168,7 +166,6 @@ impl Reading {
         requires fits { self.old.reached + length bytes.now ≤ self.old.limit }
         ensures ok { IsOk result → ReadsOn self.old self.new bytes.now }
         ensures err { IfErr result (λ fault. IsPartRefused self.old bytes.now fault) }
-        ensures own { self.new.parts.own ≡ self.old.parts.own }
     {
         if let Stage::Line(_entries, key, _stamp, count) = self.stage {
             if self.lines.has_more(count) {
@@ -204,7 +201,6 @@ impl Reading {
         ensures ok { IsOk result → ReadsOn self.old self.new front.now }
         ensures err { IfErr result (λ fault. IsFaultTold (format_of self.old) self.old.limit
             (text_of self.old) front.now fault) }
-        ensures own { self.new.parts.own ≡ self.old.parts.own }
     {
         if (self.partial.len() + front.len()) as u64 > self.limit - self.reached {
             return Err(self.long());
@@ -225,7 +221,6 @@ impl Reading {
         ensures ok { IsOk result → ReadsOn self.old self.new more.now }
         ensures err { IfErr result (λ fault. IsFaultTold (format_of self.old) self.old.limit
             (text_of self.old) more.now fault) }
-        ensures own { self.new.parts.own ≡ self.old.parts.own }
     {
         if (self.partial.len() + more.len()) as u64 > self.limit - self.reached {
             return Err(self.long());
@@ -243,7 +238,6 @@ impl Reading {
             (text_of self.old) piece.now) }
         ensures err { IfErr result (λ fault. IsFaultTold (format_of self.old) self.old.limit
             (text_of self.old) piece.now fault) }
-        ensures own { self.new.parts.own ≡ self.old.parts.own }
     {
         let mut rest = piece;
         'parts: loop {
@@ -261,13 +255,13 @@ impl Reading {
             rest = self.take_lines(behind)?;
         }
     }
+}
 
-    /// The state whose text was read, or the fault of a text that ends before the state does.
-    pub(crate) fn finish(self) -> Result<State, StateFault>
-        requires reading { IsReading self }
-        requires alone { self.parts.own ≡ None }
-        ensures ok { IfOk result (λ state. IsStateText (format_of self) self.limit
-            (text_of self) state) }
+impl<K: Maker> Reading<K> {
+    /// What is made of the state whose text was read, or the fault of a text that ends before the state does.
+    pub(crate) fn finish(self) -> Result<K::Made, StateFault>
+        requires { IsReading self }
+        ensures ok { IfOk result (IsMadeOf K.makes (format_of self) self.limit (text_of self)) }
         ensures err { IfErr result (λ fault. IsUnended (format_of self) self.limit
             (text_of self) fault) }
     {
@@ -289,23 +283,24 @@ impl Reading {
             });
         }
         match parts.finish() {
-            Ok(state) => Ok(state),
+            Ok(made) => Ok(made),
             Err(_) => Err(StateFault {
                 at: item_at,
                 cause: StateCause::Memory,
             }),
         }
     }
+}
 
+impl<R: Receiver> Reading<Received<R>> {
     /// The state that receives what was read, joined with the state whose text it is, or the fault of a text that ends before the state does. A fault leaves it as it was.
     pub(crate) fn join(self) -> (State, Result<(), StateFault>)
-        requires reading { IsReading self }
-        requires received { IsSome self.parts.own }
-        ensures ok { IsOk result.1 → (own : states.State) → self.parts.own ≡ Some own
-            → JoinsText (format_of self) self.limit (text_of self) own result.0 }
+        requires { IsReading self }
+        ensures ok { IsOk result.1
+            → JoinsText (format_of self) self.limit (text_of self) R.own result.0 }
         ensures err { IfErr result.1 (λ fault. IsUnended (format_of self) self.limit
             (text_of self) fault) }
-        ensures back { IsErr result.1 → self.parts.own ≡ Some result.0 }
+        ensures back { IsErr result.1 → result.0 ≡ R.own }
     {
         let at = self.item_at;
         if self.stage.width() > 0 {
@@ -324,8 +319,7 @@ impl Reading {
 
     /// The state that receives what is read, as it was.
     pub(crate) fn into_own(self) -> State
-        requires { IsSome self.parts.own }
-        ensures { self.parts.own ≡ Some result }
+        ensures { result ≡ R.own }
     {
         self.parts.into_own()
     }

@@ -8,26 +8,24 @@ ghost use Rattle.docker_bytes.specs.ParserRead.{HasRead, HasFailed};
 
 use crate::fault::{StateFault, Step};
 use crate::parser::Parser;
-use docker_parts::State;
 use docker_parts::format::Format;
+use docker_parts::{State, Whole};
 use std::alloc::Global;
 use std::marker::Model;
 
 /// A parser of the text of one state, which comes in pieces of any length. It keeps the parts so far, and at most 80 bytes of the one that comes next.
 #[derive(Debug, Drop)]
 pub struct StateParser {
-    parser: Parser,
+    parser: Parser<Whole>,
 }
 
 impl Model for StateParser {
-    ghost use Rattle.std.specs.Prelude.{◌≡◌, None};
-    ghost use Rattle.docker_bytes.specs.ParserRead.{ParserState, own_of};
+    ghost use Rattle.docker_bytes.specs.ParserRead.{ParserState};
+    ghost use Rattle.docker_model.specs.state.State as states;
 
-    ghost Value = { ParserState };
+    ghost Value = { ParserState states.State };
 
     ghost view = { λ it. it.parser };
-
-    ghost invariant = { λ it. own_of it.parser ≡ None };
 }
 
 impl StateParser {
@@ -36,7 +34,7 @@ impl StateParser {
         ensures { HasRead result dks_2 limit [] }
     {
         StateParser {
-            parser: Parser::new(alloc, Format::Dks2, limit),
+            parser: Parser::new(alloc, Format::Dks2, limit, Whole::new(alloc)),
         }
     }
 

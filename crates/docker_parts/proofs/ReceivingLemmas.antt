@@ -12,11 +12,7 @@ use Rattle.state_laws.proofs.joins.StagedEntry.{nothing_staged, one_staged_more,
 use Rattle.docker_state.specs.declared.item.LedgerItem.{LedgerItem}
 use Rattle.docker_state.specs.Parts.{last_key}
 use Rattle.docker_state.specs.Staging.{Staging, IsOffered, IsAboveStaged}
-use Rattle.docker_parts.specs.Receiving.{told_state, told_of, items_of, IsStagedOf}
-use Rattle.docker_parts.specs.declared.receiving.Receiving.{Receiving}
-use Rattle.docker_parts.specs.declared.store.Store.{Store}
-use Rattle.docker_parts.specs.declared.store.Store.TheVariants as store
-use Rattle.docker_parts.specs.Store.{told_in, own_in}
+use Rattle.docker_parts.specs.Receiving.{told_state, items_of, IsStagedOf}
 use Rattle.docker_parts.specs.Told.{under}
 
 -- a key above all that were given is above what is staged of them
@@ -68,14 +64,3 @@ last_of xs x =
     there : (ys : List _) → slice_get (ys ++ x ∷ []) (length ys) ≡ Some x
     there [] = refl
     there (y ∷ ys) = there ys
-
--- the join of what a state received is that of its store
-pub store_joins : (held : Store) (it : Receiving) (after : State) → held ≡ store.Received it
-    → ((horizon : ℕ) → IsValid (under horizon (told_of it)) → IsJoin it.own (told_of it) after) → (own : State) → own_in held ≡ Some own
-    → (horizon : ℕ) → IsValid (under horizon (told_in held)) → IsJoin own (told_in held) after
-store_joins held it after is joins own mine horizon valid =
-    let told : told_in held ≡ told_of it = ap told_in is in
-    let both : Some it.own ≡ Some own = sym (ap own_in is) ∙ mine in
-    let one : it.own ≡ own = cc in
-    subst (λ t. IsJoin own t after) (sym told)
-    (subst (λ o. IsJoin o (told_of it) after) one (joins horizon (subst (λ t. IsValid (under horizon t)) told valid)))

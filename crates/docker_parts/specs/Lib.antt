@@ -1,6 +1,5 @@
 pub mod Told
 pub mod Receiving
-pub mod Store
 pub mod Stage
 pub mod FaultMeaning
 pub mod CauseText

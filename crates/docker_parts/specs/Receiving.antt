@@ -24,7 +24,7 @@ items_of items None = map item_meant items
 items_of items (Some staging) = staging.items
 
 -- what was given
-abbrev pub told_of : Receiving → State
+abbrev pub told_of : {R : Type 0} → Receiving R → State
 told_of it = told_state (items_of it.items.items it.staging) it.given.entries
 
 -- of the entries given those are staged that are to be, under the floor of both ledgers
@@ -32,9 +32,10 @@ pub record IsStagedOf (own : State) (staging : Staging) (entries : List (model.K
   pub floor : IsFloor (own.ledger ++ staging.items) staging.floor
   pub staged : IsStaged own staging.floor entries staging.staged
 
--- a valid state and what it has received agree with what was given
-pub record IsReceiving (it : Receiving) : Type 0 where
-  pub own : IsValid it.own
+-- a valid state, this one, and what it has received agree with what was given
+pub record IsReceiving {R : Type 0} (own : State) (it : Receiving R) : Type 0 where
+  pub own_is : it.own ≡ own
+  pub valid : IsValid it.own
   pub ledger : IsLedger (told_of it).ledger
   pub last : option_map key_meant it.last ≡ last_key it.given.entries
   pub count : it.count ≡ length it.given.entries

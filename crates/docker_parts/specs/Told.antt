@@ -25,8 +25,3 @@ with_item state item = record { horizon = state.horizon; ledger = state.ledger +
 -- a state, and one entry more
 abbrev pub with_row : State → Key × Entry → State
 with_row state row = record { horizon = state.horizon; ledger = state.ledger; entries = state.entries ++ row ∷ [] }
-
--- what the parts of a text have told, and the state that receives it, if one does
-pub record Told : Type 0 where
-  pub told : State
-  pub own : Option State

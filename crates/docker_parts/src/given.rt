@@ -12,7 +12,7 @@ use std::marker::Model;
 
 /// The entries that were given, each with its key.
 #[derive(Drop)]
-pub(crate) struct Given {
+pub struct Given {
     pub ghost entries: { List (model.Key × ops.Entry) },
 }
 
@@ -22,14 +22,14 @@ impl Model for Given {
 
 impl Given {
     /// No entry.
-    pub(crate) fn new() -> Given
+    pub fn new() -> Given
         ensures { result.entries ≡ [] }
     {
         Given {}
     }
 
     /// An entry more.
-    pub(crate) fn with(_before: &Given, _key: &Key, _entry: &Entry) -> Given
+    pub fn with(_before: &Given, _key: &Key, _entry: &Entry) -> Given
         ensures { result.entries ≡ _before.now.entries
             ++ (key_meant _key.now, entry_meant _entry.now) ∷ [] }
     {

@@ -9,6 +9,7 @@ ghost use Rattle.docker_parts.specs.Judged.{IsJudgedKey};
 
 use crate::cause::StateCause;
 use crate::fields::{field, number_16};
+use crate::keeper::Keeper;
 use crate::stage::Tag;
 use crate::told::Told;
 use cif_file::{AssocKey, Key, ScheduleKey};
@@ -84,9 +85,9 @@ fn key_in(tag: Tag, bytes: &[u8]) -> Option<Key>
 }
 
 /// Whether a key is above those of the entries so far.
-fn is_above(parts: &Told, key: &Key) -> bool
-    requires { AreAscending parts.now.told.entries }
-    ensures { IsTrue result ↔ IsAboveEntries parts.now.told (key_meant key.now) }
+fn is_above<K: Keeper>(parts: &Told<K>, key: &Key) -> bool
+    requires { AreAscending parts.now.entries }
+    ensures { IsTrue result ↔ IsAboveEntries parts.now (key_meant key.now) }
 {
     match parts.last() {
         Some(last) => *last < *key,
@@ -95,10 +96,14 @@ fn is_above(parts: &Told, key: &Key) -> bool
 }
 
 /// The key of the next entry, or why it is bad.
-pub(crate) fn judged_key(tag: Tag, parts: &Told, bytes: &[u8]) -> Result<Key, StateCause>
+pub(crate) fn judged_key<K: Keeper>(
+    tag: Tag,
+    parts: &Told<K>,
+    bytes: &[u8],
+) -> Result<Key, StateCause>
     requires wide { length bytes.now ≡ key_width (tag_meant tag) }
-    requires ascending { AreAscending parts.now.told.entries }
-    ensures { IsJudgedKey parts.now.told (key_in (tag_meant tag) bytes.now) result }
+    requires ascending { AreAscending parts.now.entries }
+    ensures { IsJudgedKey parts.now (key_in (tag_meant tag) bytes.now) result }
 {
     let Some(key) = key_in(tag, bytes) else {
         return Err(StateCause::Body);

@@ -16,11 +16,25 @@ use cif_line::Memory;
 use docker_join::Entry;
 use docker_state::{LedgerItem, Staging, State};
 use std::alloc::Global;
-use std::{fmt, mem};
+use std::marker::{Brand, PhantomData};
+use std::mem;
+
+/// Names the state that receives one text's parts: a type that is bound by it holds that state, whatever is called on it.
+pub trait Receiver {
+    ghost use Rattle.docker_model.specs.state.State as states;
+
+    ghost own: { states.State };
+}
+
+impl Receiver for Brand {
+    ghost use Rattle.std.specs.Prelude.{[]};
+
+    ghost own = { record { horizon = 0; ledger = []; entries = [] } };
+}
 
 /// A state, and what it has received so far: the ledger items, and from the first entry on what is staged; the last key and the number of the entries that were given, staged or not.
 #[derive(Drop)]
-pub(crate) struct Receiving {
+pub(crate) struct Receiving<R> {
     alloc: Global,
     own: State,
     items: Vec<LedgerItem>,
@@ -28,12 +42,7 @@ pub(crate) struct Receiving {
     last: Option<Key>,
     count: u64,
     given: Given,
-}
-
-impl fmt::Debug for Receiving {
-    fn fmt<W: fmt::Write>(&self, f: &mut fmt::Formatter<W>) -> fmt::Result {
-        f.write_str("Receiving")
-    }
+    of: PhantomData<R>,
 }
 
 /// Offers the next entry to what is staged of those before it.
@@ -57,13 +66,13 @@ fn offer(
     staging.offer(own, key, entry)
 }
 
-impl Receiving {
+impl<R: Receiver> Receiving<R> {
     /// Nothing received yet.
-    pub(crate) fn new(alloc: Global, own: State) -> Receiving
-        requires { IsValid own }
-        ensures receiving { IsReceiving result }
+    pub(crate) fn new(alloc: Global, own: State) -> Receiving<R>
+        requires valid { IsValid own }
+        requires own { own ≡ R.own }
+        ensures receiving { IsReceiving R.own result }
         ensures none { told_of result ≡ told_state [] [] }
-        ensures own { result.own ≡ own }
     {
         Receiving {
             alloc,
@@ -73,18 +82,18 @@ impl Receiving {
             last: None,
             count: 0,
             given: Given::new(),
+            of: PhantomData,
         }
     }
 
     /// Takes the next ledger item. None comes behind an entry.
     pub(crate) fn item(&mut self, item: LedgerItem) -> Result<(), Memory>
-        requires receiving { IsReceiving self.old }
+        requires receiving { IsReceiving R.own self.old }
         requires before_entries { self.old.given.entries ≡ [] }
         requires ledger { IsLedger ((told_of self.old).ledger ++ item_meant item ∷ []) }
         ensures ok { IsOk result
             → told_of self.new ≡ with_item (told_of self.old) (item_meant item) }
-        ensures receiving { IsReceiving self.new }
-        ensures own { self.new.own ≡ self.old.own }
+        ensures receiving { IsReceiving R.own self.new }
     {
         if self.staging.is_some() {
             return Err(Memory);
@@ -95,13 +104,12 @@ impl Receiving {
 
     /// Begins to stage: the ledger is whole.
     fn begin(&mut self) -> Result<(), Memory>
-        requires receiving { IsReceiving self.old }
+        requires receiving { IsReceiving R.own self.old }
         requires none { self.old.staging ≡ None }
         ensures ok { IsOk result }
         ensures some { IsSome self.new.staging }
         ensures same { told_of self.new ≡ told_of self.old }
-        ensures receiving { IsReceiving self.new }
-        ensures own { self.new.own ≡ self.old.own }
+        ensures receiving { IsReceiving R.own self.new }
     {
         let items = mem::replace(&mut self.items, Vec::new(self.alloc));
         self.staging = Some(Staging::new(self.alloc, &self.own, items)?);
@@ -110,14 +118,13 @@ impl Receiving {
 
     /// Takes the next entry, with its key.
     pub(crate) fn entry(&mut self, key: Key, entry: Entry) -> Result<(), Memory>
-        requires receiving { IsReceiving self.old }
+        requires receiving { IsReceiving R.own self.old }
         requires few { length self.old.given.entries < 2 ^ 64 - 1 }
         requires here { IsStampHere (told_of self.old) (key_meant key) (entry_meant entry).stamp }
         requires op { IsOpOf (key_meant key) (entry_meant entry).op }
         ensures ok { IsOk result → told_of self.new
             ≡ with_row (told_of self.old) (key_meant key, entry_meant entry) }
-        ensures receiving { IsReceiving self.new }
-        ensures own { self.new.own ≡ self.old.own }
+        ensures receiving { IsReceiving R.own self.new }
     {
         if self.staging.is_none() {
             self.begin()?;
@@ -145,7 +152,7 @@ impl Receiving {
 
     /// How many entries were given.
     pub(crate) fn len(&self) -> u64
-        requires { IsReceiving self.now }
+        requires { IsReceiving R.own self.now }
         ensures { result ≡ length (told_of self.now).entries }
     {
         self.count
@@ -153,7 +160,7 @@ impl Receiving {
 
     /// The key of the last entry given. None where there is none yet.
     pub(crate) fn last(&self) -> Option<&Key>
-        requires { IsReceiving self.now }
+        requires { IsReceiving R.own self.now }
         ensures { option_map key_meant (option_copied result)
             ≡ last_key (told_of self.now).entries }
     {
@@ -162,10 +169,10 @@ impl Receiving {
 
     /// The state joined with what was received. Want of memory leaves the state as it was.
     pub(crate) fn finish(self) -> (State, Result<(), Memory>)
-        requires { IsReceiving self }
+        requires { IsReceiving R.own self }
         ensures ok { IsOk result.1 → (horizon : ℕ) → IsValid (under horizon (told_of self))
-            → IsJoin self.own (told_of self) result.0 }
-        ensures err { IsErr result.1 → result.0 ≡ self.own }
+            → IsJoin R.own (told_of self) result.0 }
+        ensures err { IsErr result.1 → result.0 ≡ R.own }
     {
         let Receiving {
             alloc,
@@ -175,6 +182,7 @@ impl Receiving {
             last: _,
             count: _,
             given: _,
+            of: _,
         } = self;
         let staging = match staging {
             Some(staging) => staging,
@@ -189,7 +197,8 @@ impl Receiving {
 
     /// The state as it was.
     pub(crate) fn into_own(self) -> State
-        ensures { result ≡ self.own }
+        requires { IsReceiving R.own self }
+        ensures { result ≡ R.own }
     {
         self.own
     }

@@ -9,6 +9,7 @@ ghost use Rattle.docker_parts.specs.Lines.{BeginUpTo, AreLinesIn, AreLinesUpToIn
 
 use crate::body::is_first_of;
 use crate::cause::StateCause;
+use crate::keeper::Keeper;
 use crate::told::Told;
 use cif_file::{Journey, Lines, ScheduleKey};
 use cif_line::Line;
@@ -121,31 +122,31 @@ impl Gathered {
 }
 
 /// Whether a line may come next as far as the key and the horizon go: behind other lines, or as the first line of a new schedule of this key that has not to lapse. Its fields are judged by the reader of lines.
-fn may_follow(key: &ScheduleKey, told: &Told, lines: &Gathered, line: &Line) -> bool
+fn may_follow<K: Keeper>(key: &ScheduleKey, told: &Told<K>, lines: &Gathered, line: &Line) -> bool
     ensures first { IsTrue result → lines.now ≡ [] →
-        IsOfKey told.now.told.horizon (schedule_meant key.now) line.now }
+        IsOfKey told.now.horizon (schedule_meant key.now) line.now }
     ensures refused { result ≡ false → (lines.now ≡ []) ×
-        (¬ IsFirstOf told.now.told.horizon (schedule_meant key.now) line.now) }
+        (¬ IsFirstOf told.now.horizon (schedule_meant key.now) line.now) }
 {
     !lines.is_empty() || is_first_of(key, told.horizon(), line)
 }
 
 /// Takes the next of so many lines of this key. `Body` where it does not go on with a schedule of this key that has as many lines, or where the schedule has to lapse under the horizon that was read.
 #[inline(always)]
-pub fn judged_line(
+pub fn judged_line<K: Keeper>(
     key: &ScheduleKey,
-    told: &Told,
+    told: &Told<K>,
     count: u32,
     lines: &mut Gathered,
     bytes: &[u8],
 ) -> Result<(), StateCause>
     requires lines_of { (lines.old ≡ [])
-        ⊎ AreLinesIn told.now.told (schedule_meant key.now) lines.old }
+        ⊎ AreLinesIn told.now (schedule_meant key.now) lines.old }
     requires more { length lines.old < count }
     ensures taken { IsOk result → lines.new ≡ lines.old ++ bytes.now ∷ [] }
-    ensures up_to { IsOk result → AreLinesUpToIn told.now.told (schedule_meant key.now) count
+    ensures up_to { IsOk result → AreLinesUpToIn told.now (schedule_meant key.now) count
         (lines.old ++ bytes.now ∷ []) }
-    ensures err { IfErr result (λ cause. IsUpToRefusal told.now.told
+    ensures err { IfErr result (λ cause. IsUpToRefusal told.now
         (schedule_meant key.now) count lines.old bytes.now (cause_meant cause)) }
 {
     let Ok(line) = Line::new(bytes) else {

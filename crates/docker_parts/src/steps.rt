@@ -18,6 +18,7 @@ use crate::body::{assoc_body, tiploc_body};
 use crate::cause::StateCause;
 use crate::fields::{number_16, number_32, number_64};
 use crate::item::judged_item;
+use crate::keeper::Keeper;
 use crate::key::judged_key;
 use crate::schedule::{Gathered, judged_line};
 use crate::stage::{Stage, Tag};
@@ -60,13 +61,12 @@ fn after_mark(format: Format, bytes: &[u8]) -> Result<Stage, StateCause>
 }
 
 /// Takes the horizon.
-fn after_horizon(parts: &mut Told, bytes: &[u8]) -> Result<Stage, StateCause>
+fn after_horizon<K: Keeper>(parts: &mut Told<K>, bytes: &[u8]) -> Result<Stage, StateCause>
     ghost format: { formats.Format }
-    requires fresh { IsFresh Stage.Horizon parts.old.told }
+    requires fresh { IsFresh Stage.Horizon parts.old }
     requires wide { length bytes.now ≡ HORIZON }
-    ensures judges { (lines : List (List ℕ)) →
-        Judges format before_horizon bytes.now parts.new.told lines result }
-    ensures own { parts.new.own ≡ parts.old.own }
+    ensures { (lines : List (List ℕ)) →
+        Judges format before_horizon bytes.now parts.new lines result }
 {
     match Day::from_number(number_16(bytes, 0)) {
         Some(day) => {
@@ -78,12 +78,12 @@ fn after_horizon(parts: &mut Told, bytes: &[u8]) -> Result<Stage, StateCause>
 }
 
 /// The stage behind the items so far, of so many.
-fn stage_in_ledger(count: u64, parts: &Told) -> Stage
-    requires entries { parts.now.told.entries ≡ [] }
+fn stage_in_ledger<K: Keeper>(count: u64, parts: &Told<K>) -> Stage
+    requires entries { parts.now.entries ≡ [] }
     ensures is { (lines : List (List ℕ)) →
-        stage_meant result parts.now.told lines
-        ≡ after_items parts.now.told.horizon count parts.now.told.ledger }
-    ensures fresh { IsFresh result parts.now.told }
+        stage_meant result parts.now lines
+        ≡ after_items parts.now.horizon count parts.now.ledger }
+    ensures fresh { IsFresh result parts.now }
 {
     if parts.ledger().len() as u64 >= count {
         Stage::EntryCount
@@ -93,10 +93,10 @@ fn stage_in_ledger(count: u64, parts: &Told) -> Stage
 }
 
 /// The stage behind the entries so far, of so many.
-fn stage_in_entries(count: u64, parts: &Told) -> Stage
+fn stage_in_entries<K: Keeper>(count: u64, parts: &Told<K>) -> Stage
     ensures is { (lines : List (List ℕ)) →
-        stage_meant result parts.now.told lines ≡ after_entries count parts.now.told }
-    ensures fresh { IsFresh result parts.now.told }
+        stage_meant result parts.now lines ≡ after_entries count parts.now }
+    ensures fresh { IsFresh result parts.now }
 {
     if parts.len() >= count {
         Stage::End
@@ -106,16 +106,15 @@ fn stage_in_entries(count: u64, parts: &Told) -> Stage
 }
 
 /// Takes a ledger item.
-fn after_item(count: u64, parts: &mut Told, bytes: &[u8]) -> Result<Stage, StateCause>
+fn after_item<K: Keeper>(count: u64, parts: &mut Told<K>, bytes: &[u8]) -> Result<Stage, StateCause>
     ghost format: { formats.Format }
     requires good { AreGood format
-        (before_item parts.old.told.horizon count parts.old.told.ledger) }
-    requires fresh { parts.old.told.entries ≡ [] }
+        (before_item parts.old.horizon count parts.old.ledger) }
+    requires fresh { parts.old.entries ≡ [] }
     requires wide { length bytes.now ≡ ITEM }
-    ensures judges { (lines : List (List ℕ)) →
-        Judges format (before_item parts.old.told.horizon count parts.old.told.ledger) bytes.now
-        parts.new.told lines result }
-    ensures own { parts.new.own ≡ parts.old.own }
+    ensures { (lines : List (List ℕ)) →
+        Judges format (before_item parts.old.horizon count parts.old.ledger) bytes.now
+        parts.new lines result }
 {
     let item = judged_item(parts.ledger(), bytes)?;
     parts.item(item)?;
@@ -138,26 +137,36 @@ fn after_tag(count: u64, bytes: &[u8]) -> Result<Stage, StateCause>
 }
 
 /// Takes the key of an entry.
-fn after_key(count: u64, tag: Tag, parts: &Told, bytes: &[u8]) -> Result<Stage, StateCause>
+fn after_key<K: Keeper>(
+    count: u64,
+    tag: Tag,
+    parts: &Told<K>,
+    bytes: &[u8],
+) -> Result<Stage, StateCause>
     ghost format: { formats.Format }
-    requires good { AreGood format (in_entry count parts.now.told (before_key (tag_meant tag))) }
+    requires good { AreGood format (in_entry count parts.now (before_key (tag_meant tag))) }
     requires wide { length bytes.now ≡ key_width (tag_meant tag) }
     ensures { (lines : List (List ℕ)) →
-        Judges format (in_entry count parts.now.told (before_key (tag_meant tag))) bytes.now
-        parts.now.told lines result }
+        Judges format (in_entry count parts.now (before_key (tag_meant tag))) bytes.now
+        parts.now lines result }
 {
     let key = judged_key(tag, parts, bytes)?;
     Ok(Stage::Stamp(count, key))
 }
 
 /// Takes the stamp of an entry.
-fn after_stamp(count: u64, key: Key, parts: &Told, bytes: &[u8]) -> Result<Stage, StateCause>
+fn after_stamp<K: Keeper>(
+    count: u64,
+    key: Key,
+    parts: &Told<K>,
+    bytes: &[u8],
+) -> Result<Stage, StateCause>
     ghost format: { formats.Format }
-    requires good { AreGood format (in_entry count parts.now.told (before_stamp (key_meant key))) }
+    requires good { AreGood format (in_entry count parts.now (before_stamp (key_meant key))) }
     requires wide { length bytes.now ≡ STAMP }
     ensures { (lines : List (List ℕ)) →
-        Judges format (in_entry count parts.now.told (before_stamp (key_meant key))) bytes.now
-        parts.now.told lines result }
+        Judges format (in_entry count parts.now (before_stamp (key_meant key))) bytes.now
+        parts.now lines result }
 {
     match judged_stamp(parts.ledger(), bytes) {
         Some(stamp) => Ok(Stage::Op(count, key, stamp)),
@@ -166,38 +175,42 @@ fn after_stamp(count: u64, key: Key, parts: &Told, bytes: &[u8]) -> Result<Stage
 }
 
 /// Gives an entry whose parts are all there.
-fn give(count: u64, parts: &mut Told, key: Key, stamp: Stamp, op: Op) -> Result<Stage, StateCause>
-    requires more { length parts.old.told.entries < count }
-    requires here { IsStampHere parts.old.told (key_meant key) (stamp_meant stamp) }
+fn give<K: Keeper>(
+    count: u64,
+    parts: &mut Told<K>,
+    key: Key,
+    stamp: Stamp,
+    op: Op,
+) -> Result<Stage, StateCause>
+    requires more { length parts.old.entries < count }
+    requires here { IsStampHere parts.old (key_meant key) (stamp_meant stamp) }
     requires agrees { IsOpOf (key_meant key) (op_meant op) }
     ensures ok { IfOk result (λ stage. (lines : List (List ℕ)) →
-        stage_meant stage parts.new.told lines ≡ after_entries count
-        (with_entry parts.old.told (key_meant key) (stamp_meant stamp) (op_meant op))) }
-    ensures fresh { IfOk result (λ stage. IsFresh stage parts.new.told) }
+        stage_meant stage parts.new lines ≡ after_entries count
+        (with_entry parts.old (key_meant key) (stamp_meant stamp) (op_meant op))) }
+    ensures fresh { IfOk result (λ stage. IsFresh stage parts.new) }
     ensures err { IfErr result (λ cause. cause ≡ StateCause.Memory) }
-    ensures own { parts.new.own ≡ parts.old.own }
 {
     parts.entry(key, Entry { stamp, op })?;
     Ok(stage_in_entries(count, parts))
 }
 
 /// Takes the op of an entry.
-fn after_op(
+fn after_op<K: Keeper>(
     format: Format,
     count: u64,
     key: Key,
     stamp: Stamp,
-    parts: &mut Told,
+    parts: &mut Told<K>,
     bytes: &[u8],
 ) -> Result<Stage, StateCause>
     requires good { AreGood (format_meant format)
-        (in_entry count parts.old.told (before_op (key_meant key) (stamp_meant stamp))) }
+        (in_entry count parts.old (before_op (key_meant key) (stamp_meant stamp))) }
     requires wide { length bytes.now ≡ OP }
-    ensures judges { (lines : List (List ℕ)) →
+    ensures { (lines : List (List ℕ)) →
         Judges (format_meant format)
-        (in_entry count parts.old.told (before_op (key_meant key) (stamp_meant stamp))) bytes.now
-        parts.new.told lines result }
-    ensures own { parts.new.own ≡ parts.old.own }
+        (in_entry count parts.old (before_op (key_meant key) (stamp_meant stamp))) bytes.now
+        parts.new lines result }
 {
     match (format, bytes[0]) {
         (_, DELETED) => give(count, parts, key, stamp, Op::Deleted),
@@ -208,22 +221,21 @@ fn after_op(
 }
 
 /// Takes the body of a TIPLOC.
-fn after_tiploc_body(
+fn after_tiploc_body<K: Keeper>(
     count: u64,
     code: Tiploc,
     stamp: Stamp,
-    parts: &mut Told,
+    parts: &mut Told<K>,
     bytes: &[u8],
 ) -> Result<Stage, StateCause>
     ghost format: { formats.Format }
     requires good { AreGood format
-        (in_entry count parts.old.told (before_body (tiploc_key code) (stamp_meant stamp))) }
+        (in_entry count parts.old (before_body (tiploc_key code) (stamp_meant stamp))) }
     requires wide { length bytes.now ≡ TIPLOC_BODY }
-    ensures judges { (lines : List (List ℕ)) →
+    ensures { (lines : List (List ℕ)) →
         Judges format
-        (in_entry count parts.old.told (before_body (tiploc_key code) (stamp_meant stamp)))
-        bytes.now parts.new.told lines result }
-    ensures own { parts.new.own ≡ parts.old.own }
+        (in_entry count parts.old (before_body (tiploc_key code) (stamp_meant stamp)))
+        bytes.now parts.new lines result }
 {
     match tiploc_body(bytes) {
         Some(body) => give(count, parts, Key::Tiploc(code), stamp, Op::Put(body)),
@@ -232,21 +244,20 @@ fn after_tiploc_body(
 }
 
 /// Takes the body of an association.
-fn after_assoc_body(
+fn after_assoc_body<K: Keeper>(
     count: u64,
     key: AssocKey,
     stamp: Stamp,
-    parts: &mut Told,
+    parts: &mut Told<K>,
     bytes: &[u8],
 ) -> Result<Stage, StateCause>
     ghost format: { formats.Format }
-    requires good { AreGood format (in_entry count parts.old.told
+    requires good { AreGood format (in_entry count parts.old
         (before_body (association_key (assoc_meant key)) (stamp_meant stamp))) }
-    ensures judges { (lines : List (List ℕ)) →
-        Judges format (in_entry count parts.old.told
+    ensures { (lines : List (List ℕ)) →
+        Judges format (in_entry count parts.old
         (before_body (association_key (assoc_meant key)) (stamp_meant stamp))) bytes.now
-        parts.new.told lines result }
-    ensures own { parts.new.own ≡ parts.old.own }
+        parts.new lines result }
 {
     match assoc_body(&key, parts.horizon(), bytes) {
         Some(body) => give(count, parts, Key::Assoc(key), stamp, Op::Put(body)),
@@ -304,22 +315,21 @@ struct Schedule {
 }
 
 /// Takes the last line of a schedule.
-fn after_last_line(
+fn after_last_line<K: Keeper>(
     alloc: Global,
     count: u64,
     schedule: Schedule,
-    parts: &mut Told,
+    parts: &mut Told<K>,
     lines: &mut Gathered,
     bytes: &[u8],
 ) -> Result<Stage, StateCause>
     ghost format: { formats.Format }
-    requires good { AreGood format (in_entry count parts.old.told (before_line
+    requires good { AreGood format (in_entry count parts.old (before_line
         (schedule_meant schedule.key) (stamp_meant schedule.stamp) schedule.count lines.old)) }
     requires last { schedule.count ≤ length lines.old + 1 }
-    ensures judges { Judges format (in_entry count parts.old.told (before_line
+    ensures { Judges format (in_entry count parts.old (before_line
         (schedule_meant schedule.key) (stamp_meant schedule.stamp) schedule.count lines.old))
-        bytes.now parts.new.told lines.new result }
-    ensures own { parts.new.own ≡ parts.old.own }
+        bytes.now parts.new lines.new result }
 {
     judged_line(&schedule.key, parts, schedule.count, lines, bytes)?;
     let op = Op::Put(Body::Schedule(lines.body(alloc)?));
@@ -328,23 +338,22 @@ fn after_last_line(
 }
 
 /// Takes the part that comes next, which is no line with more lines to come, and tells the stage behind it, or why the part is bad.
-pub fn step(
+pub fn step<K: Keeper>(
     alloc: Global,
     format: Format,
     stage: Stage,
-    parts: &mut Told,
+    parts: &mut Told<K>,
     lines: &mut Gathered,
     bytes: &[u8],
 ) -> Result<Stage, StateCause>
     ghost meant: { formats.Format }
     requires format { meant ≡ format_meant format }
-    requires ready { IsReady meant stage parts.old.told lines.old }
-    requires wide { length bytes.now ≡ width (stage_meant stage parts.old.told lines.old) }
+    requires ready { IsReady meant stage parts.old lines.old }
+    requires wide { length bytes.now ≡ width (stage_meant stage parts.old lines.old) }
     requires some { 0 < length bytes.now }
     requires last { IsLast stage lines.old }
-    ensures judges { Judges meant (stage_meant stage parts.old.told lines.old) bytes.now
-        parts.new.told lines.new result }
-    ensures own { parts.new.own ≡ parts.old.own }
+    ensures { Judges meant (stage_meant stage parts.old lines.old) bytes.now
+        parts.new lines.new result }
 {
     match stage {
         Stage::Mark => after_mark(format, bytes),

@@ -5,7 +5,6 @@ use cif_file::{FileCause, FileFault};
 use docker_cmd::{Fault, JobFault, OfficeFault};
 use docker_day::DockerFault;
 use docker_office::{RunFault, StateCause, StateFault};
-use docker_parts::{State, Told};
 use std::alloc::Global;
 use std::fmt::Display;
 use std::process::Abort;
@@ -83,17 +82,5 @@ fn faults_of_the_program(rt: HostRuntime) {
         alloc,
         Fault::Office(OfficeFault::Memory),
         "want of memory",
-    );
-}
-
-#[test]
-fn what_a_state_receives(rt: HostRuntime) {
-    let alloc = rt.alloc();
-    let told = Told::received_by(alloc, State::empty(alloc));
-    let text = format!(in alloc; "{told:?}").expect(&rt, "the text");
-    same(
-        &rt,
-        text.as_str(),
-        "Told { horizon: None, store: Received(Receiving) }",
     );
 }

@@ -22,23 +22,11 @@ returns-in-Ok-clause-few g c =
     loses_few (terms_of c.args.parser.now) (g.S.Source.left c.args.source.now) (g.S.Source.left c.feed_all.new.source)
     (c.in-Ok.ensures.no_further (terms_of c.args.parser.now) [] start)
 
-pub returns-in-Ok-clause-own : goal.returns-in-Ok-clause-own
-returns-in-Ok-clause-own g c =
-    let start = at_start c.args.parser.now c.requires.unread c.requires.limit in
-    let at = c.in-Ok.ensures.fed (terms_of c.args.parser.now) [] start in
-    at.taken.own
-
 pub returns-in-Err-Source-clause-few : goal.returns-in-Err-Source-clause-few
 returns-in-Err-Source-clause-few g c =
     let start = at_start c.args.parser.now c.requires.unread c.requires.limit in
     loses_few (terms_of c.args.parser.now) (g.S.Source.left c.args.source.now) (g.S.Source.left c.feed_all.new.source)
     (c.in-Err-Source.ensures.no_further (terms_of c.args.parser.now) [] start)
-
-pub returns-in-Err-Source-clause-own : goal.returns-in-Err-Source-clause-own
-returns-in-Err-Source-clause-own g c =
-    let start = at_start c.args.parser.now c.requires.unread c.requires.limit in
-    let at = c.in-Err-Source.ensures.failed (ap Err c.in-Err-Source.field-0-is) (terms_of c.args.parser.now) [] start in
-    at.1.taken.own
 
 pub returns-in-Err-Memory-clause-few : goal.returns-in-Err-Memory-clause-few
 returns-in-Err-Memory-clause-few g c =
@@ -65,12 +53,6 @@ returns-in-Err-Refused-clause-few g c =
     let start = at_start c.args.parser.now c.requires.unread c.requires.limit in
     loses_few (terms_of c.args.parser.now) (g.S.Source.left c.args.source.now) (g.S.Source.left c.feed_all.new.source)
     (c.in-Err-Refused.ensures.no_further (terms_of c.args.parser.now) [] start)
-
-pub returns-in-Err-Refused-clause-own : goal.returns-in-Err-Refused-clause-own
-returns-in-Err-Refused-clause-own g c =
-    let start = at_start c.args.parser.now c.requires.unread c.requires.limit in
-    let has = c.in-Err-Refused.ensures.refused c.in-Err-Refused.fault (ap Err c.in-Err-Refused.field-0-is) (terms_of c.args.parser.now) [] start in
-    has.refused.own
 
 pub returns-in-Err-Refused-clause-source : goal.returns-in-Err-Refused-clause-source
 returns-in-Err-Refused-clause-source g c =

@@ -3,7 +3,7 @@ use Rattle.std.proofs.Common.{rules}
 use Rattle.docker_parts.proofs.key.judged_key.Goals as goal
 
 pub returns-in_default : goal.returns-in_default
-returns-in_default c = search rules
+returns-in_default g c = search rules
 
 pub returns-then-not-is_above : goal.returns-then-not-is_above
-returns-then-not-is_above c = search rules
+returns-then-not-is_above g c = search rules

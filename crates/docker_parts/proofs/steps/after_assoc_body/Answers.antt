@@ -2,5 +2,5 @@
 use Rattle.std.proofs.Common.{rules}
 use Rattle.docker_parts.proofs.steps.after_assoc_body.Goals as goal
 
-pub returns-in-None-clause-judges : goal.returns-in-None-clause-judges
-returns-in-None-clause-judges g c = search rules
+pub returns-in-None : goal.returns-in-None
+returns-in-None g c = search rules

@@ -2,8 +2,8 @@
 use Rattle.std.proofs.Common.{rules}
 use Rattle.docker_parts.proofs.steps.after_horizon.Goals as goal
 
-pub returns-in-None-clause-judges : goal.returns-in-None-clause-judges
-returns-in-None-clause-judges g c = search rules
+pub returns-in-None : goal.returns-in-None
+returns-in-None g c = search rules
 
-pub returns-in-Some-clause-judges : goal.returns-in-Some-clause-judges
-returns-in-Some-clause-judges g c = search rules
+pub returns-in-Some : goal.returns-in-Some
+returns-in-Some g c = search rules

@@ -6,5 +6,5 @@ use Rattle.docker_parts.proofs.steps.after_item.Goals as goal
 
 pub item-requires-clause-ledger : goal.item-requires-clause-ledger
 item-requires-clause-ledger g c =
-    item_follows c.args.parts.now.told.ledger (map item_meant c.ledger.result.now) (item_in c.args.bytes.now) (item_meant c.in_ok-item.item) c.ledger.ensures
-    c.requires.0.1 c.in_ok-item.ensures.0 c.in_ok-item.ensures.1
+    item_follows c.args.parts.now.ledger (map item_meant c.ledger.result.now) (item_in c.args.bytes.now) (item_meant c.in_ok-item.item) c.ledger.ensures
+    c.requires.1.0.1 c.in_ok-item.ensures.0 c.in_ok-item.ensures.1

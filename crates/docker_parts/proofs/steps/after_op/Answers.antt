@@ -2,5 +2,5 @@
 use Rattle.std.proofs.Common.{rules}
 use Rattle.docker_parts.proofs.steps.after_op.Goals as goal
 
-pub returns-in_default-clause-judges : goal.returns-in_default-clause-judges
-returns-in_default-clause-judges c = search rules
+pub returns-in_default : goal.returns-in_default
+returns-in_default g c = search rules

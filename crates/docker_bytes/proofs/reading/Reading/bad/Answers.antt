@@ -3,4 +3,4 @@ use Rattle.std.proofs.Common.{rules}
 use Rattle.docker_bytes.proofs.reading.Reading.bad.Goals as goal
 
 pub returns : goal.returns
-returns c = search rules
+returns g c = search rules

@@ -3,4 +3,4 @@ use Rattle.docker_bytes.proofs.reading.Reading.judge.Given as goal
 
 -- the part is one of the format of the text
 abbrev pub ghost-step : goal.ghost-step
-ghost-step a = format_meant a.format
+ghost-step g a = format_meant a.format

@@ -3,10 +3,10 @@ use Rattle.std.proofs.Common.{rules}
 use Rattle.docker_bytes.proofs.reading.Reading.new.Goals as goal
 
 pub returns-clause-reading : goal.returns-clause-reading
-returns-clause-reading c = search rules
+returns-clause-reading g c = search rules
 
 pub returns-clause-text : goal.returns-clause-text
-returns-clause-text c = search rules
+returns-clause-text g c = search rules
 
 pub returns-clause-limit : goal.returns-clause-limit
-returns-clause-limit c = search rules
+returns-clause-limit g c = search rules

@@ -7,8 +7,8 @@ use Rattle.docker_bytes.proofs.ReadingLemmas.{before_rest, open_text, told_of_pi
 use Rattle.docker_bytes.proofs.reading.Reading.read.Goals as goal
 
 pub returns-then-rest-missing-clause-step : goal.returns-then-rest-missing-clause-step
-returns-then-rest-missing-clause-step c =
-    let wide = c.width-width.ensures.value c.parts.self.parts.told c.parts.self.lines in
+returns-then-rest-missing-clause-step g c =
+    let wide = c.width-width.ensures.value c.parts.self.parts c.parts.self.lines in
     let kept = c.len.ensures.value in
     let below = c.if-rest-missing.true in
     let short : length c.parts.self.partial.items + length c.parts.rest.now < width (before_of c.parts.self) = omega arith in (
@@ -18,14 +18,14 @@ returns-then-rest-missing-clause-step c =
     )
 
 pub returns-in_err-take-clause-err : goal.returns-in_err-take-clause-err
-returns-in_err-take-clause-err c =
+returns-in_err-take-clause-err g c =
     let same = err_from_is_err_and c.from_residual-in_err-take.result c.from_residual-in_err-take.ensures.1 in
     let fault = c.in_err-take.field-0.0 in
     rw (same.1, same.2) (told_of_piece c.args.self.now c.parts.self c.args.piece.now c.parts.rest.now c.parts.invariant.whole c.parts.invariant.on
     c.split_at.result.0.now c.split_at.result.1.now fault.at (cause_meant fault.cause) c.split_at.ensures.by_index.0 c.in_err-take.ensures.err)
 
 pub returns-in_err-rest-clause-err : goal.returns-in_err-rest-clause-err
-returns-in_err-rest-clause-err c =
+returns-in_err-rest-clause-err g c =
     let same = err_from_is_err_and c.from_residual-in_err-rest.result c.from_residual-in_err-rest.ensures.1 in
     let fault = c.in_err-rest.field-0.0 in
     let behind = c.split_at.result.1.now in
@@ -36,7 +36,7 @@ returns-in_err-rest-clause-err c =
     behind [] fault.at (cause_meant fault.cause) (sym (append-nil behind)) c.in_err-rest.ensures.err)
 
 pub parts-preserved : goal.parts-preserved
-parts-preserved c =
+parts-preserved g c =
     let behind = c.split_at.result.1.now in
     let further = rest_more c.args.piece.now c.parts.rest.now c.split_at.result.0.now behind c.parts.invariant.whole c.split_at.ensures.by_index.0 in
     let on = reads_further c.args.self.now c.parts.self c.args.piece.now c.parts.rest.now c.parts.invariant.whole c.parts.invariant.on c.take.new.self
@@ -47,5 +47,4 @@ parts-preserved c =
       whole = (rest_more c.args.piece.now behind (before_rest behind rest) rest further.1 split).1;
       on = reads_further c.args.self.now c.take.new.self c.args.piece.now behind further.1 on c.take_lines.new.self
           (before_rest behind rest) rest split c.in_ok-rest.ensures.on;
-      own = c.in_ok-rest.ensures.own ∙ c.in_ok-take.ensures.own ∙ c.parts.invariant.own;
     }

@@ -5,11 +5,10 @@ use Rattle.docker_bytes.proofs.ReadingLemmas.{before_rest}
 use Rattle.docker_bytes.proofs.reading.Reading.read.Given as goal
 
 abbrev pub invariant-parts : goal.invariant-parts
-invariant-parts l = record {
+invariant-parts g l = record {
   whole : before_rest l.piece l.rest ++ l.rest ≡ l.piece;
   on : ReadsOn l.fn.self l.self (before_rest l.piece l.rest);
-  own : l.self.parts.own ≡ l.fn.self.parts.own;
 }
 
 abbrev pub decreases-parts : goal.decreases-parts
-decreases-parts l = length l.rest
+decreases-parts g l = length l.rest

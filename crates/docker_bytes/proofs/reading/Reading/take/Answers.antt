@@ -6,7 +6,7 @@ use Rattle.docker_bytes.proofs.ReadingLemmas.{part_refused}
 use Rattle.docker_bytes.proofs.reading.Reading.take.Goals as goal
 
 pub returns-then-is_empty-clause-err : goal.returns-then-is_empty-clause-err
-returns-then-is_empty-clause-err c =
+returns-then-is_empty-clause-err g c =
     let empty : length c.args.self.now.partial.items ≡ 0 = search rules in
     let none : c.args.self.now.partial.items ≡ [] = nil_from_length c.args.self.now.partial.items empty in
     let low = c.if-len-front.false in
@@ -18,7 +18,7 @@ returns-then-is_empty-clause-err c =
     c.judge.ensures.err
 
 pub returns-clause-err : goal.returns-clause-err
-returns-clause-err c =
+returns-clause-err g c =
     let whole : c.as_slice.result.now ≡ c.args.self.now.partial.items ++ c.args.front.now = search rules in
     let size = ap length whole ∙ length-append c.args.self.now.partial.items c.args.front.now in
     let low = c.if-len-front.false in

@@ -9,18 +9,17 @@ use Rattle.docker_bytes.proofs.ReadingLemmas.{part_refused, told_of_piece, rest_
 use Rattle.docker_bytes.proofs.reading.Reading.take_lines.Goals as goal
 
 pub lines-init : goal.lines-init
-lines-init c =
+lines-init g c =
     let empty : length c.args.self.now.partial.items ≡ 0 = search rules in
     record {
       whole = (rest_first c.args.piece.now).1;
       on = reads_none c.args.self.now c.args.piece.now c.requires;
       line = record { entries = c.in-Line._entries; stamp = c.in-Line._stamp; is = c.in-Line.is };
       none = nil_from_length c.args.self.now.partial.items empty;
-      own = refl;
     }
 
 pub returns-in_err-take_line-clause-err : goal.returns-in_err-take_line-clause-err
-returns-in_err-take_line-clause-err c =
+returns-in_err-take_line-clause-err g c =
     let same = err_from_is_err_and c.from_residual.result c.from_residual.ensures.1 in
     let fault = c.in_err-take_line.field-0.0 in
     let line = c.split_at.result.0.now in
@@ -29,7 +28,7 @@ returns-in_err-take_line-clause-err c =
     let has = c.has_whole_line.ensures.0 c.lines-test.true in
     let below = has.1 in
     let wide : length line ≡ width (before_of c.lines.self) =
-    size ∙ sym (line_width c.in-Line.key c.in-Line.count c.lines.self.stage c.lines.invariant.line c.lines.self.parts.told c.lines.self.lines) in
+    size ∙ sym (line_width c.in-Line.key c.in-Line.count c.lines.self.stage c.lines.invariant.line c.lines.self.parts c.lines.self.lines) in
     let some : 0 < length line = omega arith in
     let fits : c.lines.self.reached + length line ≤ c.lines.self.limit = omega arith in
     rw (same.1, same.2) (told_of_piece c.args.self.now c.lines.self c.args.piece.now c.lines.rest.now c.lines.invariant.whole c.lines.invariant.on
@@ -38,11 +37,10 @@ returns-in_err-take_line-clause-err c =
     (ap (λ xs. xs ++ line) (sym c.lines.invariant.none)) wide some fits refused.0 refused.1))
 
 pub lines-preserved : goal.lines-preserved
-lines-preserved c = record {
+lines-preserved g c = record {
   whole = (rest_more c.args.piece.now c.lines.rest.now c.split_at.result.0.now c.split_at.result.1.now c.lines.invariant.whole c.split_at.ensures.by_index.0).1;
   on = reads_further c.args.self.now c.lines.self c.args.piece.now c.lines.rest.now c.lines.invariant.whole c.lines.invariant.on c.take_line.new.self
       c.split_at.result.0.now c.split_at.result.1.now c.split_at.ensures.by_index.0 (c.in_ok-take_line.ensures.ok refl);
   line = subst (IsLineOf c.in-Line.key c.in-Line.count) (sym c.in_ok-take_line.ensures.stage) c.lines.invariant.line;
   none = c.in_ok-take_line.ensures.partial ∙ c.lines.invariant.none;
-  own = c.in_ok-take_line.ensures.own ∙ c.lines.invariant.own;
 }

@@ -5,13 +5,12 @@ use Rattle.docker_bytes.proofs.ReadingLemmas.{before_rest}
 use Rattle.docker_bytes.proofs.reading.Reading.take_lines.Given as goal
 
 abbrev pub invariant-lines : goal.invariant-lines
-invariant-lines l = record {
+invariant-lines g l = record {
   whole : before_rest l.piece l.rest ++ l.rest ≡ l.piece;
   on : ReadsOn l.fn.self l.self (before_rest l.piece l.rest);
   line : IsLineOf l.key l.count l.self.stage;
   none : l.self.partial.items ≡ [];
-  own : l.self.parts.own ≡ l.fn.self.parts.own;
 }
 
 abbrev pub decreases-lines : goal.decreases-lines
-decreases-lines l = length l.rest
+decreases-lines g l = length l.rest

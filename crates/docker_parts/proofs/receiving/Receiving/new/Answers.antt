@@ -6,8 +6,9 @@ use Rattle.docker_parts.proofs.ReceivingLemmas.{no_last}
 use Rattle.docker_parts.proofs.receiving.Receiving.new.Goals as goal
 
 pub returns-clause-receiving : goal.returns-clause-receiving
-returns-clause-receiving c = record {
-  own = c.requires;
+returns-clause-receiving g c = record {
+  own_is = c.requires.own;
+  valid = c.requires.valid;
   ledger = subst (λ items. IsLedger (map item_meant items)) (sym c.new.ensures.items) no_items;
   last = no_last c.new-2.result.entries c.new-2.ensures;
   count = sym (ap length c.new-2.ensures);

@@ -3,4 +3,4 @@ use Rattle.std.proofs.Common.{rules}
 use Rattle.docker_parts.proofs.told.Told.new.Goals as goal
 
 pub returns : goal.returns
-returns c = search rules
+returns g c = search rules

@@ -1,6 +1,6 @@
 -- `auto` proves these too: they are written so that a wrong body is refused without a long search.
 use Rattle.std.proofs.Common.{rules}
-use Rattle.docker_bytes.proofs.parser.Parser.join.Goals as goal
+use Rattle.docker_bytes.proofs.parser.Parser+Received+R.join.Goals as goal
 
 pub returns-in-None-clause-err : goal.returns-in-None-clause-err
-returns-in-None-clause-err c = search rules
+returns-in-None-clause-err g c = search rules

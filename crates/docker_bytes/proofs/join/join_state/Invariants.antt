@@ -1,0 +1,5 @@
+-- The receiver is the state as it was.
+use Rattle.docker_bytes.proofs.join.join_state.Given as goal
+
+abbrev pub ghosts-receive : goal.ghosts-receive
+ghosts-receive g a = record { own = a.own }

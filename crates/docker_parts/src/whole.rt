@@ -1,0 +1,79 @@
+//! A keeper of all parts, for a state of their own.
+ghost use Rattle.std.specs.Prelude.{◌≡◌, []};
+
+use crate::keeper::{Keeper, Maker};
+use cif_file::Key;
+use cif_line::{Day, Memory};
+use docker_join::Entry;
+use docker_state::{LedgerItem, Parts, State};
+use std::alloc::Global;
+use std::marker::Model;
+
+/// The parts so far, as a state of their own.
+#[derive(Debug, Drop)]
+pub struct Whole {
+    parts: Parts,
+}
+
+impl Model for Whole {
+    ghost use Rattle.std.specs.Prelude.{◌≡◌};
+    ghost use Rattle.docker_model.specs.state.State as states;
+
+    ghost Value = { states.State };
+
+    ghost view = { λ whole. whole.parts };
+
+    ghost invariant = { λ whole. whole.parts.horizon ≡ 0 };
+}
+
+impl Whole {
+    /// No part yet.
+    pub fn new(alloc: Global) -> Whole
+        ensures { result ≡ record { horizon = 0; ledger = []; entries = [] } }
+    {
+        Whole {
+            parts: Parts::new(alloc),
+        }
+    }
+}
+
+impl Keeper for Whole {
+    ghost given = { λ whole. whole };
+
+    fn item(&mut self, item: LedgerItem) -> Result<(), Memory> {
+        self.parts.item(item)
+    }
+
+    fn entry(&mut self, key: Key, entry: Entry) -> Result<(), Memory> {
+        self.parts.entry(key, entry)
+    }
+
+    fn ledger(&self) -> &[LedgerItem] {
+        self.parts.ledger()
+    }
+
+    fn len(&self) -> u64 {
+        self.parts.entries().len() as u64
+    }
+
+    fn last(&self) -> Option<&Key> {
+        self.parts.last()
+    }
+}
+
+impl Maker for Whole {
+    ghost use Rattle.std.specs.Prelude.{◌≡◌};
+
+    type Made = State;
+
+    ghost makes = { λ made state. made ≡ state };
+
+    fn finish(self, horizon: Option<Day>) -> Result<State, Memory> {
+        let Whole { parts } = self;
+        let mut state = parts.finish()?;
+        if let Some(day) = horizon {
+            state.set_horizon(day);
+        }
+        Ok(state)
+    }
+}
