@@ -1,14 +1,18 @@
 #!/usr/bin/python3
-"""Asks for dockers of one STATE, and for what STATE is made of, behind one interface with two ways.
+"""Asks for dockers of one STATE, and for what STATE is made of. There are two ways to ask, with one interface.
 
-Where the program `desk` is found, one process of it answers every request: it loads STATE once, and again what changed when STATE's file did.
+If there is a program `desk`, one process of it answers every request: it loads STATE once, and renews it when STATE's file changed.
 Else each request is a `docker` command of its own, which reads STATE again: of a national extract that takes 1.4 to 3 seconds and 1 GB of
 memory each time. Its answer is kept as long as STATE's file is the same one. Both give the same bytes.
 
-As a command:
+As a command, it has these words:
+
   dockers.py STATE known               writes of when the newest file is, and which updates are missing before it
+
   dockers.py STATE print DATE <PLACES  writes the docker of each place of a list, one a line, and says which places nobody knows
+
   dockers.py advice LINE               writes what a fault's line means and what to do
+
 DOCKER names the program `docker`, and DESK the program `desk`. The status is the greatest of all answers'.
 """
 import collections
@@ -86,7 +90,7 @@ def advice(line):
 
 
 def identity(path):
-    """What tells one file of a path from another that took its place."""
+    """The identity of the file at a path: another file that takes its place has another."""
     try:
         found = os.stat(path)
     except OSError:
@@ -155,7 +159,7 @@ class Commands(Reader):
             return Answer(4, b"docker: no answer\n")
         if ended.returncode == 0:
             return Answer(0, ended.stdout)
-        # A process that a signal ended says nothing: most often it was the system, for want of memory.
+        # A process that a signal ended says nothing: most often the system ended it, because it was out of memory.
         return Answer(ended.returncode, ended.stderr) if 1 <= ended.returncode <= 4 else Answer(3, b"docker: ended by the system\n")
 
 
@@ -210,7 +214,7 @@ class Desk(Reader):
         self.process = subprocess.Popen([self.program, self.state], stdin=subprocess.PIPE, stdout=subprocess.PIPE, stderr=subprocess.PIPE)
 
     def exchange(self, line):
-        """Sends a line and reads its answer: a header `STATUS LINES BYTES`, and so many bytes."""
+        """Sends a line and reads its answer: a header `STATUS LINES BYTES`, and that number of bytes."""
         watch = threading.Timer(PATIENCE, self.process.kill)
         watch.start()
         try:
@@ -261,7 +265,7 @@ class Knowledge(NamedTuple):
 
 
 def knowledge(path):
-    """What a state knows, by the head of its text; None where the file has none."""
+    """What a state knows, by the head of its text; None if the file is no state."""
     try:
         with open(path, "rb") as text:
             head = text.read(14)
@@ -283,7 +287,7 @@ def grew(before, after):
 
 
 def reader_of(state, docker: Optional[str] = None, desk: Optional[str] = None):
-    """The way that this machine has: `desk` where it is found, else `docker`."""
+    """The way that this machine has: `desk` if there is one, else `docker`."""
     docker = docker or os.environ.get("DOCKER") or "station-docker"
     desk = shutil.which(desk or os.environ.get("DESK") or f"{docker}-desk")
     if desk is not None:
@@ -321,8 +325,8 @@ def print_known(reader):
 
 
 def print_places(reader, date, lines):
-    """Writes the dockers of the places of a list. A refused one is told, and the others follow; where STATE or the day is refused, they would
-    be refused too."""
+    """Writes the dockers of the places of a list. If one is refused it says so, and the others follow. If STATE or the day is refused, it stops:
+    the others would be refused too."""
     if not is_date(date):
         say_fault("print", reader.print_docker("A", date))
         return 2
