@@ -1,0 +1,3 @@
+pub mod TrainText
+pub mod Answer
+pub mod Origin

@@ -1,0 +1,17 @@
+//! The answer to which schedule is chosen for a UID on a day, and which file it came from: a heading, the schedule's records and a last line.
+#![tactic(auto)]
+
+mod chosen_train;
+mod fault;
+mod finding;
+pub mod laws;
+mod print;
+mod stamped;
+mod word;
+
+pub use chosen_train::ChosenTrain;
+pub use docker_day::DockerFault;
+pub use fault::TrainFault;
+pub use finding::find_train;
+pub use print::{print_train, write_train};
+pub use word::uid_of_word;
