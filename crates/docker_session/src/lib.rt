@@ -1,0 +1,10 @@
+//! The desk: a state that is kept in memory, and what it is asked, line by line.
+#![tactic(auto)]
+
+mod desk;
+mod reply;
+mod saving;
+
+pub use desk::Desk;
+pub use docker_desk::Page;
+pub use reply::{Answer, write_reply};

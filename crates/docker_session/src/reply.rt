@@ -1,0 +1,64 @@
+//! What a request is answered.
+ghost use Rattle.std.specs.Prelude.{◌≡◌, ◌+◌, ◌-◌, ◌^◌, ◌<◌, OnOk, OnErr};
+ghost use Rattle.cif_line.specs.Device.{Takes, TakesPart};
+ghost use Rattle.docker_desk.specs.Answers.{answer_text};
+ghost use Rattle.docker_cmd.specs.FaultLine.{fault_line, status_of};
+ghost use Rattle.docker_cmd.specs.declared.fault.Fault.TheVariants as why;
+ghost use Rattle.docker_session.specs.Replies.{answer_meant, bytes_told};
+
+use cif_line::{Failed, Sink};
+use docker_cmd::{Fault, OfficeFault, fault_text, status};
+use docker_desk::{Page, write_answer};
+
+/// The line for a line that asks for nothing.
+const USAGE: &[u8] =
+    b"desk: usage: [--write] STATE, and then a line for each request: print TIPLOC DATE | train UID DATE | files | renew | with --write take FILE | merge OTHER | horizon DATE | save\n";
+
+/// What a request is answered.
+#[derive(Debug, Drop)]
+pub enum Answer {
+    /// It is done, and this is its text.
+    Text(Page),
+    /// It is done, and has no text.
+    Done,
+    /// It is refused, and changed nothing.
+    Refused(OfficeFault),
+    /// The line asks for nothing.
+    Usage,
+}
+
+/// Writes an answer: its header, and the text of what was asked or the line of its fault. A write that fails leaves the sink with a
+/// beginning of the answer, and not all of it.
+pub fn write_reply<K: Sink>(answer: &Answer, sink: &mut K) -> Result<(), Failed>
+    requires { K.failures sink.old < 2 ^ 64 - 1 }
+    ensures whole { OnOk result (Takes (K.taken sink.old) (bytes_told (answer_meant answer.now))
+        (K.taken sink.new)) }
+    ensures part { OnErr result (TakesPart (K.taken sink.old)
+        (bytes_told (answer_meant answer.now)) (K.taken sink.new)) }
+    ensures no_failure { OnOk result (K.failures sink.new ≡ K.failures sink.old) }
+    ensures counted { OnErr result (K.failures sink.new ≡ K.failures sink.old + 1) }
+{
+    match answer {
+        Answer::Text(page) => write_answer(0, page.text(), sink),
+        Answer::Done => write_answer(0, b"", sink),
+        Answer::Refused(fault) => write_refusal(fault, sink),
+        Answer::Usage => write_answer(2, USAGE, sink),
+    }
+}
+
+/// Writes the answer to a request that is refused.
+fn write_refusal<K: Sink>(fault: &OfficeFault, sink: &mut K) -> Result<(), Failed>
+    requires { K.failures sink.old < 2 ^ 64 - 1 }
+    ensures whole { OnOk result (Takes (K.taken sink.old)
+        (answer_text (status_of (why.Office fault.now)) (fault_line (why.Office fault.now)))
+        (K.taken sink.new)) }
+    ensures part { OnErr result (TakesPart (K.taken sink.old)
+        (answer_text (status_of (why.Office fault.now)) (fault_line (why.Office fault.now)))
+        (K.taken sink.new)) }
+    ensures no_failure { OnOk result (K.failures sink.new ≡ K.failures sink.old) }
+    ensures counted { OnErr result (K.failures sink.new ≡ K.failures sink.old + 1) }
+{
+    let fault = Fault::Office(*fault);
+    let line = fault_text(&fault);
+    write_answer(status(&fault), line.as_slice(), sink)
+}
