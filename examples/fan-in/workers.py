@@ -23,7 +23,8 @@ ZSTD = b"\x28\xb5\x2f\xfd"
 @contextlib.contextmanager
 def unpacked(name):
     """The bytes of a state's file, packed or not, as a stream."""
-    with open(name, "rb") as file:
+    # Without a buffer: a process that reads on begins where this one left off.
+    with open(name, "rb", buffering=0) as file:
         if file.read(4) != ZSTD:
             file.seek(0)
             yield file
