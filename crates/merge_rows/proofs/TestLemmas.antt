@@ -1,7 +1,6 @@
 -- A valid state of one ledger item and one entry, given part by part.
-use Rattle.std.proofs.Common.{◌≡◌, List, [], ◌∷◌, ◌++◌, map, length, get_or, refl, ap, sym, ◌∙◌, subst, arith}
+use Rattle.std.proofs.Common.{◌≡◌, List, [], ◌∷◌, ◌++◌, map, length, get_or, ap, sym, ◌∙◌, subst, arith}
 use Rattle.docker_model.specs.state.Stamp as stamps
-use Rattle.docker_model.specs.state.Op.{deleted}
 use Rattle.docker_model.specs.state.State.{State, IsLedger, IsValid, IsGoodEntry}
 use Rattle.docker_model.specs.state.StatePart.{IsStampHere}
 use Rattle.cif_change.specs.declared.key.Key.{Key}
@@ -26,14 +25,6 @@ one_item items item other one is state items_are valid before none =
     (sym items_are ∙ ap (map item_meant) (only_element items item other one is) ∙ ap (λ (xs : List stamps.LedgerItem). xs ++ item_meant item ∷ []) (sym none))
     valid.ledger
 
--- the one item pushed onto an empty vector is the ledger
-pub ledger_pushed : (items : List LedgerItem) (item other : LedgerItem) → length items ≡ 1 → item ≡ get_or items 0 other
-    → (state : State) → map item_meant items ≡ state.ledger → IsValid state → (before after : List LedgerItem) → before ≡ [] → after ≡ before ++ item ∷ []
-    → IsLedger (map item_meant after)
-ledger_pushed items item other one is state items_are valid before after none pushed =
-    subst (λ (xs : List LedgerItem). IsLedger (map item_meant xs)) (sym (pushed ∙ ap (λ (xs : List LedgerItem). xs ++ item ∷ []) none))
-    (one_item items item other one is state items_are valid [] refl)
-
 -- the one entry is good over the one item
 good_entry : (items : List LedgerItem) (item other : LedgerItem) → length items ≡ 1 → item ≡ get_or items 0 other
     → (rows : List (Key × Entry)) (row next : Key × Entry) → length rows ≡ 1 → row ≡ get_or rows 0 next
@@ -46,18 +37,6 @@ good_entry items item other one is rows row next single is_row state items_are r
     (λ i. record { horizon = state.horizon; ledger = ledger i; entries = entries i }) in
     let here : IsValid (record { horizon = state.horizon; ledger = item_meant item ∷ []; entries = row_meant row ∷ [] }) = subst IsValid whole valid in
     here.entries.0 0 (row_meant row) (omega arith)
-
--- and so is its deletion
-pub good_deletion : (items : List LedgerItem) (item other : LedgerItem) → length items ≡ 1 → item ≡ get_or items 0 other
-    → (rows : List (Key × Entry)) (row next : Key × Entry) → length rows ≡ 1 → row ≡ get_or rows 0 next
-    → (state : State) → map item_meant items ≡ state.ledger → map row_meant rows ≡ state.entries → IsValid state
-    → (before after : List LedgerItem) → before ≡ [] → after ≡ before ++ item ∷ [] → (ledger : List stamps.LedgerItem) → ledger ≡ map item_meant after
-    → IsGoodEntry ledger (key_meant row.0, record { stamp = (entry_meant row.1).stamp; op = deleted })
-good_deletion items item other one is rows row next single is_row state items_are rows_are valid before after none pushed ledger ledger_is =
-    let good = good_entry items item other one is rows row next single is_row state items_are rows_are valid in
-    let whole : ledger ≡ item_meant item ∷ [] = ledger_is ∙ ap (map item_meant) (pushed ∙ ap (λ (xs : List LedgerItem). xs ++ item ∷ []) none) in
-    subst (λ (xs : List stamps.LedgerItem). IsGoodEntry xs (key_meant row.0, record { stamp = (entry_meant row.1).stamp; op = deleted })) (sym whole)
-    (record { key = good.key; stamp = good.stamp; op = tt })
 
 -- the one entry may be given behind the one item
 pub one_entry : (items : List LedgerItem) (item other : LedgerItem) → length items ≡ 1 → item ≡ get_or items 0 other

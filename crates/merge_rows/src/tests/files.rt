@@ -88,7 +88,7 @@ fn pair_is(rt: &impl Abort, alloc: Global, one: &[&[u8]], other: &[&[u8]], lines
 const ONE_SCHEDULE: &[&[u8]] = &[HD_9A, BS, LO, LT, ZZ];
 
 /// What the states of a schedule and of its revision say.
-const REVISED: &[&[u8]] = &[
+pub(super) const REVISED: &[&[u8]] = &[
     b"item 23536 1260 DFROC1A U DFROC1Z",
     b"item 23537 1260 DFROC1B U DFROC1A",
     b"C10001 23537: record 2 of 23537 1260 DFROC1B",
