@@ -32,7 +32,7 @@ all_above : (staged : List (Key × Entry)) (entry : Key × Entry) (rest : List (
 all_above staged entry [] below above = tt
 all_above staged entry (next ∷ rest) below above = (above_both staged entry next above.0 below.0, all_above staged entry rest below.1 above.1)
 
--- behind the first the rest can be offered
+-- after the first the rest can be offered
 pub rest_offered : (own : State) (staging after : Staging) (entry : Key × Entry) (rest : List (Key × Entry)) → CanBeOffered staging (entry ∷ rest)
     → IsOffered own staging entry.0 entry.1 after → CanBeOffered after rest
 rest_offered own staging after entry rest can (inl to) =
