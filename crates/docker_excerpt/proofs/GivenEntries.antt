@@ -1,0 +1,67 @@
+-- What was given, with an entry more.
+use Rattle.std.proofs.Common.{◌≡◌, ℕ, ◌-◌, List, [], ◌∷◌, ◌++◌, length, map, refl, ap, sym, ◌∙◌, subst, arith, length-append, Some}
+use Rattle.std.proofs.lemmas.List.{append_assoc}
+use Rattle.std.specs.Prelude.{Option, slice_get}
+use Rattle.std.specs.Option.{option_map}
+use Rattle.docker_model.specs.file.Change as model
+use Rattle.docker_model.specs.state.Op.{Entry}
+use Rattle.docker_model.specs.state.Lapse.{HasNotToLapse}
+use Rattle.docker_model.specs.state.Stamp.{LedgerItem}
+use Rattle.docker_model.specs.state.State.{State, IsValid, IsOpOf, AreEntries}
+use Rattle.docker_model.specs.state.StatePart.{IsStampHere}
+use Rattle.state_laws.proofs.joins.RaisedHorizon.{none_has_to}
+use Rattle.state_laws.proofs.texts.StateGrown.{valid_more}
+use Rattle.docker_laws.proofs.dockers.ExcerptState.{entry_behind}
+use Rattle.cif_change.specs.declared.key.Key.{Key}
+use Rattle.cif_file.specs.Meaning.{key_meant}
+use Rattle.docker_join.specs.declared.entry.Entry.{Entry as Row}
+use Rattle.docker_join.specs.Meaning.{entry_meant, row_meant}
+use Rattle.docker_state.specs.Parts.{last_key}
+use Rattle.docker_excerpt.specs.Values.{with_entries}
+use Rattle.docker_excerpt.specs.Ledger.{IsLedgerOf}
+
+-- it is valid
+pub valid_with : (parts : State) (last : Option Key) (count : ℕ) (entries : List (model.Key × Entry)) (told : State) → with_entries parts entries ≡ told
+    → IsLedgerOf parts last count entries → (key : model.Key) (entry : Entry) → IsStampHere told key entry.stamp → IsOpOf key entry.op
+    → (after : List (model.Key × Entry)) → after ≡ told.entries ++ (key, entry) ∷ [] → IsValid (with_entries told after)
+valid_with parts last count entries told view is key entry here of after pushed =
+    subst (λ (state : State). IsStampHere state key entry.stamp → after ≡ state.entries ++ (key, entry) ∷ [] → IsValid (with_entries state after)) view
+    (λ stamp_here more. subst (λ (all : List (model.Key × Entry)). IsValid (with_entries parts all)) (sym more)
+    (valid_more (with_entries parts entries) key entry.stamp entry.op is.valid stamp_here of
+    (subst (λ (horizon : ℕ). HasNotToLapse horizon entry.op) (sym is.plain) (none_has_to entry.op))))
+    here pushed
+
+last_of : {A : Type 0} (xs : List A) (x : A) → slice_get (xs ++ x ∷ []) (length (xs ++ x ∷ []) - 1) ≡ Some x
+last_of xs x =
+    let size = length-append xs (x ∷ []) in
+    let at : length (xs ++ x ∷ []) - 1 ≡ length xs = omega arith in
+    ap (slice_get (xs ++ x ∷ [])) at ∙ there xs
+  where
+    there : (ys : List _) → slice_get (ys ++ x ∷ []) (length ys) ≡ Some x
+    there [] = refl
+    there (y ∷ ys) = there ys
+
+-- and its last key is the entry's
+pub last_with : (entries after : List (model.Key × Entry)) (key : model.Key) (entry : Entry) → after ≡ entries ++ (key, entry) ∷ [] → last_key after ≡ Some key
+last_with entries after key entry pushed =
+    ap last_key pushed ∙ ap (option_map (λ (one : model.Key × Entry). one.0)) (last_of entries (key, entry))
+
+-- rows that are given to parts: what the next one comes after
+pub row_behind : (parts : State) (ledger : List LedgerItem) (rows rest after : List (Key × Row)) (key : Key) (row : Row) → AreEntries ledger (map row_meant rows)
+    → parts.ledger ≡ ledger → parts.entries ++ map row_meant rest ≡ map row_meant rows → rest ≡ (key, row) ∷ after
+    → IsStampHere parts (key_meant key) (entry_meant row).stamp × IsOpOf (key_meant key) (entry_meant row).op
+row_behind parts ledger rows rest after key row are same whole step =
+    entry_behind parts (key_meant key) (entry_meant row) (map row_meant after)
+    (subst (λ (all : List (model.Key × Entry)). AreEntries parts.ledger all)
+    (sym whole ∙ ap (λ (more : List (Key × Row)). parts.entries ++ map row_meant more) step)
+    (subst (λ (items : List LedgerItem). AreEntries items (map row_meant rows)) (sym same) are))
+
+-- and where they stand with it
+pub row_given : (parts after : State) (rows rest later : List (Key × Row)) (key : Key) (row : Row)
+    → parts.entries ++ map row_meant rest ≡ map row_meant rows → rest ≡ (key, row) ∷ later
+    → after.entries ≡ parts.entries ++ (key_meant key, entry_meant row) ∷ [] → after.entries ++ map row_meant later ≡ map row_meant rows
+row_given parts after rows rest later key row whole step pushed =
+    ap (λ (front : List (model.Key × Entry)). front ++ map row_meant later) pushed
+    ∙ append_assoc parts.entries ((key_meant key, entry_meant row) ∷ []) (map row_meant later)
+    ∙ ap (λ (more : List (Key × Row)). parts.entries ++ map row_meant more) (sym step)
+    ∙ whole

@@ -1,0 +1,5 @@
+pub mod WalkTurns
+pub mod WalkSteps
+pub mod NameSearch
+pub mod GivenEntries
+pub mod FinishedExcerpt

@@ -1,0 +1,139 @@
+-- One step of the walk that keeps an excerpt, with the partners' names beside it.
+use Rattle.std.proofs.Common.{◌≡◌, ℕ, List, [], ◌∷◌, ◌++◌, refl, ap, sym, ◌∙◌, subst, inl, inr, ◌⊎◌, Bool, true, false, cond, Contains}
+use Rattle.std.specs.Prelude.{◌||◌, ◌↔◌, Option, Some, None}
+use Rattle.std.specs.Option.{option_to_list}
+use Rattle.std.specs.List.{cons_option}
+use Rattle.std.specs.List.Sorted.{IsSorted, IsPermutation}
+use Rattle.std.proofs.lemmas.List.Elements.{Contains-append_left, Contains-append_right, Contains-append_cases}
+use Rattle.std.proofs.lemmas.List.Sorted.{Contains-permutation, IsPermutation-sym}
+use Rattle.docker_model.specs.file.Change.{Key, schedule_key, ScheduleKey}
+use Rattle.docker_model.specs.state.Op.{Entry}
+use Rattle.docker_model.specs.state.Order.{bytes_cmp}
+use Rattle.docker_model.specs.state.State.{State}
+use Rattle.docker_model.specs.state.StatePart.{IsAboveEntries}
+use Rattle.docker_model.specs.docker.ExcerptWalk.{ExcerptSoFar, is_here, has_uid, name_in, names_in, is_call, is_run_needed, goes_on, excerpt_for, HasKept}
+use Rattle.docker_laws.proofs.dockers.ExcerptTurns.{kept_first, kept_alone, kept_here, kept_elsewhere, kept_joins, kept_begins, kept_last}
+use Rattle.docker_laws.proofs.dockers.ExcerptSteps.{names_stay, names_with}
+use Rattle.docker_excerpt.specs.Walked.{AreNames, IsWalk}
+
+abbrev Keyed : Type 0
+Keyed = Key × Entry
+
+-- no name of no entry
+pub no_names : AreNames [] []
+no_names uid = (λ among. among, λ among. among)
+
+-- at first nothing is kept
+pub walk_first : (place : List ℕ) → IsWalk place [] [] [] false []
+walk_first place = record { has_kept = kept_first place; told = no_names; sorted = inl refl }
+
+-- without a run none is needed
+unneeded : (place : List ℕ) (entries kept run : List Keyed) (needed : Bool) → HasKept place entries kept run needed → run ≡ [] → needed ≡ false
+unneeded place entries kept run needed has none =
+    sym has.is_needed ∙ ap (λ (r : List Keyed). is_run_needed place (record { kept = kept; run = r })) none
+
+-- the names that one entry gives
+names_of_one : (key : Key) (entry : Entry) → names_in ((key, entry) ∷ []) ≡ option_to_list (name_in key entry.op)
+names_of_one key entry = by (name_in key entry.op)
+  where
+    by : (found : Option (List ℕ)) → cons_option found [] ≡ option_to_list found
+    by None = refl
+    by (Some name) = refl
+
+-- and the ones of an entry more
+names_more : (names : List (List ℕ)) (kept : List Keyed) (key : Key) (entry : Entry) → AreNames names kept
+    → AreNames (names ++ option_to_list (name_in key entry.op)) (kept ++ (key, entry) ∷ [])
+names_more names kept key entry are uid =
+    subst (λ (all : List (List ℕ)). Contains (names ++ option_to_list (name_in key entry.op)) uid ↔ Contains all uid)
+    (sym (names_with kept (key, entry) ∙ ap (λ (one : List (List ℕ)). names_in kept ++ one) (names_of_one key entry)))
+    (across names (names_in kept) (are uid).0, across (names_in kept) names (are uid).1)
+  where
+    across : (xs ys : List (List ℕ)) → (Contains xs uid → Contains ys uid) → Contains (xs ++ option_to_list (name_in key entry.op)) uid
+        → Contains (ys ++ option_to_list (name_in key entry.op)) uid
+    across xs ys to among = by (Contains-append_cases xs (option_to_list (name_in key entry.op)) uid among)
+      where
+        by : Contains xs uid ⊎ Contains (option_to_list (name_in key entry.op)) uid → Contains (ys ++ option_to_list (name_in key entry.op)) uid
+        by (inl front) = Contains-append_left ys (option_to_list (name_in key entry.op)) uid (to front)
+        by (inr last) = Contains-append_right ys (option_to_list (name_in key entry.op)) uid last
+
+module _ (place : List ℕ) (state : State) (kept run : List Keyed) (needed : Bool) (names : List (List ℕ))
+    (is : IsWalk place state.entries kept run needed names) where
+  -- where a TIPLOC or an association comes no run is there
+  alone : (key : Key) → IsAboveEntries state key → ((uid : List ℕ) → has_uid uid key ≡ false) → run ≡ []
+  alone = kept_alone place state kept run needed is.has_kept
+
+  as_it_was : (entries after : List Keyed) → run ≡ [] → HasKept place entries after [] false → HasKept place entries after run needed
+  as_it_was entries after none has =
+      subst (λ (r : List Keyed). HasKept place entries after r needed) (sym none)
+      (subst (λ (b : Bool). HasKept place entries after [] b) (sym (unneeded place state.entries kept run needed is.has_kept none)) has)
+
+  -- one at the place is kept, and names its partner
+  pub walk_here : (key : Key) (entry : Entry) → IsAboveEntries state key → ((uid : List ℕ) → has_uid uid key ≡ false) → is_here place key ≡ true
+      → IsWalk place (state.entries ++ (key, entry) ∷ []) (kept ++ (key, entry) ∷ []) run needed (names ++ option_to_list (name_in key entry.op))
+  walk_here key entry above never here = record {
+    has_kept = as_it_was (state.entries ++ (key, entry) ∷ []) (kept ++ (key, entry) ∷ []) (alone key above never)
+        (kept_here place state kept run needed is.has_kept key entry above never here);
+    told = names_more names kept key entry is.told;
+    sorted = inl (alone key above never);
+  }
+
+  -- one elsewhere is not
+  pub walk_elsewhere : (key : Key) (entry : Entry) → IsAboveEntries state key → ((uid : List ℕ) → has_uid uid key ≡ false) → is_here place key ≡ false
+      → IsWalk place (state.entries ++ (key, entry) ∷ []) kept run needed names
+  walk_elsewhere key entry above never elsewhere = record {
+    has_kept = as_it_was (state.entries ++ (key, entry) ∷ []) kept (alone key above never)
+        (kept_elsewhere place state kept run needed is.has_kept key entry above never elsewhere);
+    told = is.told;
+    sorted = inl (alone key above never);
+  }
+
+  -- a schedule of the run's UID joins it
+  pub walk_joins : (key : ScheduleKey) (entry : Entry) → goes_on run key.uid ≡ true
+      → IsWalk place (state.entries ++ (schedule_key key, entry) ∷ []) kept (run ++ (schedule_key key, entry) ∷ []) (needed || is_call place entry.op) names
+  walk_joins key entry goes = record {
+    has_kept = kept_joins place state.entries kept run needed is.has_kept key entry goes;
+    told = is.told;
+    sorted = by is.sorted;
+  }
+    where
+      by : (run ≡ []) ⊎ IsSorted bytes_cmp names → ((run ++ (schedule_key key, entry) ∷ []) ≡ []) ⊎ IsSorted bytes_cmp names
+      by (inl none) = absurd (let bad : false ≡ true = ap (λ (r : List Keyed). goes_on r key.uid) (sym none) ∙ goes in cc)
+      by (inr sorted) = inr sorted
+
+  -- a schedule of another UID ends the run and begins the next
+  pub walk_begins : (key : ScheduleKey) (entry : Entry) (named : Bool) → goes_on run key.uid ≡ false → IsSorted bytes_cmp names
+      → (named ≡ true) ↔ Contains names key.uid
+      → IsWalk place (state.entries ++ (schedule_key key, entry) ∷ []) (cond needed (kept ++ run) kept) ((schedule_key key, entry) ∷ [])
+      (named || is_call place entry.op) names
+  walk_begins key entry named stops sorted tells = record {
+    has_kept = begun;
+    told = λ uid. subst (λ (all : List (List ℕ)). Contains names uid ↔ Contains all uid) (sym still) (is.told uid);
+    sorted = inr sorted;
+  }
+    where
+      begun : HasKept place (state.entries ++ (schedule_key key, entry) ∷ []) (cond needed (kept ++ run) kept) ((schedule_key key, entry) ∷ [])
+          (named || is_call place entry.op)
+      begun =
+          kept_begins place state.entries kept run needed is.has_kept key entry named stops
+          (λ told. (is.told key.uid).0 (tells.0 told), λ among. tells.1 ((is.told key.uid).1 among))
+
+      still : names_in (cond needed (kept ++ run) kept) ≡ names_in kept
+      still =
+          sym (ap (λ (so_far : ExcerptSoFar). names_in so_far.kept) begun.so_far)
+          ∙ names_stay place state.entries key entry
+          ∙ ap (λ (so_far : ExcerptSoFar). names_in so_far.kept) is.has_kept.so_far
+
+  -- sorting the names changes nothing
+  pub walk_sorted : (after : List (List ℕ)) → IsPermutation names after → IsSorted bytes_cmp after → IsWalk place state.entries kept run needed after
+  walk_sorted after moved sorted = record {
+    has_kept = is.has_kept;
+    told = λ uid. (
+      λ among. (is.told uid).0 (Contains-permutation after names uid (IsPermutation-sym names after moved) among),
+      λ among. Contains-permutation names after uid moved ((is.told uid).1 among),
+    );
+    sorted = inr sorted;
+  }
+
+  -- what is kept in the end
+  pub walk_last : (excerpt_for place state).entries ≡ cond needed (kept ++ run) kept
+  walk_last = kept_last place state kept run needed is.has_kept

@@ -1,0 +1,17 @@
+use Rattle.std.proofs.Common.{◌++◌, ◌∷◌, [], ◌∙◌, ap}
+use Rattle.docker_model.specs.state.State.{State}
+use Rattle.cif_file.specs.Meaning.{key_meant}
+use Rattle.docker_join.specs.Meaning.{entry_meant}
+use Rattle.docker_excerpt.proofs.GivenEntries.{valid_with, last_with}
+use Rattle.docker_excerpt.proofs.ledger.Ledger.with.Goals as goal
+
+pub returns-clause-valid : goal.returns-clause-valid
+returns-clause-valid c =
+    let it = c.self.inside in
+    valid_with it.parts it.last it.count it.given.entries c.args.self.now c.self.view_is c.self.invariant (key_meant c.args.key.now)
+    (entry_meant c.args.entry.now) c.requires.here c.requires.op c.with.result.entries
+    (c.with.ensures ∙ ap (λ (told : State). told.entries ++ (key_meant c.args.key.now, entry_meant c.args.entry.now) ∷ []) c.self.view_is)
+
+pub returns-clause-last : goal.returns-clause-last
+returns-clause-last c =
+    last_with c.self.inside.given.entries c.with.result.entries (key_meant c.args.key.now) (entry_meant c.args.entry.now) c.with.ensures

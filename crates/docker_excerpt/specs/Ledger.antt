@@ -1,0 +1,18 @@
+-- The ledger of a state as its parts are given.
+use Rattle.std.specs.Prelude.{◌≡◌, ℕ, List, [], length, Option}
+use Rattle.std.specs.Option.{option_map}
+use Rattle.docker_model.specs.file.Change as model
+use Rattle.docker_model.specs.state.Op.{Entry}
+use Rattle.docker_model.specs.state.State.{State, IsValid}
+use Rattle.cif_change.specs.declared.key.Key.{Key}
+use Rattle.cif_file.specs.Meaning.{key_meant}
+use Rattle.docker_state.specs.Parts.{last_key}
+use Rattle.docker_excerpt.specs.Values.{with_entries}
+
+-- parts without entries, with the last key and the number of entries of a valid state without a horizon
+pub record IsLedgerOf (parts : State) (last : Option Key) (count : ℕ) (entries : List (model.Key × Entry)) : Type 0 where
+  pub valid : IsValid (with_entries parts entries)
+  pub plain : parts.horizon ≡ 0
+  pub alone : parts.entries ≡ []
+  pub last_is : option_map key_meant last ≡ last_key entries
+  pub count_is : count ≡ length entries

@@ -1,0 +1,4 @@
+pub mod Walked
+pub mod Walk
+pub mod Values
+pub mod Ledger

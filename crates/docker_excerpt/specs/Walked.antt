@@ -1,0 +1,22 @@
+-- How far a walk over a state's entries has come that keeps an excerpt.
+use Rattle.std.specs.Prelude.{◌≡◌, ℕ, Bool, List, [], ◌⊎◌, ◌↔◌, Contains}
+use Rattle.std.specs.List.Sorted.{IsSorted}
+use Rattle.docker_model.specs.file.Change.{Key}
+use Rattle.docker_model.specs.state.Op.{Entry}
+use Rattle.docker_model.specs.state.Order.{bytes_cmp}
+use Rattle.docker_model.specs.state.State.{State}
+use Rattle.docker_model.specs.docker.ExcerptWalk.{names_in, HasKept}
+
+-- the names are the partners in live associations among the entries, in any order and however often
+abbrev pub AreNames : List (List ℕ) → List (Key × Entry) → Type 0
+AreNames names entries = (uid : List ℕ) → Contains names uid ↔ Contains (names_in entries) uid
+
+-- a walk that has passed these entries has kept this much, is in this run, needs it or not, and has the partners' names, from the first run on in order
+pub record IsWalk (place : List ℕ) (entries kept run : List (Key × Entry)) (needed : Bool) (names : List (List ℕ)) : Type 0 where
+  pub has_kept : HasKept place entries kept run needed
+  pub told : AreNames names kept
+  pub sorted : (run ≡ []) ⊎ IsSorted bytes_cmp names
+
+-- only entries
+abbrev pub state_of_entries : List (Key × Entry) → State
+state_of_entries entries = record { horizon = 0; ledger = []; entries = entries }

@@ -1,0 +1,63 @@
+//! An excerpt of a state for a place.
+ghost use Rattle.std.specs.Prelude.{◌≡◌, ◌↔◌, IfOk, Err};
+ghost use Rattle.docker_model.specs.state.State.{live_table};
+ghost use Rattle.docker_model.specs.state.Lapse.{IsDayRefused};
+ghost use Rattle.docker_day.specs.Dockers.{IsDockerOf};
+ghost use Rattle.docker_excerpt.specs.Values.{with_entries, IsExcerptOf};
+
+use cif_line::{Day, Tiploc};
+use docker_day::{Docker, DockerFault, docker};
+use docker_parts::Given;
+use docker_state::State;
+use std::alloc::Global;
+use std::fmt;
+use std::marker::Model;
+
+/// What is kept of a state for a place: the dockers there are made of it as of the whole state. It serves for nothing else: it is no state to write, join or send.
+#[derive(Drop)]
+pub struct Excerpt {
+    place: Tiploc,
+    part: State,
+    given: Given,
+}
+
+impl Model for Excerpt {
+    ghost use Rattle.docker_excerpt.specs.Values as values;
+    ghost use Rattle.docker_excerpt.specs.Values.{with_entries, IsExcerptOf};
+
+    ghost Value = { values.Excerpt };
+
+    ghost view = { λ it. record {
+      place = it.place;
+      state = with_entries it.part it.given.entries;
+    } };
+
+    ghost invariant = { λ it.
+        IsExcerptOf it.place (with_entries it.part it.given.entries) it.part };
+}
+
+impl fmt::Debug for Excerpt {
+    fn fmt<W: fmt::Write>(&self, f: &mut fmt::Formatter<W>) -> fmt::Result {
+        f.write_str("Excerpt")
+    }
+}
+
+impl Excerpt {
+    /// The excerpt for a place of the state whose entries were given, with this part of it.
+    pub(crate) fn of(place: Tiploc, part: State, given: Given) -> Excerpt
+        requires { IsExcerptOf place (with_entries part given.entries) part }
+        ensures { result ≡ record { place = place; state = with_entries part given.entries } }
+    {
+        Excerpt { place, part, given }
+    }
+
+    /// The docker of the place and a day. `Lapsed` if the state has a horizon and the day is before it plus three days, because what has lapsed may be missing then.
+    /// `Memory` if there is no room for the docker.
+    pub fn docker(&self, alloc: Global, day: Day) -> Result<Docker<'_>, DockerFault>
+        ensures ok { IfOk result (IsDockerOf (live_table self.now.state) self.now.place day) }
+        ensures lapsed { (result ≡ Err DockerFault.Lapsed)
+            ↔ IsDayRefused self.now.state.horizon day }
+    {
+        docker(alloc, &self.part, &self.place, day)
+    }
+}

@@ -1,0 +1,153 @@
+//! The excerpt of a state for a place, as the state's parts are given.
+ghost use Rattle.std.specs.Prelude.{◌≡◌, ◌-◌, ◌^◌, ◌<◌, [], ◌∷◌, ◌++◌, length, map, IsOk, IsErr, IfOk};
+ghost use Rattle.std.specs.Option.{option_copied, option_map};
+ghost use Rattle.docker_model.specs.state.State.{IsLedger, IsOpOf, IsValid, AreEntries};
+ghost use Rattle.docker_model.specs.state.StatePart.{IsStampHere};
+ghost use Rattle.cif_file.specs.Meaning.{key_meant};
+ghost use Rattle.docker_join.specs.Meaning.{entry_meant, row_meant};
+ghost use Rattle.docker_state.specs.Meaning.{item_meant};
+ghost use Rattle.docker_state.specs.Parts.{last_key};
+ghost use Rattle.docker_parts.specs.Told.{horizon_meant, under, with_item, with_row};
+ghost use Rattle.docker_excerpt.specs.Values.{with_entries};
+
+use crate::excerpt::Excerpt;
+use crate::ledger::Ledger;
+use crate::walk::Walk;
+use cif_file::Key;
+use cif_line::{Day, Memory, Tiploc};
+use docker_join::Entry;
+use docker_state::{LedgerItem, Parts, State};
+use std::alloc::Global;
+use std::fmt;
+use std::marker::Model;
+
+/// The excerpt of a state for a place. The state's parts are given in their order, as `Parts` takes them. It keeps only the entries from which dockers of the place are
+/// made: its TIPLOC's, the associations there, and all schedules of a UID that calls there or that a live association there names as its associated one.
+#[derive(Drop)]
+pub struct Excerpting {
+    ledger: Ledger,
+    walk: Walk,
+}
+
+impl Model for Excerpting {
+    ghost use Rattle.docker_excerpt.specs.Values as values;
+    ghost use Rattle.docker_excerpt.specs.Walk.{HasWalked};
+
+    ghost Value = { values.Excerpting };
+
+    ghost view = { λ it. record { place = it.walk.place; told = it.ledger } };
+
+    ghost invariant = { λ it. HasWalked it.walk it.ledger.entries };
+}
+
+impl fmt::Debug for Excerpting {
+    fn fmt<W: fmt::Write>(&self, f: &mut fmt::Formatter<W>) -> fmt::Result {
+        f.write_str("Excerpting")
+    }
+}
+
+impl Excerpting {
+    /// No part yet. It takes no memory.
+    pub fn new(alloc: Global, place: Tiploc) -> Excerpting
+        ensures { result ≡ record {
+          place = place;
+          told = record { horizon = 0; ledger = []; entries = [] };
+        } }
+    {
+        Excerpting {
+            ledger: Ledger::new(alloc),
+            walk: Walk::new(alloc, place),
+        }
+    }
+
+    /// Gives the next ledger item. Want of memory leaves all as it was.
+    pub fn item(&mut self, item: LedgerItem) -> Result<(), Memory>
+        requires before_entries { self.old.told.entries ≡ [] }
+        requires ledger { IsLedger (self.old.told.ledger ++ item_meant item ∷ []) }
+        ensures ok { IsOk result
+            → self.new.told ≡ with_item self.old.told (item_meant item) }
+        ensures err { IsErr result → self.new.told ≡ self.old.told }
+        ensures place { self.new.place ≡ self.old.place }
+    {
+        self.ledger.item(item)
+    }
+
+    /// Gives the next entry, with its key. Want of memory leaves all as it was, without the entry.
+    pub fn entry(&mut self, key: Key, entry: Entry) -> Result<(), Memory>
+        requires few { length self.old.told.entries < 2 ^ 64 - 1 }
+        requires here { IsStampHere self.old.told (key_meant key) (entry_meant entry).stamp }
+        requires op { IsOpOf (key_meant key) (entry_meant entry).op }
+        ensures ok { IsOk result
+            → self.new.told ≡ with_row self.old.told (key_meant key, entry_meant entry) }
+        ensures err { IsErr result → self.new.told ≡ self.old.told }
+        ensures place { self.new.place ≡ self.old.place }
+    {
+        let given = self.ledger.with(&key, &entry);
+        self.walk.entry(self.ledger.given(), key, entry)?;
+        self.ledger.pass(key, given);
+        Ok(())
+    }
+
+    /// The ledger items given so far, ascending.
+    pub fn ledger(&self) -> &[LedgerItem]
+        ensures items { map item_meant result.now ≡ self.now.told.ledger }
+        ensures valid { IsValid self.now.told }
+    {
+        self.ledger.items()
+    }
+
+    /// How many entries were given, kept or not.
+    pub fn len(&self) -> u64
+        ensures { result ≡ length self.now.told.entries }
+    {
+        self.ledger.len()
+    }
+
+    /// The key of the last entry given, kept or not. None if there is none yet.
+    pub fn last(&self) -> Option<&Key>
+        ensures { option_map key_meant (option_copied result) ≡ last_key self.now.told.entries }
+    {
+        self.ledger.last()
+    }
+
+    /// The excerpt of the state whose parts were given, under the horizon that was read, if one was. Out of memory lets go of them; so do more than 4,294,967,295
+    /// entries or places that are kept, which are numbered in 32 bits.
+    pub fn finish(self, horizon: Option<Day>) -> Result<Excerpt, Memory>
+        requires { IsValid (under (horizon_meant horizon) self.told) }
+        ensures { IfOk result (λ excerpt. excerpt
+            ≡ record { place = self.place; state = under (horizon_meant horizon) self.told }) }
+    {
+        let Excerpting { ledger, walk } = self;
+        let place = walk.place();
+        let rows = walk.finish()?;
+        let (parts, given) = ledger.into_parts();
+        let whole = with_rows(parts, rows)?;
+        let state = whole.finish()?;
+        Ok(Excerpt::of(place, under_horizon(state, horizon), given))
+    }
+}
+
+/// Parts to which rows are given as entries.
+fn with_rows(mut parts: Parts, rows: Vec<(Key, Entry)>) -> Result<Parts, Memory>
+    requires plain { parts.horizon ≡ 0 }
+    requires none { parts.entries ≡ [] }
+    requires entries { AreEntries parts.ledger (map row_meant rows.items) }
+    ensures { IfOk result (λ whole. whole ≡ with_entries parts (map row_meant rows.items)) }
+{
+    for (key, entry) in rows {
+        parts.entry(key, entry)?;
+    }
+    Ok(parts)
+}
+
+/// A state under the horizon that was read, if one was. Nothing of it lapses.
+fn under_horizon(mut state: State, horizon: Option<Day>) -> State
+    requires plain { state.horizon ≡ 0 }
+    requires valid { IsValid (under (horizon_meant horizon) state) }
+    ensures { result ≡ under (horizon_meant horizon) state }
+{
+    if let Some(day) = horizon {
+        state.set_horizon(day);
+    }
+    state
+}

@@ -1,0 +1,183 @@
+//! The ledger of a state, as its parts are given, without the entries.
+ghost use Rattle.std.specs.Prelude.{◌≡◌, ◌+◌, ◌-◌, ◌^◌, ◌<◌, [], ◌∷◌, ◌++◌, length, map, IsOk, IsErr, Some};
+ghost use Rattle.std.specs.Option.{option_copied, option_map};
+ghost use Rattle.docker_model.specs.state.State.{IsLedger, IsOpOf, IsValid};
+ghost use Rattle.docker_model.specs.state.StatePart.{IsStampHere};
+ghost use Rattle.cif_file.specs.Meaning.{key_meant};
+ghost use Rattle.docker_join.specs.Meaning.{entry_meant};
+ghost use Rattle.docker_state.specs.Meaning.{item_meant};
+ghost use Rattle.docker_state.specs.Parts.{last_key};
+ghost use Rattle.docker_parts.specs.Told.{with_item};
+ghost use Rattle.docker_excerpt.specs.Values.{with_entries};
+
+use cif_file::Key;
+use cif_line::{Day, Memory};
+use docker_join::Entry;
+use docker_parts::{Given, Keeper, Maker};
+use docker_state::{LedgerItem, Parts};
+use std::alloc::Global;
+use std::fmt;
+use std::marker::Model;
+
+/// The ledger of a state whose parts are given in their order, as `Parts` takes them: ledger items, and then entries, of which none is kept.
+#[derive(Drop)]
+pub struct Ledger {
+    // only the ledger items
+    parts: Parts,
+    last: Option<Key>,
+    count: u64,
+    given: Given,
+}
+
+impl Model for Ledger {
+    ghost use Rattle.docker_model.specs.state.State as states;
+    ghost use Rattle.docker_excerpt.specs.Values.{with_entries};
+    ghost use Rattle.docker_excerpt.specs.Ledger.{IsLedgerOf};
+
+    ghost Value = { states.State };
+
+    ghost view = { λ it. with_entries it.parts it.given.entries };
+
+    ghost invariant = { λ it. IsLedgerOf it.parts it.last it.count it.given.entries };
+}
+
+impl fmt::Debug for Ledger {
+    fn fmt<W: fmt::Write>(&self, f: &mut fmt::Formatter<W>) -> fmt::Result {
+        f.write_str("Ledger")
+    }
+}
+
+impl Ledger {
+    /// No part yet. It takes no memory.
+    pub fn new(alloc: Global) -> Ledger
+        ensures { result ≡ record { horizon = 0; ledger = []; entries = [] } }
+    {
+        Ledger {
+            parts: Parts::new(alloc),
+            last: None,
+            count: 0,
+            given: Given::new(),
+        }
+    }
+
+    /// Gives the next ledger item. Want of memory leaves the ledger as it was.
+    pub fn item(&mut self, item: LedgerItem) -> Result<(), Memory>
+        requires before_entries { self.old.entries ≡ [] }
+        requires ledger { IsLedger (self.old.ledger ++ item_meant item ∷ []) }
+        ensures ok { IsOk result → self.new ≡ with_item self.old (item_meant item) }
+        ensures err { IsErr result → self.new ≡ self.old }
+    {
+        self.parts.item(item)
+    }
+
+    /// The ledger items, ascending.
+    pub fn items(&self) -> &[LedgerItem]
+        ensures items { map item_meant result.now ≡ self.now.ledger }
+        ensures valid { IsValid self.now }
+    {
+        self.parts.ledger()
+    }
+
+    /// How many entries were given.
+    pub fn len(&self) -> u64
+        ensures { result ≡ length self.now.entries }
+    {
+        self.count
+    }
+
+    /// The key of the last entry given. None if there is none yet.
+    pub fn last(&self) -> Option<&Key>
+        ensures { option_map key_meant (option_copied result) ≡ last_key self.now.entries }
+    {
+        self.last.as_ref()
+    }
+
+    /// The entries given so far, for proofs.
+    pub(crate) fn given(&self) -> &Given
+        ensures { result.now.entries ≡ self.now.entries }
+    {
+        &self.given
+    }
+
+    /// The same with an entry more.
+    pub(crate) fn with(&self, key: &Key, entry: &Entry) -> Given
+        requires here { IsStampHere self.now (key_meant key.now) (entry_meant entry.now).stamp }
+        requires op { IsOpOf (key_meant key.now) (entry_meant entry.now).op }
+        ensures entries { result.entries
+            ≡ self.now.entries ++ (key_meant key.now, entry_meant entry.now) ∷ [] }
+        ensures valid { IsValid (with_entries self.now result.entries) }
+        ensures last { last_key result.entries ≡ Some (key_meant key.now) }
+    {
+        Given::with(&self.given, key, entry)
+    }
+
+    /// Counts one entry more, of a key.
+    pub(crate) fn pass(&mut self, key: Key, given: Given)
+        requires few { length self.old.entries < 2 ^ 64 - 1 }
+        requires valid { IsValid (with_entries self.old given.entries) }
+        requires last { last_key given.entries ≡ Some (key_meant key) }
+        requires count { length given.entries ≡ length self.old.entries + 1 }
+        ensures { self.new ≡ with_entries self.old given.entries }
+    {
+        self.last = Some(key);
+        self.count += 1;
+        self.given = given;
+    }
+
+    /// The ledger items as parts of a state to which its entries are still to be given, and what was given.
+    pub(crate) fn into_parts(self) -> (Parts, Given)
+        ensures parts { result.0 ≡ record { horizon = 0; ledger = self.ledger; entries = [] } }
+        ensures given { result.1.entries ≡ self.entries }
+    {
+        let Ledger {
+            parts,
+            last: _,
+            count: _,
+            given,
+        } = self;
+        (parts, given)
+    }
+}
+
+impl Keeper for Ledger {
+    ghost given = { λ ledger. ledger };
+
+    fn item(&mut self, item: LedgerItem) -> Result<(), Memory> {
+        self.parts.item(item)
+    }
+
+    /// Counts the entry, and lets go of it. It takes no memory.
+    fn entry(&mut self, key: Key, entry: Entry) -> Result<(), Memory> {
+        let given = self.with(&key, &entry);
+        self.pass(key, given);
+        Ok(())
+    }
+
+    fn ledger(&self) -> &[LedgerItem] {
+        self.items()
+    }
+
+    fn len(&self) -> u64 {
+        self.count
+    }
+
+    fn last(&self) -> Option<&Key> {
+        match &self.last {
+            Some(key) => Some(key),
+            None => None,
+        }
+    }
+}
+
+impl Maker for Ledger {
+    ghost use Rattle.std.specs.Prelude.{◌≡◌};
+
+    type Made = Ledger;
+
+    ghost makes = { λ made state. made.ledger ≡ state.ledger };
+
+    /// The ledger itself: a horizon says nothing of it.
+    fn finish(self, _horizon: Option<Day>) -> Result<Ledger, Memory> {
+        Ok(self)
+    }
+}

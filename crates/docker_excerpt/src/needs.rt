@@ -1,0 +1,95 @@
+//! What of an entry is needed at a place.
+ghost use Rattle.std.specs.Prelude.{◌≡◌, ◌&&◌, ◌||◌, ◌↔◌, map, true, Contains};
+ghost use Rattle.std.specs.List.Sorted.{IsSorted};
+ghost use Rattle.docker_model.specs.file.Journey.{calls_at};
+ghost use Rattle.docker_model.specs.records.Record.{kind_of, columns, is_location};
+ghost use Rattle.std.specs.Str.{bytes_eq};
+ghost use Rattle.docker_model.specs.state.Order.{bytes_cmp};
+ghost use Rattle.docker_model.specs.docker.ExcerptWalk.{is_here, name_in, is_call, goes_on};
+ghost use Rattle.cif_file.specs.Meaning.{key_meant};
+ghost use Rattle.docker_join.specs.Meaning.{op_meant, row_meant};
+
+use cif_file::{Body, Key};
+use cif_line::{Kind, Line, Tiploc, Uid, kind};
+use docker_join::{Entry, Op};
+
+/// Whether a key is a TIPLOC's or an association's, and at a place.
+pub(crate) fn is_here(place: &Tiploc, key: &Key) -> bool
+    ensures { result ≡ is_here place.now (key_meant key.now) }
+{
+    match key {
+        Key::Tiploc(code) => *code == *place,
+        Key::Assoc(assoc) => assoc.location == *place,
+        Key::Schedule(_) => false,
+    }
+}
+
+/// The UID that a live association names as its associated train's. None for anything else.
+pub(crate) fn name_in(key: &Key, op: &Op) -> Option<Uid>
+    ensures { result ≡ name_in (key_meant key.now) (op_meant op.now) }
+{
+    match (key, op) {
+        (Key::Assoc(assoc), Op::Put(Body::Assoc(_))) => Some(assoc.associated),
+        _ => None,
+    }
+}
+
+/// Whether the schedules of a UID go on with a run.
+pub(crate) fn goes_on(run: &[(Key, Entry)], uid: &Uid) -> bool
+    ensures { result ≡ goes_on (map row_meant run.now) uid.now }
+{
+    match run.first() {
+        Some((Key::Schedule(first), _)) => first.uid == *uid,
+        _ => false,
+    }
+}
+
+/// Whether a UID is among names in order. By a binary search.
+pub(crate) fn has_name(names: &[Uid], uid: &Uid) -> bool
+    requires { IsSorted bytes_cmp names.now }
+    ensures { (result ≡ true) ↔ Contains names.now uid.now }
+{
+    names.binary_search(uid).is_ok()
+}
+
+/// Whether a run is needed with an entry more: it was, or the entry is a live schedule that calls at a place.
+pub(crate) fn is_needed_with(needed: bool, place: &Tiploc, op: &Op) -> bool
+    ensures { result ≡ (needed || is_call place.now (op_meant op.now)) }
+{
+    if needed {
+        return true;
+    }
+    is_call(place, op)
+}
+
+/// Whether an entry is a live schedule that calls at a place.
+fn is_call(place: &Tiploc, op: &Op) -> bool
+    ensures { result ≡ is_call place.now (op_meant op.now) }
+{
+    match op {
+        Op::Put(Body::Schedule(lines)) => calls_at(place, lines.as_slice()),
+        _ => false,
+    }
+}
+
+/// Whether a schedule with these lines calls at a place, by an LO, an LI or an LT.
+fn calls_at(place: &Tiploc, lines: &[Line]) -> bool
+    ensures { result ≡ calls_at place.now lines.now }
+{
+    lines.iter().any(|line| is_call_line(place, line))
+}
+
+/// Whether a line is a location record with a place.
+fn is_call_line(place: &Tiploc, line: &Line) -> bool
+    ensures { result
+        ≡ (is_location (kind_of line.now) && bytes_eq (columns 3 9 line.now) place.now) }
+{
+    // Few lines have the place, so that the kind of few is looked at.
+    if line.bytes()[2..9] != place.bytes()[..] {
+        return false;
+    }
+    matches!(
+        kind(line),
+        Some(Kind::OriginLocation | Kind::IntermediateLocation | Kind::TerminatingLocation)
+    )
+}
