@@ -1,9 +1,7 @@
 -- How a fault is told: the exit status, and one line on standard error.
 use Rattle.std.specs.Prelude.{ℕ, List, ◌++◌, codes, decimal}
 use Rattle.cif_file.specs.declared.fault.FileFault.{FileFault}
-use Rattle.cif_journey.specs.declared.cause.FileCause.{FileCause}
-use Rattle.cif_journey.specs.declared.cause.FileCause.TheVariants.{Length, Byte, Kind, Place, Field, Midnights, NoEnd, After, TooMany}
-use Rattle.cif_journey.specs.declared.cause.FileCause.TheVariants as cause
+use Rattle.cif_journey.specs.Cause.{cause_text}
 use Rattle.docker_office.specs.StateFault.{StateFault}
 use Rattle.docker_office.specs.FaultText as state_text
 use Rattle.docker_job.specs.declared.fault.JobFault.TheVariants as job
@@ -22,19 +20,6 @@ status_of (Office office.Lapsed) = 1
 status_of (Office office.Source) = 4
 status_of (Office office.Sink) = 4
 status_of (Office office.Memory) = 3
-
--- the name of a cause, and the column behind it where it has one
-abbrev pub cause_text : FileCause → List ℕ
-cause_text Length = codes "Length"
-cause_text (Byte column) = codes "Byte " ++ decimal column
-cause_text Kind = codes "Kind"
-cause_text Place = codes "Place"
-cause_text (Field column) = codes "Field " ++ decimal column
-cause_text Midnights = codes "Midnights"
-cause_text NoEnd = codes "NoEnd"
-cause_text After = codes "After"
-cause_text TooMany = codes "TooMany"
-cause_text cause.Memory = codes "Memory"
 
 -- the line of a refused file
 abbrev pub file_line : FileFault → List ℕ

@@ -1,7 +1,8 @@
 //! The exit status and the line on standard error that tell a fault.
 ghost use Rattle.std.specs.Prelude.{◌≡◌, ◌+◌, ◌≤◌, ◌++◌, [], decimal};
 ghost use Rattle.arrayvec.specs.ArrayVec.{array_vec_len};
-ghost use Rattle.docker_cmd.specs.FaultLine.{status_of, fault_line, file_line, state_line, cause_text};
+ghost use Rattle.cif_journey.specs.Cause.{cause_text};
+ghost use Rattle.docker_cmd.specs.FaultLine.{status_of, fault_line, file_line, state_line};
 ghost use Rattle.docker_office.specs.FaultText as state_text;
 
 use crate::buffer::put;
