@@ -1,9 +1,11 @@
-// Preloaded under the program. Its calls of the system that open, read, write, lock, flush, rename and so on are counted from 1.
-//   END_AT=N    it is ended at the N-th of them, of a write in its middle
-//   FAIL_AT=N   the N-th of them fails
-//   INTERRUPT=1 each read and each write is interrupted once before it moves a byte
-//   UNLOCKED=1  each lock is granted, and holds nothing
-// The first time that one of these comes to pass, and where a file is opened under the number of a standard stream, the file that TOLD names is made.
+// Preloaded under the program. The calls of the system that are wrapped here are counted from 1; if CALL names one of them, only those of that name.
+//   END_AT=N     the program is ended at the N-th of them, at a write in its middle
+//   FAIL_AT=N    the N-th of them fails, with EIO or the error that ERROR names
+//   INTERRUPT=1  each read and each write is interrupted once before it moves a byte
+//   UNLOCKED=1   each lock is granted, and holds nothing
+// The first time that one of these happens, the file that TOLD names is made, and has the call's name.
+// The file that WRONG names is made, and has the call's name, if a file is opened under the number of a standard stream, is read again after its end,
+// is written nothing, or is renamed before all that was written is flushed.
 #define _GNU_SOURCE
 #include <dlfcn.h>
 #include <errno.h>
@@ -14,22 +16,30 @@
 #include <string.h>
 #include <sys/file.h>
 #include <sys/stat.h>
+#include <sys/syscall.h>
 #include <unistd.h>
 
+#define NEXT(name) ((__typeof__(&name))dlsym(RTLD_NEXT, #name))
+
+// The files whose writes are followed are those of the least numbers.
+enum { FOLLOWED = 64 };
+
 static long calls;
+static char is_unflushed[FOLLOWED], is_at_end[FOLLOWED];
 
-static void *next(const char *name) { return dlsym(RTLD_NEXT, name); }
-
-static int tell(void) {
-  const char *told = getenv("TOLD");
-  int (*open_at)(int, const char *, int, ...) = next("openat");
-  if (told) close(open_at(AT_FDCWD, told, O_CREAT | O_WRONLY, 0600));
-  return 1;
+// Makes the file that a variable names, with a text. Not by a call that is wrapped here.
+static void make(const char *variable, const char *text) {
+  const char *name = getenv(variable);
+  if (!name) return;
+  int fd = syscall(SYS_openat, AT_FDCWD, name, O_CREAT | O_TRUNC | O_WRONLY, 0600);
+  syscall(SYS_write, fd, text, strlen(text));
+  syscall(SYS_close, fd);
 }
 
-static int is_at(const char *name) {
-  const char *at = getenv(name);
-  return at && calls == atol(at) && tell();
+// Whether this variable has the number of the call at hand.
+static int is_at(const char *variable) {
+  const char *at = getenv(variable);
+  return at && calls == atol(at);
 }
 
 static void end(void) {
@@ -37,81 +47,127 @@ static void end(void) {
   for (;;) pause();
 }
 
-// Whether the next call fails.
-static int fails(void) {
-  calls++;
-  if (is_at("END_AT")) end();
-  if (!is_at("FAIL_AT")) return 0;
-  errno = EIO;
-  return 1;
+// The error with which a call fails.
+static int wanted_error(void) {
+  const char *name = getenv("ERROR");
+  if (name && !strcmp(name, "ENOSPC")) return ENOSPC;
+  if (name && !strcmp(name, "ENOMEM")) return ENOMEM;
+  return EIO;
 }
 
+// What happens at a call.
+enum fate { PASSES, FAILS, ENDS };
+
+// The fate of a call, which is counted here if those of its name count.
+static enum fate fate_of(const char *call) {
+  const char *name = getenv("CALL");
+  if (name && strcmp(name, call)) return PASSES;
+  calls++;
+  enum fate fate = is_at("END_AT") ? ENDS : is_at("FAIL_AT") ? FAILS : PASSES;
+  if (fate != PASSES) make("TOLD", call);
+  return fate;
+}
+
+// Ends the program, or answers whether the call fails.
+static int meets(enum fate fate) {
+  if (fate == ENDS) end();
+  if (fate == FAILS) errno = wanted_error();
+  return fate == FAILS;
+}
+
+static int fails(const char *call) { return meets(fate_of(call)); }
+
 // Whether a read or a write is interrupted: every other one.
-static int is_interrupted(void) {
+static int is_interrupted(const char *call) {
   static int before;
   before = getenv("INTERRUPT") && !before;
-  if (before) tell();
+  if (before) make("TOLD", call);
   errno = EINTR;
   return before;
 }
 
+// Marks whether all that was written to a file is flushed.
+static void mark_unflushed(int fd, int unflushed) {
+  if (fd > STDERR_FILENO && fd < FOLLOWED) is_unflushed[fd] = unflushed;
+}
+
+// Marks whether the end of a file was read. Nothing is to be read after it.
+static void mark_end(int fd, int end) {
+  if (fd < 0 || fd >= FOLLOWED) return;
+  if (end && is_at_end[fd]) make("WRONG", "read");
+  is_at_end[fd] = end;
+}
+
 ssize_t read(int fd, void *into, size_t size) {
-  ssize_t (*call)(int, void *, size_t) = next("read");
-  return is_interrupted() || fails() ? -1 : call(fd, into, size);
+  if (is_interrupted("read") || fails("read")) return -1;
+  ssize_t got = NEXT(read)(fd, into, size);
+  if (size > 0) mark_end(fd, got == 0);
+  return got;
 }
 
 ssize_t write(int fd, const void *from, size_t size) {
-  ssize_t (*call)(int, const void *, size_t) = next("write");
-  const char *at = getenv("END_AT");
-  if (is_interrupted()) return -1;
-  if (at && calls + 1 == atol(at)) call(fd, from, size / 2);
-  return fails() ? -1 : call(fd, from, size);
+  if (is_interrupted("write")) return -1;
+  if (size == 0) make("WRONG", "write");
+  mark_unflushed(fd, 1);
+  enum fate fate = fate_of("write");
+  if (fate == ENDS) NEXT(write)(fd, from, size / 2);
+  return meets(fate) ? -1 : NEXT(write)(fd, from, size);
 }
 
-int openat(int folder, const char *path, int flags, ...) {
-  int (*call)(int, const char *, int, ...) = next("openat");
+// Another name of the same call.
+ssize_t __write(int fd, const void *from, size_t size) { return write(fd, from, size); }
+
+int open(const char *path, int flags, ...) {
   va_list more;
   va_start(more, flags);
   mode_t mode = flags & O_CREAT ? va_arg(more, mode_t) : 0;
   va_end(more);
-  if (fails()) return -1;
-  int fd = call(folder, path, flags, mode);
-  if (fd >= 0 && fd <= 2 && strcmp(path, "/")) tell();
+  if (fails("open")) return -1;
+  int fd = NEXT(open)(path, flags, mode);
+  if (fd >= 0 && fd <= STDERR_FILENO && strcmp(path, "/")) make("WRONG", "open");
+  mark_end(fd, 0);
+  mark_unflushed(fd, 0);
   return fd;
 }
 
+int close(int fd) {
+  int closed = NEXT(close)(fd);
+  return fails("close") ? -1 : closed;
+}
+
 int statx(int folder, const char *restrict path, int flags, unsigned mask, struct statx *restrict into) {
-  int (*call)(int, const char *, int, unsigned, struct statx *) = next("statx");
-  return fails() ? -1 : call(folder, path, flags, mask, into);
+  return fails("statx") ? -1 : NEXT(statx)(folder, path, flags, mask, into);
 }
 
-char *realpath(const char *restrict path, char *restrict into) {
-  char *(*call)(const char *, char *) = next("realpath");
-  return fails() ? NULL : call(path, into);
-}
+char *realpath(const char *restrict path, char *restrict into) { return fails("realpath") ? NULL : NEXT(realpath)(path, into); }
 
-int fchmod(int fd, mode_t mode) {
-  int (*call)(int, mode_t) = next("fchmod");
-  return fails() ? -1 : call(fd, mode);
-}
+int fchmod(int fd, mode_t mode) { return fails("fchmod") ? -1 : NEXT(fchmod)(fd, mode); }
 
 int flock(int fd, int how) {
-  int (*call)(int, int) = next("flock");
-  if (getenv("UNLOCKED")) return tell() - 1;
-  return fails() ? -1 : call(fd, how);
+  if (getenv("UNLOCKED")) {
+    make("TOLD", "flock");
+    return 0;
+  }
+  return fails("flock") ? -1 : NEXT(flock)(fd, how);
 }
 
 int fsync(int fd) {
-  int (*call)(int) = next("fsync");
-  return fails() ? -1 : call(fd);
+  if (fails("fsync")) return -1;
+  mark_unflushed(fd, 0);
+  return NEXT(fsync)(fd);
 }
+
+int fdatasync(int fd) {
+  if (fails("fdatasync")) return -1;
+  mark_unflushed(fd, 0);
+  return NEXT(fdatasync)(fd);
+}
+
+int ftruncate(int fd, off_t size) { return fails("ftruncate") ? -1 : NEXT(ftruncate)(fd, size); }
 
 int rename(const char *from, const char *to) {
-  int (*call)(const char *, const char *) = next("rename");
-  return fails() ? -1 : call(from, to);
+  if (memchr(is_unflushed, 1, FOLLOWED)) make("WRONG", "rename");
+  return fails("rename") ? -1 : NEXT(rename)(from, to);
 }
 
-int unlink(const char *path) {
-  int (*call)(const char *) = next("unlink");
-  return fails() ? -1 : call(path);
-}
+int unlink(const char *path) { return fails("unlink") ? -1 : NEXT(unlink)(path); }
