@@ -1,9 +1,11 @@
 // Preloaded under a program: the growth whose number is in GROWTH is refused, and no other. Each is counted from 1, and the one that was refused
-// leaves the file that REFUSED names. Where CALL is set, those alone count that stand between the first write to standard output and the next.
+// leaves the file that REFUSED names. Where CALL is set, those alone count that stand between the first write to standard output and the next. At its
+// end the program leaves how many there were in the file that COUNTED names.
 #define _GNU_SOURCE
 #include <dlfcn.h>
 #include <errno.h>
 #include <fcntl.h>
+#include <stdio.h>
 #include <stdlib.h>
 #include <unistd.h>
 
@@ -18,7 +20,8 @@ ssize_t write(int to, const void *bytes, size_t count) {
 
 static int is_refused(void) {
   const char *wanted = getenv("GROWTH"), *told = getenv("REFUSED");
-  if (!wanted || (getenv("CALL") && writes != 1) || ++growths != atol(wanted)) return 0;
+  if (getenv("CALL") && writes != 1) return 0;
+  if (++growths != (wanted ? atol(wanted) : 0)) return 0;
   if (told) close(open(told, O_CREAT | O_WRONLY, 0600));
   errno = ENOMEM;
   return 1;
@@ -46,4 +49,9 @@ int posix_memalign(void **out, size_t alignment, size_t size) {
   static int (*next)(void **, size_t, size_t);
   if (!next) next = dlsym(RTLD_NEXT, "posix_memalign");
   return is_refused() ? ENOMEM : next(out, alignment, size);
+}
+
+__attribute__((destructor)) static void leave_count(void) {
+  const char *counted = getenv("COUNTED");
+  if (counted) dprintf(open(counted, O_CREAT | O_TRUNC | O_WRONLY, 0600), "%ld\n", growths);
 }
