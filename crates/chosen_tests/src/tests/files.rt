@@ -1,0 +1,91 @@
+//! Which of two files a schedule came from.
+
+use super::records::{
+    BS_CANCELLED, BS_CANCELLED_DELETED, BS_DELETED, BS_OVERLAY, BS_REVISED, BS_REVISED_KEPT,
+    BS_WEEK, END, HD, HD_10, LO, LO_0915, LO_0920, LT, ZZ,
+};
+use super::{joined, says};
+use std::alloc::Global;
+use std::process::Abort;
+
+/// A permanent schedule, its overlay and its cancellation.
+const FIRST: &[&[u8]] = &[
+    HD,
+    BS_WEEK,
+    LO,
+    LT,
+    BS_OVERLAY,
+    LO_0915,
+    LT,
+    BS_CANCELLED,
+    ZZ,
+];
+
+/// A later file that deletes the permanent one.
+const DELETES: &[&[u8]] = &[HD_10, BS_DELETED, ZZ];
+
+/// A later file that deletes the cancellation.
+const RESTORES: &[&[u8]] = &[HD_10, BS_CANCELLED_DELETED, ZZ];
+
+/// A later file that revises the permanent one.
+const REVISES: &[&[u8]] = &[HD_10, BS_REVISED, LO_0920, LT, ZZ];
+
+/// By the overlay, record 5 of the first file.
+const OVERLAY: &[u8] =
+    b"TRAIN  C10001  2024-06-11 O RUNS      2024-06-09 2100 DFROC1A          5        ";
+
+/// By the permanent schedule, record 2 of the first file.
+const RESTORED: &[u8] =
+    b"TRAIN  C10001  2024-06-14 P RUNS      2024-06-09 2100 DFROC1A          2        ";
+
+/// By the revision, record 2 of the second file.
+const REVISED: &[u8] =
+    b"TRAIN  C10001  2024-06-12 P RUNS      2024-06-10 0605 DFROC1B          2        ";
+
+/// By nothing.
+const NONE: &[u8] =
+    b"TRAIN  C10001  2024-06-12   NONE                                                ";
+
+/// By nothing, for the revision ends on 13 June.
+const NONE_BEHIND: &[u8] =
+    b"TRAIN  C10001  2024-06-15   NONE                                                ";
+
+/// That some files, joined in this order, say these lines of C10001 on a day.
+fn tell(rt: &impl Abort, alloc: Global, files: &[&[&[u8]]], on: &str, wanted: &[&[u8]]) {
+    let state = joined(rt, alloc, files);
+    says(rt, alloc, &state, "C10001", on, wanted);
+}
+
+/// A schedule that a later file deletes is there no more; its overlay is.
+#[test]
+fn deleted(rt: HostRuntime) {
+    let overlay: &[&[u8]] = &[OVERLAY, BS_OVERLAY, LO_0915, LT, END];
+    let files: &[&[&[u8]]] = &[FIRST, DELETES];
+    tell(&rt, rt.alloc(), files, "2024-06-12", &[NONE, END]);
+    tell(&rt, rt.alloc(), files, "2024-06-11", overlay);
+    tell(
+        &rt,
+        rt.alloc(),
+        &[DELETES, FIRST],
+        "2024-06-12",
+        &[NONE, END],
+    );
+}
+
+/// A train whose cancellation a later file deletes runs again, by the schedule of the first file.
+#[test]
+fn restored(rt: HostRuntime) {
+    let restored: &[&[u8]] = &[RESTORED, BS_WEEK, LO, LT, END];
+    tell(&rt, rt.alloc(), &[FIRST, RESTORES], "2024-06-14", restored);
+    tell(&rt, rt.alloc(), &[RESTORES, FIRST], "2024-06-14", restored);
+}
+
+/// A revision takes the place of what it revises. It is kept with the transaction `N`.
+#[test]
+fn revised(rt: HostRuntime) {
+    let revised: &[&[u8]] = &[REVISED, BS_REVISED_KEPT, LO_0920, LT, END];
+    let files: &[&[&[u8]]] = &[FIRST, REVISES];
+    tell(&rt, rt.alloc(), files, "2024-06-12", revised);
+    tell(&rt, rt.alloc(), files, "2024-06-15", &[NONE_BEHIND, END]);
+    tell(&rt, rt.alloc(), &[REVISES, FIRST], "2024-06-12", revised);
+}
