@@ -2,6 +2,7 @@
 //! The writing of a text, and the causes for which one is refused, are handed on from the crates below.
 #![tactic(auto)]
 
+mod excerpt;
 mod fault;
 mod join;
 mod migration;
@@ -10,7 +11,9 @@ mod read;
 mod reading;
 mod state_parser;
 
+pub use docker_excerpt::{Excerpt, Ledger};
 pub use docker_parts::{StateCause, encoded_len, write_state};
+pub use excerpt::{read_excerpt, read_ledger};
 pub use fault::{StateFault, Step};
 pub use join::join_state;
 pub use migration::migrate;

@@ -1,0 +1,12 @@
+-- The place is the one that the type names.
+use Rattle.std.proofs.Common.{sym, subst}
+use Rattle.std.specs.Prelude.{IfOk}
+use Rattle.docker_model.specs.state.StateText.{dks_2}
+use Rattle.docker_bytes.specs.Excerpts.{IsExcerptAt}
+use Rattle.docker_bytes.specs.SourceRead.{ReadsMade}
+use Rattle.docker_bytes.proofs.excerpt.excerpt_at.Goals as goal
+
+pub returns-clause-ok : goal.returns-clause-ok
+returns-clause-ok g c =
+    subst (λ place. IfOk c.read_format.result (ReadsMade (IsExcerptAt place) dks_2 c.args.limit (g.S.Source.left c.args.source.now)))
+    (sym c.requires.place) c.read_format.ensures.ok

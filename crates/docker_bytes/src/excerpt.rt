@@ -1,0 +1,81 @@
+//! What a command that writes no state reads of one: what the dockers of a place are made of, or the ledger.
+ghost use Rattle.std.specs.Prelude.{◌≡◌, ◌≢◌, ◌+◌, ◌-◌, ◌^◌, ◌<◌, ◌↔◌, IfOk, Err};
+ghost use Rattle.docker_model.specs.state.StateText.{dks_2};
+ghost use Rattle.docker_bytes.specs.Excerpts.{IsExcerptAt, IsLedgerOf};
+ghost use Rattle.docker_bytes.specs.SourceRead.{ReadsMade, RefusesState, ReadsOnePieceMore, WantsMemory};
+
+use crate::read::{ReadFault, read_format};
+use cif_line::{Source, Tiploc};
+use docker_excerpt::{Excerpt, ExcerptingAt, Ledger, Place};
+use docker_parts::format::Format;
+use std::alloc::Global;
+use std::marker::Brand;
+
+/// Reads a source as `read_state` does, and answers what the dockers of a place are made of in the state whose text it held. Each part is judged, whether it is
+/// kept or not. An excerpt is no state: it is never written, joined or sent.
+pub fn read_excerpt<S: Source>(
+    alloc: Global,
+    source: &mut S,
+    place: Tiploc,
+    limit: u64,
+) -> Result<Excerpt, ReadFault>
+    requires { S.failures source.old < 2 ^ 64 - 1 }
+    ensures ok { IfOk result (ReadsMade (IsExcerptAt place) dks_2 limit (S.left source.old)) }
+    ensures state { (fault : _) → result ≡ Err (ReadFault.State fault) →
+        RefusesState dks_2 limit (S.left source.old) fault }
+    ensures memory { result ≡ Err ReadFault.Memory →
+        WantsMemory dks_2 65536 limit (S.left source.old) (S.left source.new) }
+    ensures few { ReadsOnePieceMore dks_2 65536 limit (S.left source.old) (S.left source.new) }
+    ensures source { (result ≡ Err ReadFault.Source) ↔
+        (S.failures source.new ≡ S.failures source.old + 1) }
+    ensures no_failure { result ≢ Err ReadFault.Source →
+        S.failures source.new ≡ S.failures source.old }
+{
+    excerpt_at::<Brand, S>(alloc, source, place, limit)
+}
+
+/// The same of the place that the type names.
+fn excerpt_at<P: Place, S: Source>(
+    alloc: Global,
+    source: &mut S,
+    place: Tiploc,
+    limit: u64,
+) -> Result<Excerpt, ReadFault>
+    requires failures { S.failures source.old < 2 ^ 64 - 1 }
+    requires place { place ≡ P.place }
+    ensures ok { IfOk result (ReadsMade (IsExcerptAt place) dks_2 limit (S.left source.old)) }
+    ensures state { (fault : _) → result ≡ Err (ReadFault.State fault) →
+        RefusesState dks_2 limit (S.left source.old) fault }
+    ensures memory { result ≡ Err ReadFault.Memory →
+        WantsMemory dks_2 65536 limit (S.left source.old) (S.left source.new) }
+    ensures few { ReadsOnePieceMore dks_2 65536 limit (S.left source.old) (S.left source.new) }
+    ensures source { (result ≡ Err ReadFault.Source) ↔
+        (S.failures source.new ≡ S.failures source.old + 1) }
+    ensures no_failure { result ≢ Err ReadFault.Source →
+        S.failures source.new ≡ S.failures source.old }
+{
+    let keeper: ExcerptingAt<P> = ExcerptingAt::new(alloc, place);
+    read_format(alloc, Format::Dks2, keeper, source, limit)
+}
+
+/// Reads a source as `read_state` does, and answers the ledger of the state whose text it held. Each part is judged, and no entry is kept: memory is taken for
+/// the ledger and for the lines of one schedule.
+pub fn read_ledger<S: Source>(
+    alloc: Global,
+    source: &mut S,
+    limit: u64,
+) -> Result<Ledger, ReadFault>
+    requires { S.failures source.old < 2 ^ 64 - 1 }
+    ensures ok { IfOk result (ReadsMade IsLedgerOf dks_2 limit (S.left source.old)) }
+    ensures state { (fault : _) → result ≡ Err (ReadFault.State fault) →
+        RefusesState dks_2 limit (S.left source.old) fault }
+    ensures memory { result ≡ Err ReadFault.Memory →
+        WantsMemory dks_2 65536 limit (S.left source.old) (S.left source.new) }
+    ensures few { ReadsOnePieceMore dks_2 65536 limit (S.left source.old) (S.left source.new) }
+    ensures source { (result ≡ Err ReadFault.Source) ↔
+        (S.failures source.new ≡ S.failures source.old + 1) }
+    ensures no_failure { result ≢ Err ReadFault.Source →
+        S.failures source.new ≡ S.failures source.old }
+{
+    read_format(alloc, Format::Dks2, Ledger::new(alloc), source, limit)
+}
