@@ -1,5 +1,5 @@
 -- What a job reads, and what it writes.
-use Rattle.std.specs.Prelude.{◌≡◌, ℕ, ◌⊎◌, ⊤, List, [], ◌∷◌, Option}
+use Rattle.std.specs.Prelude.{◌≡◌, ◌≢◌, ℕ, ◌+◌, ◌⊎◌, ⊤, List, [], ◌∷◌, Option, Some, None, Result, Ok, Err}
 use Rattle.cif_line.specs.Device.{Reads, Takes, TakesPart, IsEnd}
 use Rattle.cif_file.specs.FileRead.{FileCounted}
 use Rattle.cif_file.specs.SourceRead.{Held, CountsText, RefusesText, ReadsNoFurther}
@@ -8,7 +8,7 @@ use Rattle.docker_model.specs.file.File.{most_records}
 use Rattle.docker_model.specs.file.FileFault.{IsFileText}
 use Rattle.docker_model.specs.state.Lapse.{IsDayRefused}
 use Rattle.docker_model.specs.state.State.{State, live_table, raise_horizon}
-use Rattle.docker_model.specs.state.StateText.{Format, dks_1, dks_2, state_text}
+use Rattle.docker_model.specs.state.StateText.{Format, dks_2, state_text}
 use Rattle.docker_model.specs.state.Summary.{IsSummary}
 use Rattle.docker_model.specs.state.Table.{IsPlainTable}
 use Rattle.docker_model.specs.docker.DockerText.{IsDockerText, files_text}
@@ -17,7 +17,9 @@ use Rattle.docker_office.specs.StateFault.{StateFault}
 use Rattle.docker_office.specs.declared.fault.OfficeFault.{OfficeFault}
 use Rattle.docker_office.specs.declared.fault.OfficeFault.TheVariants as office
 use Rattle.docker_office.specs.Office.{no_state, TakesFile, WantsForFile}
-use Rattle.docker_job.specs.Job.{JobView, TaskView, new_task, check_task, day_task, take_task, merge_task, print_task, files_task, horizon_task, migrate_task}
+use Rattle.docker_job.specs.Job.{JobView, TaskView, check_task, horizon_task}
+pub use Rattle.docker_job.specs.Reads.{Sources, no_source, checked_file, taken_file, one_state, state_and_file, two_states, sources_of, horizon_of}
+pub use Rattle.docker_job.specs.Writes.{Output, counts_written, docker_written, files_written, state_written, output_of}
 use Rattle.docker_cmd.specs.CheckLine.{count_line}
 
 -- the most bytes that a state's text may have
@@ -42,35 +44,13 @@ pub record PreparedView : Type 0 where
   pub job : JobView
   pub read : ReadView
 
--- the sources of a task, in the order of its words: none, a file that is only checked, a file that an office takes, a state in a format, a state and
--- then a file, a state and then another
-pub data Sources : Type 0 where
-  no_source : Sources
-  checked_file : Sources
-  taken_file : Sources
-  one_state : (format : Format) → Sources
-  state_and_file : Sources
-  two_states : Sources
+-- there is no source
+abbrev pub HasNoSource : Sources → Type 0
+HasNoSource sources = sources ≡ no_source
 
--- the sources of each task
-abbrev pub sources_of : TaskView → Sources
-sources_of new_task = no_source
-sources_of check_task = checked_file
-sources_of (day_task place day) = taken_file
-sources_of take_task = state_and_file
-sources_of merge_task = two_states
-sources_of (print_task place day) = one_state dks_2
-sources_of files_task = one_state dks_2
-sources_of (horizon_task day) = one_state dks_2
-sources_of migrate_task = one_state dks_1
-
--- the task has no source
-abbrev pub HasNoSource : TaskView → Type 0
-HasNoSource task = sources_of task ≡ no_source
-
--- the task has a second source
-abbrev pub HasSecondSource : TaskView → Type 0
-HasSecondSource task = (sources_of task ≡ state_and_file) ⊎ (sources_of task ≡ two_states)
+-- there is a second source
+abbrev pub HasSecondSource : Sources → Type 0
+HasSecondSource sources = (sources ≡ state_and_file) ⊎ (sources ≡ two_states)
 
 -- a source held the text of a state
 abbrev pub HoldsSomeState : DeviceBytes → Type 0
@@ -94,22 +74,35 @@ pub record RaisesState (day : ℕ) (first : DeviceBytes) (state : State) : Type 
   pub reads : ReadsState dks_2 most_bytes first own
   pub raised : state ≡ raise_horizon day own
 
--- the state of the office that a task has made of its sources. `check` makes none
+-- the state of the office that has read these sources. Of a file that is only checked there is none
+abbrev pub IsStateOf : Sources → DeviceBytes → DeviceBytes → State → Type 0
+IsStateOf no_source first second state = state ≡ no_state
+IsStateOf checked_file first second state = ⊥
+IsStateOf taken_file first second state = TakesFile most_records first no_state state
+IsStateOf (one_state format) first second state = ReadsState format most_bytes first state
+IsStateOf state_and_file first second state = TakesBehind first second state
+IsStateOf two_states first second state = JoinsBehind first second state
+
+-- what was read of these sources: of a file that is only checked its counts, of any other a state
+abbrev pub IsContentOf : Sources → DeviceBytes → DeviceBytes → ReadView → Type 0
+IsContentOf sources first second (file_read file) = (sources ≡ checked_file) × CountsText most_records first file
+IsContentOf sources first second (office_read state) = IsStateOf sources first second state
+
+-- the state of the office that a task has made of its sources: `horizon` raises its horizon. `check` makes none
 abbrev pub IsStateReadBy : TaskView → DeviceBytes → DeviceBytes → State → Type 0
-IsStateReadBy new_task first second state = state ≡ no_state
-IsStateReadBy check_task first second state = ⊥
-IsStateReadBy (day_task place day) first second state = TakesFile most_records first no_state state
-IsStateReadBy take_task first second state = TakesBehind first second state
-IsStateReadBy merge_task first second state = JoinsBehind first second state
-IsStateReadBy (print_task place day) first second state = ReadsState dks_2 most_bytes first state
-IsStateReadBy files_task first second state = ReadsState dks_2 most_bytes first state
 IsStateReadBy (horizon_task day) first second state = RaisesState day first state
-IsStateReadBy migrate_task first second state = ReadsState dks_1 most_bytes first state
+IsStateReadBy task first second state = IsStateOf (sources_of task) first second state
 
 -- what a task has read: `check` the counts of the file whose text its source held, any other a state
 abbrev pub IsReadOf : TaskView → DeviceBytes → DeviceBytes → ReadView → Type 0
 IsReadOf task first second (file_read file) = (task ≡ check_task) × CountsText most_records first file
 IsReadOf task first second (office_read state) = IsStateReadBy task first second state
+
+-- what was read, after a horizon was set on its state, if there is one
+abbrev pub under : Option ℕ → ReadView → ReadView
+under None read = read
+under (Some day) (file_read file) = file_read file
+under (Some day) (office_read state) = office_read (raise_horizon day state)
 
 -- a state was read that is of one file whose text the source held, and its live table is the plain table of that one file
 pub record IsOfOneFile (left : DeviceBytes) (read : ReadView) : Type 0 where
@@ -140,15 +133,6 @@ RefusesStateOf (one_state format) first second fault = RefusesState format most_
 RefusesStateOf state_and_file first second fault = RefusesState dks_2 most_bytes first fault
 RefusesStateOf two_states first second fault =
     RefusesState dks_2 most_bytes first fault ⊎ (HoldsSomeState first × RefusesState dks_2 most_bytes second fault)
-
--- why reading is refused: never by a sink, and never for a day
-abbrev pub IsOfSources : OfficeFault → Type 0
-IsOfSources (office.File fault) = ⊤
-IsOfSources (office.State fault) = ⊤
-IsOfSources office.Source = ⊤
-IsOfSources office.Memory = ⊤
-IsOfSources office.Lapsed = ⊥
-IsOfSources office.Sink = ⊥
 
 -- memory was wanting for a state of a format
 abbrev pub WantsForState : Format → DeviceBytes → DeviceBytes → Type 0
@@ -201,24 +185,62 @@ HasReadToEnd (one_state format) first second = ⊤
 HasReadToEnd state_and_file first second = IsEnd second
 HasReadToEnd two_states first second = ⊤
 
--- what a task writes: the counts of a file, the docker of a place and a day, the files of a ledger, or a state
-pub data Output : Type 0 where
-  counts_written : Output
-  docker_written : (place : List ℕ) (day : ℕ) → Output
-  files_written : Output
-  state_written : Output
+-- why two sources were refused, by what they held and have left: never by a sink, and never for a day
+abbrev pub IsWhyRefused : Sources → DeviceBytes → DeviceBytes → DeviceBytes → DeviceBytes → OfficeFault → Type 0
+IsWhyRefused sources first left second second_left (office.File fault) = RefusesFileOf sources first second fault
+IsWhyRefused sources first left second second_left (office.State fault) = RefusesStateOf sources first second fault
+IsWhyRefused sources first left second second_left office.Source = ⊤
+IsWhyRefused sources first left second second_left office.Memory = WantsFor sources first left second second_left
+IsWhyRefused sources first left second second_left office.Lapsed = ⊥
+IsWhyRefused sources first left second second_left office.Sink = ⊥
 
--- what each task writes
-abbrev pub output_of : TaskView → Output
-output_of new_task = state_written
-output_of check_task = counts_written
-output_of (day_task place day) = docker_written place day
-output_of take_task = state_written
-output_of merge_task = state_written
-output_of (print_task place day) = docker_written place day
-output_of files_task = files_written
-output_of (horizon_task day) = state_written
-output_of migrate_task = state_written
+-- what came of reading two sources: a value of which this holds, at the end of the file that was read; or why they were refused
+abbrev pub EndsReading : {A : Type 0} → (A → Type 0) → Sources → DeviceBytes → DeviceBytes → DeviceBytes → DeviceBytes → Result A OfficeFault → Type 0
+EndsReading IsMade sources first left second second_left (Ok made) = IsMade made × HasReadToEnd sources left second_left
+EndsReading IsMade sources first left second second_left (Err fault) = IsWhyRefused sources first left second second_left fault
+
+-- two sources were read in their order and no further than decides, and this is what came of it
+pub record ReadsFew (sources : Sources) (first left second second_left : DeviceBytes) (Ends : Type 0) : Type 0 where
+  pub first_few : ReadsFewOfFirst sources first left
+  pub second_few : ReadsFewOfSecond sources first second second_left
+  pub ends : Ends
+
+-- the same, of what came of it
+abbrev pub ReadsSources : {A : Type 0} → (A → Type 0) → Sources → DeviceBytes → DeviceBytes → DeviceBytes → DeviceBytes → Result A OfficeFault → Type 0
+ReadsSources IsMade sources first left second second_left result =
+    ReadsFew sources first left second second_left (EndsReading IsMade sources first left second second_left result)
+
+-- the sources were read, and the result has what they held
+abbrev pub ReadsContent : {A : Type 0} → (A → ReadView) → Sources → DeviceBytes → DeviceBytes → DeviceBytes → DeviceBytes → Result A OfficeFault → Type 0
+ReadsContent meant sources first left second second_left result =
+    ReadsSources (λ made. IsContentOf sources first second (meant made)) sources first left second second_left result
+
+-- it holds this job, and what the job has read of its sources
+abbrev pub IsPreparedFor : JobView → DeviceBytes → DeviceBytes → PreparedView → Type 0
+IsPreparedFor job first second prepared = (prepared.job ≡ job) × IsReadOf job.task first second prepared.read
+
+-- the sources of a job were read
+abbrev pub ReadsInOrder : JobView → DeviceBytes → DeviceBytes → DeviceBytes → DeviceBytes → Result PreparedView OfficeFault → Type 0
+ReadsInOrder job first left second second_left result =
+    ReadsSources (IsPreparedFor job first second) (sources_of job.task) first left second second_left result
+
+-- neither of two sources failed, by how often they have before and now
+abbrev pub HaveNotFailed : ℕ → ℕ → ℕ → ℕ → Type 0
+HaveNotFailed first first_now second second_now = (first_now ≡ first) × (second_now ≡ second)
+
+-- one of the two failed once, if that is why they were refused, and else neither did
+abbrev pub FailsBy : ℕ → ℕ → ℕ → ℕ → OfficeFault → Type 0
+FailsBy first first_now second second_now (office.File fault) = HaveNotFailed first first_now second second_now
+FailsBy first first_now second second_now (office.State fault) = HaveNotFailed first first_now second second_now
+FailsBy first first_now second second_now office.Source = first_now + second_now ≡ first + second + 1
+FailsBy first first_now second second_now office.Memory = HaveNotFailed first first_now second second_now
+FailsBy first first_now second second_now office.Lapsed = ⊥
+FailsBy first first_now second second_now office.Sink = ⊥
+
+-- the same, by what came of reading them
+abbrev pub CountsSources : {A : Type 0} → Result A OfficeFault → ℕ → ℕ → ℕ → ℕ → Type 0
+CountsSources (Ok made) first first_now second second_now = HaveNotFailed first first_now second second_now
+CountsSources (Err fault) first first_now second second_now = FailsBy first first_now second second_now fault
 
 -- what is written of the office's state: its docker text, its files text, or its own text
 abbrev pub IsStateOutput : Output → State → List ℕ → Type 0
@@ -231,6 +253,11 @@ IsStateOutput state_written state text = text ≡ state_text dks_2 state
 abbrev pub IsOutputText : Output → ReadView → List ℕ → Type 0
 IsOutputText output (file_read file) text = (output ≡ counts_written) × (text ≡ count_line file.record_count file.change_count)
 IsOutputText output (office_read state) text = IsStateOutput output state text
+
+-- such an output is written of what was read: counts of a file, and all else of a state
+abbrev pub IsWrittenOf : Output → ReadView → Type 0
+IsWrittenOf output (file_read file) = output ≡ counts_written
+IsWrittenOf output (office_read state) = output ≢ counts_written
 
 -- the sink gained the text of an output
 pub record GainsText (output : Output) (read : ReadView) (old new : DeviceBytes) : Type 0 where
@@ -274,3 +301,15 @@ IsDocker state_written = ⊥
 -- the job prints a docker
 abbrev pub PrintsDocker : PreparedView → Type 0
 PrintsDocker prepared = IsDocker (output_of prepared.job.task)
+
+-- what came of writing an output to a sink: it gained the text; or it failed, and gained a beginning of that; or a docker can't be made, and it is as it was
+abbrev pub EndsEmitting : {K : Type 0} → (K → DeviceBytes) → (K → ℕ) → Output → ReadView → K → K → Result ⊤ OfficeFault → Type 0
+EndsEmitting taken failures output read old new (Ok done) =
+    GainsText output read (taken old) (taken new) × (failures new ≡ failures old)
+EndsEmitting taken failures output read old new (Err office.Sink) =
+    GainsTextPart output read (taken old) (taken new) × (failures new ≡ failures old + 1)
+EndsEmitting taken failures output read old new (Err office.Lapsed) = IsRefusedDocker output read × (new ≡ old)
+EndsEmitting taken failures output read old new (Err office.Memory) = IsDocker output × (new ≡ old)
+EndsEmitting taken failures output read old new (Err (office.File fault)) = ⊥
+EndsEmitting taken failures output read old new (Err (office.State fault)) = ⊥
+EndsEmitting taken failures output read old new (Err office.Source) = ⊥

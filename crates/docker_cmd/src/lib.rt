@@ -9,7 +9,7 @@ mod output;
 mod prepared_job;
 mod sources;
 
-pub use docker_job::{Job, JobFault, Subcommand, Task, job, job_line};
+pub use docker_job::{Job, JobFault, Output, Sources, Subcommand, Task, job, job_line};
 pub use docker_office::OfficeFault;
 pub use fault::Fault;
 pub use fault_line::{FaultText, fault_text, status};

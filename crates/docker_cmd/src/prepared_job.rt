@@ -1,7 +1,7 @@
 //! What a job has read.
-ghost use Rattle.std.specs.Prelude.{◌≡◌, ◌≢◌, ◌+◌, ◌-◌, ◌^◌, ◌<◌, ◌⊎◌, ◌↔◌, IfOk, IfErr, IsOk, Err};
-ghost use Rattle.docker_cmd.specs.Content.{FitsTask, content_meant};
-ghost use Rattle.docker_cmd.specs.Prepared.{HasNoSource, HasReadToEnd, HasSecondSource, HoldsSomeState, IsOfOneFile, IsOfSources, IsReadOf, ReadsFewOfFirst, ReadsFewOfSecond, RefusesFileOf, RefusesStateOf, WantsFor, sources_of, taken_file};
+ghost use Rattle.std.specs.Prelude.{◌≡◌, ◌+◌, ◌-◌, ◌^◌, ◌<◌, ◌⊎◌, IfOk};
+ghost use Rattle.docker_cmd.specs.Content.{content_meant};
+ghost use Rattle.docker_cmd.specs.Prepared.{CountsSources, HasNoSource, HasSecondSource, HoldsSomeState, IsOfOneFile, IsWrittenOf, ReadsInOrder, output_of, sources_of, taken_file};
 
 use crate::sources::{Content, read_sources};
 use cif_line::Source;
@@ -18,8 +18,8 @@ pub struct Prepared<'a> {
 }
 
 impl<'a> Model for Prepared<'a> {
-    ghost use Rattle.docker_cmd.specs.Prepared.{PreparedView};
-    ghost use Rattle.docker_cmd.specs.Content.{FitsTask, content_meant};
+    ghost use Rattle.docker_cmd.specs.Prepared.{IsWrittenOf, PreparedView, output_of};
+    ghost use Rattle.docker_cmd.specs.Content.{content_meant};
 
     ghost Value = { PreparedView };
 
@@ -28,7 +28,8 @@ impl<'a> Model for Prepared<'a> {
       read = content_meant prepared.content;
     } };
 
-    ghost invariant = { λ prepared. FitsTask prepared.job.now.task prepared.content };
+    ghost invariant = { λ prepared. IsWrittenOf (output_of prepared.job.now.task)
+        (content_meant prepared.content) };
 }
 
 impl<'a> Prepared<'a> {
@@ -42,7 +43,7 @@ impl<'a> Prepared<'a> {
     /// What was read: of `check` the counts of a file, of any other an office.
     pub(crate) fn content(&self) -> &Content
         ensures content { self.now.read ≡ content_meant result.now }
-        ensures fits { FitsTask self.now.job.task result.now }
+        ensures written { IsWrittenOf (output_of self.now.job.task) (content_meant result.now) }
     {
         &self.content
     }
@@ -63,36 +64,19 @@ pub fn prepare<'a, S: Source, T: Source>(
 ) -> Result<Prepared<'a>, OfficeFault>
     requires first { S.failures first.old < 2 ^ 64 - 1 }
     requires second { T.failures second.old < 2 ^ 64 - 1 }
-    ensures job { IfOk result (λ prepared. prepared.job ≡ job.now) }
-    ensures ok { IfOk result (λ prepared.
-        IsReadOf job.now.task (S.left first.old) (T.left second.old) prepared.read) }
+    ensures reads { ReadsInOrder job.now (S.left first.old) (S.left first.new)
+        (T.left second.old) (T.left second.new) result }
     ensures one_file { sources_of job.now.task ≡ taken_file →
         IfOk result (λ prepared. IsOfOneFile (S.left first.old) prepared.read) }
-    ensures file { (fault : _) → result ≡ Err (OfficeFault.File fault) →
-        RefusesFileOf (sources_of job.now.task) (S.left first.old) (T.left second.old) fault }
-    ensures state { (fault : _) → result ≡ Err (OfficeFault.State fault) →
-        RefusesStateOf (sources_of job.now.task) (S.left first.old) (T.left second.old) fault }
-    ensures memory { result ≡ Err OfficeFault.Memory →
-        WantsFor (sources_of job.now.task) (S.left first.old) (S.left first.new)
-        (T.left second.old) (T.left second.new) }
-    ensures end { IsOk result →
-        HasReadToEnd (sources_of job.now.task) (S.left first.new) (T.left second.new) }
-    ensures none { HasNoSource job.now.task → first.new ≡ first.old }
-    ensures order { (second.new ≡ second.old) ⊎ (HasSecondSource job.now.task ×
+    ensures none { HasNoSource (sources_of job.now.task) → first.new ≡ first.old }
+    ensures order { (second.new ≡ second.old) ⊎ (HasSecondSource (sources_of job.now.task) ×
         HoldsSomeState (S.left first.old) × (S.failures first.new ≡ S.failures first.old)) }
-    ensures first_few { ReadsFewOfFirst (sources_of job.now.task)
-        (S.left first.old) (S.left first.new) }
-    ensures second_few { ReadsFewOfSecond (sources_of job.now.task)
-        (S.left first.old) (T.left second.old) (T.left second.new) }
-    ensures source { (result ≡ Err OfficeFault.Source) ↔
-        (S.failures first.new + T.failures second.new
-        ≡ S.failures first.old + T.failures second.old + 1) }
-    ensures first_failure { result ≢ Err OfficeFault.Source →
-        S.failures first.new ≡ S.failures first.old }
-    ensures second_failure { result ≢ Err OfficeFault.Source →
-        T.failures second.new ≡ T.failures second.old }
-    ensures only { IfErr result IsOfSources }
+    ensures counted { CountsSources result (S.failures first.old) (S.failures first.new)
+        (T.failures second.old) (T.failures second.new) }
 {
-    let content = read_sources(alloc, &job.task(), first, second)?;
-    Ok(Prepared { job, content })
+    let content = read_sources(alloc, job.task().reads(), first, second)?;
+    Ok(Prepared {
+        job,
+        content: content.under(job.task().horizon()),
+    })
 }

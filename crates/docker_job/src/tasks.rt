@@ -1,8 +1,12 @@
 //! What a job asks for.
 ghost use Rattle.std.specs.Prelude.{◌≡◌};
 ghost use Rattle.docker_job.specs.Job.{day_of, subcommand_of, task_meant, tiploc_of};
+ghost use Rattle.docker_job.specs.Reads.{horizon_of, sources_meant, sources_of};
+ghost use Rattle.docker_job.specs.Writes.{output_meant, output_of};
 
+use crate::reads::Sources;
 use crate::subcommands::Subcommand;
+use crate::writes::Output;
 use cif_line::{Day, Tiploc};
 
 /// What a job asks for: its subcommand, with the timing point and the day that its words name.
@@ -75,6 +79,44 @@ impl Task {
     {
         match self {
             Task::Day { day, .. } | Task::Print { day, .. } | Task::Horizon { day } => Some(day),
+            _ => None,
+        }
+    }
+    /// What it reads.
+    pub fn reads(self) -> Sources
+        ensures { sources_meant result ≡ sources_of (task_meant self) }
+    {
+        match self {
+            Task::New => Sources::None,
+            Task::Check => Sources::CheckedFile,
+            Task::Day { .. } => Sources::TakenFile,
+            Task::Take => Sources::StateAndFile,
+            Task::Merge => Sources::TwoStates,
+            Task::Print { .. } | Task::Files | Task::Horizon { .. } => Sources::State,
+            Task::Migrate => Sources::OlderState,
+        }
+    }
+
+    /// What it writes of that.
+    pub fn writes(self) -> Output
+        ensures { output_meant result ≡ output_of (task_meant self) }
+    {
+        match self {
+            Task::Check => Output::Counts,
+            Task::Day { place, day } | Task::Print { place, day } => Output::Docker { place, day },
+            Task::Files => Output::Files,
+            Task::New | Task::Take | Task::Merge | Task::Horizon { .. } | Task::Migrate => {
+                Output::State
+            }
+        }
+    }
+
+    /// The horizon that it sets on the state that it reads, where it sets one.
+    pub fn horizon(self) -> Option<Day>
+        ensures { result ≡ horizon_of (task_meant self) }
+    {
+        match self {
+            Task::Horizon { day } => Some(day),
             _ => None,
         }
     }

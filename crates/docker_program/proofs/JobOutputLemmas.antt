@@ -1,45 +1,36 @@
 -- How a file that is written anew ends.
-use Rattle.std.proofs.Common.{◌≡◌, refl, sym, ◌∙◌, ap, subst, Some, None, Err, ◌⊎◌, inl, inr}
-use Rattle.std.specs.Prelude.{ℕ, List, [], ◌++◌, Option}
+use Rattle.std.proofs.Common.{◌≡◌, ◌≢◌, ◌+◌, arith, refl, sym, ◌∙◌, ap, subst, Some, None, Ok, Err, ◌⊎◌, inl, inr}
+use Rattle.std.specs.Prelude.{ℕ, List, [], ◌++◌, Option, Result, ⊤}
 use Rattle.cif_line.specs.Device.{Takes}
 use Rattle.cif_file.specs.SourceRead.{Held}
 use Rattle.docker_job.specs.Words.{Text}
-use Rattle.docker_job.specs.Job.{TaskView, new_task, check_task, day_task, take_task, merge_task, print_task, files_task, horizon_task, migrate_task}
-use Rattle.docker_cmd.specs.Prepared.{DeviceBytes, GainsOutput, IsDocker, IsRefusedDocker, IsRefused, PrintsDocker, PreparedView, ReadView, file_read, office_read, output_of}
-use Rattle.docker_cmd.specs.Faults.{IsOfDocker}
+use Rattle.docker_job.specs.Writes.{Output, counts_written, docker_written, files_written, state_written, output_of}
+use Rattle.docker_cmd.specs.FaultLine.{status_of}
+use Rattle.docker_cmd.specs.Prepared.{DeviceBytes, EndsEmitting, GainsOutput, IsDocker, IsRefusedDocker, PreparedView, ReadView, file_read, office_read}
 use Rattle.docker_cmd.specs.OfficeFault.{OfficeFault}
 use Rattle.docker_cmd.specs.OfficeFault.TheVariants as office
-use Rattle.docker_program.specs.Devices.{IsEither, LeavesOtherFiles, written}
+use Rattle.docker_cmd.specs.declared.fault.Fault.TheVariants.{Office}
+use Rattle.docker_program.specs.Devices.{IsCounted, IsEither, LeavesOtherFiles, written}
 use Rattle.docker_program.specs.Names.{file_stored, stored_by}
-use Rattle.docker_program.specs.Program.{EndsWriting, StoresAllOrNothing, StoresOutput, Writes, WritesPart, WritesPartTo, WritesTo}
+use Rattle.docker_program.specs.Program.{EndsWriting, StoresAllOrNothing, StoresOutput, Writes, WritesPart, WritesPartTo, WritesTo, result_status}
 
 none_some : (name : Text) → ◌≡◌ {A = Option Text} None (Some name) → ⊥
 none_some name is = cc
 
--- a task that writes a file prints no docker
-no_docker : (task : TaskView) (words : List Text) (name : Text) → file_stored task words ≡ Some name → ¬ IsDocker (output_of task)
-no_docker new_task words name is = λ docker. docker
-no_docker check_task words name is = λ docker. docker
-no_docker (day_task place day) words name is = λ docker. absurd (none_some name is)
-no_docker take_task words name is = λ docker. docker
-no_docker merge_task words name is = λ docker. docker
-no_docker (print_task place day) words name is = λ docker. absurd (none_some name is)
-no_docker files_task words name is = λ docker. docker
-no_docker (horizon_task day) words name is = λ docker. docker
-no_docker migrate_task words name is = λ docker. docker
+-- what is stored is no docker
+no_docker : (output : Output) (words : List Text) (name : Text) → file_stored output words ≡ Some name → ¬ IsDocker output
+no_docker counts_written words name is = λ docker. docker
+no_docker (docker_written place day) words name is = λ docker. absurd (none_some name is)
+no_docker files_written words name is = λ docker. docker
+no_docker state_written words name is = λ docker. docker
 
 -- and so none of a day that is refused
-no_refused : (task : TaskView) (read : ReadView) → ¬ IsDocker (output_of task) → ¬ IsRefusedDocker (output_of task) read
-no_refused task (file_read file) none = λ refused. refused
-no_refused new_task (office_read state) none = λ refused. refused
-no_refused check_task (office_read state) none = λ refused. refused
-no_refused (day_task place day) (office_read state) none = λ refused. none tt
-no_refused take_task (office_read state) none = λ refused. refused
-no_refused merge_task (office_read state) none = λ refused. refused
-no_refused (print_task place day) (office_read state) none = λ refused. none tt
-no_refused files_task (office_read state) none = λ refused. refused
-no_refused (horizon_task day) (office_read state) none = λ refused. refused
-no_refused migrate_task (office_read state) none = λ refused. refused
+no_refused : (output : Output) (read : ReadView) → ¬ IsDocker output → ¬ IsRefusedDocker output read
+no_refused output (file_read file) none = λ refused. refused
+no_refused counts_written (office_read state) none = λ refused. refused
+no_refused (docker_written place day) (office_read state) none = λ refused. none tt
+no_refused files_written (office_read state) none = λ refused. refused
+no_refused state_written (office_read state) none = λ refused. refused
 
 -- a call that leaves other files as they were, behind one that leaves all
 pub leaves_on : (name : Text) (one two three : Text → DeviceBytes) → two ≡ one → LeavesOtherFiles name two three → LeavesOtherFiles name one three
@@ -67,32 +58,72 @@ pub ends_unmade : (prepared : PreparedView) (name : Text) (files files_now : Tex
 ends_unmade prepared name files files_now output is same =
     ends_either prepared name files files_now output is (all_kept prepared name files files_now output same)
 
--- a draft that isn't written whole ends as a device that failed
-pub ends_in_part : (prepared : PreparedView) (name : Text) (files files_now : Text → DeviceBytes) (output : DeviceBytes) (fault : OfficeFault) →
-    stored_by prepared.job ≡ Some name → files_now ≡ files → IsOfDocker fault →
-    (fault ≡ office.Lapsed → IsRefused prepared) → (fault ≡ office.Memory → PrintsDocker prepared) →
-    EndsWriting (written output output files files_now) prepared (Err fault)
-ends_in_part prepared name files files_now output office.Sink is same only lapsed memory =
-    ends_unmade prepared name files files_now output is same
-ends_in_part prepared name files files_now output office.Lapsed is same only lapsed memory =
-    absurd (no_refused prepared.job.task prepared.read (no_docker prepared.job.task prepared.job.words name is) (lapsed refl))
-ends_in_part prepared name files files_now output office.Memory is same only lapsed memory =
-    absurd (no_docker prepared.job.task prepared.job.words name is (memory refl))
-ends_in_part prepared name files files_now output (office.File fault) is same only lapsed memory = only
-ends_in_part prepared name files files_now output (office.State fault) is same only lapsed memory = only
-ends_in_part prepared name files files_now output office.Source is same only lapsed memory = only
+-- the draft of a job that writes a file isn't written whole only where it fails, once
+pub fails_alone : {K : Type 0} (taken : K → DeviceBytes) (failures : K → ℕ) (old new : K) (prepared : PreparedView) (name : Text) (fault : OfficeFault) →
+    stored_by prepared.job ≡ Some name → EndsEmitting taken failures (output_of prepared.job.task) prepared.read old new (Err fault) →
+    (fault ≡ office.Sink) × (failures new ≡ failures old + 1)
+fails_alone taken failures old new prepared name office.Sink is ends = (refl, ends.1)
+fails_alone taken failures old new prepared name office.Lapsed is ends =
+    absurd (no_refused (output_of prepared.job.task) prepared.read (no_docker (output_of prepared.job.task) prepared.job.words name is) ends.0)
+fails_alone taken failures old new prepared name office.Memory is ends =
+    absurd (no_docker (output_of prepared.job.task) prepared.job.words name is ends.0)
+fails_alone taken failures old new prepared name (office.File fault) is ends = elim ends [ ]
+fails_alone taken failures old new prepared name (office.State fault) is ends = elim ends [ ]
+fails_alone taken failures old new prepared name office.Source is ends = elim ends [ ]
 
--- the draft of a job that writes a file isn't written whole only where it fails
-pub fails_alone : (prepared : PreparedView) (name : Text) (fault : OfficeFault) → stored_by prepared.job ≡ Some name → IsOfDocker fault →
-    (fault ≡ office.Lapsed → IsRefused prepared) → (fault ≡ office.Memory → PrintsDocker prepared) → fault ≡ office.Sink
-fails_alone prepared name office.Sink is only lapsed memory = refl
-fails_alone prepared name office.Lapsed is only lapsed memory =
-    absurd (no_refused prepared.job.task prepared.read (no_docker prepared.job.task prepared.job.words name is) (lapsed refl))
-fails_alone prepared name office.Memory is only lapsed memory =
-    absurd (no_docker prepared.job.task prepared.job.words name is (memory refl))
-fails_alone prepared name (office.File fault) is only lapsed memory = elim only [ ]
-fails_alone prepared name (office.State fault) is only lapsed memory = elim only [ ]
-fails_alone prepared name office.Source is only lapsed memory = elim only [ ]
+-- a draft that fails ends as a device that failed
+pub ends_in_part : (prepared : PreparedView) (name : Text) (files files_now : Text → DeviceBytes) (output : DeviceBytes) (fault : OfficeFault) →
+    stored_by prepared.job ≡ Some name → files_now ≡ files → fault ≡ office.Sink →
+    EndsWriting (written output output files files_now) prepared (Err fault)
+ends_in_part prepared name files files_now output fault is same alone =
+    subst (λ fault. EndsWriting (written output output files files_now) prepared (Err fault)) (sym alone)
+    (ends_unmade prepared name files files_now output is same)
+
+-- and its failure is counted
+pub counted_alone : (fault : OfficeFault) (before after : ℕ) → fault ≡ office.Sink → after ≡ before + 1 →
+    IsCounted (status_of (Office fault)) before after
+counted_alone fault before after alone rose =
+    subst (λ fault. IsCounted (status_of (Office fault)) before after) (sym alone)
+    (record { device = (λ is. rose, λ is. refl); no_device = λ differs. absurd (differs refl) })
+
+-- what comes of writing to the output
+pub ends_printed : {K : Type 0} (taken : K → DeviceBytes) (failures : K → ℕ) (old new : K) (prepared : PreparedView) (files : Text → DeviceBytes)
+    (result : Result ⊤ OfficeFault) →
+    stored_by prepared.job ≡ None → EndsEmitting taken failures (output_of prepared.job.task) prepared.read old new result →
+    EndsWriting (written (taken old) (taken new) files files) prepared result
+ends_printed taken failures old new prepared files (Ok done) is ends =
+    subst (λ stored. WritesTo stored (written (taken old) (taken new) files files) prepared) (sym is) (ends.0, refl)
+ends_printed taken failures old new prepared files (Err office.Sink) is ends =
+    subst (λ stored. WritesPartTo stored (written (taken old) (taken new) files files) prepared) (sym is) (ends.0, refl)
+ends_printed taken failures old new prepared files (Err office.Lapsed) is ends = (ends.0, (ap taken ends.1, refl))
+ends_printed taken failures old new prepared files (Err office.Memory) is ends = (inl ends.0, (ap taken ends.1, refl))
+ends_printed taken failures old new prepared files (Err (office.File fault)) is ends = ends
+ends_printed taken failures old new prepared files (Err (office.State fault)) is ends = ends
+ends_printed taken failures old new prepared files (Err office.Source) is ends = ends
+
+-- a device that did not fail, beside a status that isn't a device's
+none_failed : (status store before after : ℕ) → status ≢ 4 → after ≡ before → IsCounted status (store + before) (store + after)
+none_failed status store before after other same = record {
+  device = (λ is. absurd (other is), λ rose. let never : ⊥ = omega arith in absurd never);
+  no_device = λ differs. omega arith;
+}
+
+-- the status of what came of it says how often the output failed
+pub counted_printed : {K : Type 0} (taken : K → DeviceBytes) (failures : K → ℕ) (old new : K) (prepared : PreparedView) (store : ℕ)
+    (result : Result ⊤ OfficeFault) →
+    EndsEmitting taken failures (output_of prepared.job.task) prepared.read old new result →
+    IsCounted (result_status result) (store + failures old) (store + failures new)
+counted_printed taken failures old new prepared store (Ok done) ends = none_failed 0 store (failures old) (failures new) (λ is. omega arith) ends.1
+counted_printed taken failures old new prepared store (Err office.Sink) ends =
+    let rose : failures new ≡ failures old + 1 = ends.1 in
+    record { device = (λ is. omega arith, λ is. refl); no_device = λ differs. absurd (differs refl) }
+counted_printed taken failures old new prepared store (Err office.Lapsed) ends =
+    none_failed 1 store (failures old) (failures new) (λ is. omega arith) (ap failures ends.1)
+counted_printed taken failures old new prepared store (Err office.Memory) ends =
+    none_failed 3 store (failures old) (failures new) (λ is. omega arith) (ap failures ends.1)
+counted_printed taken failures old new prepared store (Err (office.File fault)) ends = elim ends [ ]
+counted_printed taken failures old new prepared store (Err (office.State fault)) ends = elim ends [ ]
+counted_printed taken failures old new prepared store (Err office.Source) ends = elim ends [ ]
 
 -- what a draft that held nothing gained is what it holds
 holds_gained : (old new : DeviceBytes) (text : List ℕ) → Held old [] → Takes old text new → Held new text

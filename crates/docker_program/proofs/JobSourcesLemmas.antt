@@ -1,16 +1,16 @@
 -- What was read of files that were opened is what was read of the sources of a job.
-use Rattle.std.proofs.Common.{◌≡◌, refl, sym, ◌∙◌, subst, inl, inr, Ok, Err, Bor}
+use Rattle.std.proofs.Common.{◌≡◌, ◌≢◌, ◌+◌, ℕ, arith, refl, sym, ◌∙◌, subst, inl, inr, Ok, Err, Bor}
 use Rattle.std.specs.Prelude.{Result, ◌⊎◌, ⊤}
 use Rattle.docker_job.specs.Job.{JobView}
-use Rattle.docker_cmd.specs.Prepared.{DeviceBytes, PreparedView}
+use Rattle.docker_cmd.specs.Prepared.{CountsSources, DeviceBytes, PreparedView, ReadsInOrder}
 use Rattle.docker_cmd.specs.OfficeFault.{OfficeFault}
 use Rattle.docker_cmd.specs.OfficeFault.TheVariants as office
-use Rattle.docker_program.specs.Devices.{AreOpened, AreThere, FileDevice, Given, LeavesOthers, first_held, first_left, given, second_held, second_left}
+use Rattle.docker_program.specs.Devices.{AreOpened, AreThere, FileDevice, Given, IsCounted, LeavesOthers, first_held, first_left, given, second_held, second_left}
 use Rattle.docker_job.specs.Words.{Text}
 use Rattle.docker_program.specs.declared.names.Names as declared
 use Rattle.docker_program.specs.declared.names.Names.TheVariants as code
 use Rattle.docker_program.specs.Names.{Names, no_source, standard_input, one_file, file_and_input, two_files, names_meant, names_of}
-use Rattle.docker_program.specs.Program.{IsOpened, ReadsInOrder, ReadsNamed}
+use Rattle.docker_program.specs.Program.{IsOpened, ReadsNamed, result_status}
 
 -- the devices, with so much left in each
 abbrev now : DeviceBytes → DeviceBytes → FileDevice → DeviceBytes → FileDevice → DeviceBytes → Given
@@ -65,9 +65,9 @@ by_result : (given : Given) (job : JobView) (rest : DeviceBytes) (result : Resul
     AreRead (names_of job) given job rest result → ReadsNamed given job rest result
 by_result given job rest (Ok prepared) read = record {
   opened = opened_by given job rest (Ok prepared) read;
-  job_is = read.reads.ends.0;
-  read = read.reads.ends.1;
-  to_end = read.reads.ends.2;
+  job_is = read.reads.ends.0.0;
+  read = read.reads.ends.0.1;
+  to_end = read.reads.ends.1;
 }
 by_result given job rest (Err (office.File fault)) read = (opened_by given job rest (Err (office.File fault)) read, read.reads.ends)
 by_result given job rest (Err (office.State fault)) read = (opened_by given job rest (Err (office.State fault)) read, read.reads.ends)
@@ -125,3 +125,32 @@ pub are_files : (names : declared.Names) →
 are_files names (inl is) = subst (λ names. AreFiles (names_meant names)) (sym is) tt
 are_files names (inr (inl (name, is))) = subst (λ names. AreFiles (names_meant names)) (sym is) tt
 are_files names (inr (inr (name, other, is))) = subst (λ names. AreFiles (names_meant names)) (sym is) tt
+
+-- two sources that did not fail, beside a status that isn't a device's
+none_failed : (status one one_now two two_now : ℕ) → status ≢ 4 → one_now ≡ one → two_now ≡ two → IsCounted status (one + two) (one_now + two_now)
+none_failed status one one_now two two_now other first second = record {
+  device = (λ is. absurd (other is), λ rose. let never : ⊥ = omega arith in absurd never);
+  no_device = λ differs. omega arith;
+}
+
+-- the status of what came of it says how often two sources that were read failed
+pub counted_together : {A : Type 0} (result : Result A OfficeFault) (one one_now two two_now : ℕ) → CountsSources result one one_now two two_now →
+    IsCounted (result_status result) (one + two) (one_now + two_now)
+counted_together (Ok made) one one_now two two_now counts = none_failed 0 one one_now two two_now (λ is. omega arith) counts.0 counts.1
+counted_together (Err (office.File fault)) one one_now two two_now counts =
+    none_failed 1 one one_now two two_now (λ is. omega arith) counts.0 counts.1
+counted_together (Err (office.State fault)) one one_now two two_now counts =
+    none_failed 1 one one_now two two_now (λ is. omega arith) counts.0 counts.1
+counted_together (Err office.Source) one one_now two two_now counts =
+    record { device = (λ is. counts, λ rose. refl); no_device = λ differs. absurd (differs refl) }
+counted_together (Err office.Memory) one one_now two two_now counts = none_failed 3 one one_now two two_now (λ is. omega arith) counts.0 counts.1
+counted_together (Err office.Lapsed) one one_now two two_now counts = elim counts [ ]
+counted_together (Err office.Sink) one one_now two two_now counts = elim counts [ ]
+
+-- beside devices that failed as often as this says, some that did not fail
+pub counted_beside : (status before after more all all_now : ℕ) → IsCounted status before after → all ≡ before + more → all_now ≡ after + more →
+    IsCounted status all all_now
+counted_beside status before after more all all_now counts is is_now = record {
+  device = (λ is_4. let rose : after ≡ before + 1 = counts.device.0 is_4 in omega arith, λ rose. counts.device.1 (omega arith));
+  no_device = λ differs. let same : after ≡ before = counts.no_device differs in omega arith;
+}

@@ -3,6 +3,7 @@ use Rattle.std.specs.Prelude.{Bool, List, [], ◌∷◌, Option, Some, None, cod
 use Rattle.std.specs.Str.{bytes_eq}
 use Rattle.docker_job.specs.Words.{Text}
 use Rattle.docker_job.specs.Job.{JobView, TaskView, new_task, check_task, day_task, take_task, merge_task, print_task, files_task, horizon_task, migrate_task}
+use Rattle.docker_job.specs.Writes.{Output, counts_written, docker_written, files_written, state_written, output_of}
 use Rattle.docker_program.specs.declared.names.Names as declared
 use Rattle.docker_program.specs.declared.names.Names.TheVariants as code
 
@@ -60,18 +61,13 @@ sources_named migrate_task words = one_file (first_word words)
 abbrev pub names_of : JobView → Names
 names_of job = sources_named job.task job.words
 
--- the file that the words of a task name to be written, where it writes one
-abbrev pub file_stored : TaskView → List Text → Option Text
-file_stored new_task words = Some (first_word words)
-file_stored check_task words = None
-file_stored (day_task place day) words = None
-file_stored take_task words = Some (first_word words)
-file_stored merge_task words = Some (first_word words)
-file_stored (print_task place day) words = None
-file_stored files_task words = None
-file_stored (horizon_task day) words = Some (first_word words)
-file_stored migrate_task words = Some (first_word words)
+-- the file that these words name for what is written: a state is stored in the first, and all else is printed
+abbrev pub file_stored : Output → List Text → Option Text
+file_stored counts_written words = None
+file_stored (docker_written place day) words = None
+file_stored files_written words = None
+file_stored state_written words = Some (first_word words)
 
--- the same of a job
+-- the file that a job stores what it writes in, where it does
 abbrev pub stored_by : JobView → Option Text
-stored_by job = file_stored job.task job.words
+stored_by job = file_stored (output_of job.task) job.words

@@ -64,23 +64,6 @@ pub record IsOpened (given : Given) (job : JobView) (rest : DeviceBytes) : Type 
   pub second_few : ReadsFewOfSecond (sources_of job.task) (first_held (names_of job) rest given)
       (second_held (names_of job) rest given) (second_left (names_of job) given)
 
--- what was read of the sources: the job, and what they held; or the fault of what they held
-abbrev pub EndsReading : JobView → DeviceBytes → DeviceBytes → DeviceBytes → DeviceBytes → Result PreparedView OfficeFault → Type 0
-EndsReading job first left second second_left (Ok prepared) =
-    (prepared.job ≡ job) × IsReadOf job.task first second prepared.read × HasReadToEnd (sources_of job.task) left second_left
-EndsReading job first left second second_left (Err (office.File fault)) = RefusesFileOf (sources_of job.task) first second fault
-EndsReading job first left second second_left (Err (office.State fault)) = RefusesStateOf (sources_of job.task) first second fault
-EndsReading job first left second second_left (Err office.Source) = ⊤
-EndsReading job first left second second_left (Err office.Memory) = WantsFor (sources_of job.task) first left second second_left
-EndsReading job first left second second_left (Err office.Lapsed) = ⊥
-EndsReading job first left second second_left (Err office.Sink) = ⊥
-
--- two sources of a job were read in their order, and no further than decides
-pub record ReadsInOrder (job : JobView) (first left second second_left : DeviceBytes) (result : Result PreparedView OfficeFault) : Type 0 where
-  pub first_few : ReadsFewOfFirst (sources_of job.task) first left
-  pub second_few : ReadsFewOfSecond (sources_of job.task) first second second_left
-  pub ends : EndsReading job first left second second_left result
-
 -- the fault is that of a file which a source of the job held
 abbrev pub RefusesFile : Given → FileFault → JobView → DeviceBytes → Type 0
 RefusesFile given fault job rest = IsOpened given job rest

@@ -3,7 +3,7 @@ ghost use Rattle.std.specs.Prelude.{◌≡◌, option_map};
 ghost use Rattle.docker_program.specs.Names.{behind_file, file_or_input, first_word, names_meant, names_of, second_word, stored_by};
 
 use crate::names::{Names, STDIN};
-use docker_cmd::{Job, Task};
+use docker_cmd::{Job, Output, Task};
 
 /// The sources of a job.
 pub(crate) fn names(job: &Job) -> Names<'_>
@@ -23,11 +23,9 @@ pub(crate) fn names(job: &Job) -> Names<'_>
 pub(crate) fn stored_name(job: &Job) -> Option<&str>
     ensures { option_map (λ name. name.now) result ≡ stored_by job.now }
 {
-    match job.task() {
-        Task::New | Task::Take | Task::Merge | Task::Horizon { .. } | Task::Migrate => {
-            Some(first_word(job))
-        }
-        Task::Check | Task::Day { .. } | Task::Print { .. } | Task::Files => None,
+    match job.task().writes() {
+        Output::State => Some(first_word(job)),
+        Output::Counts | Output::Docker { .. } | Output::Files => None,
     }
 }
 

@@ -58,9 +58,12 @@ fn write_file<W: Stores>(
         Err(OpenFault::Failed) => return Err(OfficeFault::Sink),
         Err(OpenFault::Memory) => return Err(OfficeFault::Memory),
     };
-    if let Err(fault) = emit(prepared, &mut draft) {
-        store.discard(draft);
-        return Err(fault);
+    match emit(prepared, &mut draft) {
+        Ok(()) => {}
+        Err(fault) => {
+            store.discard(draft);
+            return Err(fault);
+        }
     }
     let Ok(()) = store.complete(draft) else {
         return Err(OfficeFault::Sink);

@@ -3,7 +3,7 @@ ghost use Rattle.std.specs.Prelude.{◌≡◌, ◌≢◌, ◌+◌, ◌-◌, ◌^
 ghost use Rattle.docker_cmd.specs.Prepared.{DeviceBytes};
 ghost use Rattle.docker_program.specs.Devices.{AreOpened, FailsToOpen, IsCounted, device_of, given};
 ghost use Rattle.docker_program.specs.Names.{names_meant, stored_by};
-ghost use Rattle.docker_program.specs.Program.{ReadsInOrder, ReadsNamed, result_status};
+ghost use Rattle.docker_program.specs.Program.{ReadsNamed, result_status};
 
 use crate::files::{Files, OpenFault};
 use crate::job_names::names;
@@ -43,24 +43,6 @@ fn open_files<F: Files>(names: &Names<'_>, first: &mut F, second: &mut F) -> Res
     }
 }
 
-/// Reads two sources of a job.
-fn read_in_order<'a, S: Source, T: Source>(
-    alloc: Global,
-    job: &'a Job,
-    first: &mut S,
-    second: &mut T,
-) -> Result<Prepared<'a>, OfficeFault>
-    requires first { S.failures first.old < 2 ^ 64 - 1 }
-    requires second { T.failures second.old < 2 ^ 64 - 1 }
-    ensures reads { ReadsInOrder job.now (S.left first.old) (S.left first.new)
-        (T.left second.old) (T.left second.new) result }
-    ensures counted { IsCounted (result_status result)
-        (S.failures first.old + T.failures second.old)
-        (S.failures first.new + T.failures second.new) }
-{
-    prepare(alloc, job, first, second)
-}
-
 /// Opens the files that a job reads, in the order of its words, and then reads its sources. One of them may be what is left of standard input. What the store
 /// saw of the file that the job writes is asked for, so that none is read for a job whose file wasn't looked at before.
 pub(crate) fn read_sources<'a, W: Stores, S: Source, F: Files>(
@@ -87,10 +69,8 @@ pub(crate) fn read_sources<'a, W: Stores, S: Source, F: Files>(
     let names = names(job);
     open_files(&names, first, second)?;
     match names {
-        Names::Stdin => read_in_order(alloc, job, stdin, second),
-        Names::FileAndStdin(_) => read_in_order(alloc, job, first, stdin),
-        Names::None | Names::File(_) | Names::Files(..) => {
-            read_in_order(alloc, job, first, second)
-        }
+        Names::Stdin => prepare(alloc, job, stdin, second),
+        Names::FileAndStdin(_) => prepare(alloc, job, first, stdin),
+        Names::None | Names::File(_) | Names::Files(..) => prepare(alloc, job, first, second),
     }
 }

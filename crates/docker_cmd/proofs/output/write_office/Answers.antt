@@ -1,14 +1,15 @@
-use Rattle.docker_job.specs.Job.{task_meant}
-use Rattle.docker_cmd.specs.Prepared.{output_of}
-use Rattle.docker_cmd.proofs.OutputLemmas.{docker_asked, printed_whole, printed_part}
+use Rattle.std.proofs.Common.{ap, sym, subst}
+use Rattle.docker_job.specs.Writes.{Output, output_meant}
+use Rattle.docker_cmd.specs.Prepared.{EndsEmitting, office_read}
+use Rattle.docker_cmd.proofs.OutputLemmas.{docker_ends}
 use Rattle.docker_cmd.proofs.output.write_office.Goals as goal
 
-pub returns-in-Day-clause-ok : goal.returns-in-Day-clause-ok
-returns-in-Day-clause-ok g c = λ done.
-    printed_whole (output_of (task_meant c.args.task.now)) c.args.office.now c.in-Day.place c.in-Day.day (g.K.Sink.taken c.args.sink.now)
-    (g.K.Sink.taken c.print.new.sink) (docker_asked c.args.task.now c.in-Day.place c.in-Day.day c.in-Day.is) (c.print.ensures.ok done)
-
-pub returns-in-Day-clause-part : goal.returns-in-Day-clause-part
-returns-in-Day-clause-part g c = λ failed.
-    printed_part (output_of (task_meant c.args.task.now)) c.args.office.now c.in-Day.place c.in-Day.day (g.K.Sink.taken c.args.sink.now)
-    (g.K.Sink.taken c.print.new.sink) (docker_asked c.args.task.now c.in-Day.place c.in-Day.day c.in-Day.is) (c.print.ensures.part failed)
+pub returns-in-Docker-clause-ends : goal.returns-in-Docker-clause-ends
+returns-in-Docker-clause-ends g c =
+    subst
+    (λ (output : Output).
+    EndsEmitting g.K.Sink.taken g.K.Sink.failures output (office_read c.args.office.now) c.args.sink.now c.print.new.sink c.print.result)
+    (sym (ap output_meant c.in-Docker.is))
+    (docker_ends g.K.Sink.taken g.K.Sink.failures c.args.office.now c.in-Docker.place c.in-Docker.day c.args.sink.now c.print.new.sink c.print.result
+    c.print.ensures.ok c.print.ensures.part c.print.ensures.lapsed.0 c.print.ensures.unwritten c.print.ensures.sink.0 c.print.ensures.no_failure
+    c.print.ensures.only)

@@ -1,44 +1,144 @@
-use Rattle.std.proofs.Common.{rules, refl, sym, subst}
+use Rattle.std.proofs.Common.{ap, sym, subst, inl, inr, refl}
 use Rattle.std.proofs.lemmas.Result.{err_from_is_err_and}
-use Rattle.docker_job.specs.Job.{task_meant}
-use Rattle.docker_job.specs.declared.tasks.Task.{Task}
-use Rattle.docker_cmd.specs.Prepared.{HasReadToEnd, ReadsFewOfSecond, WantsFor, sources_of}
+use Rattle.docker_job.specs.Reads.{sources_meant}
+use Rattle.docker_job.specs.declared.reads.Sources.{Sources}
+use Rattle.docker_job.specs.declared.reads.Sources.TheVariants as code
+use Rattle.docker_cmd.specs.Prepared.{HasSecondSource, file_read, office_read}
+use Rattle.docker_cmd.proofs.ReadingLemmas.{read_at, read_second, refused_at, some_at}
 use Rattle.docker_cmd.proofs.sources.read_sources.Goals as goal
 
-pub returns-in_ok-office_of_file-in-Day-clause-end : goal.returns-in_ok-office_of_file-in-Day-clause-end
-returns-in_ok-office_of_file-in-Day-clause-end g c = λ done.
-    subst
-    (λ (task : Task).
-    HasReadToEnd (sources_of (task_meant task)) (g.S.Source.left c.office_of_file.new.source) (g.T.Source.left c.args.second.now))
-    (sym c.in-Day.is)
-    (c.in_ok-office_of_file-in-Day.ensures.end refl)
+pub returns-in_ok-counts_of_file-in-CheckedFile : goal.returns-in_ok-counts_of_file-in-CheckedFile
+returns-in_ok-counts_of_file-in-CheckedFile g c =
+    let second = g.T.Source.left c.args.second.now in
+    record {
+      reads = read_at c.args.sources code.CheckedFile (g.S.Source.left c.args.first.now) (g.S.Source.left c.counts_of_file.new.source) second second
+          (file_read c.in_ok-counts_of_file-in-CheckedFile.field-0) c.in-CheckedFile.is (c.in_ok-counts_of_file-in-CheckedFile.ensures.reads second);
+      none = some_at _ c.args.sources code.CheckedFile c.in-CheckedFile.is (λ none. cc);
+      order = inl refl;
+      counted = c.in_ok-counts_of_file-in-CheckedFile.ensures.counted (g.T.Source.failures c.args.second.now);
+    }
 
-pub returns-in_ok-taken_behind-in-Take-clause-second_few : goal.returns-in_ok-taken_behind-in-Take-clause-second_few
-returns-in_ok-taken_behind-in-Take-clause-second_few g c =
-    subst
-    (λ (task : Task).
-    ReadsFewOfSecond (sources_of (task_meant task)) (g.S.Source.left c.args.first.now) (g.T.Source.left c.args.second.now)
-    (g.T.Source.left c.taken_behind.new.second))
-    (sym c.in-Take.is)
-    c.in_ok-taken_behind-in-Take.ensures.second_few
+pub returns-in_err-counts_of_file-in-CheckedFile : goal.returns-in_err-counts_of_file-in-CheckedFile
+returns-in_err-counts_of_file-in-CheckedFile g c =
+    let same = err_from_is_err_and c.from_residual.result c.from_residual.ensures.1 in
+    let second = g.T.Source.left c.args.second.now in
+    rw (same.1, same.2) (record {
+      reads = refused_at c.args.sources code.CheckedFile (g.S.Source.left c.args.first.now) (g.S.Source.left c.counts_of_file.new.source) second second
+          _ c.in-CheckedFile.is (c.in_err-counts_of_file-in-CheckedFile.ensures.reads second);
+      none = some_at _ c.args.sources code.CheckedFile c.in-CheckedFile.is (λ none. cc);
+      order = inl refl;
+      counted = c.in_err-counts_of_file-in-CheckedFile.ensures.counted (g.T.Source.failures c.args.second.now);
+    })
 
-pub returns-in_err-taken_behind-in-Take-clause-memory : goal.returns-in_err-taken_behind-in-Take-clause-memory
-returns-in_err-taken_behind-in-Take-clause-memory g c = λ is.
-    subst
-    (λ (task : Task).
-    WantsFor (sources_of (task_meant task)) (g.S.Source.left c.args.first.now) (g.S.Source.left c.taken_behind.new.first) (g.T.Source.left c.args.second.now)
-    (g.T.Source.left c.taken_behind.new.second))
-    (sym c.in-Take.is)
-    (c.taken_behind.ensures.memory (search rules))
+pub returns-in_ok-office_of_file-in-TakenFile : goal.returns-in_ok-office_of_file-in-TakenFile
+returns-in_ok-office_of_file-in-TakenFile g c =
+    let second = g.T.Source.left c.args.second.now in
+    record {
+      reads = read_at c.args.sources code.TakenFile (g.S.Source.left c.args.first.now) (g.S.Source.left c.office_of_file.new.source) second second
+          (office_read c.in_ok-office_of_file-in-TakenFile.field-0) c.in-TakenFile.is (c.in_ok-office_of_file-in-TakenFile.ensures.reads second);
+      none = some_at _ c.args.sources code.TakenFile c.in-TakenFile.is (λ none. cc);
+      order = inl refl;
+      counted = c.in_ok-office_of_file-in-TakenFile.ensures.counted (g.T.Source.failures c.args.second.now);
+    }
 
-pub returns-in_err-joined_behind-in-Merge-clause-memory : goal.returns-in_err-joined_behind-in-Merge-clause-memory
-returns-in_err-joined_behind-in-Merge-clause-memory g c = λ is.
-    let same = err_from_is_err_and c.from_residual-in_err-joined_behind-in-Merge.result c.from_residual-in_err-joined_behind-in-Merge.ensures.1 in
-    let one = same.1 in
-    let two = same.2 in
-    subst
-    (λ (task : Task).
-    WantsFor (sources_of (task_meant task)) (g.S.Source.left c.args.first.now) (g.S.Source.left c.joined_behind.new.first) (g.T.Source.left c.args.second.now)
-    (g.T.Source.left c.joined_behind.new.second))
-    (sym c.in-Merge.is)
-    (c.in_err-joined_behind-in-Merge.ensures.memory cc)
+pub returns-in_err-office_of_file-in-TakenFile : goal.returns-in_err-office_of_file-in-TakenFile
+returns-in_err-office_of_file-in-TakenFile g c =
+    let same = err_from_is_err_and c.from_residual-in_err-office_of_file-in-TakenFile.result c.from_residual-in_err-office_of_file-in-TakenFile.ensures.1 in
+    let second = g.T.Source.left c.args.second.now in
+    rw (same.1, same.2) (record {
+      reads = refused_at c.args.sources code.TakenFile (g.S.Source.left c.args.first.now) (g.S.Source.left c.office_of_file.new.source) second second
+          _ c.in-TakenFile.is (c.in_err-office_of_file-in-TakenFile.ensures.reads second);
+      none = some_at _ c.args.sources code.TakenFile c.in-TakenFile.is (λ none. cc);
+      order = inl refl;
+      counted = c.in_err-office_of_file-in-TakenFile.ensures.counted (g.T.Source.failures c.args.second.now);
+    })
+
+pub returns-in_ok-office_of_state-in-State : goal.returns-in_ok-office_of_state-in-State
+returns-in_ok-office_of_state-in-State g c =
+    let second = g.T.Source.left c.args.second.now in
+    record {
+      reads = read_at c.args.sources code.State (g.S.Source.left c.args.first.now) (g.S.Source.left c.office_of_state.new.source) second second
+          (office_read c.in_ok-office_of_state-in-State.field-0) c.in-State.is (c.in_ok-office_of_state-in-State.ensures.reads second);
+      none = some_at _ c.args.sources code.State c.in-State.is (λ none. cc);
+      order = inl refl;
+      counted = c.in_ok-office_of_state-in-State.ensures.counted (g.T.Source.failures c.args.second.now);
+    }
+
+pub returns-in_err-office_of_state-in-State : goal.returns-in_err-office_of_state-in-State
+returns-in_err-office_of_state-in-State g c =
+    let same = err_from_is_err_and c.from_residual-in_err-office_of_state-in-State.result c.from_residual-in_err-office_of_state-in-State.ensures.1 in
+    let second = g.T.Source.left c.args.second.now in
+    rw (same.1, same.2) (record {
+      reads = refused_at c.args.sources code.State (g.S.Source.left c.args.first.now) (g.S.Source.left c.office_of_state.new.source) second second
+          _ c.in-State.is (c.in_err-office_of_state-in-State.ensures.reads second);
+      none = some_at _ c.args.sources code.State c.in-State.is (λ none. cc);
+      order = inl refl;
+      counted = c.in_err-office_of_state-in-State.ensures.counted (g.T.Source.failures c.args.second.now);
+    })
+
+pub returns-in_ok-office_of_older_state-in-OlderState : goal.returns-in_ok-office_of_older_state-in-OlderState
+returns-in_ok-office_of_older_state-in-OlderState g c =
+    let second = g.T.Source.left c.args.second.now in
+    record {
+      reads = read_at c.args.sources code.OlderState (g.S.Source.left c.args.first.now) (g.S.Source.left c.office_of_older_state.new.source) second second
+          (office_read c.in_ok-office_of_older_state-in-OlderState.field-0) c.in-OlderState.is (c.in_ok-office_of_older_state-in-OlderState.ensures.reads second);
+      none = some_at _ c.args.sources code.OlderState c.in-OlderState.is (λ none. cc);
+      order = inl refl;
+      counted = c.in_ok-office_of_older_state-in-OlderState.ensures.counted (g.T.Source.failures c.args.second.now);
+    }
+
+pub returns-in_err-office_of_older_state-in-OlderState : goal.returns-in_err-office_of_older_state-in-OlderState
+returns-in_err-office_of_older_state-in-OlderState g c =
+    let same = err_from_is_err_and c.from_residual-in_err-office_of_older_state-in-OlderState.result c.from_residual-in_err-office_of_older_state-in-OlderState.ensures.1 in
+    let second = g.T.Source.left c.args.second.now in
+    rw (same.1, same.2) (record {
+      reads = refused_at c.args.sources code.OlderState (g.S.Source.left c.args.first.now) (g.S.Source.left c.office_of_older_state.new.source) second second
+          _ c.in-OlderState.is (c.in_err-office_of_older_state-in-OlderState.ensures.reads second);
+      none = some_at _ c.args.sources code.OlderState c.in-OlderState.is (λ none. cc);
+      order = inl refl;
+      counted = c.in_err-office_of_older_state-in-OlderState.ensures.counted (g.T.Source.failures c.args.second.now);
+    })
+
+pub returns-in_ok-taken_behind-in-StateAndFile : goal.returns-in_ok-taken_behind-in-StateAndFile
+returns-in_ok-taken_behind-in-StateAndFile g c =
+    record {
+      reads = read_at c.args.sources code.StateAndFile (g.S.Source.left c.args.first.now) (g.S.Source.left c.taken_behind.new.first)
+          (g.T.Source.left c.args.second.now) (g.T.Source.left c.taken_behind.new.second) (office_read c.in_ok-taken_behind-in-StateAndFile.field-0) c.in-StateAndFile.is
+          c.in_ok-taken_behind-in-StateAndFile.ensures.reads;
+      none = some_at _ c.args.sources code.StateAndFile c.in-StateAndFile.is (λ none. cc);
+      order = read_second (subst (λ (s : Sources). HasSecondSource (sources_meant s)) (sym c.in-StateAndFile.is) (inl refl)) c.in_ok-taken_behind-in-StateAndFile.ensures.order;
+      counted = c.in_ok-taken_behind-in-StateAndFile.ensures.counted;
+    }
+
+pub returns-in_err-taken_behind-in-StateAndFile : goal.returns-in_err-taken_behind-in-StateAndFile
+returns-in_err-taken_behind-in-StateAndFile g c =
+    let same = err_from_is_err_and c.from_residual-in_err-taken_behind-in-StateAndFile.result c.from_residual-in_err-taken_behind-in-StateAndFile.ensures.1 in
+    rw (same.1, same.2) (record {
+      reads = refused_at c.args.sources code.StateAndFile (g.S.Source.left c.args.first.now) (g.S.Source.left c.taken_behind.new.first)
+          (g.T.Source.left c.args.second.now) (g.T.Source.left c.taken_behind.new.second) _ c.in-StateAndFile.is c.in_err-taken_behind-in-StateAndFile.ensures.reads;
+      none = some_at _ c.args.sources code.StateAndFile c.in-StateAndFile.is (λ none. cc);
+      order = read_second (subst (λ (s : Sources). HasSecondSource (sources_meant s)) (sym c.in-StateAndFile.is) (inl refl)) c.in_err-taken_behind-in-StateAndFile.ensures.order;
+      counted = c.in_err-taken_behind-in-StateAndFile.ensures.counted;
+    })
+
+pub returns-in_ok-joined_behind-in-TwoStates : goal.returns-in_ok-joined_behind-in-TwoStates
+returns-in_ok-joined_behind-in-TwoStates g c =
+    record {
+      reads = read_at c.args.sources code.TwoStates (g.S.Source.left c.args.first.now) (g.S.Source.left c.joined_behind.new.first)
+          (g.T.Source.left c.args.second.now) (g.T.Source.left c.joined_behind.new.second) (office_read c.in_ok-joined_behind-in-TwoStates.field-0) c.in-TwoStates.is
+          c.in_ok-joined_behind-in-TwoStates.ensures.reads;
+      none = some_at _ c.args.sources code.TwoStates c.in-TwoStates.is (λ none. cc);
+      order = read_second (subst (λ (s : Sources). HasSecondSource (sources_meant s)) (sym c.in-TwoStates.is) (inr refl)) c.in_ok-joined_behind-in-TwoStates.ensures.order;
+      counted = c.in_ok-joined_behind-in-TwoStates.ensures.counted;
+    }
+
+pub returns-in_err-joined_behind-in-TwoStates : goal.returns-in_err-joined_behind-in-TwoStates
+returns-in_err-joined_behind-in-TwoStates g c =
+    let same = err_from_is_err_and c.from_residual-in_err-joined_behind-in-TwoStates.result c.from_residual-in_err-joined_behind-in-TwoStates.ensures.1 in
+    rw (same.1, same.2) (record {
+      reads = refused_at c.args.sources code.TwoStates (g.S.Source.left c.args.first.now) (g.S.Source.left c.joined_behind.new.first)
+          (g.T.Source.left c.args.second.now) (g.T.Source.left c.joined_behind.new.second) _ c.in-TwoStates.is c.in_err-joined_behind-in-TwoStates.ensures.reads;
+      none = some_at _ c.args.sources code.TwoStates c.in-TwoStates.is (λ none. cc);
+      order = read_second (subst (λ (s : Sources). HasSecondSource (sources_meant s)) (sym c.in-TwoStates.is) (inr refl)) c.in_err-joined_behind-in-TwoStates.ensures.order;
+      counted = c.in_err-joined_behind-in-TwoStates.ensures.counted;
+    })
