@@ -36,7 +36,8 @@ impl Extract {
     }
 }
 
-/// The transaction type of a basic schedule (BS) or an association (AA): what the record does with its key.
+/// The transaction type of a basic schedule (BS) or an association (AA): what the record does with
+/// its key.
 #[derive(Clone, Copy, PartialEq, Eq, Debug)]
 pub enum Transaction {
     /// N, new.
@@ -73,8 +74,8 @@ impl Transaction {
     }
 }
 
-/// The STP (short term planning) indicator of a basic schedule (BS) or an association (AA), in the order of its letters:
-/// of several that run on a day the least is chosen.
+/// The STP (short term planning) indicator of a basic schedule (BS) or an association (AA), in the
+/// order of its letters. If several run on a day, the least is chosen.
 #[derive(Clone, Copy, PartialEq, Eq, PartialOrd, Ord, Debug)]
 pub enum Stp {
     /// C, a cancellation.
