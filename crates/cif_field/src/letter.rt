@@ -4,7 +4,7 @@ ghost use Rattle.docker_model.specs.records.Field.{is_update_indicator, is_trans
 ghost use Rattle.cif_field.specs.Letter.{extract_letter, transaction_letter, stp_letter};
 
 /// The update indicator of a header (HD): what an extract holds.
-#[derive(Clone, Copy, PartialEq, Eq, PartialOrd, Ord, Debug)]
+#[derive(Clone, Copy, PartialEq, Eq, Debug)]
 pub enum Extract {
     /// F, a full extract.
     Full,
