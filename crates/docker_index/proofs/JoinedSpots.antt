@@ -130,7 +130,7 @@ second_more : (front all first second : List Spot) → AreOfBoth all first secon
 second_more front all first second told =
     turned (front ++ all) (front ++ second) first (first_more front all second first (turned all first second told))
 
--- whether the floor keeps a winning row; the ones that are kept, lapsed
+-- whether a floor keeps a row, and the rows that it keeps, lapsed
 abbrev pub keeps : Option FileStamp → Keyed → Bool
 keeps floor pair = is_kept floor pair.1.stamp.file
 

@@ -77,7 +77,7 @@ impl Index {
         }
     }
 
-    /// Makes the index one of these rows, in place, after a horizon was set and rows lapsed. It
+    /// Makes this the index of these rows, in place: a horizon was set, and some rows lapsed. It
     /// takes no memory.
     pub fn lapse(&mut self, rows: &[(Key, Entry)])
         ensures { (before : List (model.Key × ops.Entry)) (horizon : ℕ)
