@@ -150,7 +150,8 @@ ends_stored prepared name files files_now output before after is others empty ga
     subst (λ stored. WritesTo stored (written output output files files_now) prepared) (sym is)
     (stores_gained prepared name files files_now output before after others empty gains held, refl)
 
--- a draft that was written whole, but may not have taken its file's place, is written in part
+-- if a draft was written whole, but may not have taken its file's place, the job has written in
+-- part
 pub ends_incomplete : (prepared : PreparedView) (name : Text) (files made files_now : Text → DeviceBytes) (output before after : DeviceBytes) →
     stored_by prepared.job ≡ Some name → made ≡ files → LeavesOtherFiles name made files_now → Held before [] →
     GainsOutput prepared before after → IsEither (made name) after (files_now name) → WritesPart (written output output files files_now) prepared
