@@ -6,7 +6,7 @@ use Rattle.docker_job.specs.JobLine.{words_in}
 use Rattle.docker_desk.specs.Requests.{FitsRest, NamesTrain, print_request, train_request, files_request, renew_request, take_request, merge_request, horizon_request, save_request}
 use Rattle.docker_desk.specs.declared.verbs.Verb.TheVariants as verb
 
--- of two words not both are a train and a day
+-- if two words aren't a train and a day, no train is asked for
 pub no_train : (rest : List ℕ) (word date : Text) → words_in rest ≡ word ∷ date ∷ []
     → ((uid : List ℕ) (day : ℕ) → NamesTrain word uid → NamesDay date day → ⊥) → FitsRest verb.Train rest None
 no_train rest word date two none (train_request uid day) same has =
