@@ -1,8 +1,8 @@
 use Rattle.std.proofs.Common.{◌++◌, map, length}
 use Rattle.docker_model.specs.state.Stamp.{IsFloor}
 use Rattle.docker_state.specs.Meaning.{row_meant}
-use Rattle.merge_rows.proofs.Offered.{CanBeOffered}
-use Rattle.merge_rows.proofs.tests.staging.offer_all.Given as goal
+use Rattle.merge_tests.proofs.Offered.{CanBeOffered}
+use Rattle.merge_tests.proofs.tests.staging.offer_all.Given as goal
 
 abbrev pub invariant-loop-row : goal.invariant-loop-row
 invariant-loop-row g l =

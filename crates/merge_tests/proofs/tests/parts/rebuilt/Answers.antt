@@ -1,8 +1,8 @@
 use Rattle.std.proofs.Common.{ap, arith}
 use Rattle.std.specs.Prelude.{is_ok}
 use Rattle.docker_model.specs.state.State.{State}
-use Rattle.merge_rows.proofs.TestLemmas.{one_item, one_entry}
-use Rattle.merge_rows.proofs.tests.parts.rebuilt.Goals as goal
+use Rattle.merge_tests.proofs.TestLemmas.{one_item, one_entry}
+use Rattle.merge_tests.proofs.tests.parts.rebuilt.Goals as goal
 
 pub item-requires-clause-ledger : goal.item-requires-clause-ledger
 item-requires-clause-ledger g c =

@@ -1,7 +1,7 @@
 use Rattle.std.proofs.Common.{refl, ap, sym, subst, arith, IsOk}
 use Rattle.docker_model.specs.state.State.{State}
-use Rattle.hostile_rows.proofs.OneRow.{good_copy, here_copy}
-use Rattle.hostile_rows.proofs.part_growths.rebuilt.Goals as goal
+use Rattle.hostile_tests.proofs.OneRow.{good_copy, here_copy}
+use Rattle.hostile_tests.proofs.part_growths.rebuilt.Goals as goal
 
 pub entry-given-requires-clause-here : goal.entry-given-requires-clause-here
 entry-given-requires-clause-here c =

@@ -6,7 +6,7 @@ use Rattle.docker_model.specs.state.Stamp as stamps
 use Rattle.docker_model.specs.state.State.{AreEntries}
 use Rattle.docker_state.specs.Meaning.{item_meant, row_meant}
 use Rattle.docker_state.specs.Staging.{Staging}
-use Rattle.merge_rows.proofs.tests.staging.receive.Goals as goal
+use Rattle.merge_tests.proofs.tests.staging.receive.Goals as goal
 
 pub offer_all-requires-clause-rows : goal.offer_all-requires-clause-rows
 offer_all-requires-clause-rows g c =

@@ -2,8 +2,8 @@ use Rattle.std.proofs.Common.{List, map, ap, subst}
 use Rattle.docker_model.specs.file.Change.{Key}
 use Rattle.docker_model.specs.state.Op.{Entry}
 use Rattle.docker_state.specs.Meaning.{row_meant}
-use Rattle.merge_rows.proofs.Offered.{CanBeOffered, all_offered, rest_offered, same_floor}
-use Rattle.merge_rows.proofs.tests.staging.offer_all.Goals as goal
+use Rattle.merge_tests.proofs.Offered.{CanBeOffered, all_offered, rest_offered, same_floor}
+use Rattle.merge_tests.proofs.tests.staging.offer_all.Goals as goal
 
 pub loop-row-init : goal.loop-row-init
 loop-row-init g c = (c.requires.floor, all_offered c.args.staging.now (map row_meant c.args.rows.now) c.requires.none c.requires.rows)
