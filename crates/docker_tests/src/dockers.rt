@@ -56,7 +56,7 @@ END
 ";
 
 /// A train ends at Colwell, and becomes no other.
-const COLWELL_ALONE: &str = "\
+const COLWELL_ONLY: &str = "\
 DOCKER COLWELL 2024-06-10                               
 2350  A 4D40 C40001 P   1                ASHFELD COLWELL
 END                                                     
@@ -463,8 +463,8 @@ END
     (&[SAME_DAY], "COLWELL", "2024-06-10", COLWELL_UNKNOWN),
     (&[NO_INDICATOR], "COLWELL", "2024-06-10", COLWELL_UNKNOWN),
     (&[DAY_BEFORE], "COLWELL", "2024-06-10", COLWELL_UNKNOWN),
-    (&[UNKNOWN_INDICATOR], "COLWELL", "2024-06-10", COLWELL_ALONE),
-    (&[UNKNOWN_CATEGORY], "COLWELL", "2024-06-10", COLWELL_ALONE),
+    (&[UNKNOWN_INDICATOR], "COLWELL", "2024-06-10", COLWELL_ONLY),
+    (&[UNKNOWN_CATEGORY], "COLWELL", "2024-06-10", COLWELL_ONLY),
     (
         &[LAST_DAY],
         "COLWELL",

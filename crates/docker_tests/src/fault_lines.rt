@@ -7,63 +7,63 @@ use docker_office::{StateCause, StateFault};
 use std::process::Abort;
 
 /// That a fault has this status and this line.
-fn tells(rt: &impl Abort, fault: Fault, number: u8, line: &str) {
+fn reports(rt: &impl Abort, fault: Fault, number: u8, line: &str) {
     same(rt, status(&fault), number);
     let text = fault_text(&fault);
     same(rt, text.as_slice(), line.as_bytes());
 }
 
 /// That this is the line of a file that is refused at its second record.
-fn tells_file(rt: &impl Abort, cause: FileCause, line: &str) {
+fn reports_file(rt: &impl Abort, cause: FileCause, line: &str) {
     let fault = FileFault { number: 2, cause };
-    tells(rt, Fault::Office(OfficeFault::File(fault)), 1, line);
+    reports(rt, Fault::Office(OfficeFault::File(fault)), 1, line);
 }
 
 /// That this is the line of a state that is refused at this offset.
-fn tells_state(rt: &impl Abort, at: u64, cause: StateCause, line: &str) {
+fn reports_state(rt: &impl Abort, at: u64, cause: StateCause, line: &str) {
     let fault = StateFault { at, cause };
-    tells(rt, Fault::Office(OfficeFault::State(fault)), 1, line);
+    reports(rt, Fault::Office(OfficeFault::State(fault)), 1, line);
 }
 
 #[test]
 fn lines_of_faults(rt: HostRuntime) {
-    tells(
+    reports(
         &rt,
         Fault::Job(JobFault::Usage),
         2,
         "docker: usage: new STATE | check FILE | day FILE TIPLOC DATE | take STATE FILE | merge STATE OTHER | print STATE TIPLOC DATE | files STATE | horizon STATE DATE | migrate STATE\n",
     );
-    tells(
+    reports(
         &rt,
         Fault::Job(JobFault::Memory),
         3,
         "docker: want of memory\n",
     );
-    tells(
+    reports(
         &rt,
         Fault::Job(JobFault::Source),
         4,
         "docker: device failed\n",
     );
-    tells(
+    reports(
         &rt,
         Fault::Office(OfficeFault::Memory),
         3,
         "docker: want of memory\n",
     );
-    tells(
+    reports(
         &rt,
         Fault::Office(OfficeFault::Source),
         4,
         "docker: device failed\n",
     );
-    tells(
+    reports(
         &rt,
         Fault::Office(OfficeFault::Sink),
         4,
         "docker: device failed\n",
     );
-    tells(
+    reports(
         &rt,
         Fault::Office(OfficeFault::Lapsed),
         1,
@@ -73,47 +73,47 @@ fn lines_of_faults(rt: HostRuntime) {
 
 #[test]
 fn lines_of_refused_files(rt: HostRuntime) {
-    tells_file(
+    reports_file(
         &rt,
         FileCause::Length,
         "docker: file refused: record 2: Length\n",
     );
-    tells_file(
+    reports_file(
         &rt,
         FileCause::Byte(20),
         "docker: file refused: record 2: Byte 20\n",
     );
-    tells_file(
+    reports_file(
         &rt,
         FileCause::Kind,
         "docker: file refused: record 2: Kind\n",
     );
-    tells_file(
+    reports_file(
         &rt,
         FileCause::Place,
         "docker: file refused: record 2: Place\n",
     );
-    tells_file(
+    reports_file(
         &rt,
         FileCause::Field(11),
         "docker: file refused: record 2: Field 11\n",
     );
-    tells_file(
+    reports_file(
         &rt,
         FileCause::Midnights,
         "docker: file refused: record 2: Midnights\n",
     );
-    tells_file(
+    reports_file(
         &rt,
         FileCause::NoEnd,
         "docker: file refused: record 2: NoEnd\n",
     );
-    tells_file(
+    reports_file(
         &rt,
         FileCause::After,
         "docker: file refused: record 2: After\n",
     );
-    tells_file(
+    reports_file(
         &rt,
         FileCause::TooMany,
         "docker: file refused: record 2: TooMany\n",
@@ -122,67 +122,67 @@ fn lines_of_refused_files(rt: HostRuntime) {
 
 #[test]
 fn lines_of_refused_states(rt: HostRuntime) {
-    tells_state(
+    reports_state(
         &rt,
         0,
         StateCause::Mark,
         "docker: state refused: offset 0: Mark\n",
     );
-    tells_state(
+    reports_state(
         &rt,
         4,
         StateCause::Horizon,
         "docker: state refused: offset 4: Horizon\n",
     );
-    tells_state(
+    reports_state(
         &rt,
         14,
         StateCause::Item,
         "docker: state refused: offset 14: Item\n",
     );
-    tells_state(
+    reports_state(
         &rt,
         33,
         StateCause::Order,
         "docker: state refused: offset 33: Order\n",
     );
-    tells_state(
+    reports_state(
         &rt,
         33,
         StateCause::Floor,
         "docker: state refused: offset 33: Floor\n",
     );
-    tells_state(
+    reports_state(
         &rt,
         41,
         StateCause::Tag,
         "docker: state refused: offset 41: Tag\n",
     );
-    tells_state(
+    reports_state(
         &rt,
         41,
         StateCause::Stamp,
         "docker: state refused: offset 41: Stamp\n",
     );
-    tells_state(
+    reports_state(
         &rt,
         41,
         StateCause::Body,
         "docker: state refused: offset 41: Body\n",
     );
-    tells_state(
+    reports_state(
         &rt,
         311,
         StateCause::Short,
         "docker: state refused: offset 311: Short\n",
     );
-    tells_state(
+    reports_state(
         &rt,
         311,
         StateCause::Tail,
         "docker: state refused: offset 311: Tail\n",
     );
-    tells_state(
+    reports_state(
         &rt,
         1_099_511_627_776,
         StateCause::Long,

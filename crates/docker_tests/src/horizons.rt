@@ -57,7 +57,7 @@ END
 ";
 
 /// That an office is so behind a horizon.
-fn is_behind(rt: &impl Abort, alloc: Global, office: &mut Office, row: &Row) {
+fn is_after(rt: &impl Abort, alloc: Global, office: &mut Office, row: &Row) {
     let (horizon, bytes, refused, printed, docker) = *row;
     set(rt, office, horizon);
     let text = sent(rt, alloc, office);
@@ -70,7 +70,7 @@ fn is_behind(rt: &impl Abort, alloc: Global, office: &mut Office, row: &Row) {
 fn a_horizon_that_rises(rt: HostRuntime) {
     let mut office = office_of(&rt, rt.alloc(), &[MORNING]);
     for row in ROWS {
-        is_behind(&rt, rt.alloc(), &mut office, row);
+        is_after(&rt, rt.alloc(), &mut office, row);
     }
 }
 
@@ -87,7 +87,7 @@ fn prints_none(rt: &impl Abort, alloc: Global, office: &Office) {
 }
 
 #[test]
-fn a_file_behind_a_horizon(rt: HostRuntime) {
+fn a_file_after_a_horizon(rt: HostRuntime) {
     let alloc = rt.alloc();
     let mut office = office_of(&rt, alloc, &[REVISION]);
     set(&rt, &mut office, "2024-06-15");

@@ -84,7 +84,7 @@ fn ends(rt: &impl Abort, alloc: Global, left: &Exchange, office: usize, parts: P
 }
 
 /// That a message has this text.
-fn tells(rt: &impl Abort, alloc: Global, left: &Exchange, message: usize, parts: Parts) {
+fn message_is(rt: &impl Abort, alloc: Global, left: &Exchange, message: usize, parts: Parts) {
     let wanted = text_of_parts(rt, alloc, parts);
     let kept = left.messages().get(message).expect(rt, "a message");
     same(rt, (message, kept.bytes()), (message, wanted.as_slice()));
@@ -167,7 +167,7 @@ fn three_offices(rt: HostRuntime) {
         ends(&rt, alloc, &left, office, LATE_STATE);
         prints_there(&rt, alloc, &left, office, "2024-06-10", TWO_TRAINS);
     }
-    tells(&rt, alloc, &left, 4, LATE_STATE);
+    message_is(&rt, alloc, &left, 4, LATE_STATE);
 }
 
 /// What it leaves up to the reload.
@@ -186,7 +186,7 @@ fn three_offices_up_to_a_reload(rt: HostRuntime) {
     replies(&rt, &left, 13, &[]);
     prints_there(&rt, alloc, &left, 0, "2024-06-10", ASHFELD_0900);
     ends(&rt, alloc, &left, 0, FIFTH_STATE);
-    tells(&rt, alloc, &left, 0, FIFTH_STATE);
+    message_is(&rt, alloc, &left, 0, FIFTH_STATE);
     ends(&rt, alloc, &left, 1, LATE_STATE);
 }
 
@@ -212,11 +212,11 @@ fn two_offices_and_a_horizon(rt: HostRuntime) {
     let alloc = rt.alloc();
     let left = horizon_left(&rt, alloc);
     replies(&rt, &left, 7, &[Reply::Refused(RunFault::NoOffice)]);
-    tells(&rt, alloc, &left, 1, LAPSED_STATE);
+    message_is(&rt, alloc, &left, 1, LAPSED_STATE);
     ends(&rt, alloc, &left, 1, LAPSED_STATE);
     refuses_day(&rt, alloc, office_at(&rt, &left, 1), "2024-06-17");
     prints_there(&rt, alloc, &left, 1, "2024-06-18", NONE_ON_18_JUNE);
-    tells(&rt, alloc, &left, 0, MORNING_STATE);
+    message_is(&rt, alloc, &left, 0, MORNING_STATE);
     ends(&rt, alloc, &left, 0, MORNING_STATE);
     prints_there(&rt, alloc, &left, 0, "2024-06-10", ASHFELD_0900);
 }
@@ -280,7 +280,7 @@ fn what_a_reload_lost_comes_again(rt: HostRuntime) {
     ends(&rt, alloc, &lost, 0, MORNING_STATE);
     let found = found_left(&rt, alloc);
     replies(&rt, &found, 6, &[]);
-    tells(&rt, alloc, &found, 1, REVISED_STATE);
+    message_is(&rt, alloc, &found, 1, REVISED_STATE);
     ends(&rt, alloc, &found, 0, REVISED_STATE);
 }
 

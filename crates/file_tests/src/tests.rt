@@ -244,7 +244,7 @@ fn judged_fault(alloc: Global, text: &[u8]) -> Option<ReadFault> {
 }
 
 /// A fault of a text, as it is told of a source.
-fn told(fault: Option<FileFault>) -> Option<ReadFault> {
+fn read_fault(fault: Option<FileFault>) -> Option<ReadFault> {
     match fault {
         Some(fault) => Some(ReadFault::File(fault)),
         None => None,
@@ -258,7 +258,7 @@ fn check_fault(rt: &impl Abort, alloc: Global, text: &[u8], wanted: Option<FileF
     same_in(rt, name, fault_by(alloc, text, 1), wanted);
     same_in(rt, name, fault_by(alloc, text, 7), wanted);
     same_in(rt, name, fault_by(alloc, text, 4096), wanted);
-    same_in(rt, name, judged_fault(alloc, text), told(wanted));
+    same_in(rt, name, judged_fault(alloc, text), read_fault(wanted));
     let mut parser = FileParser::new(alloc, 1000);
     if let Err(fault) = parser.feed(text) {
         same_in(rt, name, Some(fault), wanted);
@@ -557,7 +557,7 @@ fn a_journey(rt: HostRuntime) {
 }
 
 /// The want of memory that is told from then on, where what the line feed of this record told comes after another.
-fn wanting_from(
+fn memory_fault_from(
     fed: Option<FileFault>,
     wanting: Option<FileFault>,
     number: u32,
@@ -590,7 +590,7 @@ fn file_at_end(
 
 /// The file of these records, fed one by one with a line feed between them; none where memory was wanting. That is told by the line feed of the very record
 /// at which it was wanting, or at the end of the last one, and by each call from then on.
-fn file_or_wanting(
+fn file_or_out_of_memory(
     rt: &impl Abort,
     alloc: Global,
     front: &[&[u8]],
@@ -603,7 +603,7 @@ fn file_or_wanting(
         let fault = parser.feed(record).err();
         same(rt, (number, fault), (number, wanting));
         let fed = parser.feed(b"\n").err();
-        wanting = wanting_from(fed, wanting, number);
+        wanting = memory_fault_from(fed, wanting, number);
         same(rt, (number, fed), (number, wanting));
         number = number.saturating_add(1);
     }
@@ -613,11 +613,11 @@ fn file_or_wanting(
 }
 
 #[test]
-fn want_of_memory(rt: HostRuntime) {
-    if let Some(file) = file_or_wanting(&rt, rt.alloc(), &[HD, BS, LO, LT], ZZ) {
+fn out_of_memory(rt: HostRuntime) {
+    if let Some(file) = file_or_out_of_memory(&rt, rt.alloc(), &[HD, BS, LO, LT], ZZ) {
         check_f2(&rt, file);
     }
-    if let Some(file) = file_or_wanting(&rt, rt.alloc(), &[HD, BS_DELETED], ZZ) {
+    if let Some(file) = file_or_out_of_memory(&rt, rt.alloc(), &[HD, BS_DELETED], ZZ) {
         same(&rt, file.changes().len(), 1);
     }
 }

@@ -22,7 +22,7 @@ pub(crate) enum Answer {
 
 impl Answer {
     /// Prints it.
-    pub(crate) fn tell(self, desk: &Desk) {
+    pub(crate) fn report(self, desk: &Desk) {
         match self {
             Answer::Done => desk.print(b"done\n"),
             Answer::Refused(fault) => desk.print(fault_text(&fault).as_slice()),

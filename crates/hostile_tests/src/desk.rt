@@ -62,7 +62,7 @@ impl<'a> Desk<'a> {
     }
 
     /// Prints what holds, or that it doesn't.
-    pub(crate) fn tell(&self, holds: bool, what: &str) {
+    pub(crate) fn report(&self, holds: bool, what: &str) {
         let front = if holds { "" } else { "not so: " };
         let _ = println!(self.rt; "  {front}{what}");
     }
@@ -88,6 +88,6 @@ impl<'a> Desk<'a> {
 
     /// Prints the name of a text that lies beside the program, if these bytes are that text.
     pub(crate) fn compare(&self, bytes: &[u8], name: &str) {
-        self.tell(self.is_text(bytes, name), name);
+        self.report(self.is_text(bytes, name), name);
     }
 }

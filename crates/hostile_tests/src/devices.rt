@@ -42,7 +42,7 @@ fn sources(desk: &Desk, asked: Asked<'_>, text: &[u8]) {
             break;
         }
     }
-    spans.tell(desk);
+    spans.report(desk);
 }
 
 /// The answer where a source fails at this call, and whether it came to that. After a failure the same is asked of a good source.
@@ -128,7 +128,7 @@ fn write_all(desk: &Desk, office: &Office, output: Output, before: &[u8], wanted
             break;
         }
     }
-    spans.tell(desk);
+    spans.report(desk);
 }
 
 /// The answer where a sink fails at this call, and whether it came to that: the sink has the bytes before, and a good sink gets the whole text then.
@@ -202,7 +202,7 @@ pub(crate) fn line(desk: &Desk, words: &[&str]) {
             break;
         }
     }
-    spans.tell(desk);
+    spans.report(desk);
 }
 
 /// The answer where the source of a line fails at this call, and whether it came to that. A good source gives a job then.

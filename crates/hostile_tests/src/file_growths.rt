@@ -65,7 +65,7 @@ pub(crate) fn feed(desk: &Desk, words: &[&str]) {
     match fed {
         Ok(()) => compare_fed(desk, parser, wanted),
         Err(fault) => {
-            desk.tell(repeats(parser, fault), "each later call answers the same");
+            desk.report(repeats(parser, fault), "each later call answers the same");
             feed_again(desk, text.as_slice(), wanted);
         }
     }
@@ -129,15 +129,15 @@ fn of_this_file(desk: &Desk, file: CifFile, text: &[u8], wanted: &str) {
         }
         Err(back) => {
             desk.end(Ending::Memory);
-            tell_back(desk, &back, text);
+            report_returned(desk, &back, text);
             compare(desk, back, wanted);
         }
     }
 }
 
 /// Prints whether a file that is handed back is that of the text.
-fn tell_back(desk: &Desk, back: &CifFile, text: &[u8]) {
+fn report_returned(desk: &Desk, back: &CifFile, text: &[u8]) {
     if let Some(file) = file_of(desk, text) {
-        desk.tell(are_same(back, &file), "the file is handed back");
+        desk.report(are_same(back, &file), "the file is handed back");
     }
 }

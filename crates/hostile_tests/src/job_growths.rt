@@ -46,14 +46,14 @@ fn is_of(job: &Job, words: &[&str]) -> bool {
 }
 
 /// Prints whether the fault of a job has the status of want of memory.
-fn tell_status(desk: &Desk, fault: Fault) {
-    desk.tell(status(&fault) == 3, "status 3");
+fn report_status(desk: &Desk, fault: Fault) {
+    desk.report(status(&fault) == 3, "status 3");
 }
 
 /// Prints whether a job is that of these words.
-fn tell_job(desk: &Desk, named: Result<Job, JobFault>, words: &[&str]) {
+fn report_job(desk: &Desk, named: Result<Job, JobFault>, words: &[&str]) {
     match named {
-        Ok(job) => desk.tell(is_of(&job, words), "the job of these words"),
+        Ok(job) => desk.report(is_of(&job, words), "the job of these words"),
         Err(_) => desk.trouble("refused again"),
     }
 }
@@ -64,10 +64,10 @@ pub(crate) fn words_of_job(desk: &Desk, words: &[&str]) {
     let named = job(desk.alloc(), words);
     desk.end(ending_of(&named));
     match named {
-        Ok(_) => tell_job(desk, named, words),
+        Ok(_) => report_job(desk, named, words),
         Err(fault) => {
-            tell_status(desk, Fault::Job(fault));
-            tell_job(desk, job(desk.alloc(), words), words);
+            report_status(desk, Fault::Job(fault));
+            report_job(desk, job(desk.alloc(), words), words);
         }
     }
 }
@@ -99,10 +99,10 @@ fn job_of_line(desk: &Desk, line: &[u8], words: &[&str]) {
     let named = job_line(desk.alloc(), &mut source_of(line));
     desk.end(ending_of(&named));
     match named {
-        Ok(_) => tell_job(desk, named, words),
+        Ok(_) => report_job(desk, named, words),
         Err(fault) => {
-            tell_status(desk, Fault::Job(fault));
-            tell_job(desk, job_line(desk.alloc(), &mut source_of(line)), words);
+            report_status(desk, Fault::Job(fault));
+            report_job(desk, job_line(desk.alloc(), &mut source_of(line)), words);
         }
     }
 }
@@ -142,7 +142,7 @@ fn has_written(
             return Some(fault);
         }
     }
-    desk.tell(done.is_ok() && desk.is_text(kept.bytes(), wanted), wanted);
+    desk.report(done.is_ok() && desk.is_text(kept.bytes(), wanted), wanted);
     None
 }
 
@@ -190,8 +190,8 @@ fn read_texts(desk: &Desk, named: &Job, texts: [&[u8]; 2], wanted: &str, words: 
     match first {
         Ok(read) => write_again(desk, &read, wanted),
         Err(fault) => {
-            tell_status(desk, Fault::Office(fault));
-            desk.tell(is_of(named, words), "the job of these words");
+            report_status(desk, Fault::Office(fault));
+            desk.report(is_of(named, words), "the job of these words");
             match prepared(desk, named, one, other) {
                 Ok(read) => write_again(desk, &read, wanted),
                 Err(_) => desk.trouble("refused again"),
@@ -217,8 +217,8 @@ pub(crate) fn write_for_job(desk: &Desk, words: &[&str]) {
 /// A job writes what it has prepared.
 fn write_prepared(desk: &Desk, prepared: &Prepared<'_>, wanted: &str) {
     if let Some(fault) = has_written(desk, prepared, wanted, true) {
-        tell_status(desk, Fault::Office(fault));
-        desk.tell(true, "nothing is written");
+        report_status(desk, Fault::Office(fault));
+        desk.report(true, "nothing is written");
         write_again(desk, prepared, wanted);
     }
 }

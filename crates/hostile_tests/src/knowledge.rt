@@ -128,7 +128,7 @@ pub(crate) const STEPS: [Step; 18] = [
 ];
 
 /// The reply to an event that wants memory.
-const WANTS: Reply = Reply::Refused(RunFault::Office(OfficeFault::Memory));
+const OUT_OF_MEMORY: Reply = Reply::Refused(RunFault::Office(OfficeFault::Memory));
 
 /// What each office knows, and each message tells, so far.
 #[derive(Drop)]
@@ -157,7 +157,7 @@ impl Book {
     /// Enters an event and its reply.
     pub(crate) fn enter(&mut self, step: Step, reply: Reply) -> Result<(), AllocError> {
         let wanted = self.reply_to(step);
-        if reply == WANTS {
+        if reply == OUT_OF_MEMORY {
             self.wanting = self.wanting.saturating_add(1);
             self.fits &= is_tried(wanted);
             return Ok(());
@@ -199,11 +199,11 @@ impl Book {
                 self.messages.push(files)?;
             }
             Step::Deliver(office, message) => {
-                let files = self.told(message);
+                let files = self.known_by(message);
                 self.learn(office, files);
             }
             Step::Reload(office, message) => {
-                let files = self.told(message);
+                let files = self.known_by(message);
                 self.set(office, files);
             }
         }
@@ -216,7 +216,7 @@ impl Book {
     }
 
     /// What a message tells.
-    fn told(&self, message: usize) -> Known {
+    fn known_by(&self, message: usize) -> Known {
         self.messages.get(message).copied().unwrap_or(NONE)
     }
 
@@ -235,8 +235,8 @@ impl Book {
 }
 
 /// Whether a reply is want of memory.
-pub(crate) fn is_want(reply: &Reply) -> bool {
-    *reply == WANTS
+pub(crate) fn is_out_of_memory(reply: &Reply) -> bool {
+    *reply == OUT_OF_MEMORY
 }
 
 /// Whether an event with this reply is tried at all, so that it may want memory.

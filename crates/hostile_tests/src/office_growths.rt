@@ -24,7 +24,7 @@ pub(crate) fn read(desk: &Desk, call: &str, words: &[&str]) {
     );
     desk.end(ending_of(&done));
     if done.is_err() {
-        tell_same(desk, &office, before.as_slice());
+        report_same(desk, &office, before.as_slice());
         let again = ask(
             call,
             &mut office,
@@ -39,9 +39,9 @@ pub(crate) fn read(desk: &Desk, call: &str, words: &[&str]) {
 }
 
 /// Prints whether an office has this state.
-fn tell_same(desk: &Desk, office: &Office, before: &[u8]) {
+fn report_same(desk: &Desk, office: &Office, before: &[u8]) {
     let same = has_text(desk, office.state(), before);
-    desk.tell(same, "the office is as it was");
+    desk.report(same, "the office is as it was");
 }
 
 /// `STATE TIPLOC DATE DOCKER`: an office with the state prints.
@@ -52,8 +52,8 @@ pub(crate) fn print(desk: &Desk, words: &[&str]) {
     let before = desk.text(own);
     let office = office_of(desk, before.as_slice());
     if !has_printed(desk, &office, [place, day, wanted], true) {
-        tell_same(desk, &office, before.as_slice());
-        desk.tell(true, "nothing is written");
+        report_same(desk, &office, before.as_slice());
+        desk.report(true, "nothing is written");
         if !has_printed(desk, &office, [place, day, wanted], false) {
             desk.trouble("refused again");
         }
@@ -79,6 +79,6 @@ fn has_printed(desk: &Desk, office: &Office, words: [&str; 3], is_first: bool) -
     if done.is_err() && kept.bytes().is_empty() && kept.failures() == 0 {
         return false;
     }
-    desk.tell(done.is_ok() && desk.is_text(kept.bytes(), wanted), wanted);
+    desk.report(done.is_ok() && desk.is_text(kept.bytes(), wanted), wanted);
     true
 }

@@ -63,7 +63,7 @@ fn rebuilt(desk: &Desk, one: &State, at: At) -> Result<State, Memory> {
     end(desk, at == At::Item, &given);
     if let Err(refused) = given {
         let same = parts.ledger().is_empty() && parts.entries().is_empty();
-        desk.tell(same, "the parts are as they were");
+        desk.report(same, "the parts are as they were");
         return Err(refused);
     }
     begin(desk, at == At::Entry);
@@ -71,7 +71,7 @@ fn rebuilt(desk: &Desk, one: &State, at: At) -> Result<State, Memory> {
     end(desk, at == At::Entry, &given);
     if let Err(refused) = given {
         let same = parts.ledger() == items && parts.entries().is_empty();
-        desk.tell(same, "the parts are as they were");
+        desk.report(same, "the parts are as they were");
         return Err(refused);
     }
     begin(desk, at == At::Finish);
@@ -116,7 +116,7 @@ fn receive(desk: &Desk, own: &mut State, other: &State, at: At) -> Result<(), Me
         Ok(()) => commit(desk, own, staging, at),
         Err(refused) => {
             let same = staging.is_empty() && staging.items() == items;
-            desk.tell(same, "what was staged is as it was");
+            desk.report(same, "what was staged is as it was");
             Err(refused)
         }
     }
@@ -130,7 +130,7 @@ fn commit(desk: &Desk, own: &mut State, staging: Staging, at: At) -> Result<(), 
     begin(desk, at == At::Commit);
     let done = own.commit(staging);
     end(desk, at == At::Commit, &done);
-    desk.tell(length == 1, "one entry was staged");
+    desk.report(length == 1, "one entry was staged");
     done
 }
 
@@ -144,7 +144,7 @@ pub(crate) fn staging(desk: &Desk, call: &str, words: &[&str]) {
     let received = state_of(desk, desk.text(other).as_slice());
     if receive(desk, &mut state, &received, call_of(call)).is_err() {
         let same = has_text(desk, &state, before.as_slice());
-        desk.tell(same, "the state is as it was");
+        desk.report(same, "the state is as it was");
         if receive(desk, &mut state, &received, At::Nowhere).is_err() {
             desk.trouble("want of memory");
         }

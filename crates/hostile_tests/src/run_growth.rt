@@ -2,7 +2,7 @@
 
 use crate::desk::Desk;
 use crate::endings::Ending;
-use crate::knowledge::{Book, Known, OFFICES, STEPS, is_want};
+use crate::knowledge::{Book, Known, OFFICES, STEPS, is_out_of_memory};
 use crate::texts::{MOST_RECORDS, compare_state, has_text, occasion_of, sink};
 use cif_line::Memory;
 use docker_office::{Event, Exchange, Office, Reply, RunFault, run};
@@ -134,10 +134,10 @@ fn word_of<'a>(reply: &Reply) -> &'a str {
 }
 
 /// Prints the replies, what each office has in the end, and what each message tells.
-fn tell_left(desk: &Desk, left: &Exchange) {
+fn report_left(desk: &Desk, left: &Exchange) {
     let book = book_of(desk, left);
     for reply in left.replies() {
-        desk.tell(true, word_of(reply));
+        desk.report(true, word_of(reply));
     }
     for (office, known) in left.offices().iter().zip(&book.offices) {
         compare_state(desk, office.state(), known.state());
@@ -145,13 +145,13 @@ fn tell_left(desk: &Desk, left: &Exchange) {
     for (message, known) in left.messages().iter().zip(&book.messages) {
         desk.compare(message.bytes(), known.state());
     }
-    tell_same(desk, left, &book, 0);
+    report_same(desk, left, &book, 0);
 }
 
 /// Prints whether so many replies want memory, and all else is what the replies leave.
-fn tell_same(desk: &Desk, left: &Exchange, book: &Book, wanting: u32) {
+fn report_same(desk: &Desk, left: &Exchange, book: &Book, wanting: u32) {
     let same = book.wanting == wanting && is_left(desk, left, book);
-    desk.tell(
+    desk.report(
         same,
         "offices, messages and dockers are those that the replies leave",
     );
@@ -170,36 +170,36 @@ pub(crate) fn run_events(desk: &Desk, words: &[&str]) {
     };
     desk.begin();
     let left = left_by_run(desk.alloc(), &files);
-    tell_first(desk, left);
+    report_first(desk, left);
     match left_by_run(desk.alloc(), &files) {
-        Ok(left) => tell_left(desk, &left),
+        Ok(left) => report_left(desk, &left),
         Err(_) => desk.trouble("want of memory"),
     }
 }
 
 /// Prints how a run ended, and of one in which an event wanted memory whether it left what its replies say.
-fn tell_first(desk: &Desk, left: Result<Exchange, Memory>) {
+fn report_first(desk: &Desk, left: Result<Exchange, Memory>) {
     match left {
-        Ok(left) => tell_ended(desk, &left),
+        Ok(left) => report_ended(desk, &left),
         Err(_) => {
             desk.end(Ending::Memory);
-            desk.tell(true, "before the first event");
+            desk.report(true, "before the first event");
         }
     }
 }
 
 /// The same of a run that met its events.
-fn tell_ended(desk: &Desk, left: &Exchange) {
-    if !has_wanted(left) {
+fn report_ended(desk: &Desk, left: &Exchange) {
+    if !ran_out_of_memory(left) {
         return desk.end(Ending::Done);
     }
     desk.end(Ending::Memory);
     let book = book_of(desk, left);
-    desk.tell(book.wanting == 1, "one reply wants memory");
-    tell_same(desk, left, &book, 1);
+    desk.report(book.wanting == 1, "one reply wants memory");
+    report_same(desk, left, &book, 1);
 }
 
 /// Whether a reply is want of memory.
-fn has_wanted(left: &Exchange) -> bool {
-    left.replies().iter().any(is_want)
+fn ran_out_of_memory(left: &Exchange) -> bool {
+    left.replies().iter().any(is_out_of_memory)
 }

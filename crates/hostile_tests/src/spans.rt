@@ -24,7 +24,7 @@ impl Spans {
     /// Adds the answer to the next number.
     pub(crate) fn add(&mut self, desk: &Desk, number: u64, answer: Answer) {
         if self.answer != Some(answer) {
-            self.tell(desk);
+            self.report(desk);
             self.from = number;
         }
         self.to = number;
@@ -32,10 +32,10 @@ impl Spans {
     }
 
     /// Prints the span, if there is one.
-    pub(crate) fn tell(&self, desk: &Desk) {
+    pub(crate) fn report(&self, desk: &Desk) {
         if let Some(answer) = self.answer {
             desk.print_span(self.from, self.to);
-            answer.tell(desk);
+            answer.report(desk);
         }
     }
 }

@@ -23,7 +23,7 @@ pub(crate) fn join(desk: &Desk, words: &[&str]) {
     if let Err((one, other)) = joined(desk, one, other, wanted) {
         let same = has_text(desk, &one, left.as_slice());
         let both = same && has_text(desk, &other, right.as_slice());
-        desk.tell(both, "both states are handed back");
+        desk.report(both, "both states are handed back");
         join_again(desk, one, other, wanted);
     }
 }
@@ -102,7 +102,7 @@ pub(crate) fn feed(desk: &Desk, words: &[&str]) {
     match fed {
         Ok(()) => compare_fed(desk, parser, name),
         Err(fault) => {
-            desk.tell(repeats(parser, fault), "each later call answers the same");
+            desk.report(repeats(parser, fault), "each later call answers the same");
             feed_again(desk, text.as_slice(), name);
         }
     }
@@ -159,7 +159,7 @@ pub(crate) fn join_text(desk: &Desk, words: &[&str]) {
     desk.end(ending_of(&done));
     if done.is_err() {
         let same = has_text(desk, &state, before.as_slice());
-        desk.tell(same, "the state is as it was");
+        desk.report(same, "the state is as it was");
         if receive(desk, &mut state, text.as_slice()).is_err() {
             desk.trouble("a state is refused");
         }
@@ -194,7 +194,7 @@ pub(crate) fn migrate_text(desk: &Desk, words: &[&str]) {
 fn compare_docker(desk: &Desk, docker: &Docker<'_>, wanted: &str) {
     if let Some(mut kept) = sink(desk) {
         let whole = write_docker(docker, &mut kept).is_ok();
-        desk.tell(whole && desk.is_text(kept.bytes(), wanted), wanted);
+        desk.report(whole && desk.is_text(kept.bytes(), wanted), wanted);
     }
 }
 
@@ -207,7 +207,7 @@ pub(crate) fn make_docker(desk: &Desk, words: &[&str]) {
     let state = state_of(desk, text.as_slice());
     if !has_made(desk, &state, [place, day, wanted], true) {
         let same = has_text(desk, &state, text.as_slice());
-        desk.tell(same, "the state is as it was");
+        desk.report(same, "the state is as it was");
         if !has_made(desk, &state, [place, day, wanted], false) {
             desk.trouble("want of memory");
         }
@@ -246,7 +246,7 @@ fn compare_kept(desk: &Desk, kept: Result<Kept, Memory>, text: &[u8], name: &str
     match kept {
         Ok(mut kept) => {
             let whole = kept.failures() == 0 && write_all(&mut kept, text).is_ok();
-            desk.tell(whole && kept.bytes() == text, name);
+            desk.report(whole && kept.bytes() == text, name);
         }
         Err(_) => desk.trouble("want of memory"),
     }

@@ -140,7 +140,7 @@ fn cut_all(desk: &Desk, asked: Asked<'_>, text: &[u8]) {
     for n in 0..=text.len() {
         spans.add(desk, n as u64, asked.answer_to(desk, &text[..n]));
     }
-    spans.tell(desk);
+    spans.report(desk);
 }
 
 /// A limit; that of a word that is no number is 0.
@@ -162,7 +162,7 @@ fn limit(desk: &Desk, words: &[&str]) {
     };
     desk.begin();
     desk.print(b"  ");
-    asked.answer_to(desk, text.as_slice()).tell(desk);
+    asked.answer_to(desk, text.as_slice()).report(desk);
 }
 
 /// `CALL STATE FRONT AGAIN LIMIT`: a front and then another text again and again, under a limit.
@@ -187,5 +187,5 @@ fn endless_texts(desk: &Desk, asked: Asked<'_>, front: &[u8], again: &[u8]) {
     if again.is_empty() {
         return desk.trouble("nothing comes again");
     }
-    asked.answer_to_endless(desk, front, again).tell(desk);
+    asked.answer_to_endless(desk, front, again).report(desk);
 }

@@ -78,7 +78,7 @@ pub(crate) fn has_text(desk: &Desk, state: &State, text: &[u8]) -> bool {
 /// Prints the name of a text that lies beside the program, if it is that of a state.
 pub(crate) fn compare_state(desk: &Desk, state: &State, name: &str) {
     let text = desk.text(name);
-    desk.tell(has_text(desk, state, text.as_slice()), name);
+    desk.report(has_text(desk, state, text.as_slice()), name);
 }
 
 /// The timing point and the day of two words.

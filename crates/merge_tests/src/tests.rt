@@ -13,11 +13,11 @@ mod indexes;
 mod parts;
 mod places;
 mod records;
+mod shown;
 mod staging;
 mod tables;
-mod told;
 
-use told::{add_line, told};
+use shown::{add_line, shown};
 
 // A test's values are compared by calls of this, which ends the test where they differ: an assertion in a function of its own is proved once for all rows.
 
@@ -70,15 +70,15 @@ fn set_on(rt: &impl Abort, alloc: Global, file: &[&[u8]], days: &[&str]) -> Stat
 }
 
 /// That a state is told as these lines say.
-fn told_is(rt: &impl Abort, alloc: Global, state: &State, lines: &[&[u8]]) {
-    let told = told(rt, alloc, state);
+fn shown_is(rt: &impl Abort, alloc: Global, state: &State, lines: &[&[u8]]) {
+    let shown = shown(rt, alloc, state);
     let wanted = text(rt, alloc, lines);
-    same(rt, told.as_slice(), wanted.as_slice());
+    same(rt, shown.as_slice(), wanted.as_slice());
 }
 
 /// That a state is as these lines say, and answers the entry of each of its keys.
 fn state_is(rt: &impl Abort, alloc: Global, state: &State, lines: &[&[u8]]) {
-    told_is(rt, alloc, state, lines);
+    shown_is(rt, alloc, state, lines);
     for row in state.entries() {
         same(rt, state.get(&row.0), Some(&row.1));
     }
@@ -90,7 +90,7 @@ fn made_is(rt: &impl Abort, alloc: Global, made: State, lines: &[&[u8]]) {
 }
 
 /// That a state is told as it was before.
-fn told_again(rt: &impl Abort, alloc: Global, state: &State, before: &[u8]) {
-    let again = told(rt, alloc, state);
+fn shown_again(rt: &impl Abort, alloc: Global, state: &State, before: &[u8]) {
+    let again = shown(rt, alloc, state);
     same(rt, again.as_slice(), before);
 }

@@ -171,7 +171,7 @@ fn fault_in(parser: &mut StateParser, piece: &[u8], begins: u64) -> Option<State
 }
 
 /// The fault of a text, as a parser that is fed so many bytes at once tells it, and a byte behind the state where it is left.
-fn told(alloc: Global, text: &[u8], limit: u64, step: usize) -> Option<StateFault>
+fn fault_fed(alloc: Global, text: &[u8], limit: u64, step: usize) -> Option<StateFault>
     requires { 0 < step }
 {
     let mut parser = StateParser::new(alloc, limit);
@@ -200,7 +200,7 @@ fn refused_by(
     let mut source = Bytes::new(text, step);
     let read = read_state(alloc, &mut source, limit).err();
     same(rt, read, Some(ReadFault::State(fault)));
-    same(rt, told(alloc, text, limit, step), Some(fault));
+    same(rt, fault_fed(alloc, text, limit, step), Some(fault));
 }
 
 /// That a text of these pieces has this fault under this limit, as each way of reading tells it.
@@ -325,7 +325,7 @@ fn uses_the_state(rt: &impl Abort, alloc: Global, known: &[u8]) {
 }
 
 #[test]
-fn a_parser_uses_the_bytes_of_the_state_alone(rt: HostRuntime) {
+fn a_parser_uses_only_the_bytes_of_the_state(rt: HostRuntime) {
     let alloc = rt.alloc();
     let known = known_text(&rt, alloc);
     uses_the_state(&rt, alloc, known.as_slice());
@@ -337,7 +337,7 @@ fn a_parser_uses_the_bytes_of_the_state_alone(rt: HostRuntime) {
 }
 
 #[test]
-fn a_fault_is_told_again(rt: HostRuntime) {
+fn a_fault_is_reported_again(rt: HostRuntime) {
     let mut parser = StateParser::new(rt.alloc(), 1000);
     let fault = at(0, StateCause::Mark);
     same(&rt, parser.feed(b"DKS1"), Err(fault));
@@ -346,23 +346,23 @@ fn a_fault_is_told_again(rt: HostRuntime) {
 }
 
 /// That a parser wants memory, at the item or at the entry, and does so again.
-fn wants_memory(rt: &impl Abort, parser: &mut StateParser, known: &[u8], fault: StateFault) {
+fn runs_out_of_memory(rt: &impl Abort, parser: &mut StateParser, known: &[u8], fault: StateFault) {
     same(rt, fault.cause, StateCause::Memory);
     same(rt, fault.at == 14 || fault.at == 41, true);
     same(rt, parser.feed(known), Err(fault));
 }
 
 /// That a text is fed, or memory is wanting.
-fn fed_or_wanting(rt: &impl Abort, alloc: Global, known: &[u8]) {
+fn fed_or_out_of_memory(rt: &impl Abort, alloc: Global, known: &[u8]) {
     let mut parser = StateParser::new(alloc, 1000);
     match parser.feed(known) {
         Ok(answer) => same(rt, answer, (311, Step::Done)),
-        Err(fault) => wants_memory(rt, &mut parser, known, fault),
+        Err(fault) => runs_out_of_memory(rt, &mut parser, known, fault),
     }
 }
 
 /// That it is read, or memory is wanting.
-fn read_or_wanting(rt: &impl Abort, alloc: Global, known: &[u8]) {
+fn read_or_out_of_memory(rt: &impl Abort, alloc: Global, known: &[u8]) {
     match read_state(alloc, &mut Bytes::new(known, 64), 311) {
         Ok(state) => same(rt, encoded_len(&state), 311),
         Err(fault) => same(rt, fault, ReadFault::Memory),
@@ -370,8 +370,8 @@ fn read_or_wanting(rt: &impl Abort, alloc: Global, known: &[u8]) {
 }
 
 #[test]
-fn want_of_memory_names_its_item(rt: HostRuntime) {
+fn out_of_memory_names_its_item(rt: HostRuntime) {
     let known = known_text(&rt, rt.alloc());
-    fed_or_wanting(&rt, rt.alloc(), known.as_slice());
-    read_or_wanting(&rt, rt.alloc(), known.as_slice());
+    fed_or_out_of_memory(&rt, rt.alloc(), known.as_slice());
+    read_or_out_of_memory(&rt, rt.alloc(), known.as_slice());
 }

@@ -31,7 +31,7 @@ fn horizons(rt: HostRuntime) {
 
 /// What has lapsed keeps its stamp, so that no older file brings it back.
 #[test]
-fn older_file_behind_a_horizon(rt: HostRuntime) {
+fn older_file_after_a_horizon(rt: HostRuntime) {
     let alloc = rt.alloc();
     let mut known = state(&rt, alloc, &[HD_10, BS_REVISED, LO_0905, LT_0935, ZZ]);
     known.set_horizon(day(&rt, "2024-06-15"));

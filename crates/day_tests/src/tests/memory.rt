@@ -81,7 +81,7 @@ fn wanted(rt: &impl Abort, alloc: Global) -> Vec<u8> {
 }
 
 #[test]
-fn want_of_memory(rt: HostRuntime) {
+fn out_of_memory(rt: HostRuntime) {
     let alloc = rt.alloc();
     let state = divided(&rt, alloc);
     counts_are(&rt, &state, 1, 3, 3);

@@ -5,7 +5,7 @@ use super::records::{
     HD_9A_FULL, HD_9B, HD_9C, HD_10B, LO, LO_0850, LO_0905, LO_1000, LO_1100, LT, LT_0935, LT_1030,
     LT_1130, NEW, TA, TI, ZZ,
 };
-use super::{file, joined, made_is, pair, same, state, state_is, told, told_again};
+use super::{file, joined, made_is, pair, same, shown, shown_again, state, state_is};
 use cif_file::{CifFile, Key};
 use cif_line::Tiploc;
 use docker_join::Merge;
@@ -28,10 +28,10 @@ fn no_file(rt: HostRuntime) {
     let twice = joined(&rt, alloc, empty, State::empty(alloc));
     state_is(&rt, alloc, &twice, &[]);
     let one = state(&rt, alloc, &[HD_9A, TI, ZZ]);
-    let before = told(&rt, alloc, &one);
+    let before = shown(&rt, alloc, &one);
     same(&rt, before.is_empty(), false);
     let all = joined(&rt, alloc, twice, one);
-    told_again(&rt, alloc, &all, before.as_slice());
+    shown_again(&rt, alloc, &all, before.as_slice());
     has_none_at(&rt, &all, "ASHFLDN");
 }
 
@@ -234,8 +234,8 @@ fn joined_again(
     match one.join(alloc, other) {
         Ok(joined) => joined,
         Err((one, other)) => {
-            told_again(rt, alloc, &one, before[0]);
-            told_again(rt, alloc, &other, before[1]);
+            shown_again(rt, alloc, &one, before[0]);
+            shown_again(rt, alloc, &other, before[1]);
             joined(rt, alloc, one, other)
         }
     }
@@ -255,8 +255,8 @@ fn of_file_again(rt: &impl Abort, alloc: Global, file: CifFile) -> State {
 
 /// That two states are joined at the second try at the latest.
 fn join_succeeds(rt: &impl Abort, alloc: Global, one: State, other: State) {
-    let before = told(rt, alloc, &one);
-    let before_other = told(rt, alloc, &other);
+    let before = shown(rt, alloc, &one);
+    let before_other = shown(rt, alloc, &other);
     let before = [before.as_slice(), before_other.as_slice()];
     let joined = joined_again(rt, alloc, one, other, before);
     same(rt, joined.entries().len(), 2);
@@ -265,13 +265,13 @@ fn join_succeeds(rt: &impl Abort, alloc: Global, one: State, other: State) {
 /// That the state of a file of five records and one change is made at the second try at the latest.
 fn of_file_succeeds(rt: &impl Abort, alloc: Global, records: &[&[u8]]) {
     let one = state(rt, alloc, records);
-    let before = told(rt, alloc, &one);
+    let before = shown(rt, alloc, &one);
     let again = of_file_again(rt, alloc, file(rt, alloc, records));
-    told_again(rt, alloc, &again, before.as_slice());
+    shown_again(rt, alloc, &again, before.as_slice());
 }
 
 #[test]
-fn want_of_memory(rt: HostRuntime) {
+fn out_of_memory(rt: HostRuntime) {
     let alloc = rt.alloc();
     let one = state(&rt, alloc, ONE_SCHEDULE);
     let other = state(&rt, alloc, &[HD_10B, TI, ZZ]);

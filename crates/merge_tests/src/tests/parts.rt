@@ -1,7 +1,7 @@
 //! A state put together from its parts.
 
 use super::records::{BS_DELETED, HD_9A, ZZ};
-use super::{same, state, told, told_again};
+use super::{same, shown, shown_again, state};
 use cif_file::Key;
 use docker_join::{Entry, Op};
 use docker_state::{LedgerItem, Parts, State};
@@ -46,6 +46,6 @@ fn parts(rt: HostRuntime) {
     let alloc = rt.alloc();
     let one = state(&rt, alloc, &[HD_9A, BS_DELETED, ZZ]);
     let again = rebuilt(&rt, alloc, &one);
-    let before = told(&rt, alloc, &one);
-    told_again(&rt, alloc, &again, before.as_slice());
+    let before = shown(&rt, alloc, &one);
+    shown_again(&rt, alloc, &again, before.as_slice());
 }

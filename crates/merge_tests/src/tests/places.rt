@@ -5,7 +5,7 @@ use super::records::{
     HD_10B, LI_COLWELL, LI_COLWELL_AGAIN, LO, LO_1000_PLAIN, LO_COLWELL, LT, LT_1100_PLAIN,
     LT_DUNMERE, ZZ,
 };
-use super::told::{add, add_body, add_key};
+use super::shown::{add, add_body, add_key};
 use super::{joined, pair, same, set_on, state, text};
 use cif_file::{Body, Key};
 use cif_line::{Tiploc, Uid};

@@ -120,7 +120,7 @@ const UPDATE: &[&[u8]] = &[HD_5A, BS_C10003, BS, LO, LT, ZZ];
 const EXTRACT: &[&[u8]] = &[HD_7B, BS_C10002, LO_1000, LT_1030, ZZ];
 
 /// What a state says of that extract alone.
-const EXTRACT_ALONE: &[&[u8]] = &[
+const EXTRACT_ONLY: &[&[u8]] = &[
     b"item 23534 1260 DFROC1B F DFROC1A",
     b"floor 23534 1260 DFROC1B",
     b"C10002 23537: record 2 of 23534 1260 DFROC1B",
@@ -141,7 +141,7 @@ fn staging(rt: HostRuntime) {
     let both = pair(&rt, alloc, SCHEDULE, REVISION);
     received_is(&rt, alloc, both, SCHEDULE, 0, REVISED);
     let extract = state(&rt, alloc, EXTRACT);
-    received_is(&rt, alloc, extract, UPDATE, 0, EXTRACT_ALONE);
+    received_is(&rt, alloc, extract, UPDATE, 0, EXTRACT_ONLY);
     let update = state(&rt, alloc, UPDATE);
-    received_is(&rt, alloc, update, EXTRACT, 1, EXTRACT_ALONE);
+    received_is(&rt, alloc, update, EXTRACT, 1, EXTRACT_ONLY);
 }

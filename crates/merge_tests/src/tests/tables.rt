@@ -66,7 +66,7 @@ fn tables(rt: HostRuntime) {
 }
 
 #[test]
-fn want_of_memory_hands_both_back(rt: HostRuntime) {
+fn out_of_memory_returns_both(rt: HostRuntime) {
     let alloc = rt.alloc();
     let one = table(&rt, alloc, &[("ASHFELD", 1), ("BRAYTON", 6)]);
     let other = table(&rt, alloc, &[("ASHFELD", 7)]);

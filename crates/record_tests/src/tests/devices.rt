@@ -58,7 +58,7 @@ fn writes_the_whole_piece(rt: HostRuntime) {
 }
 
 #[test]
-fn stops_where_the_sink_is_full(rt: HostRuntime) {
+fn stops_when_the_sink_is_full(rt: HostRuntime) {
     let mut sink = Kept::new(rt.alloc(), 5).expect(&rt, "room");
     same(&rt, write_all(&mut sink, b"abcdefg"), Err(Failed));
     same(&rt, sink.bytes(), b"abcde".as_slice());

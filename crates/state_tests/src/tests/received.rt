@@ -120,7 +120,7 @@ fn is_empty(rt: &impl Abort, own: &State, fault: ReadFault) {
 }
 
 #[test]
-fn want_of_memory_changes_nothing(rt: HostRuntime) {
+fn out_of_memory_changes_nothing(rt: HostRuntime) {
     let alloc = rt.alloc();
     let known = known_text(&rt, alloc);
     let mut own = State::empty(alloc);

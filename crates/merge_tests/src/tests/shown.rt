@@ -135,7 +135,7 @@ fn add_live(rt: &impl Abort, alloc: Global, text: &mut Vec<u8>, state: &State) {
 }
 
 /// A state as text: its horizon, its ledger, its floor, its entries and what is live.
-pub(super) fn told(rt: &impl Abort, alloc: Global, state: &State) -> Vec<u8> {
+pub(super) fn shown(rt: &impl Abort, alloc: Global, state: &State) -> Vec<u8> {
     let mut text = Vec::new(alloc);
     add_horizon(rt, alloc, &mut text, state.horizon());
     add_ledger(rt, alloc, &mut text, state.ledger());
