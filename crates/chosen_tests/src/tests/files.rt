@@ -47,11 +47,11 @@ const NONE: &[u8] =
     b"TRAIN  C10001  2024-06-12   NONE                                                ";
 
 /// By nothing, for the revision ends on 13 June.
-const NONE_BEHIND: &[u8] =
+const NONE_AFTER: &[u8] =
     b"TRAIN  C10001  2024-06-15   NONE                                                ";
 
 /// That some files, joined in this order, say these lines of C10001 on a day.
-fn tell(rt: &impl Abort, alloc: Global, files: &[&[&[u8]]], on: &str, wanted: &[&[u8]]) {
+fn files_say(rt: &impl Abort, alloc: Global, files: &[&[&[u8]]], on: &str, wanted: &[&[u8]]) {
     let state = joined(rt, alloc, files);
     says(rt, alloc, &state, "C10001", on, wanted);
 }
@@ -61,9 +61,9 @@ fn tell(rt: &impl Abort, alloc: Global, files: &[&[&[u8]]], on: &str, wanted: &[
 fn deleted(rt: HostRuntime) {
     let overlay: &[&[u8]] = &[OVERLAY, BS_OVERLAY, LO_0915, LT, END];
     let files: &[&[&[u8]]] = &[FIRST, DELETES];
-    tell(&rt, rt.alloc(), files, "2024-06-12", &[NONE, END]);
-    tell(&rt, rt.alloc(), files, "2024-06-11", overlay);
-    tell(
+    files_say(&rt, rt.alloc(), files, "2024-06-12", &[NONE, END]);
+    files_say(&rt, rt.alloc(), files, "2024-06-11", overlay);
+    files_say(
         &rt,
         rt.alloc(),
         &[DELETES, FIRST],
@@ -76,8 +76,8 @@ fn deleted(rt: HostRuntime) {
 #[test]
 fn restored(rt: HostRuntime) {
     let restored: &[&[u8]] = &[RESTORED, BS_WEEK, LO, LT, END];
-    tell(&rt, rt.alloc(), &[FIRST, RESTORES], "2024-06-14", restored);
-    tell(&rt, rt.alloc(), &[RESTORES, FIRST], "2024-06-14", restored);
+    files_say(&rt, rt.alloc(), &[FIRST, RESTORES], "2024-06-14", restored);
+    files_say(&rt, rt.alloc(), &[RESTORES, FIRST], "2024-06-14", restored);
 }
 
 /// A revision takes the place of what it revises. It is kept with the transaction `N`.
@@ -85,7 +85,7 @@ fn restored(rt: HostRuntime) {
 fn revised(rt: HostRuntime) {
     let revised: &[&[u8]] = &[REVISED, BS_REVISED_KEPT, LO_0920, LT, END];
     let files: &[&[&[u8]]] = &[FIRST, REVISES];
-    tell(&rt, rt.alloc(), files, "2024-06-12", revised);
-    tell(&rt, rt.alloc(), files, "2024-06-15", &[NONE_BEHIND, END]);
-    tell(&rt, rt.alloc(), &[REVISES, FIRST], "2024-06-12", revised);
+    files_say(&rt, rt.alloc(), files, "2024-06-12", revised);
+    files_say(&rt, rt.alloc(), files, "2024-06-15", &[NONE_AFTER, END]);
+    files_say(&rt, rt.alloc(), &[REVISES, FIRST], "2024-06-12", revised);
 }

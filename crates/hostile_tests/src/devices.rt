@@ -1,0 +1,222 @@
+//! Devices that move one byte at a call, and fail at one call alone: at the first, then at the second, and so on.
+ghost use Rattle.std.specs.Prelude.{◌<◌, ◌^◌, ◌-◌};
+
+use crate::answers::Answer;
+use crate::asking::{ask, call_of};
+use crate::desk::Desk;
+use crate::spans::Spans;
+use crate::tables::Asked;
+use crate::texts::{MOST_BYTES, has_text, occasion_of, office_of, sink, source_of};
+use cif_line::{Day, Fuse, Sink, Source, Tiploc};
+use docker_cmd::Fault;
+use docker_job::job_line;
+use docker_office::{Office, OfficeFault};
+
+/// More calls than any row makes.
+const MOST_CALLS: u64 = 5000;
+
+/// `CALL STATE TEXT STATE`: the office reads the text from a source of which a read fails.
+pub(crate) fn source(desk: &Desk, words: &[&str]) {
+    let [call, own, name, wanted] = words else {
+        return desk.trouble("CALL STATE TEXT STATE");
+    };
+    let (before, after, text) = (desk.text(own), desk.text(wanted), desk.text(name));
+    let asked = Asked {
+        call: call_of(call),
+        before: before.as_slice(),
+        after: after.as_slice(),
+        limit: MOST_BYTES,
+    };
+    desk.begin();
+    sources(desk, asked, text.as_slice());
+}
+
+/// Prints the answers where the first read fails, the second and so on, up to a source of which none does.
+fn sources(desk: &Desk, asked: Asked<'_>, text: &[u8]) {
+    let good = asked.answer_to(desk, text);
+    let mut spans = Spans::new();
+    for call in 1..=MOST_CALLS {
+        let (answer, failed) = fused(desk, asked, text, call, good);
+        spans.add(desk, call, answer);
+        if !failed {
+            break;
+        }
+    }
+    spans.report(desk);
+}
+
+/// The answer where a source fails at this call, and whether it came to that. After a failure the same is asked of a good source.
+fn fused(desk: &Desk, asked: Asked<'_>, text: &[u8], call: u64, good: Answer) -> (Answer, bool)
+    requires { 0 < call }
+{
+    let mut office = office_of(desk, asked.before);
+    let mut source = Fuse::new(source_of(text), call);
+    let done = ask(asked.call, &mut office, &mut source, asked.limit);
+    let answer = asked.judge(desk, &office, done);
+    if source.failures() == 0 {
+        return (answer, false);
+    }
+    let done = ask(asked.call, &mut office, &mut source_of(text), asked.limit);
+    let again = asked.judge(desk, &office, done);
+    (if again == good { answer } else { Answer::Stuck }, true)
+}
+
+/// What an office writes.
+#[derive(Clone, Copy)]
+enum Output {
+    /// A docker.
+    Docker(Tiploc, Day),
+    /// Its state.
+    State,
+    /// Its files.
+    Files,
+}
+
+/// Has an office write.
+fn write<K: Sink>(output: &Output, office: &Office, sink: &mut K) -> Result<(), OfficeFault>
+    requires { K.failures sink.old < 2 ^ 64 - 1 }
+{
+    match output {
+        Output::Docker(place, day) => office.print(place, *day, sink),
+        Output::State => office.send(sink),
+        Output::Files => office.files(sink),
+    }
+}
+
+/// `STATE TIPLOC DATE DOCKER`: the office prints into a sink of which a write fails.
+pub(crate) fn print(desk: &Desk, words: &[&str]) {
+    let [own, place, day, wanted] = words else {
+        return desk.trouble("STATE TIPLOC DATE DOCKER");
+    };
+    if let Some((place, day)) = occasion_of(desk, place, day) {
+        sinks(desk, own, Output::Docker(place, day), wanted);
+    }
+}
+
+/// `STATE`: the office sends its state into one.
+pub(crate) fn send(desk: &Desk, words: &[&str]) {
+    let [own] = words else {
+        return desk.trouble("STATE");
+    };
+    sinks(desk, own, Output::State, own);
+}
+
+/// `STATE FILES`: the office lists its files into one.
+pub(crate) fn files(desk: &Desk, words: &[&str]) {
+    let [own, wanted] = words else {
+        return desk.trouble("STATE FILES");
+    };
+    sinks(desk, own, Output::Files, wanted);
+}
+
+/// Has an office write into sinks that fail at the first call, the second and so on, up to one that doesn't.
+fn sinks(desk: &Desk, own: &str, output: Output, wanted: &str) {
+    let (before, wanted) = (desk.text(own), desk.text(wanted));
+    let office = office_of(desk, before.as_slice());
+    desk.begin();
+    write_all(desk, &office, output, before.as_slice(), wanted.as_slice());
+}
+
+/// Prints the answers of each of these sinks. The office keeps its state.
+fn write_all(desk: &Desk, office: &Office, output: Output, before: &[u8], wanted: &[u8]) {
+    let mut spans = Spans::new();
+    for call in 1..=MOST_CALLS {
+        let (answer, failed) = written(desk, office, &output, wanted, call);
+        let same = has_text(desk, office.state(), before);
+        spans.add(desk, call, if same { answer } else { Answer::Changed });
+        if !failed {
+            break;
+        }
+    }
+    spans.report(desk);
+}
+
+/// The answer where a sink fails at this call, and whether it came to that: the sink has the bytes before, and a good sink gets the whole text then.
+fn written(
+    desk: &Desk,
+    office: &Office,
+    output: &Output,
+    wanted: &[u8],
+    call: u64,
+) -> (Answer, bool)
+    requires { 0 < call }
+{
+    let Some(kept) = sink(desk) else {
+        return (Answer::Stuck, false);
+    };
+    let mut fuse = Fuse::new(kept, call);
+    let done = write(output, office, &mut fuse);
+    let answer = written_answer(done, fuse.device().bytes(), wanted, call);
+    if fuse.failures() == 0 {
+        return (answer, false);
+    }
+    let again = is_written(desk, office, output, wanted);
+    (if again { answer } else { Answer::Stuck }, true)
+}
+
+/// The answer of a sink that took these bytes: all of the text, or those of the calls before the one that failed.
+fn written_answer(done: Result<(), OfficeFault>, bytes: &[u8], wanted: &[u8], call: u64) -> Answer {
+    match done {
+        Ok(()) => {
+            if bytes == wanted {
+                Answer::Done
+            } else {
+                Answer::Unlike
+            }
+        }
+        Err(fault) => {
+            if is_front(bytes, wanted, call) {
+                Answer::Refused(Fault::Office(fault))
+            } else {
+                Answer::Unlike
+            }
+        }
+    }
+}
+
+/// Whether a good sink gets the whole text.
+fn is_written(desk: &Desk, office: &Office, output: &Output, wanted: &[u8]) -> bool {
+    match sink(desk) {
+        Some(mut good) => write(output, office, &mut good).is_ok() && good.bytes() == wanted,
+        None => false,
+    }
+}
+
+/// Whether these are the bytes that a sink takes at the calls before this one.
+fn is_front(bytes: &[u8], wanted: &[u8], call: u64) -> bool {
+    bytes.len() as u64 == call.saturating_sub(1) && wanted.starts_with(bytes)
+}
+
+/// `LINE`: the job of the line is read from a source of which a read fails.
+pub(crate) fn line(desk: &Desk, words: &[&str]) {
+    let [name] = words else {
+        return desk.trouble("LINE");
+    };
+    let text = desk.text(name);
+    desk.begin();
+    let mut spans = Spans::new();
+    for call in 1..=MOST_CALLS {
+        let (answer, failed) = line_read(desk, text.as_slice(), call);
+        spans.add(desk, call, answer);
+        if !failed {
+            break;
+        }
+    }
+    spans.report(desk);
+}
+
+/// The answer where the source of a line fails at this call, and whether it came to that. A good source gives a job then.
+fn line_read(desk: &Desk, text: &[u8], call: u64) -> (Answer, bool)
+    requires { 0 < call }
+{
+    let mut source = Fuse::new(source_of(text), call);
+    let answer = match job_line(desk.alloc(), &mut source) {
+        Ok(_) => Answer::Done,
+        Err(fault) => Answer::Refused(Fault::Job(fault)),
+    };
+    if source.failures() == 0 {
+        return (answer, false);
+    }
+    let again = job_line(desk.alloc(), &mut source_of(text)).is_ok();
+    (if again { answer } else { Answer::Stuck }, true)
+}
