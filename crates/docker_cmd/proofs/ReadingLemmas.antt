@@ -8,12 +8,12 @@ use Rattle.docker_model.specs.state.State.{State}
 use Rattle.docker_model.specs.state.StateText.{dks_2}
 use Rattle.docker_office.specs.Faults.{IsOfFile, IsOfState}
 use Rattle.docker_office.specs.Office.{WantsForFile}
-use Rattle.docker_office.specs.SourceRead.{ReadsState, RefusesState}
+use Rattle.docker_office.specs.SourceRead.{RefusesState}
 use Rattle.docker_office.specs.StateFault.{StateFault}
 use Rattle.docker_office.specs.declared.fault.OfficeFault.{OfficeFault}
 use Rattle.docker_office.specs.declared.fault.OfficeFault.TheVariants as office
-use Rattle.docker_job.specs.Reads.{no_source, sources_meant}
-use Rattle.docker_job.specs.declared.reads.Sources.{Sources}
+use Rattle.docker_cmd.specs.Reads.{sources_meant}
+use Rattle.docker_cmd.specs.declared.reads.Sources.{Sources}
 use Rattle.docker_cmd.specs.Prepared.{DeviceBytes, FailsBy, HasNoSource, HasReadToEnd, HoldsSomeState, IsContentOf, IsWhyRefused, ReadView, ReadsFew, ReadsFewOfFile, ReadsFewOfState, WantsForState, most_bytes, one_state, state_and_file, two_states}
 
 -- two answers that are the same fault have the same fault

@@ -1,5 +1,5 @@
 -- What a job has of its sources, from what was read of them.
-use Rattle.std.proofs.Common.{◌≡◌, ℕ, [], ◌∷◌, ◌⊎◌, Option, None, Some, refl, sym, ◌∙◌, ap, subst}
+use Rattle.std.proofs.Common.{◌≡◌, ℕ, [], ◌∷◌, ◌⊎◌, Option, None, refl, sym, ◌∙◌, ap, subst}
 use Rattle.cif_laws.proofs.lists.Membership.{Contains-single, nil-Contains}
 use Rattle.docker_model.specs.file.File.{most_records}
 use Rattle.docker_model.specs.state.State.{State}
@@ -8,10 +8,9 @@ use Rattle.state_laws.proofs.states.PlainLive.{live_table_is_plain}
 use Rattle.state_laws.proofs.states.SummaryLaws.{join_is_summary}
 use Rattle.docker_office.specs.Office.{TakesFile, no_state}
 use Rattle.docker_office.specs.declared.fault.OfficeFault.{OfficeFault}
-use Rattle.docker_job.specs.Job.{JobView, TaskView, new_task, check_task, day_task, take_task, merge_task, print_task, files_task, horizon_task, migrate_task}
-use Rattle.docker_job.specs.Reads.{Sources, checked_file, taken_file, sources_of, horizon_of}
-use Rattle.docker_job.specs.Writes.{Output, output_of}
-use Rattle.docker_cmd.specs.Prepared.{DeviceBytes, HasReadToEnd, HasSecondSource, IsContentOf, IsOfOneFile, IsPreparedFor, IsReadOf, IsStateOf, IsWhyRefused, IsWrittenOf, ReadView, ReadsFew, file_read, office_read, under}
+use Rattle.docker_cmd.specs.Job.{JobView, TaskView, new_task, check_task, day_task, take_task, merge_task, print_task, files_task, horizon_task, migrate_task}
+use Rattle.docker_cmd.specs.Reads.{Sources, checked_file, taken_file, sources_of, horizon_of}
+use Rattle.docker_cmd.specs.Prepared.{DeviceBytes, HasReadToEnd, HasSecondSource, IsContentOf, IsOfOneFile, IsPreparedFor, IsReadOf, IsStateOf, IsWhyRefused, ReadView, ReadsFew, file_read, office_read, under}
 
 -- no file, and no horizon
 no_files : IsSummary [] 0 no_state
@@ -89,42 +88,6 @@ read_of : (task : TaskView) (first second : DeviceBytes) (read : ReadView) → I
 read_of task first second (file_read file) is =
     subst (λ task. IsReadOf task first second (under (horizon_of task) (file_read file))) (sym (checked task is.0)) (refl, is.1)
 read_of task first second (office_read state) is = state_of task first second state is
-
--- what a task writes of a state is no count
-state_written_of : (task : TaskView) (first second : DeviceBytes) (state : State) → IsStateOf (sources_of task) first second state
-    → IsWrittenOf (output_of task) (office_read state)
-state_written_of new_task first second state is = λ same. cc
-state_written_of check_task first second state is = elim is [ ]
-state_written_of (day_task place day) first second state is = λ same. cc
-state_written_of take_task first second state is = λ same. cc
-state_written_of merge_task first second state is = λ same. cc
-state_written_of (print_task place day) first second state is = λ same. cc
-state_written_of files_task first second state is = λ same. cc
-state_written_of (horizon_task day) first second state is = λ same. cc
-state_written_of migrate_task first second state is = λ same. cc
-
--- so its output is written of what was read
-written_of : (task : TaskView) (first second : DeviceBytes) (read : ReadView) → IsContentOf (sources_of task) first second read
-    → IsWrittenOf (output_of task) read
-written_of task first second (file_read file) is = ap output_of (checked task is.0)
-written_of task first second (office_read state) is = state_written_of task first second state is
-
--- under a horizon too
-still_written : (output : Output) (horizon : Option ℕ) (read : ReadView) → IsWrittenOf output read → IsWrittenOf output (under horizon read)
-still_written output None read is = is
-still_written output (Some day) (file_read file) is = is
-still_written output (Some day) (office_read state) is = is
-
--- what was read, and then put under the horizon of its task, can be written
-pub prepared_written : (task asked : TaskView) (sources : Sources) (horizon : Option ℕ) (first left second second_left : DeviceBytes) (own made : ReadView)
-    → asked ≡ task → sources ≡ sources_of asked → made ≡ under horizon own
-    → ReadsFew sources first left second second_left (IsContentOf sources first second own × HasReadToEnd sources left second_left)
-    → IsWrittenOf (output_of task) made
-prepared_written task asked sources horizon first left second second_left own made same_task same_sources same_made reads =
-    let at : sources ≡ sources_of task = same_sources ∙ ap sources_of same_task in
-    let content : IsContentOf (sources_of task) first second own = subst (λ s. IsContentOf s first second own) at reads.ends.0 in
-    subst (λ read. IsWrittenOf (output_of task) read) (sym same_made)
-    (still_written (output_of task) horizon own (written_of task first second own content))
 
 -- it is what a job has read of its sources
 pub prepared_read : (job : JobView) (asked : TaskView) (sources : Sources) (horizon : Option ℕ) (first left second second_left : DeviceBytes)

@@ -17,9 +17,9 @@ use Rattle.docker_office.specs.StateFault.{StateFault}
 use Rattle.docker_office.specs.declared.fault.OfficeFault.{OfficeFault}
 use Rattle.docker_office.specs.declared.fault.OfficeFault.TheVariants as office
 use Rattle.docker_office.specs.Office.{no_state, TakesFile, WantsForFile}
-use Rattle.docker_job.specs.Job.{JobView, TaskView, check_task, horizon_task}
-pub use Rattle.docker_job.specs.Reads.{Sources, no_source, checked_file, taken_file, one_state, state_and_file, two_states, sources_of, horizon_of}
-pub use Rattle.docker_job.specs.Writes.{Output, counts_written, docker_written, files_written, state_written, output_of}
+use Rattle.docker_cmd.specs.Job.{JobView, TaskView, check_task, horizon_task}
+pub use Rattle.docker_cmd.specs.Reads.{Sources, no_source, checked_file, taken_file, one_state, state_and_file, two_states, sources_of, horizon_of}
+pub use Rattle.docker_cmd.specs.Writes.{Output, counts_written, docker_written, files_written, state_written, output_of}
 use Rattle.docker_cmd.specs.CheckLine.{count_line}
 
 -- the most bytes that a state's text may have

@@ -1,5 +1,5 @@
 //! Why the program ends before it is done.
-use docker_job::JobFault;
+use crate::job_fault::JobFault;
 use docker_office::OfficeFault;
 use thiserror::Error;
 

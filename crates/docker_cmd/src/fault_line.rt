@@ -7,9 +7,9 @@ ghost use Rattle.docker_office.specs.FaultText as state_text;
 
 use crate::buffer::put;
 use crate::fault::Fault;
+use crate::job_fault::JobFault;
 use arrayvec::ArrayVec;
 use cif_file::{FileCause, FileFault};
-use docker_job::JobFault;
 use docker_office::{OfficeFault, StateCause, StateFault};
 use itoa::Buffer;
 

@@ -1,15 +1,15 @@
 //! What a job writes.
 ghost use Rattle.std.specs.Prelude.{◌≡◌, ◌≢◌, ◌+◌, ◌-◌, ◌^◌, ◌<◌, ◌↔◌, IfErr, OnErr, OnOk, Err};
 ghost use Rattle.cif_line.specs.Device.{Takes, TakesPart};
-ghost use Rattle.docker_job.specs.Writes.{output_meant};
+ghost use Rattle.docker_cmd.specs.Writes.{output_meant};
 ghost use Rattle.docker_cmd.specs.Prepared.{EndsEmitting, IsRefused, IsRefusedDocker, counts_written, file_read, office_read, output_of};
 
 use crate::check_line::check_line;
 use crate::prepared_job::Prepared;
 use crate::sources::Content;
+use crate::writes::Output;
 use cif_file::FileCount;
 use cif_line::{Sink, write_all};
-use docker_job::Output;
 use docker_office::{Office, OfficeFault};
 
 /// Writes what the job prints, or the state's text that is to be kept: of `check` the line of its file's counts, of `day` and `print` the docker of their

@@ -1,11 +1,11 @@
 //! What a job has read.
-ghost use Rattle.std.specs.Prelude.{◌≡◌, ◌+◌, ◌-◌, ◌^◌, ◌<◌, ◌⊎◌, IfOk};
+ghost use Rattle.std.specs.Prelude.{◌≡◌, ◌-◌, ◌^◌, ◌<◌, ◌⊎◌, IfOk};
 ghost use Rattle.docker_cmd.specs.Content.{content_meant};
 ghost use Rattle.docker_cmd.specs.Prepared.{CountsSources, HasNoSource, HasSecondSource, HoldsSomeState, IsOfOneFile, IsWrittenOf, ReadsInOrder, output_of, sources_of, taken_file};
 
+use crate::jobs::Job;
 use crate::sources::{Content, read_sources};
 use cif_line::Source;
-use docker_job::Job;
 use docker_office::OfficeFault;
 use std::alloc::Global;
 use std::marker::Model;

@@ -1,13 +1,13 @@
 //! What is read of a job's sources.
-ghost use Rattle.std.specs.Prelude.{◌≡◌, ◌+◌, ◌-◌, ◌^◌, ◌<◌, ◌⊎◌, ℕ};
-ghost use Rattle.docker_job.specs.Reads.{sources_meant};
+ghost use Rattle.std.specs.Prelude.{◌≡◌, ◌-◌, ◌^◌, ◌<◌, ◌⊎◌, ℕ};
+ghost use Rattle.docker_cmd.specs.Reads.{sources_meant};
 ghost use Rattle.docker_model.specs.state.StateText.{dks_1, dks_2};
 ghost use Rattle.docker_cmd.specs.Content.{content_meant};
 ghost use Rattle.docker_cmd.specs.Prepared.{CountsSources, DeviceBytes, HasNoSource, HasSecondSource, HoldsSomeState, ReadsContent, checked_file, file_read, office_read, one_state, state_and_file, taken_file, two_states, under};
 
+use crate::reads::Sources;
 use cif_file::{FileCount, MOST_RECORDS, judge_file};
 use cif_line::{Day, Source};
-use docker_job::Sources;
 use docker_office::{Office, OfficeFault};
 use std::alloc::Global;
 

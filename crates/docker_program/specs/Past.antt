@@ -1,6 +1,6 @@
 -- What was asked of a store so far: looks at files, and drafts made from them.
 use Rattle.std.specs.Prelude.{ℕ, ◌+◌, List, ◌∷◌, Option, Some, None, option_map}
-use Rattle.docker_job.specs.Words.{Text}
+use Rattle.docker_cmd.specs.Words.{Text}
 
 -- how many looks there were, and the number of the look that each draft was made from, counted from 0, the last draft first
 pub record Past : Type 0 where
