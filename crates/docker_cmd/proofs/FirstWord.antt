@@ -1,4 +1,4 @@
--- What `clap` makes of the first word, which names a subcommand, and of the words behind it.
+-- What `clap` makes of the first word, which names a subcommand, and of the words after it.
 use Rattle.std.proofs.Common.{◌≡◌, ◌∙◌, ◌++◌, cond, true, false, refl, sym, ap, ap₂, List, [], ◌∷◌, Some, None, is_some, codes, option_map}
 use Rattle.std.specs.List.{find, fold}
 use Rattle.std.specs.Option.{option_map_or}
@@ -33,7 +33,7 @@ or_else_none : (kinds : Kinds) → or_else kinds [] ≡ kinds
 or_else_none [] = refl
 or_else_none (k ∷ kinds) = refl
 
--- the faults of the program, by those of the walk and by where it ends
+-- the faults of the program, from the faults of the walk and from the place at which it ends
 abbrev faults_at : List Shape → Kinds → Walk → Kinds
 faults_at subs kinds w = or_else kinds
     (or_else (entered_fault (built_with subs) w.stopped)
@@ -69,7 +69,7 @@ module _ (subs : List Shape) (s : Shape) (name : Text) (words : List Text)
   unfolding walked
   named_walked = ap (λ (p : Held × Step). after_step [] name (walk_from nothing_held) p.0 p.1) named_met
 
-  -- the words behind the name are left to the subcommand
+  -- the words after the name are left to the subcommand
   named_walk : walk [] names nothing_held (name ∷ words) ≡ after_name name words
   named_walk = ap (λ w. fold (walked [] names) w words) named_walked ∙ sym (walk_stopped [] names (walk_from nothing_held) name [] words)
 
@@ -85,7 +85,7 @@ module _ (subs : List Shape) (s : Shape) (name : Text) (words : List Text)
   unfolding walk_fault
   named_walk_fault = ap₂ or_else named_turn (ap (λ w. walk_fault built_top names w words) named_walked ∙ no_later_fault names name [] words)
 
-  -- the faults are those of the subcommand
+  -- the faults are the subcommand's
   pub named_fault : built_fault (built_with subs) nothing_held (name ∷ words) ≡ level_fault s [] nothing_held words false []
   unfolding defaults_fault
   named_fault =
@@ -94,7 +94,7 @@ module _ (subs : List Shape) (s : Shape) (name : Text) (words : List Text)
       (check_fault built_top [] (is_some (option_map (λ x. rows_at x words) found)))) under
       ∙ or_else_none (level_fault s [] nothing_held words false [])
 
-  -- and so are the matches
+  -- so are the matches
   pub named_rows : entered (built_with subs) (walk [] names nothing_held (name ∷ words)).stopped ≡ Some (rows_at s words)
   named_rows =
       ap (λ (w : Walk). entered (built_with subs) w.stopped) named_walk ∙ ap (option_map (λ x. rows_at x words)) under

@@ -24,9 +24,9 @@ asks_nothing words s behind names nothing = λ job is.
     let one = same_subcommand s (subcommand_of job.task) (ap first_word same) in
     nothing job.task (sym one) (subst (AreWordsOf job.task) (sym (ap other_words same)) is.required)
 
--- ---- words of which `clap` is not asked
+-- ---- words that `clap` isn't given
 
--- words of which one isn't plain
+-- words that aren't all plain
 pub no_plain_job : (words : List Text) → list_all is_plain_word words ≡ false → NameNoJob words
 no_plain_job words never = λ job is. true≢false (sym is.plain ∙ never)
 
@@ -36,7 +36,7 @@ miscounted s words ids are never = λ task same is.
     let required = words_counted task (texts words) is ∙ ap (λ (t : Subcommand). length (ids_of t)) same in
     never (sym (length-map words (λ word. word.now)) ∙ required ∙ ap length (sym are) ∙ length-map ids (λ id. id.now))
 
--- plain words, of which the first names a subcommand
+-- plain words whose first word names a subcommand
 pub behind_asks : (words : List (Bor Text)) (d : Bor Text) (s : Subcommand) (test : Bool) → 1 ≤ length words
     → Some s ≡ subcommand_named (slice_index_or words 0 d).now → list_all is_plain_word (texts words) ≡ true
     → ((test ≡ false) ↔ AskNothing s (texts (take (length words - 1) (drop 1 words)))) → (test ≡ false) ↔ NameNoJob (texts words)

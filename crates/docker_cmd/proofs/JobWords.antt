@@ -1,4 +1,5 @@
--- `clap` takes the words that name a subcommand and no others, and finds that subcommand and its words.
+-- `clap` accepts the words that name a subcommand and no others, and finds that subcommand and its
+-- words.
 use Rattle.std.proofs.Common.{◌≡◌, ◌∙◌, ◌⊎◌, ◌||◌, inl, inr, Bool, cond, true, false, refl, sym, ap, subst, List, [], ◌∷◌, length, map, Some, None, option_map, codes, true≢false, arith}
 use Rattle.std.specs.Prelude.{option_and_then}
 use Rattle.std.specs.List.{find, list_all}
@@ -18,12 +19,12 @@ use Rattle.docker_cmd.proofs.FirstWord.{built_with, named_fault, named_rows, no_
 use Rattle.docker_cmd.proofs.RequiredWords.{Fits, Fresh, count_fault, leaf, leaf_fault, paired, rows_found}
 use Rattle.docker_cmd.proofs.TaskWords.{first_word, named_back, other_words, same_subcommand}
 
--- the words are the name of a subcommand, and behind that as many as it requires
+-- the words are the name of a subcommand, followed by as many words as it requires
 pub record AreRequired (words : List Text) (s : Subcommand) (behind : List Text) : Type 0 where
   pub whole : words ≡ name_of s ∷ behind
   pub count : length behind ≡ length (ids_of s)
 
--- they are so, and `clap` finds that subcommand and those words
+-- `clap` finds that subcommand and these words
 pub record Takes (words : List Text) : Type 0 where
   pub subcommand : Subcommand
   pub behind : List Text
@@ -31,23 +32,23 @@ pub record Takes (words : List Text) : Type 0 where
   pub no_fault : fault_of docker_app words ≡ []
   pub found : found_in (subcommand_of docker_app words) ≡ Some (pair_of subcommand behind)
 
--- they aren't, and `clap` refuses them
+-- the words name no subcommand, and `clap` refuses them
 pub record Refuses (words : List Text) : Type 0 where
   pub fault : fault_of docker_app words ≡ [] → ⊥
   pub names_none : (s : Subcommand) (behind : List Text) → ¬ AreRequired words s behind
 
--- one or the other
+-- the words are accepted or refused
 abbrev pub Judged : List Text → Type 0
 Judged words = Takes words ⊎ Refuses words
 
 -- ---- the number of words
 
--- there are as many words as are required, or they are too many or too few
+-- there are as many words as required, or there are too many or too few
 abbrev IsCounted : List Text → List Text → Type 0
 IsCounted ids words = ((length words ≡ length ids) × (count_fault ids words ≡ []))
     ⊎ ((length words ≡ length ids → ⊥) × (is_empty (count_fault ids words) ≡ false))
 
--- either is so
+-- this is always so
 counted : (ids words : List Text) → IsCounted ids words
 counted [] [] = inl (refl, refl)
 counted [] (word ∷ words) = inr ((λ same. omega (arith, same)), refl)
@@ -93,7 +94,8 @@ leaf_of s = leaf (name_of s) (ids_of s)
 abbrev leaves : List Shape
 leaves = map leaf_of subcommands
 
--- what is known of each subcommand of the program: its ids have their places, no two are one, its name is met, and its words are found
+-- what is known of each subcommand of the program: its ids have their places and differ, its name
+-- is met, and its words are found
 record IsKnown (s : Subcommand) : Type 0 where
   fits : Fits (leaf_of s).rules 1 (ids_of s)
   fresh : Fresh [] (ids_of s)
@@ -101,7 +103,7 @@ record IsKnown (s : Subcommand) : Type 0 where
   under : find (λ x. answers_to (name_of s) (label_of x)) leaves ≡ Some (leaf_of s)
   found : (words : List Text) → length words ≡ length (ids_of s) → found_words (ids_of s) (paired (ids_of s) words) ≡ Some words
 
--- it is known of all
+-- it is known of all of them
 known : (s : Subcommand) → IsKnown s
 known New = record { fits = (refl, refl, refl); fresh = (refl, λ a. tt); met = refl; under = refl; found = one_found (codes "STATE") (λ x. refl) }
 known Check = record { fits = (refl, refl, refl); fresh = (refl, λ a. tt); met = refl; under = refl; found = one_found (codes "FILE") (λ x. refl) }
@@ -144,26 +146,26 @@ known Horizon = record {
 known Migrate = record { fits = (refl, refl, refl); fresh = (refl, λ a. tt); met = refl; under = refl; found = one_found (codes "STATE") (λ x. refl) }
 
 module _ (s : Subcommand) (words : List Text) (plain : list_all is_plain_word words ≡ true) where
-  -- the faults at its name are those of the number of words
+  -- the faults at its name are the faults of the number of words
   fault_at_name : fault_of docker_app (name_of s ∷ words) ≡ count_fault (ids_of s) words
   fault_at_name =
       let k = known s in
       named_fault leaves (leaf_of s) (name_of s) words k.met k.under ∙ leaf_fault (name_of s) (ids_of s) words k.fits k.fresh plain
 
-  -- what is found at it is the words with their ids
+  -- at its name the words are found with their ids
   found_at_name : found_in (subcommand_of docker_app (name_of s ∷ words)) ≡ found_at (name_of s) (paired (ids_of s) words)
   found_at_name =
       let k = known s in
       ap found_in (named_rows leaves (leaf_of s) (name_of s) words k.met k.under)
       ∙ ap (found_at (name_of s)) (rows_found (name_of s) (ids_of s) words k.fits k.fresh plain)
 
-  -- and those are the words
+  -- and the words are found
   words_at_name : length words ≡ length (ids_of s) → found_at (name_of s) (paired (ids_of s) words) ≡ Some (pair_of s words)
   words_at_name count =
       ap (option_and_then (λ t. option_map (pair_of t) (found_words (ids_of t) (paired (ids_of s) words)))) (named_back s)
       ∙ ap (option_map (pair_of s)) ((known s).found words count)
 
-  -- the words behind a name are judged by their number
+  -- the words after a name are judged by their number
   named_judged : Judged (name_of s ∷ words)
   named_judged = elim (counted (ids_of s) words) [
     | inl is ↦ inl (record {
@@ -192,14 +194,14 @@ IsNoneOf word (s ∷ ss) = (bytes_eq word (name_of s) ≡ false) × IsNoneOf wor
 swapped : (a b : Text) → bytes_eq a b ≡ false → bytes_eq b a ≡ false
 swapped a b differ = false_from_ne_true _ (λ same. true≢false (sym ((bytes_eq-Decides a b).1 (sym ((bytes_eq-Decides b a).0 same))) ∙ differ))
 
--- no subcommand answers to it
+-- no subcommand has this name
 none_answers : (word : Text) (ss : List Subcommand) → IsNoneOf word ss → find (answers_to word) (map label_of (map leaf_of ss)) ≡ None
 none_answers word [] none = refl
 none_answers word (s ∷ ss) none =
     ap (λ b. cond (b || false) (Some (name_of s, [])) (find (answers_to word) (map label_of (map leaf_of ss)))) (swapped word (name_of s) none.0)
     ∙ none_answers word ss none.1
 
--- a word that is the name of none is no name
+-- a word that is the name of none of them
 no_name : (word : Text) (s : Subcommand) → IsNoneOf word subcommands → word ≡ name_of s → ⊥
 no_name word s none is = at s none is
   where
@@ -236,7 +238,7 @@ by_name word words plain (s ∷ ss) unnamed = by (bytes_eq word (name_of s)) ref
     by true same rest = subst (λ w. Judged (w ∷ words)) (sym ((bytes_eq-Decides word (name_of s)).0 same)) (named_judged s words plain)
     by false differ rest = rest differ
 
--- each list of plain words is taken or refused
+-- each list of plain words is accepted or refused
 pub judged : (words : List Text) → list_all is_plain_word words ≡ true → Judged words
 judged [] plain = inr (record {
   fault = λ empty. true≢false (sym (ap is_empty (sym (no_word leaves) ∙ empty)));

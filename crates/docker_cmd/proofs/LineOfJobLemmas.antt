@@ -1,4 +1,4 @@
--- Reading the job line byte by byte: what the bytes so far say of the text.
+-- Reading the job line byte by byte: what the bytes so far say about the text.
 use Rattle.std.proofs.Common.{◌≡◌, ℕ, ◌<◌, ◌≤◌, ◌≢◌, List, [], ◌∷◌, ◌++◌, length, Bool, true, false, refl, sym, ◌∙◌, ap, subst, arith, append_assoc, length-append, append-nil, Some, None, inl, inr, get_or}
 use Rattle.std.specs.Prelude.{Option, option_map, ◌&&◌, ◌⊎◌, nat_le}
 use Rattle.std.specs.Str.{IsAscii}
@@ -15,7 +15,7 @@ use Rattle.docker_cmd.specs.JobLine.{ReadsLine, HasNoLine, HasNoJob, HasJob, Rea
 abbrev pub ArePrintable : List ℕ → Type 0
 ArePrintable = AllByRecursion (λ b. is_printable b ≡ true)
 
--- a byte that is neither printable nor a line feed stands behind printable ones: no line
+-- a byte after printable ones that is neither printable nor a line feed: there is no line
 clash : (a b : List ℕ) (x : ℕ) (r s : List ℕ) → ArePrintable a → ArePrintable b → is_printable x ≡ false → x ≢ 10 → a ++ x ∷ r ≡ b ++ 10 ∷ s → ⊥
 clash [] [] x r s a_good b_good bad other same = other (cc)
 clash [] (z ∷ b) x r s a_good b_good bad other same =
@@ -28,7 +28,7 @@ clash (y ∷ a) [] x r s a_good b_good bad other same =
     cc
 clash (y ∷ a) (z ∷ b) x r s a_good b_good bad other same = clash a b x r s a_good.1 b_good.1 bad other (cc)
 
--- a line feed is no printable byte
+-- a line feed isn't printable
 ended : (a b s : List ℕ) → ArePrintable a → a ≡ b ++ 10 ∷ s → ⊥
 ended [] [] s good same = cc
 ended [] (z ∷ b) s good same = cc
@@ -38,7 +38,7 @@ ended (y ∷ a) [] s good same =
     cc
 ended (y ∷ a) (z ∷ b) s good same = ended a b s good.1 (cc)
 
--- more printable bytes than a line has
+-- there are more printable bytes than the line has
 long : (a b r s : List ℕ) → ArePrintable a → length b < length a → a ++ r ≡ b ++ 10 ∷ s → ⊥
 long [] b r s good short same = absurd (omega arith)
 long (y ∷ a) [] r s good short same =
@@ -52,7 +52,7 @@ pub printable_more : (line : List ℕ) (b : ℕ) → ArePrintable line → is_pr
 printable_more [] b good here = (here, tt)
 printable_more (y ∷ line) b good here = (good.0, printable_more line b good.1 here)
 
--- what is read behind what was read
+-- what is read after what was read before
 pub reads_on : (old now new : Option (List ℕ)) (line : List ℕ) (b : ℕ) → Reads old line now → Reads now (b ∷ []) new → Reads old (line ++ b ∷ []) new
 reads_on old now None line b first then_one = first ∙ ap (option_map (λ rest. line ++ rest)) then_one
 reads_on old now (Some rest) line b first then_one = first ∙ ap (option_map (λ rest. line ++ rest)) then_one ∙ ap Some (sym (append_assoc line (b ∷ []) rest))
@@ -79,7 +79,7 @@ no_line_at old now new line b first feed good bad other = by old new (reads_on o
         clash line found b rest behind good (recursion_from_All _ found is.line_text.printable) bad other
         (sym (append_assoc line (b ∷ []) rest) ∙ sym same ∙ is.whole)
 
--- more bytes than a line has
+-- more bytes than a line may have
 pub no_line_behind : (old new : Option (List ℕ)) (line : List ℕ) → Reads old line new → ArePrintable line → 255 < length line → HasNoLine old
 no_line_behind None new line read good long_line = tt
 no_line_behind (Some text) None line read good long_line = cc
@@ -88,7 +88,7 @@ no_line_behind (Some text) (Some rest) line read good long_line = λ found behin
     let short : length found ≤ 255 = is.line_text.short in
     long line found rest behind good (omega arith) (sym same ∙ is.whole)
 
--- a full line, and a byte that is no line feed
+-- a full line, followed by a byte that isn't a line feed
 pub no_line_full : (old now new : Option (List ℕ)) (line : List ℕ) (b : ℕ) → Reads old line now → Reads now (b ∷ []) new → ArePrintable line
     → length line ≡ 255 → b ≢ 10 → HasNoLine old
 no_line_full old now new line b first feed good full other = by (is_printable b) refl
@@ -98,7 +98,7 @@ no_line_full old now new line b first feed good full other = by (is_printable b)
         (omega (arith, length-append line (b ∷ [])))
     by false here = no_line_at old now new line b first feed good here other
 
--- two lines before the first line feed are one
+-- two lines that both end at the first line feed are equal
 one_line : (a b r s : List ℕ) → ArePrintable a → ArePrintable b → a ++ 10 ∷ r ≡ b ++ 10 ∷ s → a ≡ b
 one_line [] [] r s a_good b_good same = refl
 one_line [] (z ∷ b) r s a_good b_good same =

@@ -11,11 +11,11 @@ use Rattle.clap.specs.Kinds.{or_else}
 use Rattle.clap.proofs.SimpleLemmas.{is_false}
 use Rattle.docker_cmd.specs.Words.{is_plain_word}
 
--- between two words, where nothing waits
+-- between two words, where nothing is pending
 abbrev pub at : Held → ℕ → Walk
 at h position = record (walk_from h) { position = position }
 
--- nothing stands behind a first hyphen
+-- a plain word has no leading hyphen to strip
 no_hyphen : (word : Text) → is_plain_word word ≡ true → strip_byte 45 word ≡ None
 no_hyphen [] plain = refl
 no_hyphen (byte ∷ bytes) plain = ap (λ b. cond b (Some bytes) None) (is_false _ plain)
@@ -42,7 +42,7 @@ plain_met c names position word h plain none =
     ∙ ap (λ long. long_or_other c idle word long h) (no_long word plain)
     ∙ ap (λ flags. short_or_plain c idle word flags h) (no_short word plain)
 
--- and has no fault of its own
+-- it has no fault of its own
 pub plain_fault : (s : Shape) (names : Names) (word : Text) (h : Held) → is_plain_word word ≡ true → subcommand_met names idle word ≡ None
     → word_fault s names false idle word h ≡ []
 plain_fault s names word h plain none =
@@ -59,7 +59,7 @@ unfolding walked
 plain_walked c names position word h plain none =
     ap (λ (met : Held × Step). after_step c word (at h position) met.0 met.1) (plain_met c names position word h plain none)
 
--- its fault is that of its place
+-- its fault is the fault of its place
 pub plain_turn : (s : Shape) (names : Names) (position : ℕ) (word : Text) (h : Held) → is_plain_word word ≡ true → subcommand_met names idle word ≡ None
     → turn_fault s names (at h position) word ≡ step_fault s position h value
 plain_turn s names position word h plain none =
@@ -67,7 +67,7 @@ plain_turn s names position word h plain none =
     let fault = plain_fault s names word h plain none in
     λ i. or_else (fault i) (step_fault s position (met i).0 (met i).1)
 
--- and so at a walk: its fault, and then that of the rest
+-- the faults of a walk: the word's fault, and then the faults of the rest
 pub plain_walk_fault : (s : Shape) (names : Names) (position : ℕ) (word : Text) (rest : List Text) (h : Held) → is_plain_word word ≡ true
     → subcommand_met names idle word ≡ None
     → walk_fault s names (at h position) (word ∷ rest)

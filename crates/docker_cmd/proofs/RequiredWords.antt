@@ -1,4 +1,4 @@
--- What `clap` makes of the words behind a subcommand that requires some.
+-- What `clap` makes of the words after a subcommand that requires some.
 use Rattle.std.proofs.Common.{◌≡◌, ◌∙◌, ◌+◌, ◌&&◌, ◌||◌, ℕ, Bool, cond, true, false, not, min, map, refl, sym, ap, subst, true≢false, List, [], ◌∷◌, ◌++◌, Some, None, append_assoc, append-nil}
 use Rattle.std.specs.List.{find, fold, list_all, list_any}
 use Rattle.std.specs.Str.{bytes_eq}
@@ -44,7 +44,7 @@ Fits c position (id ∷ ids) = (arg_by_index c position ≡ Some (placed positio
 abbrev pub row : Text → Text → Row
 row id word = record { id = id; values = word ∷ []; count = None; source = Some CommandLine; reading = reading_by (new_rule id) }
 
--- no id has a row yet, nor one of the ids before it
+-- no id has a row yet, nor has any id before it
 abbrev pub Fresh : List Row → List Text → Type 0
 Fresh rows [] = Unit {0}
 Fresh rows (id ∷ ids) = (has_row id rows ≡ false) × ((word : Text) → Fresh (rows ++ row id word ∷ []) ids)
@@ -62,7 +62,7 @@ neither : (a b : Bool) → (a || b) ≡ false → (a ≡ false) × (b ≡ false)
 neither true b e = absurd (true≢false e)
 neither false b e = (refl, e)
 
--- a change at an id that has no row comes at the end
+-- a change at an id without a row adds to the end
 at_new : (id : Text) (change : Row → List Row) (missing rows : List Row) → has_row id rows ≡ false → at_row id change missing rows ≡ rows ++ missing
 at_new id change missing [] fresh = refl
 at_new id change missing (r ∷ rows) fresh =
@@ -124,7 +124,7 @@ placed_fault s position id word rest h rows found settles plain =
 
 -- ---- all the words
 
--- a word more than is required
+-- one word more than required
 abbrev surplus_fault : List Text → List Text → Kinds
 surplus_fault [] [] = []
 surplus_fault [] (word ∷ words) = kind.UnknownArgument ∷ []
@@ -137,7 +137,7 @@ is_short [] words = false
 is_short (id ∷ ids) [] = true
 is_short (id ∷ ids) (word ∷ words) = is_short ids words
 
--- the walk over all the words fails only by one too many
+-- the walk over all words fails only if there is one too many
 words_fault : (s : Shape) (position : ℕ) (ids words : List Text) (h : Held) (rows : List Row) → stray_fault s ≡ kind.UnknownArgument ∷ []
     → Fits s.rules position ids → Fresh rows ids
     → Settles s h rows → list_all is_plain_word words ≡ true → walk_fault s [] (at h position) words ≡ surplus_fault ids words
@@ -173,7 +173,7 @@ words_held s position (id ∷ ids) (word ∷ words) h rows fits fresh settles pl
 
 -- ---- after the walk
 
--- a choice between the same rows
+-- a choice between equal rows
 same_rows : (id : Text) (rows : List Row) → cond (has_row id rows) rows rows ≡ rows
 same_rows id rows = go (has_row id rows)
   where
@@ -195,7 +195,7 @@ no_default_fault position (id ∷ ids) rows =
     ap (λ b. or_else (cond b [] []) (defaults_fault (with_default rows (placed position id)) rest)) (or-true (has_row id rows))
     ∙ ap (λ rs. defaults_fault rs rest) (same_rows id rows) ∙ no_default_fault (next position) ids rows
 
--- an id without a row is given by the rows after
+-- an id without a row is given only by the rows after it
 not_given : (id : Text) (rows rest : List Row) → has_row id rows ≡ false → is_given id (rows ++ rest) ≡ is_given id rest
 not_given id [] rest fresh = refl
 not_given id (r ∷ rows) rest fresh =
@@ -209,7 +209,7 @@ given_here id word rest =
     ap (λ b. option_map_or (λ (x : Row). explicit_source x.source) (cond b (Some (row id word)) (find (λ x. bytes_eq x.id id) rest)) false)
     ((bytes_eq-Decides id id).1 refl)
 
--- a required word is missing where the words are fewer
+-- a required word is missing if there are fewer words
 missing : (position : ℕ) (ids words : List Text) (rows : List Row) → Fresh rows ids
     → list_any (λ a. a.required && not (is_given a.id (rows ++ paired ids words))) (filled_from position (map required_rule ids)) ≡ is_short ids words
 missing position [] words rows fresh = refl
@@ -226,7 +226,7 @@ missing position (id ∷ ids) (word ∷ words) rows fresh =
 
 -- ---- a subcommand
 
--- what a subcommand makes of the words behind it
+-- what a subcommand makes of the words after it
 abbrev pub count_fault : List Text → List Text → Kinds
 count_fault ids words = or_else (surplus_fault ids words) (cond (is_short ids words) (kind.MissingRequiredArgument ∷ []) [])
 
@@ -246,7 +246,7 @@ module _ (name : Text) (ids words : List Text) (fits : Fits (leaf name ids).rule
   unfolding end
   rows_found = ap (λ rows. fold with_default rows (leaf name ids).rules) settles_end.rows_are ∙ no_defaults 1 ids (paired ids words)
 
-  -- and the faults are those of their number
+  -- the faults are the faults of their number
   pub leaf_fault : level_fault (leaf name ids) [] nothing_held words false [] ≡ count_fault ids words
   unfolding end
   leaf_fault =

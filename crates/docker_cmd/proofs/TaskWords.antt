@@ -16,7 +16,7 @@ abbrev pub first_word : List Text → Text
 first_word [] = []
 first_word (word ∷ words) = word
 
--- and those behind it
+-- the words after it
 abbrev pub other_words : List Text → List Text
 other_words [] = []
 other_words (word ∷ words) = words
@@ -35,13 +35,13 @@ named_back Files = refl
 named_back Horizon = refl
 named_back Migrate = refl
 
--- subcommands of one name are one
+-- subcommands with equal names are equal
 pub same_subcommand : (s t : Subcommand) → name_of s ≡ name_of t → s ≡ t
 same_subcommand s t same =
     let found : Some s ≡ Some t = sym (named_back s) ∙ ap subcommand_named same ∙ named_back t in
     cc
 
--- a name is that of the first of two, or that of the other
+-- a name belongs to the first of two subcommands, or to the other
 by_test : (word name : Text) (t s : Subcommand) (rest : Option Subcommand) → name ≡ name_of t → cond (bytes_eq word name) (Some t) rest ≡ Some s
     → (rest ≡ Some s → word ≡ name_of s) → word ≡ name_of s
 by_test word name t s rest is found behind = by (bytes_eq word name) refl found
@@ -52,7 +52,7 @@ by_test word name t s rest is found behind = by (bytes_eq word name) refl found
         (bytes_eq-Decides word name).0 same ∙ is ∙ ap name_of this
     by false differ other = behind other
 
--- the name of a subcommand that is found
+-- the name of the subcommand that was found
 pub name_back : (word : Text) (s : Subcommand) → subcommand_named word ≡ Some s → word ≡ name_of s
 name_back word s found =
     by_test word (codes "new") New s _ refl found (λ found.
@@ -88,7 +88,7 @@ three_counted Holds (a ∷ b ∷ []) is = absurd is
 three_counted Holds (a ∷ b ∷ c ∷ []) is = refl
 three_counted Holds (a ∷ b ∷ c ∷ d ∷ words) is = absurd is
 
--- the words of a task are as many as its subcommand requires
+-- a task has as many words as its subcommand requires
 pub words_counted : (task : TaskView) (words : List Text) → AreWordsOf task words → length words ≡ length (ids_of (subcommand_of task))
 words_counted new_task words is = one_counted _ words is
 words_counted check_task words is = one_counted _ words is
@@ -100,7 +100,7 @@ words_counted files_task words is = one_counted _ words is
 words_counted (horizon_task day) words is = two_counted _ words is
 words_counted migrate_task words is = one_counted _ words is
 
--- ---- the words of a subcommand, whichever its task
+-- ---- the words of a subcommand, for any of its tasks
 
 -- a timing point and a day that two words name
 pub record NameBoth (tiploc date : Text) : Type 0 where
@@ -115,7 +115,7 @@ pub record NameHorizon (state date : Text) : Type 0 where
   pub day : ℕ
   pub day_is : NamesDay date day
 
--- the words are those of some task of the subcommand
+-- they are the words of some task of this subcommand
 abbrev pub Suit : Subcommand → List Text → Type 0
 Suit New = OfOne (λ state. NamesStored state)
 Suit Check = OfOne (λ file. ⊤)
@@ -127,14 +127,14 @@ Suit Files = OfOne (λ state. ⊤)
 Suit Horizon = OfTwo (λ state date. NameHorizon state date)
 Suit Migrate = OfOne (λ state. NamesStored state)
 
--- two words of which more is known
+-- two words, from a stronger fact
 two_weaker : (P Q : Text → Text → Type 0) → ((a b : Text) → P a b → Q a b) → (words : List Text) → OfTwo P words → OfTwo Q words
 two_weaker P Q so [] is = is
 two_weaker P Q so (a ∷ []) is = is
 two_weaker P Q so (a ∷ b ∷ []) is = so a b is
 two_weaker P Q so (a ∷ b ∷ c ∷ words) is = is
 
--- three words of which more is known
+-- three words, from a stronger fact
 three_weaker : (P Q : Text → Text → Text → Type 0) → ((a b c : Text) → P a b c → Q a b c) → (words : List Text) → OfThree P words → OfThree Q words
 three_weaker P Q so [] is = is
 three_weaker P Q so (a ∷ []) is = is
@@ -142,7 +142,7 @@ three_weaker P Q so (a ∷ b ∷ []) is = is
 three_weaker P Q so (a ∷ b ∷ c ∷ []) is = so a b c is
 three_weaker P Q so (a ∷ b ∷ c ∷ d ∷ words) is = is
 
--- the words of a task are words of its subcommand
+-- the words of a task suit its subcommand
 suit : (task : TaskView) (words : List Text) → AreWordsOf task words → Suit (subcommand_of task) words
 suit new_task words is = is
 suit check_task words is = is
@@ -162,17 +162,17 @@ suit migrate_task words is = is
 nothing_asked : (s : Subcommand) (words : List Text) → ¬ Suit s words → IsTaskOf s words None
 nothing_asked s words never = λ task same is. never (subst (λ t. Suit t words) same (suit task words is))
 
--- the same subcommand and the same answer
+-- equal subcommands and equal answers
 pub asked : (s t : Subcommand) (words : List Text) (r q : Option Task) → t ≡ s → q ≡ r → IsTaskOf s words (option_map task_meant r)
     → IsTaskOf t words (option_map task_meant q)
 asked s t words r q same result is =
     subst (λ o. IsTaskOf t words (option_map task_meant o)) (sym result) (subst (λ u. IsTaskOf u words (option_map task_meant r)) (sym same) is)
 
--- a task whose state has to be one that can be written anew
+-- a task that needs a state that can be written anew
 abbrev pub unless_stdin : Text → Task → Option Task
 unless_stdin state task = cond (bytes_eq state (codes "stdin")) None (Some task)
 
--- the word of its state is looked at
+-- the word of its state is tested
 tested : (s : Subcommand) (words : List Text) (state : Text) (task : Task) → subcommand_of (task_meant task) ≡ s
     → (NamesStored state → AreWordsOf (task_meant task) words) → (Suit s words → NamesStored state)
     → IsTaskOf s words (option_map task_meant (unless_stdin state task))
@@ -182,7 +182,7 @@ tested s words state task same holds back = by (bytes_eq state (codes "stdin")) 
     by true is = nothing_asked s words (λ suits. back suits ((bytes_eq-Decides state (codes "stdin")).0 is))
     by false is = (same, holds (λ stdin. true≢false (sym ((bytes_eq-Decides state (codes "stdin")).1 stdin) ∙ is)))
 
--- the only word is that of a state
+-- the only word names a state
 pub state_alone : (s : Subcommand) (task : Task) → subcommand_of (task_meant task) ≡ s
     → ((state : Text) → NamesStored state → AreWordsOf (task_meant task) (state ∷ [])) → ((state : Text) → Suit s (state ∷ []) → NamesStored state)
     → (words : List (Bor Text)) (d : Bor Text) → length words ≡ 1
@@ -191,7 +191,7 @@ state_alone s task same holds back [] d one = absurd (omega (arith, one))
 state_alone s task same holds back (a ∷ []) d one = tested s (a.now ∷ []) a.now task same (holds a.now) (back a.now)
 state_alone s task same holds back (a ∷ b ∷ words) d one = absurd (omega (arith, one))
 
--- the first of two words is that of a state
+-- the first of two words names a state
 pub state_first : (s : Subcommand) (task : Task) (words : List (Bor Text)) (d e : Bor Text) → subcommand_of (task_meant task) ≡ s
     → ((state : Text) → NamesStored state → AreWordsOf (task_meant task) (state ∷ (slice_index_or words 1 e).now ∷ []))
     → ((state other : Text) → Suit s (state ∷ other ∷ []) → NamesStored state) → length words ≡ 2
@@ -201,7 +201,7 @@ state_first s task (a ∷ []) d e same holds back two = absurd (omega (arith, tw
 state_first s task (a ∷ b ∷ []) d e same holds back two = tested s (a.now ∷ b.now ∷ []) a.now task same (holds a.now) (back a.now b.now)
 state_first s task (a ∷ b ∷ c ∷ words) d e same holds back two = absurd (omega (arith, two))
 
--- the last of three words name a timing point and a day
+-- the last two of three words name a timing point and a day
 pub both_behind : (s : Subcommand) (task : TaskView) (place : List ℕ) (day : ℕ) (words : List (Bor Text)) (d e : Bor Text) → subcommand_of task ≡ s
     → ((first tiploc date : Text) → NamesPlace tiploc place → NamesDay date day → AreWordsOf task (first ∷ tiploc ∷ date ∷ [])) → length words ≡ 3
     → NamesPlace (slice_index_or words 1 d).now place → NamesDay (slice_index_or words 2 e).now day → IsTaskOf s (texts words) (Some task)

@@ -20,7 +20,7 @@ pub data TaskView : Type 0 where
   horizon_task : (day : ℕ) → TaskView
   migrate_task : TaskView
 
--- the code's task, as the same
+-- what the code's task means
 abbrev pub task_meant : Task → TaskView
 task_meant New = new_task
 task_meant Check = check_task
@@ -44,40 +44,40 @@ subcommand_of files_task = subcommand.Files
 subcommand_of (horizon_task day) = subcommand.Horizon
 subcommand_of migrate_task = subcommand.Migrate
 
--- the timing point that it is of, where it is of one
+-- its timing point, if it has one
 abbrev pub tiploc_of : TaskView → Option (List ℕ)
 tiploc_of (day_task place day) = Some place
 tiploc_of (print_task place day) = Some place
 tiploc_of _ = None
 
--- the day that it is of, where it is of one
+-- its day, if it has one
 abbrev pub day_of : TaskView → Option ℕ
 day_of (day_task place day) = Some day
 day_of (print_task place day) = Some day
 day_of (horizon_task day) = Some day
 day_of _ = None
 
--- a job: what it asks for, and the words behind the subcommand
+-- a job: what it asks for, and the words after the subcommand
 pub record JobView : Type 0 where
   pub task : TaskView
   pub words : List Text
 
--- one word, of which this holds
+-- there is one word, and this holds of it
 abbrev pub OfOne : (Text → Type 0) → List Text → Type 0
 OfOne Holds (first ∷ []) = Holds first
 OfOne Holds _ = ⊥
 
--- two words, of which this holds
+-- there are two words, and this holds of them
 abbrev pub OfTwo : (Text → Text → Type 0) → List Text → Type 0
 OfTwo Holds (first ∷ second ∷ []) = Holds first second
 OfTwo Holds _ = ⊥
 
--- three words, of which this holds
+-- there are three words, and this holds of them
 abbrev pub OfThree : (Text → Text → Text → Type 0) → List Text → Type 0
 OfThree Holds (first ∷ second ∷ third ∷ []) = Holds first second third
 OfThree Holds _ = ⊥
 
--- the words behind the subcommand are those of the task
+-- the words after the subcommand belong to this task
 abbrev pub AreWordsOf : TaskView → List Text → Type 0
 AreWordsOf new_task = OfOne (λ state. NamesStored state)
 AreWordsOf check_task = OfOne (λ file. ⊤)
@@ -89,7 +89,8 @@ AreWordsOf files_task = OfOne (λ state. ⊤)
 AreWordsOf (horizon_task day) = OfTwo (λ state date. NamesStored state × NamesDay date day)
 AreWordsOf migrate_task = OfOne (λ state. NamesStored state)
 
--- the words name this job: its subcommand, and behind that the words of its task; none is empty or begins with a hyphen
+-- the words name this job: its subcommand, and then the words of its task. None is empty or begins
+-- with a hyphen
 pub record IsJobOf (words : List Text) (job : JobView) : Type 0 where
   pub plain : IsTrue (list_all is_plain_word words)
   pub whole : words ≡ name_of (subcommand_of job.task) ∷ job.words
@@ -108,12 +109,12 @@ abbrev pub IsTaskOf : Subcommand → List Text → Option TaskView → Type 0
 IsTaskOf subcommand words (Some task) = (subcommand_of task ≡ subcommand) × AreWordsOf task words
 IsTaskOf subcommand words None = AskNothing subcommand words
 
--- plain words name this subcommand, and behind it stand as many as it requires
+-- plain words name this subcommand, followed by as many words as it requires
 pub record NamesSubcommand (words : List Text) (subcommand : Subcommand) (behind : List Text) : Type 0 where
   pub plain : IsTrue (list_all is_plain_word words)
   pub whole : words ≡ name_of subcommand ∷ behind
   pub count : length behind ≡ length (ids_of subcommand)
 
--- they name none so
+-- the words name no subcommand in this way
 abbrev pub NameNoSubcommand : List Text → Type 0
 NameNoSubcommand words = (subcommand : Subcommand) (behind : List Text) → ¬ NamesSubcommand words subcommand behind

@@ -15,12 +15,12 @@ pub record IsJobLine (text line rest : List ℕ) : Type 0 where
   pub whole : text ≡ line ++ 10 ∷ rest
   pub line_text : IsLineText line
 
--- where the bytes are told, the line and its line feed were read, and the rest is left
+-- the line and its line feed were read, and the rest is left, if the bytes are known
 abbrev pub ReadsLine : Option (List ℕ) → List ℕ → Option (List ℕ) → Type 0
 ReadsLine None line new = IsLineText line
 ReadsLine (Some text) line new = (rest : List ℕ) × IsJobLine text line rest × (new ≡ Some rest)
 
--- where the bytes are told, they begin with no job line
+-- the bytes begin with no job line, if they are known
 abbrev pub HasNoLine : Option (List ℕ) → Type 0
 HasNoLine None = ⊤
 HasNoLine (Some text) = (line rest : List ℕ) → ¬ IsJobLine text line rest
@@ -29,7 +29,7 @@ HasNoLine (Some text) = (line rest : List ℕ) → ¬ IsJobLine text line rest
 abbrev pub is_space : ℕ → Bool
 is_space byte = byte == 32
 
--- a piece that is a word, as a list; no byte makes no word
+-- a piece as a list of words; an empty piece is no word
 abbrev pub word_or_none : List ℕ → List (List ℕ)
 word_or_none piece = if length piece == 0 then [] else piece ∷ []
 
@@ -37,26 +37,26 @@ word_or_none piece = if length piece == 0 then [] else piece ∷ []
 abbrev pub words_in : List ℕ → List (List ℕ)
 words_in line = filter (λ word. not (length word == 0)) (slice_split is_space line)
 
--- one byte was read, or the end was met
+-- one byte was read, or the end was reached
 abbrev pub ReadsByte : Option (List ℕ) → Option ℕ → Option (List ℕ) → Type 0
 ReadsByte old None new = IsEnd old × (new ≡ old)
 ReadsByte old (Some byte) new = Reads old (byte ∷ []) new
 
--- a line names this job, and where the bytes are told it is their first, and the rest is left
+-- a line names this job. It is the first of the bytes, if they are known, and the rest is left
 abbrev pub ReadsJob : Option (List ℕ) → JobView → Option (List ℕ) → Type 0
 ReadsJob old job new = (line : List ℕ) × ReadsLine old line new × IsJobOf (words_in line) job
 
--- where the bytes are told, they begin with no job line that names a job
+-- the bytes begin with no job line that names a job, if they are known
 abbrev pub HasNoJob : Option (List ℕ) → Type 0
 HasNoJob None = ⊤
 HasNoJob (Some text) = (line rest : List ℕ) → IsJobLine text line rest → NameNoJob (words_in line)
 
--- where the bytes are told, they begin with a job line that names a job
+-- the bytes begin with a job line that names a job, if they are known
 abbrev pub HasJob : Option (List ℕ) → Type 0
 HasJob None = ⊤
 HasJob (Some text) = (line : List ℕ) × ((rest : List ℕ) × (IsJobLine text line rest × (¬ NameNoJob (words_in line))))
 
--- at most so many bytes were read
+-- at most `most` bytes were read
 pub record ReadsAtMost (most : ℕ) (old new : Option (List ℕ)) : Type 0 where
   pub lost : List ℕ
   pub few : length lost ≤ most

@@ -5,8 +5,8 @@ use Rattle.docker_cmd.specs.Job.{TaskView, new_task, check_task, day_task, take_
 use Rattle.docker_cmd.specs.declared.reads.Sources as declared
 use Rattle.docker_cmd.specs.declared.reads.Sources.TheVariants as code
 
--- the sources of a task, in the order of its words: none, a file that is only checked, a file that an office takes, a state in a format, a state and
--- then a file, a state and then another
+-- the sources of a task, in the order of its words: none, a file that is only checked, or a file
+-- that an office takes; or a state in a format, a state and then a file, or two states
 pub data Sources : Type 0 where
   no_source : Sources
   checked_file : Sources
@@ -15,7 +15,7 @@ pub data Sources : Type 0 where
   state_and_file : Sources
   two_states : Sources
 
--- the code's, as the same
+-- what the code's sources mean
 abbrev pub sources_meant : declared.Sources → Sources
 sources_meant code.None = no_source
 sources_meant code.CheckedFile = checked_file
@@ -37,7 +37,7 @@ sources_of files_task = one_state dks_2
 sources_of (horizon_task day) = one_state dks_2
 sources_of migrate_task = one_state dks_1
 
--- the horizon that a task sets on the state that it reads, where it sets one
+-- the horizon that a task sets on the state that it reads, if it sets one
 abbrev pub horizon_of : TaskView → Option ℕ
 horizon_of (horizon_task day) = Some day
 horizon_of _ = None

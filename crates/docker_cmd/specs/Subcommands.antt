@@ -17,7 +17,7 @@ name_of Files = codes "files"
 name_of Horizon = codes "horizon"
 name_of Migrate = codes "migrate"
 
--- what the words behind it are called
+-- the names of the words after it
 abbrev pub ids_of : Subcommand → List Text
 ids_of New = codes "STATE" ∷ []
 ids_of Check = codes "FILE" ∷ []
@@ -29,7 +29,7 @@ ids_of Files = codes "STATE" ∷ []
 ids_of Horizon = codes "STATE" ∷ codes "DATE" ∷ []
 ids_of Migrate = codes "STATE" ∷ []
 
--- the subcommand of a name
+-- the subcommand with a name
 abbrev pub subcommand_named : Text → Option Subcommand
 subcommand_named name =
     if bytes_eq name (codes "new") then Some New else
@@ -42,6 +42,6 @@ subcommand_named name =
     (if bytes_eq name (codes "horizon") then Some Horizon else
     (if bytes_eq name (codes "migrate") then Some Migrate else None))))))))
 
--- all of them
+-- all subcommands
 abbrev pub subcommands : List Subcommand
 subcommands = New ∷ Check ∷ Day ∷ Take ∷ Merge ∷ Print ∷ Files ∷ Horizon ∷ Migrate ∷ []

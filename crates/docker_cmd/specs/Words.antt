@@ -1,4 +1,4 @@
--- Words, and what one of them may name. A word is a text, as its bytes.
+-- Words, and what a word may name. A word is a text, as its bytes.
 use Rattle.std.specs.Prelude.{◌≡◌, ◌≢◌, ℕ, ◌==◌, ◌≤◌, ◌-◌, ◌++◌, Bool, false, not, List, [], ◌∷◌, length, codes, map}
 use Rattle.std.specs.Borrow.{Bor}
 use Rattle.docker_model.specs.records.Date.{last_day}
@@ -17,11 +17,11 @@ abbrev pub is_plain_word : Text → Bool
 is_plain_word [] = false
 is_plain_word (byte ∷ bytes) = not (byte == 45)
 
--- the word names a file that can be written anew, which standard input can't
+-- the word names a file that can be written anew: standard input can't
 abbrev pub NamesStored : Text → Type 0
 NamesStored word = word ≢ codes "stdin"
 
--- the word names this timing point: it is its code, without the spaces behind that
+-- the word names this timing point: it is its code, without the trailing spaces
 pub record NamesPlace (word : Text) (place : List ℕ) : Type 0 where
   pub code : IsTiplocText word
   pub padded : place ≡ word ++ spaces (7 - length word)

@@ -4,14 +4,15 @@ use Rattle.docker_cmd.specs.Job.{TaskView, new_task, check_task, day_task, take_
 use Rattle.docker_cmd.specs.declared.writes.Output as declared
 use Rattle.docker_cmd.specs.declared.writes.Output.TheVariants as code
 
--- what a task writes: the counts of a file, the docker of a place and a day, the files of a ledger, or a state
+-- what a task writes: the counts of a file, the docker of a timing point and a day, the files of a
+-- ledger, or a state
 pub data Output : Type 0 where
   counts_written : Output
   docker_written : (place : List ℕ) (day : ℕ) → Output
   files_written : Output
   state_written : Output
 
--- the code's, as the same
+-- what the code's output means
 abbrev pub output_meant : declared.Output → Output
 output_meant code.Counts = counts_written
 output_meant (code.Docker place day) = docker_written place day

@@ -1,4 +1,4 @@
-//! What `clap` is told of the command line.
+//! What `clap` knows of the command line.
 ghost use Rattle.std.specs.Prelude.{◌≡◌, IfOk, [], false, map};
 ghost use Rattle.clap.specs.Words.{FailsBy, app_of, fault_of, rule_of, subcommand_of, subcommand_rows_of, with_subcommand};
 ghost use Rattle.clap.specs.declared.builder.Command.TheViews.{out-Command as fields_of};
@@ -8,7 +8,7 @@ use crate::subcommands::Subcommand;
 use clap::{Arg, ArgMatches, Command, Error};
 use std::alloc::{AllocError, Global};
 
-/// A word that has to stand behind a subcommand.
+/// A word that has to follow a subcommand.
 fn required_word<'a>(alloc: Global, id: &'a str) -> Arg<'a>
     ensures rule { rule_of result ≡ required_rule id.entry.now }
     ensures local { result.global ≡ false }
@@ -41,7 +41,7 @@ fn with_job<'a>(
     docker.subcommand(command_of(alloc, subcommand)?)
 }
 
-/// The program, where no word asks for help or for a version, and a subcommand has to stand first.
+/// The program: no word asks for help or for a version, and a subcommand has to come first.
 fn top<'a>(alloc: Global) -> Command<'a>
     ensures { app_of result ≡ record { top = docker_shape; subs = [] } }
 {

@@ -13,7 +13,8 @@ use crate::words::{are_plain, read_words};
 use cif_line::{Day, Tiploc};
 use std::alloc::{AllocError, Global};
 
-/// The job that the words name. It is a usage fault where they name none, and a growth may be refused only where they do.
+/// The job that the words name. It returns `Usage` if they name none, and `Memory` only if they
+/// name one.
 pub fn job(alloc: Global, words: &[&str]) -> Result<Job, JobFault>
     ensures job { IfOk result (λ job. IsJobOf (texts words.now) job) }
     ensures usage { (result ≡ Err JobFault.Usage) ↔ NameNoJob (texts words.now) }
@@ -26,7 +27,8 @@ pub fn job(alloc: Global, words: &[&str]) -> Result<Job, JobFault>
     }
 }
 
-/// The job that `clap` finds in the words. Want of memory may come before it is known whether they name one.
+/// The job that `clap` finds in the words. Memory may run out before it is known whether they name
+/// one.
 fn found_job(alloc: Global, words: &[&str]) -> Result<Job, JobFault>
     ensures job { IfOk result (λ job. IsJobOf (texts words.now) job) }
     ensures usage { (result ≡ Err JobFault.Usage) → NameNoJob (texts words.now) }
@@ -62,8 +64,8 @@ fn asks(subcommand: Subcommand, words: &[&str]) -> bool
     task_of(subcommand, words).is_some()
 }
 
-/// What a subcommand asks for with these words, which are as many as it requires. None where the state is `stdin` and is to be written anew, or where
-/// the timing point or the day is none.
+/// What a subcommand asks for with these words, which are as many as it requires. None if the state
+/// is `stdin` and has to be written anew, or if a word names no timing point or no day.
 fn task_of(subcommand: Subcommand, words: &[&str]) -> Option<Task>
     requires { length words.now ≡ length (ids_of subcommand) }
     ensures { IsTaskOf subcommand (texts words.now) (option_map task_meant result) }
@@ -90,7 +92,7 @@ fn task_of(subcommand: Subcommand, words: &[&str]) -> Option<Task>
     }
 }
 
-/// The task, where its state can be written anew: standard input can't.
+/// The task, if its state can be written anew: standard input can't.
 fn unless_stdin(state: &str, task: Task) -> Option<Task>
     ensures { result ≡ if bytes_eq state.now (codes "stdin") then None else Some task }
 {

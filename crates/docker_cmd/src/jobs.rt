@@ -55,7 +55,7 @@ impl Job {
         self.task.subcommand()
     }
 
-    /// The words behind the subcommand, as many as it requires.
+    /// The words after the subcommand, as many as it requires.
     pub fn words(&self) -> &[String]
         ensures words { map (λ word. string_bytes word) result.now ≡ self.now.words }
         ensures count { length result.now ≡ length (ids_of (subcommand_of self.now.task)) }
@@ -63,14 +63,14 @@ impl Job {
         self.words.as_slice()
     }
 
-    /// The timing point that a word names, where the subcommand has one.
+    /// The timing point that a word names, if the subcommand has one.
     pub fn tiploc(&self) -> Option<Tiploc>
         ensures { result ≡ tiploc_of self.now.task }
     {
         self.task.tiploc()
     }
 
-    /// The day that a word names, where the subcommand has one.
+    /// The day that a word names, if the subcommand has one.
     pub fn day(&self) -> Option<Day>
         ensures { result ≡ day_of self.now.task }
     {

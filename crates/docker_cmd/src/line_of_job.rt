@@ -1,4 +1,4 @@
-//! The job line: the words of a program that is given none, on the first line of its standard input.
+//! The job line: a program without words reads them from the first line of its standard input.
 ghost use Rattle.std.specs.Prelude.{◌≡◌, ◌+◌, ◌*◌, ◌-◌, ◌^◌, ◌<◌, ◌≤◌, ◌↔◌, ◌≢◌, ◌++◌, length, Some, IfOk, OnOk, OnErr, Err, MatchOption, IfSome};
 ghost use Rattle.std.specs.List.{position_or_len, before_first, after_first};
 ghost use Rattle.docker_cmd.specs.Job.{IsJobOf, NameNoJob};
@@ -20,15 +20,15 @@ const LONGEST: usize = 255;
 /// A job line without its line feed.
 type Line = ArrayVec<u8, LONGEST>;
 
-/// The most words that a line has: there is a space between two words.
+/// The most words that a line has, with a space between two.
 const MOST_WORDS: usize = 128;
 
 /// The words of a job line.
 type LineWords<'a> = ArrayVec<&'a str, MOST_WORDS>;
 
-/// The job that the first line of a source names, which is left behind that line's feed. It is a usage fault where the source
-/// has no such line, or the line names no job, and want of memory only where it names one. A source is read to its 256th byte
-/// at most.
+/// The job that the first line of a source names. The source is left after that line's feed. It
+/// returns `Usage` if the source has no such line, or if the line names no job, and `Memory` only
+/// if it names one. It reads at most 256 bytes of a source.
 pub fn job_line<S: Source>(alloc: Global, source: &mut S) -> Result<Job, JobFault>
     requires { S.failures source.old < 2 ^ 64 - 1 }
     ensures job { IfOk result (λ job. ReadsJob (S.left source.old) job (S.left source.new)) }
@@ -67,7 +67,7 @@ fn text_of(line: &[u8]) -> &str
     }
 }
 
-/// Reads one byte; none at the end of the source.
+/// Reads one byte: None at the end of the source.
 fn read_byte<S: Source>(source: &mut S) -> Result<Option<u8>, JobFault>
     requires { S.failures source.old < 2 ^ 64 - 1 }
     ensures byte { IfOk result (λ byte. ReadsByte (S.left source.old) byte (S.left source.new)) }
@@ -84,7 +84,7 @@ fn read_byte<S: Source>(source: &mut S) -> Result<Option<u8>, JobFault>
     }
 }
 
-/// The piece before the first space, and what stands behind that.
+/// The piece before the first space, and the text after it.
 fn split_at_space(text: &str) -> Option<(&str, &str)>
     ensures pieces { MatchOption result (position_or_len is_space text.now
         ≡ length text.now) (λ parts.
@@ -97,7 +97,7 @@ fn split_at_space(text: &str) -> Option<(&str, &str)>
     text.split_once(' ')
 }
 
-/// Appends a piece that is a word.
+/// Appends a piece, if it is a word.
 fn push_word<'a>(words: &mut LineWords<'a>, piece: &'a str)
     requires { 0 < length piece.now → array_vec_len words.old < 128 }
     ensures word { texts words.new.items ≡ texts words.old.items ++ word_or_none piece.now }
@@ -126,8 +126,8 @@ fn words_in(line: &str) -> LineWords<'_>
     words
 }
 
-/// Reads the first line of a source, and leaves the source behind its line feed. A line that is too long, has a byte that
-/// is not printable or has no line feed is a usage fault.
+/// Reads the first line of a source, and leaves the source after its line feed. It returns `Usage`
+/// if the line is too long, has a byte that isn't printable or has no line feed.
 fn read_line<S: Source>(source: &mut S) -> Result<Line, JobFault>
     requires { S.failures source.old < 2 ^ 64 - 1 }
     ensures line { IfOk result (λ line. ReadsLine (S.left source.old) line.items

@@ -9,11 +9,12 @@ pub enum Subcommand {
     New,
     /// `check FILE`: whether a file is whole, and how many records and changes it has.
     Check,
-    /// `day FILE TIPLOC DATE`: the docker of a timing point on a day, of an office that took one file.
+    /// `day FILE TIPLOC DATE`: the docker of a timing point on a day, from an office that took one
+    /// file.
     Day,
-    /// `take STATE FILE`: the state of an office that takes one file more.
+    /// `take STATE FILE`: the state of an office after it takes one more file.
     Take,
-    /// `merge STATE OTHER`: the state of an office that receives another state.
+    /// `merge STATE OTHER`: the state of an office after it receives another state.
     Merge,
     /// `print STATE TIPLOC DATE`: the docker of a timing point on a day.
     Print,
@@ -21,7 +22,7 @@ pub enum Subcommand {
     Files,
     /// `horizon STATE DATE`: the state under a horizon that may be later.
     Horizon,
-    /// `migrate STATE`: the state of a text of the older format.
+    /// `migrate STATE`: the state whose text is in the older format.
     Migrate,
 }
 
@@ -61,7 +62,7 @@ impl Subcommand {
         }
     }
 
-    /// What the words behind it are called, each of which has to be there.
+    /// The names of the words after it. Each of them is required.
     pub(crate) fn ids<'a>(self) -> &'a [&'a str]
         ensures { map (λ id. id.now) result.now ≡ ids_of self }
     {

@@ -63,7 +63,7 @@ impl Task {
         }
     }
 
-    /// The timing point, where it has one.
+    /// The timing point, if it has one.
     pub(crate) fn tiploc(self) -> Option<Tiploc>
         ensures { result ≡ tiploc_of (task_meant self) }
     {
@@ -73,7 +73,7 @@ impl Task {
         }
     }
 
-    /// The day, where it has one.
+    /// The day, if it has one.
     pub(crate) fn day(self) -> Option<Day>
         ensures { result ≡ day_of (task_meant self) }
     {
@@ -97,7 +97,7 @@ impl Task {
         }
     }
 
-    /// What it writes of that.
+    /// What it writes after reading.
     pub fn writes(self) -> Output
         ensures { output_meant result ≡ output_of (task_meant self) }
     {
@@ -111,7 +111,7 @@ impl Task {
         }
     }
 
-    /// The horizon that it sets on the state that it reads, where it sets one.
+    /// The horizon that it sets on the state that it reads, if it sets one.
     pub fn horizon(self) -> Option<Day>
         ensures { result ≡ horizon_of (task_meant self) }
     {

@@ -1,4 +1,4 @@
-//! The subcommand that words name, and the words behind it.
+//! The subcommand that words name, and the words after it.
 ghost use Rattle.std.specs.Prelude.{◌≡◌, ◌≢◌, ◌≤◌, IfOk, Err, length, map, option_map};
 ghost use Rattle.std.specs.List.{list_all};
 ghost use Rattle.clap.specs.Words.{first_of, found_of, rows_of, subcommand_rows_of};
@@ -17,10 +17,10 @@ use std::alloc::Global;
 /// The most words that a subcommand requires.
 const MOST_WORDS: usize = 3;
 
-/// The words behind a subcommand.
+/// The words after a subcommand.
 pub(crate) type Behind<'a> = ArrayVec<&'a str, MOST_WORDS>;
 
-/// Whether the word may stand on the command line: it isn't empty, and no hyphen leads it.
+/// Whether the word may stand on the command line: it isn't empty and has no leading hyphen.
 fn is_plain(word: &str) -> bool
     ensures { result ≡ is_plain_word word.now }
 {
@@ -34,8 +34,9 @@ pub(crate) fn are_plain(words: &[&str]) -> bool
     words.iter().all(|word| is_plain(word))
 }
 
-/// The subcommand that the words name, and the words behind it. No word is empty or begins with a hyphen: there are no options, and `help` is no
-/// subcommand. Want of memory may come before it is known whether they name one.
+/// The subcommand that the words name, and the words after it. No word is empty or begins with a
+/// hyphen: there are no options, and `help` is no subcommand. Memory may run out before it is known
+/// whether they name one.
 pub(crate) fn read_words<'a>(
     alloc: Global,
     words: &'a [&'a str],
@@ -54,7 +55,7 @@ pub(crate) fn read_words<'a>(
     }
 }
 
-/// The fault of words at which `clap` gives an error of this kind.
+/// The fault for words at which `clap` gives an error of this kind.
 fn fault_at(kind: ErrorKind) -> JobFault
     ensures usage { (result ≡ JobFault.Usage) → kind ≢ ErrorKind.OutOfMemory }
     ensures source { result ≢ JobFault.Source }
@@ -65,7 +66,7 @@ fn fault_at(kind: ErrorKind) -> JobFault
     }
 }
 
-/// The subcommand that `clap` found, and the words behind it.
+/// The subcommand that `clap` found, and the words after it.
 fn found_subcommand<'a>(found: &ArgMatches<'a>) -> Option<(Subcommand, Behind<'a>)>
     ensures { option_map (λ read. pair_of read.0 (texts read.1.items)) result
         ≡ found_in (subcommand_rows_of found.now) }
