@@ -9,7 +9,7 @@ use Rattle.std.proofs.lemmas.List.Splits.{slice_split-cons_yes, slice_split_firs
 use Rattle.std.proofs.lemmas.Str.Ascii.{IsAscii-from_all}
 use Rattle.std.proofs.lemmas.Bool.Decides.{leb_tells}
 use Rattle.docker_model.specs.records.Record.{is_printable}
-use Rattle.docker_job.specs.JobLine.{is_space, word_or_none, words_in}
+use Rattle.docker_cmd.specs.JobLine.{is_space, word_or_none, words_in}
 use Rattle.docker_desk.specs.Requests.{behind_word, first_word, without_spaces}
 
 -- ---- the words of pieces

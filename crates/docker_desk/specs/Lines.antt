@@ -3,7 +3,7 @@
 use Rattle.std.specs.Prelude.{◌≡◌, ◌≢◌, ℕ, ◌-◌, ◌^◌, ◌≤◌, List, [], ◌∷◌, ◌++◌, length, Option, Some, None, option_map, Result, Ok, Err, ⊤}
 use Rattle.std.specs.List.{AllByRecursion}
 use Rattle.cif_line.specs.Device.{Reads, IsEnd}
-use Rattle.docker_job.specs.JobLine.{IsLineText, IsJobLine}
+use Rattle.docker_cmd.specs.JobLine.{IsLineText, IsJobLine}
 use Rattle.docker_desk.specs.declared.lines.Asked.{Asked}
 use Rattle.docker_desk.specs.declared.lines.Asked.TheVariants as asked
 use Rattle.docker_desk.specs.declared.lines.InputFault.{InputFault}

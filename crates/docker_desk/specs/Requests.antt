@@ -3,9 +3,9 @@ use Rattle.std.specs.Prelude.{◌≡◌, ℕ, Bool, true, false, if◌then◌els
 use Rattle.std.specs.Str.{bytes_eq}
 use Rattle.std.specs.List.{before_first, after_first}
 use Rattle.docker_model.specs.records.Record.{IsTextOfLength}
-use Rattle.docker_job.specs.Words.{Text, NamesDay, NamesPlace, NamesStored, is_plain_word}
-use Rattle.docker_job.specs.Job.{OfOne, OfTwo}
-use Rattle.docker_job.specs.JobLine.{is_space, words_in}
+use Rattle.docker_cmd.specs.Words.{Text, NamesDay, NamesPlace, NamesStored, is_plain_word}
+use Rattle.docker_cmd.specs.Job.{OfOne, OfTwo}
+use Rattle.docker_cmd.specs.JobLine.{is_space, words_in}
 use Rattle.docker_desk.specs.declared.verbs.Verb.{Verb}
 use Rattle.docker_desk.specs.declared.verbs.Verb.TheVariants as verb
 use Rattle.docker_desk.specs.declared.requests.Request.{Request}

@@ -1,7 +1,7 @@
 //! The bytes that were read ahead from a source.
 ghost use Rattle.std.specs.Prelude.{◌≡◌, ◌≢◌, ◌+◌, ◌-◌, ◌^◌, ◌<◌, ◌↔◌, [], ◌∷◌, IsTrue, IfOk, OnOk, OnErr, MatchOption};
 ghost use Rattle.cif_line.specs.Device.{IsEnd};
-ghost use Rattle.docker_job.specs.JobLine.{ReadsByte};
+ghost use Rattle.docker_cmd.specs.JobLine.{ReadsByte};
 ghost use Rattle.docker_desk.specs.Lines.{with_ahead};
 
 use cif_line::{Failed, Source};

@@ -1,8 +1,8 @@
 //! What a line asks for.
 ghost use Rattle.std.specs.Prelude.{◌≡◌, ◌≢◌, ℕ, List, [], option_map, IfSome, IsNone, IsSome};
-ghost use Rattle.docker_job.specs.JobLine.{IsLineText, words_in};
+ghost use Rattle.docker_cmd.specs.JobLine.{IsLineText, words_in};
 ghost use Rattle.docker_desk.specs.Requests.{AsksFor, FitsRest, NamesFile, NamesTrain, request_meant};
-ghost use Rattle.docker_job.specs.Words.{is_plain_word};
+ghost use Rattle.docker_cmd.specs.Words.{is_plain_word};
 ghost use Rattle.docker_desk.specs.declared.verbs.Verb.TheVariants as verb;
 
 use crate::verbs::Verb;

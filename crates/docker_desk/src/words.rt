@@ -1,7 +1,7 @@
 //! The words of a line.
 ghost use Rattle.std.specs.Prelude.{◌≡◌, ◌+◌, ◌<◌, [], ◌∷◌, length, MatchOption, IfSome, IsNone, ◌↔◌, false, option_map};
 ghost use Rattle.std.specs.List.{position_or_len, before_first, after_first};
-ghost use Rattle.docker_job.specs.JobLine.{IsLineText, is_space, words_in};
+ghost use Rattle.docker_cmd.specs.JobLine.{IsLineText, is_space, words_in};
 ghost use Rattle.docker_desk.specs.Requests.{HasOneWord, HasTwoWords, behind_word, first_word, without_spaces};
 
 use std::str;

@@ -1,12 +1,12 @@
 -- What was read from opened files is what was read from the sources of a job.
 use Rattle.std.proofs.Common.{◌≡◌, ◌≢◌, ◌+◌, ℕ, arith, refl, sym, ◌∙◌, subst, inl, inr, Ok, Err, Bor}
 use Rattle.std.specs.Prelude.{Result, ◌⊎◌, ⊤}
-use Rattle.docker_job.specs.Job.{JobView}
+use Rattle.docker_cmd.specs.Job.{JobView}
 use Rattle.docker_cmd.specs.Prepared.{CountsSources, DeviceBytes, PreparedView, ReadsInOrder}
 use Rattle.docker_cmd.specs.OfficeFault.{OfficeFault}
 use Rattle.docker_cmd.specs.OfficeFault.TheVariants as office
 use Rattle.docker_program.specs.Devices.{AreOpened, AreThere, FileDevice, Given, IsCounted, LeavesOthers, first_held, first_left, given, second_held, second_left}
-use Rattle.docker_job.specs.Words.{Text}
+use Rattle.docker_cmd.specs.Words.{Text}
 use Rattle.docker_program.specs.declared.names.Names as declared
 use Rattle.docker_program.specs.declared.names.Names.TheVariants as code
 use Rattle.docker_program.specs.Names.{Names, no_source, standard_input, one_file, file_and_input, two_files, names_meant, names_of}

@@ -1,9 +1,9 @@
 -- How the program ends, by how far its job came.
 use Rattle.std.proofs.Common.{◌≡◌, ◌≢◌, ◌≤◌, ◌↔◌, ℕ, List, [], ◌∷◌, Option, None, Some, Err, arith, ap, inl, inr, refl, sym, ◌∙◌, subst}
 use Rattle.std.specs.Prelude.{IfSome, Result, option_map, ⊤}
-use Rattle.docker_job.specs.Words.{Text}
-use Rattle.docker_job.specs.Job.{JobView, NameNoJob}
-use Rattle.docker_job.specs.declared.fault.JobFault.TheVariants as job
+use Rattle.docker_cmd.specs.Words.{Text}
+use Rattle.docker_cmd.specs.Job.{JobView, NameNoJob}
+use Rattle.docker_cmd.specs.declared.job_fault.JobFault.TheVariants as job
 use Rattle.docker_cmd.specs.Prepared.{DeviceBytes, PreparedView}
 use Rattle.docker_cmd.specs.declared.fault.Fault.{Fault}
 use Rattle.docker_cmd.specs.declared.fault.Fault.TheVariants.{Job, Office}

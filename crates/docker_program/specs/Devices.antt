@@ -1,6 +1,6 @@
 -- What the program is given, and what it leaves of it.
 use Rattle.std.specs.Prelude.{◌≡◌, ℕ, ◌+◌, Bool, true, false, ⊤, ◌⊎◌, ◌↔◌, ◌≢◌}
-use Rattle.docker_job.specs.Words.{Text}
+use Rattle.docker_cmd.specs.Words.{Text}
 use Rattle.docker_cmd.specs.Prepared.{DeviceBytes}
 use Rattle.docker_program.specs.Names.{Names, no_source, standard_input, one_file, file_and_input, two_files}
 

@@ -1,9 +1,9 @@
 -- What the words of a job name: the sources that it reads, and the file that it writes.
 use Rattle.std.specs.Prelude.{Bool, List, [], ◌∷◌, Option, Some, None, codes, if◌then◌else◌}
 use Rattle.std.specs.Str.{bytes_eq}
-use Rattle.docker_job.specs.Words.{Text}
-use Rattle.docker_job.specs.Job.{JobView, TaskView, new_task, check_task, day_task, take_task, merge_task, print_task, files_task, horizon_task, migrate_task}
-use Rattle.docker_job.specs.Writes.{Output, counts_written, docker_written, files_written, state_written, output_of}
+use Rattle.docker_cmd.specs.Words.{Text}
+use Rattle.docker_cmd.specs.Job.{JobView, TaskView, new_task, check_task, day_task, take_task, merge_task, print_task, files_task, horizon_task, migrate_task}
+use Rattle.docker_cmd.specs.Writes.{Output, counts_written, docker_written, files_written, state_written, output_of}
 use Rattle.docker_program.specs.declared.names.Names as declared
 use Rattle.docker_program.specs.declared.names.Names.TheVariants as code
 

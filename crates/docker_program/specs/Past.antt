@@ -1,6 +1,6 @@
 -- What was asked of a store so far: looks at files, and drafts made from them.
 use Rattle.std.specs.Prelude.{ℕ, ◌+◌, List, ◌∷◌, Option, Some, None, option_map}
-use Rattle.docker_job.specs.Words.{Text}
+use Rattle.docker_cmd.specs.Words.{Text}
 
 -- how many looks there were, and for each draft the number of the look that it was made from,
 -- counted from 0, with the last draft first

@@ -4,10 +4,10 @@ use Rattle.cif_line.specs.Device.{Takes, TakesPart}
 use Rattle.cif_file.specs.SourceRead.{Held}
 use Rattle.cif_file.specs.declared.fault.FileFault.{FileFault}
 use Rattle.docker_cmd.specs.StateFault.{StateFault}
-use Rattle.docker_job.specs.Words.{Text}
-use Rattle.docker_job.specs.Job.{JobView, IsJobOf, NameNoJob}
-use Rattle.docker_job.specs.JobLine.{ReadsAtMost, ReadsJob, HasJob, HasNoJob}
-use Rattle.docker_job.specs.declared.fault.JobFault.TheVariants as job
+use Rattle.docker_cmd.specs.Words.{Text}
+use Rattle.docker_cmd.specs.Job.{JobView, IsJobOf, NameNoJob}
+use Rattle.docker_cmd.specs.JobLine.{ReadsAtMost, ReadsJob, HasJob, HasNoJob}
+use Rattle.docker_cmd.specs.declared.job_fault.JobFault.TheVariants as job
 use Rattle.docker_cmd.specs.OfficeFault.{OfficeFault}
 use Rattle.docker_cmd.specs.OfficeFault.TheVariants as office
 use Rattle.docker_cmd.specs.Prepared.{DeviceBytes, PreparedView, IsReadOf, HasReadToEnd, ReadsFewOfFirst, ReadsFewOfSecond, RefusesFileOf, RefusesStateOf, WantsFor, GainsOutput, GainsPart, IsOutputText, IsRefused, PrintsDocker, output_of, sources_of}

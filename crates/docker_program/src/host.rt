@@ -1,6 +1,6 @@
 //! The program on the real devices.
 ghost use Rattle.std.specs.Prelude.{◌≤◌};
-ghost use Rattle.docker_job.specs.Words.{texts};
+ghost use Rattle.docker_cmd.specs.Words.{texts};
 ghost use Rattle.docker_program.specs.Program.{IsUsageStatus};
 
 use crate::devices::{Input, Output};

@@ -1,6 +1,6 @@
 //! The order of the program's work.
 ghost use Rattle.std.specs.Prelude.{◌≡◌, ◌≢◌, ◌+◌, ◌-◌, ◌^◌, ◌<◌, ◌↔◌, IfSome, None, Some, option_map};
-ghost use Rattle.docker_job.specs.Words.{texts};
+ghost use Rattle.docker_cmd.specs.Words.{texts};
 ghost use Rattle.docker_program.specs.Devices.{IsCounted, LeavesNoDraft, device_of, given, written};
 ghost use Rattle.docker_program.specs.Names.{stored_by};
 ghost use Rattle.docker_program.specs.Past.{with_look_at};

@@ -1,7 +1,7 @@
 //! The job that the program is asked for.
 ghost use Rattle.std.specs.Prelude.{◌≡◌, ◌≢◌, ◌+◌, ◌-◌, ◌^◌, ◌<◌, ◌↔◌, [], IfOk, Err};
-ghost use Rattle.docker_job.specs.Job.{IsJobOf, NameNoJob};
-ghost use Rattle.docker_job.specs.Words.{texts};
+ghost use Rattle.docker_cmd.specs.Job.{IsJobOf, NameNoJob};
+ghost use Rattle.docker_cmd.specs.Words.{texts};
 ghost use Rattle.docker_program.specs.Program.{AskForNone, AskForSome, AsksAtMost, AsksFor};
 
 use cif_line::Source;

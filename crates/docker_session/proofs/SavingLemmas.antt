@@ -3,7 +3,7 @@ use Rattle.std.proofs.Common.{◌≡◌, sym, ◌∙◌, ap, subst, Some, None, 
 use Rattle.std.specs.Prelude.{ℕ, List, [], ◌++◌}
 use Rattle.cif_line.specs.Device.{Takes}
 use Rattle.cif_file.specs.SourceRead.{Held}
-use Rattle.docker_job.specs.Words.{Text}
+use Rattle.docker_cmd.specs.Words.{Text}
 use Rattle.docker_model.specs.state.State.{State}
 use Rattle.docker_model.specs.state.StateText.{dks_2, state_text}
 use Rattle.docker_cmd.specs.Prepared.{DeviceBytes}

@@ -11,7 +11,7 @@ use Rattle.docker_office.specs.Office.{TakesFile}
 use Rattle.docker_cmd.specs.OfficeFault.{OfficeFault}
 use Rattle.docker_cmd.specs.OfficeFault.TheVariants as office
 use Rattle.docker_cmd.specs.Prepared.{DeviceBytes, most_bytes}
-use Rattle.docker_job.specs.Words.{Text}
+use Rattle.docker_cmd.specs.Words.{Text}
 use Rattle.docker_program.specs.Devices.{LeavesOtherFiles}
 use Rattle.docker_program.specs.Past.{Past, with_draft, with_look}
 use Rattle.docker_session.specs.Replies.{AnswerView, done_with, refused_for, no_request}

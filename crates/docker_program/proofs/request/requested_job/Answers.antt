@@ -1,7 +1,7 @@
 use Rattle.std.proofs.Common.{◌≢◌, ℕ, List, [], ◌∷◌, length, refl, rules, Bor}
-use Rattle.docker_job.specs.Job.{NameNoJob}
+use Rattle.docker_cmd.specs.Job.{NameNoJob}
 use Rattle.docker_cmd.specs.Prepared.{DeviceBytes}
-use Rattle.docker_job.specs.Words.{texts}
+use Rattle.docker_cmd.specs.Words.{texts}
 use Rattle.docker_program.specs.Program.{AskForNone}
 use Rattle.docker_program.proofs.request.requested_job.Goals as goal
 
