@@ -121,9 +121,9 @@ same_tests false false to back = refl
 
 -- ---- where a walk is
 
--- Where a walk is. It is past the entries done and its run, and the rest is to come. What is kept is
--- what is needed of the entries done. The run is of one UID. No entry done has the UID of an entry
--- in the run or to come.
+-- Where a walk is. It is past the entries done and its run, and the rest is to come. What is kept
+-- is what is needed of the entries done. The run is of one UID. No entry done has the UID of an
+-- entry in the run or to come.
 record IsAt (place : List ℕ) (all done : List Keyed) (so_far : ExcerptSoFar) (rest : List Keyed) : Type 0 where
   whole : all ≡ (done ++ so_far.run) ++ rest
   kept : so_far.kept ≡ filter (λ (entry : Keyed). is_needed place all entry.0) done
