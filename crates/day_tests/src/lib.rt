@@ -1,5 +1,5 @@
-//! The worked rows of dockers: lines and their order, choice, midnights, associations, horizons, stamps, texts, and want of memory. There is no code here, only
-//! tests.
+//! Worked rows for dockers: lines and their order, the choice of schedules, midnights,
+//! associations, horizons, stamps, texts, and running out of memory. This crate holds only tests.
 #![tactic(auto)]
 
 #[cfg(test)]

@@ -19,7 +19,8 @@ use std::alloc::Global;
 use std::fmt::Debug;
 use std::process::Abort;
 
-// A test's values are compared by calls of these, which end the test where they differ: an assertion in a function of its own is proved once for all rows.
+// Tests compare values with these functions, which end the test if they differ. An assertion in its
+// own function is proved once for all rows.
 
 fn same<T: PartialEq + Debug + Drop>(rt: &impl Abort, got: T, wanted: T) {
     assert_eq!(rt; got, wanted);
@@ -33,7 +34,7 @@ fn place(rt: &impl Abort, text: &str) -> Tiploc {
     Tiploc::from_text(text).expect(rt, "a place")
 }
 
-/// The text of some lines.
+/// The text of these lines.
 fn text(alloc: Global, lines: &[&[u8]]) -> Option<Vec<u8>> {
     let mut text = Vec::new(alloc);
     for line in lines {
@@ -43,14 +44,14 @@ fn text(alloc: Global, lines: &[&[u8]]) -> Option<Vec<u8>> {
     Some(text)
 }
 
-/// The state of a file of some records, if there is memory for it.
+/// The state of a file of these records, if there is memory for it.
 fn state_of(alloc: Global, records: &[&[u8]]) -> Option<State> {
     let text = text(alloc, records)?;
     let file = read_pieces(alloc, &[text.as_slice()], 1000).ok()?;
     State::of_file(alloc, file).ok()
 }
 
-/// The state of a file of some records.
+/// The state of a file of these records.
 fn state(rt: &impl Abort, alloc: Global, records: &[&[u8]]) -> State {
     state_of(alloc, records).expect(rt, "a state")
 }
@@ -60,7 +61,7 @@ fn join(rt: &impl Abort, alloc: Global, one: State, other: State) -> State {
     one.join(alloc, other).ok().expect(rt, "a join")
 }
 
-/// The state of some files, joined in this order.
+/// The state of these files, joined in this order.
 fn joined(rt: &impl Abort, alloc: Global, files: &[&[&[u8]]]) -> State {
     let mut joined = State::empty(alloc);
     for records in files {
@@ -69,7 +70,7 @@ fn joined(rt: &impl Abort, alloc: Global, files: &[&[&[u8]]]) -> State {
     joined
 }
 
-/// The same, in the other order.
+/// The state of these files, joined in the opposite order.
 fn joined_back(rt: &impl Abort, alloc: Global, files: &[&[&[u8]]]) -> State {
     let mut joined = State::empty(alloc);
     for records in files {
@@ -78,20 +79,20 @@ fn joined_back(rt: &impl Abort, alloc: Global, files: &[&[&[u8]]]) -> State {
     joined
 }
 
-/// What a sink takes of a docker, if there is memory for it.
+/// What a sink receives of a docker, if there is memory for it.
 fn written(alloc: Global, docker: &Docker<'_>) -> Option<Kept> {
     let mut kept = Kept::new(alloc, 10_000).ok()?;
     write_docker(docker, &mut kept).ok()?;
     Some(kept)
 }
 
-/// The text of the docker of a place and a day.
+/// The text of the docker for a place and a day.
 fn printed(rt: &impl Abort, alloc: Global, state: &State, at: &str, on: &str) -> Kept {
     let docker = docker(alloc, state, &place(rt, at), day(rt, on)).expect(rt, "a docker");
     written(alloc, &docker).expect(rt, "a text")
 }
 
-/// That a docker has these lines between its heading and its last line.
+/// Asserts that a docker has these lines between its heading and its last line.
 fn lines_are(rt: &impl Abort, alloc: Global, state: &State, at: &str, on: &str, wanted: &[&[u8]]) {
     let kept = printed(rt, alloc, state, at, on);
     let bytes = kept.bytes();
@@ -102,7 +103,7 @@ fn lines_are(rt: &impl Abort, alloc: Global, state: &State, at: &str, on: &str, 
     same(rt, lines, wanted.as_slice());
 }
 
-/// That a docker has these lines in the state of some files, joined in this order and in the other.
+/// Asserts that a docker has these lines in the state of these files, joined in either order.
 fn shows(rt: &impl Abort, alloc: Global, files: &[&[&[u8]]], at: &str, on: &str, wanted: &[&[u8]]) {
     lines_are(rt, alloc, &joined(rt, alloc, files), at, on, wanted);
     lines_are(rt, alloc, &joined_back(rt, alloc, files), at, on, wanted);

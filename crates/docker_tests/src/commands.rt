@@ -1,4 +1,4 @@
-//! Commands, from their words and what their sources hold to what they write.
+//! Commands: from their words and the contents of their sources to their output.
 
 use crate::compare::{same, same_in, same_of};
 use crate::dockers::ASHFELD_0900;
@@ -11,7 +11,7 @@ use docker_cmd::{Fault, OfficeFault, emit, fault_text, job, job_line, prepare, s
 use std::alloc::Global;
 use std::process::Abort;
 
-/// What the job of these words writes of two sources.
+/// What the job of these words writes for two sources.
 pub(crate) fn written(
     rt: &impl Abort,
     alloc: Global,
@@ -28,7 +28,7 @@ pub(crate) fn written(
     sink
 }
 
-/// Words of a command that reads a file alone, the file, and what is written.
+/// The words of a command that reads only a file, the file, and the output.
 const OF_FILES: &[(&[&str], File, &str)] = &[
     (&["check", "F"], MORNING, "accepted: 5 records, 1 changes\n"),
     (&["check", "F"], RENAMED, "accepted: 3 records, 2 changes\n"),
@@ -45,7 +45,7 @@ const OF_FILES: &[(&[&str], File, &str)] = &[
     ),
 ];
 
-/// That the command of these words writes this of a file.
+/// Asserts what the command of these words writes for a file.
 fn writes_of_file(rt: &impl Abort, alloc: Global, words: &[&str], file: File, wanted: &str) {
     let text = text_of(rt, alloc, file);
     let sink = written(rt, alloc, words, text.as_slice(), b"");
@@ -59,7 +59,8 @@ fn commands_that_read_a_file(rt: HostRuntime) {
     }
 }
 
-/// Words of a command that reads a state, the state, what the other source holds, and what is written.
+/// The words of a command that reads a state, the state, the contents of the other source, and the
+/// output.
 const OF_STATES: &[(&[&str], Parts, Parts, Parts)] = &[
     (&["new", "S"], &[], &[], EMPTY_STATE),
     (
@@ -101,7 +102,7 @@ const OF_STATES: &[(&[&str], Parts, Parts, Parts)] = &[
     (&["migrate", "S"], OLD_STATE, &[], MORNING_STATE),
 ];
 
-/// That the command of these words writes this of a state and what the other source holds.
+/// Asserts what the command of these words writes for a state and the contents of the other source.
 fn writes_of_state(
     rt: &impl Abort,
     alloc: Global,
@@ -138,7 +139,7 @@ fn a_file_taken_into_a_state(rt: HostRuntime) {
     same(&rt, docker.bytes(), ASHFELD_0900.as_bytes());
 }
 
-/// Why the job of these words isn't done with this source.
+/// Why the job of these words fails with this source.
 fn fault_of(rt: &impl Abort, alloc: Global, words: &[&str], first: &[u8]) -> Option<OfficeFault> {
     let job = job(alloc, words).expect(rt, "a job");
     let mut first = Bytes::new(first, 7);
@@ -152,7 +153,7 @@ fn fault_of(rt: &impl Abort, alloc: Global, words: &[&str], first: &[u8]) -> Opt
     }
 }
 
-/// That a command is refused with the status 1 and this line.
+/// Asserts that a command is refused with status 1 and this line.
 fn is_refused(
     rt: &impl Abort,
     alloc: Global,

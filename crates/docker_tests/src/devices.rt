@@ -1,4 +1,4 @@
-//! Devices that fail in mid-stream, that are full, and that never end.
+//! Devices that fail in mid-stream, that are full, or that never end.
 ghost use Rattle.std.specs.Prelude.{◌<◌};
 
 use crate::compare::same;
@@ -11,7 +11,8 @@ use docker_office::{Office, OfficeFault, StateCause, StateFault};
 use std::alloc::Global;
 use std::process::Abort;
 
-/// That an office which sends to a sink of one byte a write, which fails at this write alone, has this answer, and the sink these bytes.
+/// Asserts what an office returns when it sends to a sink that takes one byte per write and fails
+/// at only this write, and which bytes the sink has.
 fn sends(
     rt: &impl Abort,
     alloc: Global,
@@ -44,21 +45,22 @@ fn a_sink_that_fails_once(rt: HostRuntime) {
     sends(&rt, alloc, &office, 312, Ok(()), text.as_slice());
 }
 
-/// What an office answers where it takes a file from a source of one byte a read, which fails at this read alone.
+/// What an office returns when it takes a file from a source that gives one byte per read and fails
+/// at only this read.
 fn taken(office: &mut Office, text: &[u8], read: u64) -> Result<(), OfficeFault>
     requires { 0 < read }
 {
     office.take(&mut Fuse::new(Bytes::new(text, 1), read), 1000)
 }
 
-/// The same where it receives a state.
+/// What an office returns when it receives a state from such a source.
 fn received(office: &mut Office, text: &[u8], read: u64) -> Result<(), OfficeFault>
     requires { 0 < read }
 {
     office.receive(&mut Fuse::new(Bytes::new(text, 1), read), 1000)
 }
 
-/// The same where it reloads one.
+/// What an office returns when it reloads a state from such a source.
 fn reloaded(office: &mut Office, text: &[u8], read: u64) -> Result<(), OfficeFault>
     requires { 0 < read }
 {
@@ -82,7 +84,7 @@ fn a_source_that_fails_once(rt: HostRuntime) {
     has(&rt, alloc, &office, MORNING_STATE);
 }
 
-/// That an office which sends to a sink with room for twenty bytes fills it.
+/// Asserts that sending to a sink with room for twenty bytes fills it.
 fn fills_by_send(rt: &impl Abort, alloc: Global, office: &Office) {
     let text = text_of_parts(rt, alloc, MORNING_STATE);
     let mut kept = Kept::new(alloc, 20).expect(rt, "room");
@@ -90,7 +92,7 @@ fn fills_by_send(rt: &impl Abort, alloc: Global, office: &Office) {
     same(rt, kept.bytes(), front_of(rt, text.as_slice()));
 }
 
-/// That one which prints to a sink with room for seventy fills it.
+/// Asserts that printing to a sink with room for seventy bytes fills it.
 fn fills_by_print(rt: &impl Abort, alloc: Global, office: &Office) {
     let place = place_of(rt, "ASHFELD");
     let day = day_of(rt, "2024-06-10");
@@ -101,7 +103,7 @@ fn fills_by_print(rt: &impl Abort, alloc: Global, office: &Office) {
     same(rt, kept.bytes(), front.as_slice());
 }
 
-/// That one which lists its files to a sink with room for ten fills it.
+/// Asserts that listing files to a sink with room for ten bytes fills it.
 fn fills_by_files(rt: &impl Abort, alloc: Global, office: &Office) {
     let mut kept = Kept::new(alloc, 10).expect(rt, "room");
     same(rt, office.files(&mut kept), Err(OfficeFault::Sink));

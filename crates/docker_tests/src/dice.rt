@@ -1,14 +1,14 @@
-//! Numbers that look random, and are the same whenever the tests run.
+//! Numbers that look random and are the same in each run of the tests.
 ghost use Rattle.std.specs.Prelude.{◌<◌};
 
-/// A linear congruential generator, which tells the upper bits of its numbers.
+/// A linear congruential generator, which returns the upper bits of its numbers.
 #[derive(Drop)]
 pub(crate) struct Dice {
     number: u64,
 }
 
 impl Dice {
-    /// The generator that begins with a number.
+    /// The generator with this first number.
     pub(crate) fn new(number: u64) -> Dice {
         Dice { number }
     }

@@ -5,31 +5,31 @@ use crate::offices::{office_of, prints};
 use std::alloc::Global;
 use std::process::Abort;
 
-/// The files that an office took in turn, a place, a day, and the docker there.
+/// The files that an office took in turn, a place, a day, and the docker printed there.
 type Row = (&'static [File], &'static str, &'static str, &'static str);
 
-/// The train of the morning leaves Ashfeld.
+/// The morning train leaves Ashfeld.
 pub(crate) const ASHFELD_0900: &str = "\
 DOCKER ASHFELD 2024-06-10                               
 0900  D 1A10 C10001 P   1   SL      0900 ASHFELD BRAYTON
 END                                                     
 ";
 
-/// It leaves five minutes later.
+/// The morning train leaves five minutes later.
 const ASHFELD_0905: &str = "\
 DOCKER ASHFELD 2024-06-10                               
 0905  D 1A10 C10001 P   1   SL      0905 ASHFELD BRAYTON
 END                                                     
 ";
 
-/// It leaves ten minutes earlier.
+/// The morning train leaves ten minutes earlier.
 const ASHFELD_0850: &str = "\
 DOCKER ASHFELD 2024-06-10                               
 0850  D 1A10 C10001 P   1   SL      0850 ASHFELD BRAYTON
 END                                                     
 ";
 
-/// C10002 leaves Ashfeld, and the train of the morning two hours later than else.
+/// C10002 leaves Ashfeld, and the morning train leaves two hours later than usual.
 pub(crate) const TWO_TRAINS: &str = "\
 DOCKER ASHFELD 2024-06-10                               
 1000  D 1A20 C10002 P   1   SL      1000 ASHFELD BRAYTON
@@ -55,14 +55,14 @@ DOCKER COLWELL 2024-06-10
 END                                                     
 ";
 
-/// A train ends at Colwell, and becomes no other.
+/// A train ends at Colwell and becomes no other train.
 const COLWELL_ONLY: &str = "\
 DOCKER COLWELL 2024-06-10                               
 2350  A 4D40 C40001 P   1                ASHFELD COLWELL
 END                                                     
 ";
 
-/// It becomes one that does not run.
+/// It becomes a train that doesn't run.
 const COLWELL_UNKNOWN: &str = "\
 DOCKER COLWELL 2024-06-10                               
 2350  A 4D40 C40001 P   1                ASHFELD COLWELL
@@ -76,14 +76,14 @@ DOCKER ASHFELD 2024-06-18
 END                                                     
 ";
 
-/// That this docker is printed.
+/// Asserts that this docker is printed.
 fn is_printed(rt: &impl Abort, alloc: Global, row: &Row) {
     let (files, place, day, docker) = *row;
     let office = office_of(rt, alloc, files);
     prints(rt, alloc, &office, place, day, docker);
 }
 
-/// That each of these dockers is printed.
+/// Asserts that each of these dockers is printed.
 fn are_printed(rt: &impl Abort, alloc: Global, rows: &[Row]) {
     for row in rows {
         is_printed(rt, alloc, row);
@@ -210,7 +210,7 @@ fn one_train(rt: HostRuntime) {
     are_printed(&rt, rt.alloc(), ONE_TRAIN);
 }
 
-/// Dockers of files in an order and in another.
+/// Dockers of files in two orders.
 const ORDERS: &[Row] = &[
     (&[MORNING, REVISION], "ASHFELD", "2024-06-10", ASHFELD_0905),
     (&[REVISION, MORNING], "ASHFELD", "2024-06-10", ASHFELD_0905),
@@ -338,7 +338,7 @@ fn a_week(rt: HostRuntime) {
     are_printed(&rt, rt.alloc(), WEEKS);
 }
 
-/// Dockers of trains past midnight.
+/// Dockers of trains that run past midnight.
 const NIGHTS: &[Row] = &[
     (&[NIGHT], "COLWELL", "2024-06-10", NONE_AT_COLWELL),
     (
@@ -389,7 +389,7 @@ fn past_midnight(rt: HostRuntime) {
     are_printed(&rt, rt.alloc(), NIGHTS);
 }
 
-/// Dockers of days far off, and of descriptions.
+/// Dockers of distant days, and dockers with descriptions.
 const OTHERS: &[Row] = &[
     (
         &[NO_END],
@@ -490,7 +490,7 @@ fn associations(rt: HostRuntime) {
     are_printed(&rt, rt.alloc(), LINKS);
 }
 
-/// Dockers of entries of one stamp.
+/// Dockers of entries with one stamp.
 const TIES: &[Row] = &[
     (&[MORNING, LONGER], "ASHFELD", "2024-06-10", ASHFELD_0850),
     (&[LONGER, MORNING], "ASHFELD", "2024-06-10", ASHFELD_0850),

@@ -6,20 +6,20 @@ use docker_cmd::{Fault, JobFault, OfficeFault, fault_text, status};
 use docker_office::{StateCause, StateFault};
 use std::process::Abort;
 
-/// That a fault has this status and this line.
+/// Asserts the status and the line of a fault.
 fn reports(rt: &impl Abort, fault: Fault, number: u8, line: &str) {
     same(rt, status(&fault), number);
     let text = fault_text(&fault);
     same(rt, text.as_slice(), line.as_bytes());
 }
 
-/// That this is the line of a file that is refused at its second record.
+/// Asserts the line of a file that is refused at its second record.
 fn reports_file(rt: &impl Abort, cause: FileCause, line: &str) {
     let fault = FileFault { number: 2, cause };
     reports(rt, Fault::Office(OfficeFault::File(fault)), 1, line);
 }
 
-/// That this is the line of a state that is refused at this offset.
+/// Asserts the line of a state that is refused at this offset.
 fn reports_state(rt: &impl Abort, at: u64, cause: StateCause, line: &str) {
     let fault = StateFault { at, cause };
     reports(rt, Fault::Office(OfficeFault::State(fault)), 1, line);

@@ -14,7 +14,8 @@ fn set(rt: &impl Abort, office: &mut Office, date: &str) {
     office.set_horizon(day_of(rt, date));
 }
 
-/// A horizon to be set, the live schedules behind it by the size of the state, a day that is refused, and the next, with its docker, which has no line.
+/// A horizon to set, the size that the state then has, a day that is refused, the next day, and its
+/// docker, which has no line.
 type Row = (
     &'static str,
     usize,
@@ -56,7 +57,7 @@ DOCKER ASHFELD 2024-06-24
 END                                                     
 ";
 
-/// That an office is so behind a horizon.
+/// Asserts that an office answers like this row after its horizon is set.
 fn is_after(rt: &impl Abort, alloc: Global, office: &mut Office, row: &Row) {
     let (horizon, bytes, refused, printed, docker) = *row;
     set(rt, office, horizon);
@@ -81,7 +82,7 @@ fn a_lapsed_state(rt: HostRuntime) {
     has(&rt, rt.alloc(), &office, LAPSED_STATE);
 }
 
-/// That an office prints that nothing happens at Ashfeld on 24 June.
+/// Asserts that an office prints an empty docker for Ashfeld on 24 June.
 fn prints_none(rt: &impl Abort, alloc: Global, office: &Office) {
     prints(rt, alloc, office, "ASHFELD", "2024-06-24", NONE_ON_24_JUNE);
 }

@@ -1,4 +1,4 @@
-//! The jobs that the first line of a source names.
+//! Jobs that the first line of a source names.
 ghost use Rattle.std.specs.Prelude.{None};
 
 use crate::compare::{same, same_in};
@@ -7,7 +7,7 @@ use docker_cmd::{Job, JobFault, Subcommand, Task, job_line};
 use std::alloc::Global;
 use std::process::Abort;
 
-/// That the words of a job behind its subcommand are these.
+/// Asserts the words of a job that follow its subcommand.
 fn words_are(rt: &impl Abort, job: &Job, wanted: &[&str]) {
     same(rt, job.words().len(), wanted.len());
     for (word, wanted) in job.words().iter().zip(wanted) {
@@ -15,7 +15,7 @@ fn words_are(rt: &impl Abort, job: &Job, wanted: &[&str]) {
     }
 }
 
-/// That a job asks for the docker of this timing point on the day of this number.
+/// Asserts that a job asks for the docker of this timing point on the day with this number.
 fn asks_for(rt: &impl Abort, job: &Job, tiploc: &[u8; 7], number: u16) {
     match job.task() {
         Task::Day { place, day } => {
@@ -44,7 +44,7 @@ fn spaces_around_words(rt: HostRuntime) {
     words_are(&rt, &job, &["state", "stdin"]);
 }
 
-/// A line of `day` with so many spaces in it, and this end.
+/// A line of `day` with `spaces` spaces in it, and this end.
 fn line_of(rt: &impl Abort, alloc: Global, spaces: usize, end: &[u8]) -> Vec<u8> {
     let mut line = Vec::new(alloc);
     line.extend_from_slice(b"day").expect(rt, "room");
@@ -57,7 +57,7 @@ fn line_of(rt: &impl Abort, alloc: Global, spaces: usize, end: &[u8]) -> Vec<u8>
     line
 }
 
-/// That such a line names no job for this fault, or names one.
+/// Asserts that such a line names a job, or names none and gives this fault.
 fn fault_is(
     rt: &impl Abort,
     alloc: Global,
@@ -80,7 +80,7 @@ fn lengths_of_a_job_line(rt: HostRuntime) {
     fault_is(&rt, rt.alloc(), 1, b"", usage, "no line feed");
 }
 
-// A source without end, which can't tell its bytes. It gives the letter a at each read.
+// A source without end that can't show its bytes. It gives the letter a at each read.
 #[derive(Drop)]
 struct Endless {
     reads: u16,

@@ -1,4 +1,5 @@
-//! What offices know in a run, worked out from its events and replies alone, and the state that is made of it with no office.
+//! What offices know in a run, computed only from its events and replies, and the state that this
+//! gives without an office.
 
 use crate::files::*;
 use crate::offices::text_of;
@@ -36,7 +37,7 @@ pub(crate) const FILES: [File; 18] = [
     FULL,
 ];
 
-/// Why the first two are refused.
+/// Why the first two files are refused.
 const REFUSED: [FileFault; 2] = [
     FileFault {
         number: 5,
@@ -58,7 +59,7 @@ pub(crate) fn texts_of_files(rt: &impl Abort, alloc: Global) -> Vec<Vec<u8>> {
     texts
 }
 
-/// What happens at an office. A file is told by its place.
+/// What happens at an office. A file is named by its place.
 #[derive(Clone, Copy)]
 pub(crate) enum Step {
     /// It takes a file.
@@ -80,7 +81,7 @@ pub(crate) enum Step {
         /// The message.
         message: usize,
     },
-    /// It goes back to a message.
+    /// It reloads a message.
     Reload {
         /// The office.
         office: usize,
@@ -108,7 +109,7 @@ impl Step {
         }
     }
 
-    /// The message that comes.
+    /// The message that is delivered or reloaded.
     fn message(&self) -> Option<usize> {
         match self {
             Step::Deliver { message, .. } | Step::Reload { message, .. } => Some(*message),
@@ -116,7 +117,7 @@ impl Step {
         }
     }
 
-    /// Why the file that is taken is refused, if one is taken and refused.
+    /// Why the file that is taken is refused, if it is.
     fn refusal(&self) -> Option<FileFault> {
         match self {
             Step::Take { file, .. } => REFUSED.get(*file).copied(),
@@ -125,7 +126,7 @@ impl Step {
     }
 }
 
-/// What an office knows, or a message tells: which of the files, by their places, and the horizon.
+/// What an office knows or a message carries: which of the files, by their places, and the horizon.
 #[derive(Clone, Copy)]
 pub(crate) struct Known {
     files: [bool; FILES.len()],
@@ -141,21 +142,21 @@ impl Known {
         }
     }
 
-    /// A file is known too.
+    /// Adds a file.
     fn take(&mut self, file: usize) {
         if let Some(known) = self.files.get_mut(file) {
             *known = true;
         }
     }
 
-    /// A horizon is known too.
+    /// Adds a horizon.
     fn raise(&mut self, horizon: Option<Day>) {
         if self.horizon < horizon {
             self.horizon = horizon;
         }
     }
 
-    /// What another knows is known too.
+    /// Adds what another office or message knows.
     fn join(&mut self, other: &Known) {
         for file in 0..FILES.len() {
             self.files[file] |= other.files[file];
@@ -195,7 +196,7 @@ fn state_of(rt: &impl Abort, alloc: Global, text: &[u8]) -> State {
     State::of_file(alloc, file).expect(rt, "room")
 }
 
-/// What each office knows, and each message tells.
+/// What each office knows and each message carries.
 #[derive(Drop)]
 pub(crate) struct Knowledge {
     pub(crate) offices: [Known; OFFICES],
@@ -211,7 +212,7 @@ impl Knowledge {
         }
     }
 
-    /// The reply that is due where memory does not want.
+    /// The expected reply if memory suffices.
     pub(crate) fn due(&self, step: &Step) -> Reply {
         if step.office() >= OFFICES {
             return Reply::Refused(RunFault::NoOffice);
@@ -227,14 +228,14 @@ impl Knowledge {
         }
     }
 
-    /// What is known after a step, by its reply. A step that is refused changes nothing.
+    /// Follows a step by its reply. A refused step changes nothing.
     pub(crate) fn follow(&mut self, rt: &impl Abort, step: &Step, reply: Reply) {
         if reply == Reply::Done {
             self.follow_done(rt, step);
         }
     }
 
-    /// What is known after a step that is done.
+    /// Follows a step that was done.
     fn follow_done(&mut self, rt: &impl Abort, step: &Step) {
         let known = self.offices.get_mut(step.office()).expect(rt, "an office");
         match step {

@@ -1,4 +1,5 @@
-//! The worked rows that go over several crates: what offices print, send and do in runs of events, and what commands write. There is no code here, only tests.
+//! Worked rows that cross several crates: what offices print, send and do in runs of events, and
+//! what commands write. This crate holds only tests.
 #![tactic(auto)]
 
 #[cfg(test)]

@@ -8,10 +8,10 @@ use docker_office::{Office, OfficeFault};
 use std::alloc::Global;
 use std::process::Abort;
 
-/// The most bytes that a text of these rows has.
+/// The greatest length of a text of these rows.
 const ROOM: usize = 1000;
 
-/// Lines as one text, a line feed behind each.
+/// Lines as one text, with a line feed after each.
 pub(crate) fn text_of(rt: &impl Abort, alloc: Global, lines: &[&str]) -> Vec<u8> {
     let mut text = Vec::new(alloc);
     for line in lines {
@@ -37,7 +37,7 @@ pub(crate) fn office_of(rt: &impl Abort, alloc: Global, files: &[File]) -> Offic
     office
 }
 
-/// Receives the state of another office, which took this file.
+/// Receives the state of another office that took this file.
 fn receive_of(rt: &impl Abort, alloc: Global, office: &mut Office, file: File) {
     let mut other = Office::new(alloc);
     take(rt, alloc, &mut other, file);
@@ -46,7 +46,7 @@ fn receive_of(rt: &impl Abort, alloc: Global, office: &mut Office, file: File) {
     office.receive(&mut source, 1000).expect(rt, "a state");
 }
 
-/// An office that received in turn the states of others, each of which took one of these files.
+/// An office that received the states of others in turn, each of which took one of these files.
 pub(crate) fn merged(rt: &impl Abort, alloc: Global, files: &[File]) -> Office {
     let mut office = Office::new(alloc);
     for file in files {
@@ -62,29 +62,29 @@ pub(crate) fn sent(rt: &impl Abort, alloc: Global, office: &Office) -> Kept {
     kept
 }
 
-/// That an office has the state of this text.
+/// Asserts that an office has the state with this text.
 pub(crate) fn has_text(rt: &impl Abort, alloc: Global, office: &Office, text: &[u8]) {
     let own = sent(rt, alloc, office);
     same(rt, own.bytes(), text);
 }
 
-/// That an office has the state of this text, told by its parts.
+/// Asserts that an office has the state with this text, given in parts.
 pub(crate) fn has(rt: &impl Abort, alloc: Global, office: &Office, parts: Parts) {
     let text = text_of_parts(rt, alloc, parts);
     has_text(rt, alloc, office, text.as_slice());
 }
 
-/// The timing point of this code.
+/// The timing point with this code.
 pub(crate) fn place_of(rt: &impl Abort, code: &str) -> Tiploc {
     Tiploc::from_text(code).expect(rt, "a TIPLOC")
 }
 
-/// The day of this date.
+/// The day with this date.
 pub(crate) fn day_of(rt: &impl Abort, date: &str) -> Day {
     Day::from_iso(date).expect(rt, "a day")
 }
 
-/// That an office prints this docker of a place on a day.
+/// Asserts that an office prints this docker for a place and a day.
 pub(crate) fn prints(
     rt: &impl Abort,
     alloc: Global,
@@ -101,7 +101,7 @@ pub(crate) fn prints(
     same_in(rt, date, kept.bytes(), docker.as_bytes());
 }
 
-/// That an office refuses to print a docker of Ashfeld on a day.
+/// Asserts that an office refuses to print a docker of Ashfeld on a day.
 pub(crate) fn refuses_day(rt: &impl Abort, alloc: Global, office: &Office, date: &str) {
     let place = place_of(rt, "ASHFELD");
     let day = day_of(rt, date);

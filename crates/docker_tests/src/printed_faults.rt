@@ -1,4 +1,4 @@
-//! The texts that faults are shown by.
+//! The printed texts of faults.
 
 use crate::compare::same;
 use cif_file::{FileCause, FileFault};
@@ -9,19 +9,19 @@ use std::alloc::Global;
 use std::fmt::Display;
 use std::process::Abort;
 
-/// That a value is shown by this text.
+/// Asserts the text that a value prints.
 fn prints<T: Display + Drop>(rt: &impl Abort, alloc: Global, value: T, wanted: &str) {
     let text = format!(in alloc; "{value}").expect(rt, "the text");
     same(rt, text.as_str(), wanted);
 }
 
-/// A file that is refused.
+/// A refused file.
 const REFUSED_FILE: OfficeFault = OfficeFault::File(FileFault {
     number: 2,
     cause: FileCause::Field(11),
 });
 
-/// A state that is refused.
+/// A refused state.
 const REFUSED_STATE: OfficeFault = OfficeFault::State(StateFault {
     at: 31,
     cause: StateCause::Order,

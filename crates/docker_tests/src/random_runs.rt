@@ -1,4 +1,5 @@
-//! A thousand random runs of three offices: at the end of each, the text of every office and of every message is that of the state made of what it knows.
+//! A thousand random runs of three offices. At the end of each, every office and every message has
+//! the text of the state that is made of what it knows.
 ghost use Rattle.docker_office.specs.RunEnds.{HasGoodLimit};
 ghost use Rattle.docker_office.specs.RunMeaning.{event_meant};
 
@@ -15,12 +16,13 @@ use std::process::Abort;
 /// How many events a run has.
 const STEPS: usize = 16;
 
-/// The number of 10 June 2024, and how many days from there on a horizon may be.
+/// The number of 10 June 2024, and how many days after it a horizon may be.
 const FIRST_HORIZON: usize = 23537;
 
 const HORIZONS: usize = 16;
 
-/// One step, at one of the offices or at one that is not there, with a message that was sent, or with the one behind those.
+/// One step, at one of the offices or at an office that doesn't exist, with a message that was
+/// sent, or with the next one, which wasn't.
 fn random_step(rt: &impl Abort, dice: &mut Dice, sent: u16) -> Step {
     let office = if dice.roll(12) == 0 {
         OFFICES
@@ -64,7 +66,8 @@ fn random_steps(rt: &impl Abort, alloc: Global, dice: &mut Dice) -> Vec<Step> {
     steps
 }
 
-/// The event at a place, with the text of its file; none of the offices sends where there is no such step.
+/// The event at a place, with the text of its file. If there is no such step, an office that
+/// doesn't exist sends.
 fn event_at<'a>(steps: &[Step], place: usize, texts: &'a [Vec<u8>]) -> Event<'a>
     ensures { HasGoodLimit (event_meant result) }
 {
@@ -91,7 +94,7 @@ fn event_at<'a>(steps: &[Step], place: usize, texts: &'a [Vec<u8>]) -> Event<'a>
     }
 }
 
-/// The text of a file, or none where there is no such file.
+/// The text of a file, or an empty text if there is no such file.
 fn text_at(texts: &[Vec<u8>], file: usize) -> &[u8] {
     match texts.get(file) {
         Some(text) => text.as_slice(),
@@ -122,7 +125,7 @@ fn left_by(rt: &impl Abort, alloc: Global, steps: &[Step], texts: &[Vec<u8>]) ->
     run(alloc, OFFICES, &events).expect(rt, "memory")
 }
 
-/// How often events of one kind had each reply.
+/// How often events of one kind got each reply.
 #[derive(Clone, Copy)]
 struct Count {
     done: u32,
@@ -132,7 +135,7 @@ struct Count {
 }
 
 impl Count {
-    /// None yet.
+    /// No reply yet.
     const NONE: Count = Count {
         done: 0,
         no_office: 0,
@@ -140,7 +143,7 @@ impl Count {
         refused: 0,
     };
 
-    /// One more.
+    /// Counts one more reply.
     fn add(&mut self, reply: Reply) {
         let number = match reply {
             Reply::Done => &mut self.done,
@@ -152,7 +155,7 @@ impl Count {
     }
 }
 
-/// How often there was each kind of event.
+/// How often each kind of event happened, by its replies.
 #[derive(Clone, Copy)]
 struct Tally {
     takes: Count,
@@ -163,7 +166,7 @@ struct Tally {
 }
 
 impl Tally {
-    /// None yet.
+    /// No event yet.
     const NONE: Tally = Tally {
         takes: Count::NONE,
         sends: Count::NONE,
@@ -172,7 +175,7 @@ impl Tally {
         horizons: Count::NONE,
     };
 
-    /// One more.
+    /// Counts one more event.
     fn add(&mut self, step: &Step, reply: Reply) {
         match step {
             Step::Take { .. } => self.takes.add(reply),
@@ -183,7 +186,7 @@ impl Tally {
         }
     }
 
-    /// Whether each kind of event had each reply that it may have.
+    /// Whether each kind of event got each reply that it may get.
     fn is_full(&self) -> bool {
         let all = [
             self.takes,
@@ -200,7 +203,7 @@ impl Tally {
     }
 }
 
-/// What is known at the end of a run, whose replies are those that are due.
+/// What is known at the end of a run. Asserts that its replies are the expected ones.
 fn known_at_end(
     rt: &impl Abort,
     alloc: Global,
@@ -219,7 +222,7 @@ fn known_at_end(
     known
 }
 
-/// That a text is that of the state made of what is known.
+/// Asserts that a text is the text of the state that is made of what is known.
 fn is_of_known(
     rt: &impl Abort,
     alloc: Global,
@@ -240,7 +243,7 @@ fn text_of_office(rt: &impl Abort, alloc: Global, office: &Office) -> Kept {
     kept
 }
 
-/// That each office has the text of the state made of what it knows.
+/// Asserts that each office has the text of the state that is made of what it knows.
 fn offices_are_of_known(
     rt: &impl Abort,
     alloc: Global,
@@ -256,7 +259,7 @@ fn offices_are_of_known(
     }
 }
 
-/// That each message has the text of the state made of what it tells.
+/// Asserts that each message has the text of the state that is made of what it carries.
 fn messages_are_of_known(
     rt: &impl Abort,
     alloc: Global,
@@ -271,7 +274,7 @@ fn messages_are_of_known(
     }
 }
 
-/// Meets random events, and looks at what they leave.
+/// Runs random events, and checks what they leave.
 fn random_run(
     rt: &impl Abort,
     alloc: Global,

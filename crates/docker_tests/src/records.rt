@@ -1,10 +1,10 @@
-//! The records of the worked rows, column by column as they stand in a file.
+//! The records of the worked rows, column by column as in a file.
 
 /// The header of an update of 9 June 2024, 21:00.
 pub(crate) const HD: &str =
     "HDTPS.UDFROC1.PD2406090906242100DFROC1ADFROC1ZUA                                ";
 
-/// The same of a full extract.
+/// The header of a full extract of 9 June 2024, 21:00.
 pub(crate) const HD_FULL: &str =
     "HDTPS.UDFROC1.PD2406090906242100DFROC1ADFROC1ZFA                                ";
 
@@ -28,11 +28,11 @@ pub(crate) const BS_DELETED: &str =
 pub(crate) const BS_WEEK: &str =
     "BSNC100012406102406161111111 POO1A10                                           P";
 
-/// An overlay of it on 11 and 13 June.
+/// An overlay of C10001 on 11 and 13 June.
 pub(crate) const BS_OVERLAY: &str =
     "BSNC100012406112406130101000 POO1A10                                           O";
 
-/// Its cancellation on 14 June, which stands alone.
+/// A cancellation of C10001 on 14 June, a single record.
 pub(crate) const BS_CANCELLED: &str =
     "BSNC100012406142406140000100 POO1A10                                           C";
 
@@ -52,15 +52,15 @@ pub(crate) const BS_C30002: &str =
 pub(crate) const LO: &str =
     "LOASHFELD 0900 09001  SL                                                        ";
 
-/// The same at 09:05.
+/// An origin: Ashfeld, 09:05.
 pub(crate) const LO_0905: &str =
     "LOASHFELD 0905 09051  SL                                                        ";
 
-/// The same at 09:15.
+/// An origin: Ashfeld, 09:15.
 pub(crate) const LO_0915: &str =
     "LOASHFELD 0915 09151  SL                                                        ";
 
-/// The same at 23:55.
+/// An origin: Ashfeld, 23:55.
 pub(crate) const LO_2355: &str =
     "LOASHFELD 2355 23551  SL                                                        ";
 
@@ -92,15 +92,15 @@ pub(crate) const LI_1040: &str =
 pub(crate) const LT: &str =
     "LTBRAYTON 0930 09322  FL                                                        ";
 
-/// The same at 09:35.
+/// A terminus: Brayton, 09:35.
 pub(crate) const LT_0935: &str =
     "LTBRAYTON 0935 09372  FL                                                        ";
 
-/// The same at 00:05.
+/// A terminus: Brayton, 00:05.
 pub(crate) const LT_0005: &str =
     "LTBRAYTON 0005 00062  FL                                                        ";
 
-/// The same at 00:20.
+/// A terminus: Brayton, 00:20.
 pub(crate) const LT_0020: &str =
     "LTBRAYTON 0020 00212  FL                                                        ";
 
@@ -116,15 +116,15 @@ pub(crate) const LT_DUNMERE_1100: &str =
 pub(crate) const LO_HALF: &str =
     "LOASHFELD20900H0000                                                             ";
 
-/// The same at 09:00, with a public time and a path.
+/// Ashfeld at 09:00, with a public time and a path.
 pub(crate) const LT_ASHFELD_0900: &str =
     "LTASHFELD 0900 09002  FL                                                        ";
 
-/// The same at 09:30.
+/// Ashfeld at 09:30, with a public time and a path.
 pub(crate) const LT_ASHFELD_0930: &str =
     "LTASHFELD 0930 09322  FL                                                        ";
 
-/// The same at 00:05.
+/// Ashfeld at 00:05, with a public time and a path.
 pub(crate) const LT_ASHFELD_0005: &str =
     "LTASHFELD 0005 00062  FL                                                        ";
 
@@ -152,7 +152,7 @@ pub(crate) const HD_5A: &str =
 pub(crate) const HD_7B: &str =
     "HDTPS.UDFROC1.PD2406090706242100DFROC1BDFROC1AFA                                ";
 
-/// The header of an update of 9 June, behind that extract.
+/// The header of an update of 9 June that follows that extract.
 pub(crate) const HD_9C: &str =
     "HDTPS.UDFROC1.PD2406090906242100DFROC1CDFROC1BUA                                ";
 
@@ -160,7 +160,7 @@ pub(crate) const HD_9C: &str =
 pub(crate) const TI: &str =
     "TIASHFELD         ASHFIELD CENTRAL                                              ";
 
-/// Its amendment that names its own code.
+/// An amendment of the timing point that keeps its code.
 pub(crate) const TA_SAME: &str =
     "TAASHFELD         ASHFIELD CENTRAL                                      ASHFELD ";
 
@@ -236,7 +236,7 @@ pub(crate) const BS_C40001_LAST: &str =
 pub(crate) const LO_2300: &str =
     "LOASHFELD 2300     1                                                            ";
 
-/// Colwell at 23:50, where the train ends.
+/// Colwell at 23:50, the end of the train.
 pub(crate) const LT_COLWELL_2350: &str =
     "LTCOLWELL 2350     1                                                            ";
 
@@ -248,11 +248,11 @@ pub(crate) const BS_C40002: &str =
 pub(crate) const BS_C40002_CANCELLED: &str =
     "BSNC400022406112406110100000 POO4D42                                           C";
 
-/// Colwell at 00:10, where the train begins.
+/// Colwell at 00:10, the start of the train.
 pub(crate) const LO_COLWELL_0010: &str =
     "LOCOLWELL 0010     1                                                            ";
 
-/// Ashfeld at 01:00, where the train ends.
+/// Ashfeld at 01:00, the end of the train.
 pub(crate) const LT_ASHFELD_0100: &str =
     "LTASHFELD 0100     1                                                            ";
 
@@ -260,27 +260,27 @@ pub(crate) const LT_ASHFELD_0100: &str =
 pub(crate) const AA_N: &str =
     "AANC40001C400022406102406101000000NPNCOLWELL  TP                               P";
 
-/// The same on the same day.
+/// C40001 becomes C40002, on the same day.
 pub(crate) const AA_S: &str =
     "AANC40001C400022406102406101000000NPSCOLWELL  TP                               P";
 
-/// The same without an indicator.
+/// C40001 becomes C40002, without a date indicator.
 pub(crate) const AA_BLANK: &str =
     "AANC40001C400022406102406101000000NP COLWELL  TP                               P";
 
-/// The same on the day before.
+/// C40001 becomes C40002, on the day before.
 pub(crate) const AA_P: &str =
     "AANC40001C400022406102406101000000NPPCOLWELL  TP                               P";
 
-/// The same with an unknown indicator.
+/// C40001 becomes C40002, with an unknown date indicator.
 pub(crate) const AA_X: &str =
     "AANC40001C400022406102406101000000NPXCOLWELL  TP                               P";
 
-/// The same of an unknown category.
+/// C40001 and C40002, associated with an unknown category.
 pub(crate) const AA_OTHER: &str =
     "AANC40001C400022406102406101000000XXNCOLWELL  TP                               P";
 
-/// The same on 31 December 2059.
+/// C40001 becomes C40002, on 31 December 2059.
 pub(crate) const AA_LAST: &str =
     "AANC40001C400025912315912310010000NPNCOLWELL  TP                               P";
 
@@ -320,15 +320,15 @@ pub(crate) const SHORT: &str =
 pub(crate) const TI_TAB: &str =
     "TIASHFELD         A\tHFIELD CENTRAL                                              ";
 
-/// A note of a location, which no file may have.
+/// A note of a location, which isn't allowed in a file.
 pub(crate) const LN: &str =
     "LN                                                                              ";
 
-/// An origin that departs at no time of the day.
+/// An origin whose departure isn't a time of day.
 pub(crate) const LO_2400: &str =
     "LOASHFELD 2400 09001  SL                                                        ";
 
-/// A schedule of C10001 from a day that is in no calendar.
+/// A schedule of C10001 from a date that isn't in the calendar.
 pub(crate) const BS_NO_DAY: &str =
     "BSNC100012302292406141111100 POO1A10                                           P";
 

@@ -1,4 +1,4 @@
-//! Texts of files that are refused, and what they leave of the office.
+//! Refused texts of files, and what they leave of the office.
 
 use crate::compare::same;
 use crate::files::*;
@@ -11,7 +11,7 @@ use docker_office::{Office, OfficeFault};
 use std::alloc::Global;
 use std::process::Abort;
 
-/// Files that are refused, each under a limit of records, by the number of the record and the cause.
+/// Refused files, each under a limit of records, with the number of the record and the cause.
 type Row = (File, u16, u32, FileCause);
 
 const REFUSED: &[Row] = &[
@@ -34,12 +34,12 @@ const REFUSED: &[Row] = &[
     (&[], 0, 1, FileCause::NoEnd),
 ];
 
-/// What an office answers where it takes a text, of at most so many records.
+/// What an office returns when it takes a text of at most `limit` records.
 fn taken(office: &mut Office, text: &[u8], limit: u16) -> Result<(), OfficeFault> {
     office.take(&mut Bytes::new(text, 9), u32::from(limit))
 }
 
-/// That an office which knows the revision refuses such a file, and is as it was.
+/// Asserts that an office which knows the revision refuses such a file and stays as it was.
 fn is_refused(rt: &impl Abort, alloc: Global, office: &mut Office, row: &Row) {
     let (file, limit, number, cause) = *row;
     let text = text_of(rt, alloc, file);

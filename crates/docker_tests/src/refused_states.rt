@@ -1,4 +1,4 @@
-//! Texts of states that are refused, and what they leave of the office.
+//! Refused texts of states, and what they leave of the office.
 
 use crate::compare::same;
 use crate::files::*;
@@ -17,13 +17,13 @@ enum Ask {
     Migrate,
 }
 
-/// How it reads one of the format of today.
+/// How an office reads a state of the new format.
 const NEWER: &[Ask] = &[Ask::Receive, Ask::Reload];
 
-/// How it reads one of the older format.
+/// How an office reads a state of the older format.
 const OLDER: &[Ask] = &[Ask::Migrate];
 
-/// Asks an office to read a text, in pieces of 9 bytes, of at most `limit` bytes.
+/// Asks an office to read a text of at most `limit` bytes, in pieces of 9 bytes.
 fn read_in(how: Ask, office: &mut Office, text: &[u8], limit: u64) -> Result<(), OfficeFault> {
     let mut source = Bytes::new(text, 9);
     match how {
@@ -33,7 +33,8 @@ fn read_in(how: Ask, office: &mut Office, text: &[u8], limit: u64) -> Result<(),
     }
 }
 
-/// That an office which knows the revision refuses a text for this cause there, and is as it was.
+/// Asserts that an office which knows the revision refuses a text for this fault and stays as it
+/// was.
 fn refuses(rt: &impl Abort, alloc: Global, how: Ask, text: &[u8], limit: u64, fault: StateFault) {
     let mut office = office_of(rt, alloc, &[REVISION]);
     let answer = read_in(how, &mut office, text, limit);
@@ -41,7 +42,7 @@ fn refuses(rt: &impl Abort, alloc: Global, how: Ask, text: &[u8], limit: u64, fa
     has(rt, alloc, &office, REVISION_STATE);
 }
 
-/// That it does so in each of these ways.
+/// Asserts that the office refuses the text in each of these ways.
 fn refuses_by(
     rt: &impl Abort,
     alloc: Global,
@@ -55,16 +56,16 @@ fn refuses_by(
     }
 }
 
-/// A fault.
+/// A fault at this offset.
 fn fault(at: u64, cause: StateCause) -> StateFault {
     StateFault { at, cause }
 }
 
-/// A text in which these bytes stand at an offset.
+/// A text with these bytes at an offset.
 fn changed(rt: &impl Abort, alloc: Global, text: &[u8], at: usize, bytes: &[u8]) -> Vec<u8> {
     let front = text.get(..at).expect(rt, "an offset");
-    let behind = at.saturating_add(bytes.len());
-    let rest = text.get(behind..).expect(rt, "an offset");
+    let after = at.saturating_add(bytes.len());
+    let rest = text.get(after..).expect(rt, "an offset");
     let mut other = Vec::new(alloc);
     other.extend_from_slice(front).expect(rt, "room");
     other.extend_from_slice(bytes).expect(rt, "room");
@@ -72,11 +73,11 @@ fn changed(rt: &impl Abort, alloc: Global, text: &[u8], at: usize, bytes: &[u8])
     other
 }
 
-/// The bytes that stand at an offset, and the fault.
+/// An offset, the bytes to put there, and the fault.
 type Change = (usize, &'static [u8], u64, StateCause);
 
-/// Changes of the text of the state of one file: of the mark, the horizon, the ledger's day, the tag, the stamp, the op,
-/// the first line and the number of entries.
+/// Changes of the text of the state of one file: of the mark, the horizon, the ledger's day, the
+/// tag, the stamp, the op, the first line and the number of entries.
 const CHANGED: &[Change] = &[
     (3, b"1", 0, StateCause::Mark),
     (4, b"\x8e\xad", 4, StateCause::Horizon),
@@ -95,7 +96,7 @@ const CHANGED: &[Change] = &[
     ),
 ];
 
-/// That a text is refused in these ways with this change.
+/// Asserts that a text with this change is refused in these ways.
 fn refuses_change(rt: &impl Abort, alloc: Global, ways: &[Ask], text: &[u8], change: &Change) {
     let (offset, bytes, at, cause) = *change;
     let other = changed(rt, alloc, text, offset, bytes);
@@ -103,7 +104,7 @@ fn refuses_change(rt: &impl Abort, alloc: Global, ways: &[Ask], text: &[u8], cha
     refuses_by(rt, alloc, ways, other.as_slice(), 1000, found);
 }
 
-/// That it is so with each of these changes.
+/// Asserts that a text is refused with each of these changes.
 fn refuses_changed(rt: &impl Abort, alloc: Global, ways: &[Ask], parts: Parts, changes: &[Change]) {
     let text = text_of_parts(rt, alloc, parts);
     for change in changes {
@@ -116,7 +117,7 @@ fn changed_states(rt: HostRuntime) {
     refuses_changed(&rt, rt.alloc(), NEWER, MORNING_STATE, CHANGED);
 }
 
-/// The same of the older format.
+/// Changes of a text in the older format.
 const OLD_CHANGED: &[Change] = &[
     (3, b"2", 0, StateCause::Mark),
     (12, b"\x8e\xad", 12, StateCause::Item),
@@ -137,25 +138,26 @@ fn changed_older_states(rt: HostRuntime) {
     refuses_changed(&rt, rt.alloc(), OLDER, OLD_STATE, OLD_CHANGED);
 }
 
-/// What stands behind the mark, the limit behind it, and the fault in the older format: an item twice, a full extract above the first item, an entry twice, a
-/// byte behind the state, and a limit that is too low.
+/// What follows the mark, the limit, and the fault in the older format: an item twice, a full
+/// extract above the first item, an entry twice, a byte after the state, and a limit that is too
+/// low.
 type Other = (Parts, u64, u64, StateCause);
 
 const OTHERS: &[Other] = &[
     (
-        train_behind!(TWO, ITEM, ITEM, ONE),
+        train_after!(TWO, ITEM, ITEM, ONE),
         1000,
         31,
         StateCause::Order,
     ),
     (
-        train_behind!(TWO, ITEM_5A, ITEM_7B, ONE),
+        train_after!(TWO, ITEM_5A, ITEM_7B, ONE),
         1000,
         31,
         StateCause::Floor,
     ),
     (
-        train_behind!(
+        train_after!(
             ONE,
             ITEM,
             TWO,
@@ -185,10 +187,10 @@ const OTHERS: &[Other] = &[
         309,
         StateCause::Tail,
     ),
-    (train_behind!(ONE, ITEM, ONE), 308, 308, StateCause::Long),
+    (train_after!(ONE, ITEM, ONE), 308, 308, StateCause::Long),
 ];
 
-/// These parts behind a mark.
+/// These parts after a mark.
 fn marked(rt: &impl Abort, alloc: Global, mark: &str, parts: Parts) -> Vec<u8> {
     let mut text = text_of_parts(rt, alloc, &[mark]);
     let rest = text_of_parts(rt, alloc, parts);
@@ -196,7 +198,7 @@ fn marked(rt: &impl Abort, alloc: Global, mark: &str, parts: Parts) -> Vec<u8> {
     text
 }
 
-/// That such a text is refused in the older format.
+/// Asserts that such a text is refused in the older format.
 fn refuses_older(rt: &impl Abort, alloc: Global, row: &Other) {
     let (parts, limit, at, cause) = *row;
     let text = marked(rt, alloc, OLD_MARK, parts);
@@ -204,7 +206,7 @@ fn refuses_older(rt: &impl Abort, alloc: Global, row: &Other) {
     refuses_by(rt, alloc, OLDER, text.as_slice(), limit, found);
 }
 
-/// That it is refused in the format of today, whose mark has two bytes more.
+/// Asserts that it is refused in the new format, whose mark is two bytes longer.
 fn refuses_newer(rt: &impl Abort, alloc: Global, row: &Other) {
     let (parts, limit, at, cause) = *row;
     let text = marked(rt, alloc, MARK, parts);
@@ -221,7 +223,7 @@ fn items_and_entries_out_of_place(rt: HostRuntime) {
     }
 }
 
-/// How much of the text there is, and where it is too short.
+/// How many bytes of the text there are, and the offset at which it is too short.
 const CUT: &[(usize, u64)] = &[
     (0, 0),
     (3, 0),
@@ -237,7 +239,7 @@ const CUT: &[(usize, u64)] = &[
     (310, 41),
 ];
 
-/// The same of the older format.
+/// Like `CUT`, for the older format.
 const OLD_CUT: &[(usize, u64)] = &[
     (0, 0),
     (3, 0),
@@ -251,14 +253,15 @@ const OLD_CUT: &[(usize, u64)] = &[
     (308, 39),
 ];
 
-/// That the front of a text, of so many bytes, is refused in these ways as too short there.
+/// Asserts that the first `bytes` bytes of a text are refused in these ways as too short at this
+/// offset.
 fn refuses_front(rt: &impl Abort, alloc: Global, ways: &[Ask], text: &[u8], bytes: usize, at: u64) {
     let front = text.get(..bytes).expect(rt, "a length");
     let found = fault(at, StateCause::Short);
     refuses_by(rt, alloc, ways, front, 1000, found);
 }
 
-/// That a text is refused in these ways where it is cut.
+/// Asserts that a text is refused in these ways wherever it is cut.
 fn refuses_cut(rt: &impl Abort, alloc: Global, ways: &[Ask], parts: Parts, cuts: &[(usize, u64)]) {
     let text = text_of_parts(rt, alloc, parts);
     for (bytes, at) in cuts {

@@ -65,7 +65,7 @@ fn office_at<'a>(rt: &impl Abort, left: &'a Exchange, office: usize) -> &'a Offi
     left.offices().get(office).expect(rt, "an office")
 }
 
-/// That an office prints this docker of Ashfeld on a day.
+/// Asserts that an office prints this docker for Ashfeld on a day.
 fn prints_there(
     rt: &impl Abort,
     alloc: Global,
@@ -78,19 +78,20 @@ fn prints_there(
     prints(rt, alloc, office, "ASHFELD", day, docker);
 }
 
-/// That an office has this text at the end.
+/// Asserts that an office has this text at the end.
 fn ends(rt: &impl Abort, alloc: Global, left: &Exchange, office: usize, parts: Parts) {
     has(rt, alloc, office_at(rt, left, office), parts);
 }
 
-/// That a message has this text.
+/// Asserts that a message has this text.
 fn message_is(rt: &impl Abort, alloc: Global, left: &Exchange, message: usize, parts: Parts) {
     let wanted = text_of_parts(rt, alloc, parts);
     let kept = left.messages().get(message).expect(rt, "a message");
     same(rt, (message, kept.bytes()), (message, wanted.as_slice()));
 }
 
-/// That so many replies say that the event was done, and the ones behind them are these.
+/// Asserts that the first `done` replies say that the event was done, and that the remaining
+/// replies are these.
 fn replies(rt: &impl Abort, left: &Exchange, done: usize, others: &[Reply]) {
     let (first, rest) = left.replies().split_at(left.replies().len().min(done));
     same(rt, first.len(), done);
@@ -108,7 +109,7 @@ fn no_office(rt: HostRuntime) {
     same(&rt, left.messages().len(), 0);
 }
 
-/// The events of three offices up to the reload of the first, and further ones.
+/// The events of three offices up to the reload of the first office, and further events.
 macro_rules! up_to_reload {
     ([$early:expr, $full:expr, $late:expr], $($more:expr),*) => {
         &[
@@ -130,7 +131,7 @@ macro_rules! up_to_reload {
     };
 }
 
-/// What a run of three offices leaves that ends in a refused file.
+/// The end of a run of three offices that ends with a refused file.
 fn three_left(rt: &impl Abort, alloc: Global) -> Exchange {
     let early = text_of(rt, alloc, FIFTH);
     let full = text_of(rt, alloc, SEVENTH);
@@ -147,7 +148,7 @@ fn three_left(rt: &impl Abort, alloc: Global) -> Exchange {
     left_by(rt, alloc, 3, events)
 }
 
-/// The replies to its last three events.
+/// The replies to the last three events of that run.
 const LAST_REPLIES: &[Reply] = &[
     Reply::Refused(RunFault::NoOffice),
     Reply::Refused(RunFault::NoMessage),
@@ -170,7 +171,7 @@ fn three_offices(rt: HostRuntime) {
     message_is(&rt, alloc, &left, 4, LATE_STATE);
 }
 
-/// What it leaves up to the reload.
+/// The end of that run at the reload.
 fn reload_left(rt: &impl Abort, alloc: Global) -> Exchange {
     let early = text_of(rt, alloc, FIFTH);
     let full = text_of(rt, alloc, SEVENTH);
@@ -190,7 +191,7 @@ fn three_offices_up_to_a_reload(rt: HostRuntime) {
     ends(&rt, alloc, &left, 1, LATE_STATE);
 }
 
-/// What a run of two offices leaves that ends with a horizon of a third.
+/// The end of a run of two offices that ends with a horizon of a third.
 fn horizon_left(rt: &impl Abort, alloc: Global) -> Exchange {
     let text = text_of(rt, alloc, MORNING);
     let day = day_of(rt, "2024-06-15");
@@ -221,7 +222,7 @@ fn two_offices_and_a_horizon(rt: HostRuntime) {
     prints_there(&rt, alloc, &left, 0, "2024-06-10", ASHFELD_0900);
 }
 
-/// What a run leaves in which the state that is delivered was sent before the horizon.
+/// The end of a run in which the delivered state was sent before the horizon was set.
 fn delivery_left(rt: &impl Abort, alloc: Global) -> Exchange {
     let text = text_of(rt, alloc, MORNING);
     let day = day_of(rt, "2024-06-15");
@@ -242,7 +243,7 @@ fn a_delivery_before_the_horizon(rt: HostRuntime) {
     prints_there(&rt, rt.alloc(), &left, 1, "2024-06-10", ASHFELD_0900);
 }
 
-/// The events of one office up to the reload of its first message, and further ones.
+/// The events of one office up to the reload of its first message, and further events.
 macro_rules! up_to_loss {
     ([$text:expr, $revision:expr], $($more:expr),*) => {
         &[
@@ -256,7 +257,7 @@ macro_rules! up_to_loss {
     };
 }
 
-/// What is left where a reload lost the revision.
+/// What is left after a reload lost the revision.
 fn lost_left(rt: &impl Abort, alloc: Global) -> Exchange {
     let text = text_of(rt, alloc, MORNING);
     let revision = text_of(rt, alloc, REVISION);
@@ -264,7 +265,7 @@ fn lost_left(rt: &impl Abort, alloc: Global) -> Exchange {
     left_by(rt, alloc, 1, events)
 }
 
-/// What is left where it comes again.
+/// What is left after the revision comes again.
 fn found_left(rt: &impl Abort, alloc: Global) -> Exchange {
     let text = text_of(rt, alloc, MORNING);
     let revision = text_of(rt, alloc, REVISION);
@@ -284,7 +285,8 @@ fn what_a_reload_lost_comes_again(rt: HostRuntime) {
     ends(&rt, alloc, &found, 0, REVISED_STATE);
 }
 
-/// What a run of five offices leaves: the first takes three files, and the last receives them from the others.
+/// The end of a run of five offices: the first takes three files, and the last receives them from
+/// the others.
 fn five_left(rt: &impl Abort, alloc: Global, files: [File; 3]) -> Exchange {
     let first = text_of(rt, alloc, files[0]);
     let second = text_of(rt, alloc, files[1]);
@@ -306,7 +308,7 @@ fn five_left(rt: &impl Abort, alloc: Global, files: [File; 3]) -> Exchange {
     left_by(rt, alloc, 5, events)
 }
 
-/// A full extract that comes late, in each order.
+/// A full extract that arrives late, in each order.
 const ORDERS: &[[File; 3]] = &[
     [FIFTH, SEVENTH, NINTH],
     [FIFTH, NINTH, SEVENTH],
@@ -316,7 +318,7 @@ const ORDERS: &[[File; 3]] = &[
     [NINTH, SEVENTH, FIFTH],
 ];
 
-/// That the first office and the last know the same three files, taken in this order.
+/// Asserts that the first office and the last know the same three files, taken in this order.
 fn is_late(rt: &impl Abort, alloc: Global, files: [File; 3]) {
     let left = five_left(rt, alloc, files);
     replies(rt, &left, 12, &[]);

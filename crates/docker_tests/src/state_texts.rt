@@ -1,4 +1,5 @@
-//! The texts of states, worked out by hand, part by part. Each character of a part stands for the byte of its number.
+//! The texts of states, worked out by hand, part by part. Each character of a part stands for one
+//! byte, the one with its number.
 
 use crate::records::*;
 use std::alloc::Global;
@@ -16,19 +17,20 @@ const MARK_15: &str = "DKS2\x5b\u{f6}";
 /// The mark of a text of the older format.
 pub(crate) const OLD_MARK: &str = "DKS1";
 
-/// How many items or entries there are: none, one or two.
+/// How many items or entries there are: zero, one or two.
 const NONE: &str = "\0\0\0\0\0\0\0\0";
 
 pub(crate) const ONE: &str = "\0\0\0\0\0\0\0\x01";
 
 pub(crate) const TWO: &str = "\0\0\0\0\0\0\0\x02";
 
-/// The ledger item of the update of 9 June, and that of a full extract of the same moment.
+/// The ledger items of the update of 9 June, and of a full extract of the same minute.
 pub(crate) const ITEM: &str = "\x5b\u{f0}\x04\u{ec}DFROC1AUDFROC1Z";
 
 const ITEM_FULL: &str = "\x5b\u{f0}\x04\u{ec}DFROC1AFDFROC1Z";
 
-/// The ledger items of other files, by the days of June and the last letters of their references.
+/// The ledger items of other files, named by their days in June and the last letters of their
+/// references.
 const ITEM_10B: &str = "\x5b\u{f1}\x04\u{ec}DFROC1BUDFROC1A";
 
 pub(crate) const ITEM_5A: &str = "\x5b\u{ec}\x04\u{ec}DFROC1AUDFROC1Z";
@@ -41,12 +43,13 @@ const ITEM_9B: &str = "\x5b\u{f0}\x04\u{ec}DFROC1BUDFROC1A";
 
 const ITEM_9C: &str = "\x5b\u{f0}\x04\u{ec}DFROC1CUDFROC1B";
 
-/// The entry of C10001 in the update of 9 June, up to the op, and where that is its fifth record.
+/// The entry of C10001 in the update of 9 June, up to its op, and the same entry as its fifth
+/// record.
 pub(crate) const ENTRY: &str = "\x03C10001\x5b\u{f1}P\x5b\u{f0}\x04\u{ec}DFROC1A\0\0\0\x02";
 
 const ENTRY_FIFTH: &str = "\x03C10001\x5b\u{f1}P\x5b\u{f0}\x04\u{ec}DFROC1A\0\0\0\x05";
 
-/// The same of other files.
+/// The entries of C10001 in other files, up to the op.
 const ENTRY_10B: &str = "\x03C10001\x5b\u{f1}P\x5b\u{f1}\x04\u{ec}DFROC1B\0\0\0\x02";
 
 const ENTRY_9B: &str = "\x03C10001\x5b\u{f1}P\x5b\u{f0}\x04\u{ec}DFROC1B\0\0\0\x02";
@@ -61,12 +64,12 @@ const C10003_5A: &str = "\x03C10003\x5b\u{f1}P\x5b\u{ec}\x04\u{ec}DFROC1A\0\0\0\
 /// The entry of C10002 in the full extract.
 const ENTRY_7B: &str = "\x03C10002\x5b\u{f1}P\x5b\u{ee}\x04\u{ec}DFROC1B\0\0\0\x02";
 
-/// The entries of two codes of a timing point, up to the op.
+/// The entries of two codes of a timing point, up to their ops.
 const ASHFELD_10B: &str = "\x01ASHFELD\x5b\u{f1}\x04\u{ec}DFROC1B\0\0\0\x02";
 
 const ASHFLDN_10B: &str = "\x01ASHFLDN\x5b\u{f1}\x04\u{ec}DFROC1B\0\0\0\x02";
 
-/// The ops of a deletion, of what has lapsed, and of a put; and a put of three lines.
+/// The ops of a deletion, a lapsed entry and a put, and a put of three lines.
 const GONE: &str = "\0";
 
 const PASSED: &str = "\x02";
@@ -75,7 +78,7 @@ const PUT: &str = "\x01";
 
 pub(crate) const THREE_LINES: &str = "\x01\0\0\0\x03";
 
-/// The columns 10 to 72 of a timing point's record.
+/// Columns 10 to 72 of a timing point's record.
 const DESCRIBED: &str = "         ASHFIELD NEW                                          ";
 
 /// Lines of schedules.
@@ -85,28 +88,28 @@ pub(crate) const FROM_ASHFELD: &str = LO;
 
 pub(crate) const TO_BRAYTON: &str = LT;
 
-/// Parts, and the schedule of the train of the morning behind them.
-macro_rules! train_behind {
+/// Parts, followed by the schedule of the morning train.
+macro_rules! train_after {
     ($($part:expr),*) => {
         &[$($part,)* ENTRY, THREE_LINES, FIRST, FROM_ASHFELD, TO_BRAYTON]
     };
 }
 
-pub(crate) use train_behind;
+pub(crate) use train_after;
 
-/// No file is known.
+/// The state that knows no file.
 pub(crate) const EMPTY_STATE: Parts = &[MARK, NONE, NONE];
 
-/// The train of the morning is known: 311 bytes.
-pub(crate) const MORNING_STATE: Parts = train_behind!(MARK, ONE, ITEM, ONE);
+/// The state that knows the morning train: 311 bytes.
+pub(crate) const MORNING_STATE: Parts = train_after!(MARK, ONE, ITEM, ONE);
 
-/// The same in the older format: 309 bytes.
-pub(crate) const OLD_STATE: Parts = train_behind!(OLD_MARK, ONE, ITEM, ONE);
+/// The state that knows the morning train, in the older format: 309 bytes.
+pub(crate) const OLD_STATE: Parts = train_after!(OLD_MARK, ONE, ITEM, ONE);
 
-/// The same, behind a horizon: 67 bytes.
+/// The state that knows the morning train, under a horizon after its last day: 67 bytes.
 pub(crate) const LAPSED_STATE: Parts = &[MARK_15, ONE, ITEM, ONE, ENTRY, PASSED];
 
-/// Its revision alone is known: 311 bytes.
+/// The state that knows only the revision: 311 bytes.
 pub(crate) const REVISION_STATE: Parts = &[
     MARK,
     ONE,
@@ -119,7 +122,7 @@ pub(crate) const REVISION_STATE: Parts = &[
     LT_0935,
 ];
 
-/// The train and its revision are known: 330 bytes.
+/// The state that knows the train and its revision: 330 bytes.
 pub(crate) const REVISED_STATE: Parts = &[
     MARK,
     TWO,
@@ -133,7 +136,7 @@ pub(crate) const REVISED_STATE: Parts = &[
     LT_0935,
 ];
 
-/// The update of 5 June is known: 337 bytes.
+/// The state that knows the update of 5 June: 337 bytes.
 pub(crate) const FIFTH_STATE: Parts = &[
     MARK,
     ONE,
@@ -148,7 +151,8 @@ pub(crate) const FIFTH_STATE: Parts = &[
     GONE,
 ];
 
-/// The update of 5 June, the full extract of 7 June and the update of 9 June are known: 600 bytes.
+/// The state that knows the update of 5 June, the full extract of 7 June and the update of 9 June:
+/// 600 bytes.
 pub(crate) const LATE_STATE: Parts = &[
     MARK,
     TWO,
@@ -167,10 +171,10 @@ pub(crate) const LATE_STATE: Parts = &[
     LT_1030,
 ];
 
-/// The train of the day before, and its deletion: 86 bytes.
+/// A train of the day before, and its deletion: 86 bytes.
 pub(crate) const DELETED_STATE: Parts = &[MARK, TWO, ITEM_8A, ITEM_9B, ONE, ENTRY_9B, GONE];
 
-/// A train that its own file deletes again: 67 bytes.
+/// A train that its own file deletes: 67 bytes.
 pub(crate) const WITHDRAWN_STATE: Parts = &[MARK, ONE, ITEM, ONE, ENTRY_FIFTH, GONE];
 
 /// A timing point, and its new code: 171 bytes.
@@ -187,7 +191,7 @@ pub(crate) const RENAMED_STATE: Parts = &[
     DESCRIBED,
 ];
 
-/// Two files of one stamp, of which the train that runs longer stays: 311 bytes.
+/// Two files with one stamp, of which the train that runs longer wins: 311 bytes.
 pub(crate) const LONGER_STATE: Parts = &[
     MARK,
     ONE,
@@ -200,7 +204,7 @@ pub(crate) const LONGER_STATE: Parts = &[
     TO_BRAYTON,
 ];
 
-/// Two files of one stamp, of which the train of the greater bytes stays: 311 bytes.
+/// Two files with one stamp, of which the train with the greater bytes wins: 311 bytes.
 pub(crate) const LATER_STATE: Parts = &[
     MARK,
     ONE,
@@ -213,10 +217,10 @@ pub(crate) const LATER_STATE: Parts = &[
     TO_BRAYTON,
 ];
 
-/// An update and a full extract of one stamp: 330 bytes.
-pub(crate) const BOTH_STATE: Parts = train_behind!(MARK, TWO, ITEM_FULL, ITEM, ONE);
+/// An update and a full extract with one stamp: 330 bytes.
+pub(crate) const BOTH_STATE: Parts = train_after!(MARK, TWO, ITEM_FULL, ITEM, ONE);
 
-/// Adds a part to a text, a byte for each character.
+/// Adds a part to a text, one byte per character.
 fn add_part(rt: &impl Abort, text: &mut Vec<u8>, part: &str) {
     for character in part.chars() {
         if let Ok(byte) = u8::try_from(u32::from(character)) {
@@ -225,7 +229,7 @@ fn add_part(rt: &impl Abort, text: &mut Vec<u8>, part: &str) {
     }
 }
 
-/// Parts joined, a byte for each character.
+/// The parts joined, one byte per character.
 pub(crate) fn text_of_parts(rt: &impl Abort, alloc: Global, parts: &[&str]) -> Vec<u8> {
     let mut text = Vec::new(alloc);
     for part in parts {

@@ -10,7 +10,8 @@ use docker_office::Office;
 use std::alloc::Global;
 use std::process::Abort;
 
-/// Files in an order, the same in another, how many bytes the state has in both, and which.
+/// Files in some order, files in another order, how many bytes the state has for both, and its
+/// parts.
 type Row = (&'static [File], &'static [File], usize, Parts);
 
 const ROWS: &[Row] = &[
@@ -50,13 +51,14 @@ const ROWS: &[Row] = &[
     (&[MORNING, FULL], &[FULL, MORNING], 330, BOTH_STATE),
 ];
 
-/// That an office which takes these files in turn has this text, and so has one that receives the states of others, of which each took one of them.
+/// Asserts that an office which takes these files in turn has this text, and so has an office that
+/// receives the states of others, each of which took one file.
 fn have(rt: &impl Abort, alloc: Global, files: &[File], parts: Parts) {
     has(rt, alloc, &office_of(rt, alloc, files), parts);
     has(rt, alloc, &merged(rt, alloc, files), parts);
 }
 
-/// That both orders of a row have its state, and that this has so many bytes.
+/// Asserts that both orders of a row give its state, and that the state has this many bytes.
 fn is_state(rt: &impl Abort, alloc: Global, row: &Row) {
     let (files, others, bytes, parts) = *row;
     same(rt, text_of_parts(rt, alloc, parts).len(), bytes);
@@ -89,7 +91,7 @@ const LISTS: &[(&[File], &str)] = &[
     (&[EARLY], "2000-01-01 0307 DFROC1A U DFROC1Z\n"),
 ];
 
-/// That an office which took these files in turn lists so.
+/// Asserts what an office lists that took these files in turn.
 fn lists(rt: &impl Abort, alloc: Global, files: &[File], wanted: &str) {
     let office = office_of(rt, alloc, files);
     let mut text = Kept::new(alloc, 100).expect(rt, "room");
@@ -104,7 +106,8 @@ fn files_of_states(rt: HostRuntime) {
     }
 }
 
-/// That an office has the state of the train of the morning where it takes this text in pieces of so many bytes.
+/// Asserts that an office which takes this text in pieces of `step` bytes has the state of the
+/// morning train.
 fn is_taken(rt: &impl Abort, alloc: Global, text: &[u8], step: usize)
     requires { 0 < step }
 {
@@ -114,7 +117,7 @@ fn is_taken(rt: &impl Abort, alloc: Global, text: &[u8], step: usize)
     has(rt, alloc, &office, MORNING_STATE);
 }
 
-/// The train of the morning with other line ends.
+/// The morning train with other line ends.
 fn text_of_returns(rt: &impl Abort, alloc: Global) -> Vec<u8> {
     let mut returns = Vec::new(alloc);
     for record in MORNING {

@@ -5,32 +5,32 @@ use crate::compare::same_of;
 use std::alloc::Global;
 use std::process::Abort;
 
-/// An update of 9 June 2024, 21:00, without a change.
+/// An update of 9 June 2024, 21:00, without changes.
 const FILE: &[u8] = b"\
 HDTPS.UDFROC1.PD2406090906242100DFROC1ADFROC1ZUA                                
 ZZ                                                                              
 ";
 
-/// The state of no file.
+/// The state that knows no file.
 const EMPTY: &[u8] = b"DKS2\0\0\0\0\0\0\0\0\0\0\0\0\0\0\0\0\0\0";
 
 /// The state of that file: days 23536, minute 1260.
 const STATE: &[u8] = b"DKS2\0\0\0\0\0\0\0\0\0\x01\x5b\xf0\x04\xecDFROC1AUDFROC1Z\0\0\0\0\0\0\0\0";
 
-/// The same in the older format.
+/// The state of that file in the older format.
 const OLD: &[u8] = b"DKS1\0\0\0\0\0\0\0\x01\x5b\xf0\x04\xecDFROC1AUDFROC1Z\0\0\0\0\0\0\0\0";
 
-/// The same under the horizon of 15 June 2024, day 23542.
+/// The state of that file under the horizon of 15 June 2024, day 23542.
 const RAISED: &[u8] =
     b"DKS2\x5b\xf6\0\0\0\0\0\0\0\x01\x5b\xf0\x04\xecDFROC1AUDFROC1Z\0\0\0\0\0\0\0\0";
 
-/// A docker without a line.
+/// A docker without lines.
 const DOCKER: &[u8] = b"\
 DOCKER ASHFELD 2024-06-10                               
 END                                                     
 ";
 
-/// That a job of these words writes this text of two sources.
+/// Asserts what a job of these words writes for two sources.
 fn writes(
     rt: &impl Abort,
     alloc: Global,

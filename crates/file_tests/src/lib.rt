@@ -1,4 +1,5 @@
-//! The worked rows of files: texts that are accepted and refused, in pieces and from sources. There is no code here, only tests.
+//! Worked rows for files: texts that are accepted and refused, in pieces and from sources. This
+//! crate holds only tests.
 #![tactic(auto)]
 
 #[cfg(test)]

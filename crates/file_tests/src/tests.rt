@@ -36,7 +36,7 @@ const ZZ: &[u8] =
 const HD_10B: &[u8] =
     b"HDTPS.UDFROC1.PD2406091006242100DFROC1BDFROC1AUA                                ";
 
-/// A header with an update indicator that is none.
+/// A header with an unknown update indicator.
 const HD_OTHER: &[u8] =
     b"HDTPS.UDFROC1.PD2406090906242100DFROC1ADFROC1ZXA                                ";
 
@@ -48,11 +48,11 @@ const SHORT: &[u8] =
 const TAB: &[u8] =
     b"TIASHFELD         A\tHFIELD CENTRAL                                              ";
 
-/// A note, whose kind is not read.
+/// A note, which is a kind of record that isn't read.
 const LN: &[u8] =
     b"LN                                                                              ";
 
-/// An origin at 24:00, which is no time.
+/// An origin at 24:00, which isn't a time.
 const LO_2400: &[u8] =
     b"LOASHFELD 2400 09001  SL                                                        ";
 
@@ -60,7 +60,7 @@ const LO_2400: &[u8] =
 const BS_DELETED: &[u8] =
     b"BSDC10001240610              POO                                               P";
 
-/// A schedule from 29 February 2023, which is no day.
+/// A schedule from 29 February 2023, which isn't a date.
 const BS_FEBRUARY: &[u8] =
     b"BSNC100012302292406141111100 POO1A10                                           P";
 
@@ -68,7 +68,7 @@ const BS_FEBRUARY: &[u8] =
 const BS_NIGHT: &[u8] =
     b"BSNC200012406102406101000000 POO2B20                                           P";
 
-/// Its origin, at 23:55.
+/// The origin of C20001, at 23:55.
 const LO_2355: &[u8] =
     b"LOASHFELD 2355 23551  SL                                                        ";
 
@@ -100,11 +100,11 @@ const LT_0020: &[u8] =
 const BS_OVERLAY: &[u8] =
     b"BSNC100012406112406130101000 POO1A10                                           O";
 
-/// Its origin, at 09:15.
+/// The origin of the overlay, at 09:15.
 const LO_0915: &[u8] =
     b"LOASHFELD 0915 09151  SL                                                        ";
 
-/// A cancellation of the schedule, which stands alone.
+/// A cancellation of the schedule, a single record.
 const BS_CANCELLED: &[u8] =
     b"BSNC100012406142406140000100 POO1A10                                           C";
 
@@ -112,7 +112,7 @@ const BS_CANCELLED: &[u8] =
 const AA: &[u8] =
     b"AANC30001C300022406102406101000000VVSCOLWELL2 TP                               P";
 
-/// A change en route of the identity.
+/// A change of identity en route.
 const CR: &[u8] =
     b"CRCOLWELL OO5E51                                                                ";
 
@@ -124,24 +124,25 @@ const TI: &[u8] =
 const TI_BLANK: &[u8] =
     b"TIASHFELD                                                                       ";
 
-/// Its amendment: another code and description.
+/// The amendment of Ashfield Central: another code and description.
 const TA_RENAMED: &[u8] =
     b"TAASHFELD         ASHFIELD NEW                                          ASHFLDN ";
 
-/// Its amendment with its own code.
+/// An amendment that keeps the code.
 const TA_SAME: &[u8] =
     b"TAASHFELD         ASHFIELD CENTRAL                                      ASHFELD ";
 
-/// What the insertion says of Ashfield Central.
+/// The body that the insertion gives Ashfield Central.
 const CENTRAL: [u8; 63] = *b"         ASHFIELD CENTRAL                                      ";
 
-/// What the renaming amendment says of it.
+/// The body that the renaming amendment gives it.
 const NEW: [u8; 63] = *b"         ASHFIELD NEW                                          ";
 
 /// The records of the file of one schedule.
 const F2: [&[u8]; 5] = [HD, BS, LO, LT, ZZ];
 
-// A test's values are compared by calls of these, which end the test where they differ: an assertion in a function of its own is proved once for all rows.
+// Tests compare values with these functions, which end the test if they differ. An assertion in its
+// own function is proved once for all rows.
 
 fn same<T: PartialEq + Debug + Drop>(rt: &impl Abort, got: T, wanted: T) {
     assert_eq!(rt; got, wanted);
@@ -156,7 +157,7 @@ fn prints<T: Display + Drop>(rt: &impl Abort, alloc: Global, value: T, wanted: &
     same(rt, text.as_str(), wanted);
 }
 
-/// The text of these records, with this line end behind each.
+/// The text of these records, each followed by this line end.
 fn text(rt: &impl Abort, alloc: Global, records: &[&[u8]], end: &[u8]) -> Vec<u8> {
     let mut text = Vec::new(alloc);
     for record in records {
@@ -166,7 +167,7 @@ fn text(rt: &impl Abort, alloc: Global, records: &[&[u8]], end: &[u8]) -> Vec<u8
     text
 }
 
-/// The fault of this cause at this record.
+/// A fault with this cause at this record.
 fn at(number: u32, cause: FileCause) -> FileFault {
     FileFault { number, cause }
 }
@@ -185,7 +186,7 @@ fn line(rt: &impl Abort, text: &[u8]) -> Line {
     Line::new(text).expect(rt, "a line")
 }
 
-/// That this is the file of one schedule.
+/// Asserts that this is the file of one schedule.
 fn check_f2(rt: &impl Abort, file: CifFile) {
     check_header(rt, &file);
     same(rt, file.records(), 5);
@@ -197,7 +198,7 @@ fn check_f2(rt: &impl Abort, file: CifFile) {
     same(rt, file.into_changes().len(), 1);
 }
 
-/// That its header is that of the file of one schedule.
+/// Asserts that it has the header of the file of one schedule.
 fn check_header(rt: &impl Abort, file: &CifFile) {
     let header = file.header();
     same(rt, header.day().number(), 23536);
@@ -207,7 +208,7 @@ fn check_header(rt: &impl Abort, file: &CifFile) {
     same(rt, header.extract(), Extract::Update);
 }
 
-/// The lines of the schedule that it puts, if it puts one.
+/// The lines of the schedule that the change puts, if it puts one.
 fn lines_of(act: &Act) -> Option<&Lines> {
     match act {
         Act::Put(Body::Schedule(lines)) => Some(lines),
@@ -215,7 +216,7 @@ fn lines_of(act: &Act) -> Option<&Lines> {
     }
 }
 
-/// That it puts the three lines of the schedule.
+/// Asserts that the change puts the three lines of the schedule.
 fn check_lines(rt: &impl Abort, act: &Act) {
     let lines = lines_of(act).expect(rt, "a schedule");
     same(rt, lines.len(), 3);
@@ -224,7 +225,7 @@ fn check_lines(rt: &impl Abort, act: &Act) {
     same(rt, lines.as_slice(), wanted.as_slice());
 }
 
-/// The fault of a text in pieces of this length.
+/// The fault of a text that is read in pieces of this length.
 fn fault_by(alloc: Global, text: &[u8], step: usize) -> Option<FileFault>
     requires { 0 < step }
 {
@@ -243,7 +244,7 @@ fn judged_fault(alloc: Global, text: &[u8]) -> Option<ReadFault> {
     judge_file(alloc, &mut source, 1000).err()
 }
 
-/// A fault of a text, as it is told of a source.
+/// The fault of a text as `judge_file` returns it.
 fn read_fault(fault: Option<FileFault>) -> Option<ReadFault> {
     match fault {
         Some(fault) => Some(ReadFault::File(fault)),
@@ -251,7 +252,8 @@ fn read_fault(fault: Option<FileFault>) -> Option<ReadFault> {
     }
 }
 
-/// That the text has this fault, or none, in one piece, in pieces of any length, and from then on; and that a reader which keeps nothing tells the same.
+/// Asserts that the text has this fault, or none, in one piece and in pieces of any length; that
+/// each later call returns it again; and that a reader which keeps nothing finds the same fault.
 fn check_fault(rt: &impl Abort, alloc: Global, text: &[u8], wanted: Option<FileFault>, name: &str) {
     let whole = read_pieces(alloc, &[text], 1000).err();
     same_in(rt, name, whole, wanted);
@@ -267,7 +269,7 @@ fn check_fault(rt: &impl Abort, alloc: Global, text: &[u8], wanted: Option<FileF
     same_in(rt, name, parser.finish().err(), wanted);
 }
 
-/// That the parser tells this fault of whatever it is fed.
+/// Asserts that the parser returns this fault whatever it is fed.
 fn check_again(rt: &impl Abort, parser: &mut FileParser, fault: FileFault, name: &str) {
     same_in(rt, name, parser.feed(b""), Err(fault));
     same_in(rt, name, parser.feed(HD), Err(fault));
@@ -282,7 +284,7 @@ fn changes(rt: &impl Abort, alloc: Global, records: &[&[u8]]) -> Vec<Change> {
     file.into_changes()
 }
 
-/// That the text of these records has this fault.
+/// Asserts that the text of these records has this fault.
 fn is_refused(
     rt: &impl Abort,
     alloc: Global,
@@ -306,11 +308,11 @@ const REFUSED: &[Refused] = &[
     (&[HD, SHORT], 2, FileCause::Length, "79 characters"),
     (&[HD, TAB], 2, FileCause::Byte(20), "a tab"),
     (&[HD, LN], 2, FileCause::Kind, "LN"),
-    (&[HD, ZZ, LI_0000], 3, FileCause::After, "LI behind ZZ"),
-    (&[HD, BS, LT], 3, FileCause::Place, "LT behind BS"),
-    (&[HD, BS, ZZ], 3, FileCause::Place, "ZZ behind BS"),
+    (&[HD, ZZ, LI_0000], 3, FileCause::After, "LI after ZZ"),
+    (&[HD, BS, LT], 3, FileCause::Place, "LT after BS"),
+    (&[HD, BS, ZZ], 3, FileCause::Place, "ZZ after BS"),
     (&[HD, BS, LO_2400], 3, FileCause::Field(11), "2400"),
-    (&[HD, BS], 3, FileCause::NoEnd, "an end behind BS"),
+    (&[HD, BS], 3, FileCause::NoEnd, "an end after BS"),
     (&[HD, BS, LO, LT], 5, FileCause::NoEnd, "no ZZ"),
     (&[HD, BS_FEBRUARY], 2, FileCause::Field(10), "29 February"),
     (
@@ -321,7 +323,7 @@ const REFUSED: &[Refused] = &[
     ),
 ];
 
-/// That the file of one schedule has too many records where three is the limit.
+/// Asserts that the file of one schedule has too many records for a limit of three.
 fn check_limit(rt: &impl Abort, alloc: Global) {
     let text = text(rt, alloc, &F2, b"\n");
     let fault = read_pieces(alloc, &[text.as_slice()], 3).err();
@@ -336,13 +338,13 @@ fn refused_texts(rt: HostRuntime) {
     check_limit(&rt, rt.alloc());
 }
 
-/// That the changes of the file of these records are these.
+/// Asserts that the file of these records has these changes.
 fn changes_are(rt: &impl Abort, alloc: Global, records: &[&[u8]], wanted: &[Change]) {
     let changes = changes(rt, alloc, records);
     same(rt, changes.as_slice(), wanted);
 }
 
-/// That the changes of the file of these records stand at these records.
+/// Asserts that the changes of the file of these records are at these records.
 fn changes_stand_at(rt: &impl Abort, alloc: Global, records: &[&[u8]], numbers: &[u32]) {
     let changes = changes(rt, alloc, records);
     same(rt, changes.len(), numbers.len());
@@ -360,7 +362,7 @@ fn deletion(key: &Key) -> Change {
     }
 }
 
-/// What the second record puts of a timing point.
+/// What the second record puts for a timing point.
 fn put(key: &Key, body: [u8; 63]) -> Change {
     Change {
         number: 2,
@@ -369,7 +371,7 @@ fn put(key: &Key, body: [u8; 63]) -> Change {
     }
 }
 
-/// Records of a text that is accepted, and where its changes stand.
+/// Records of a text that is accepted, and the records of its changes.
 type Accepted = (&'static [&'static [u8]], &'static [u32]);
 
 const ACCEPTED: &[Accepted] = &[
@@ -407,26 +409,26 @@ fn accepted_texts(rt: HostRuntime) {
     }
 }
 
-/// That this text is the file of one schedule.
+/// Asserts that this text is the file of one schedule.
 fn check_f2_text(rt: &impl Abort, alloc: Global, text: &[u8]) {
     let file = read_pieces(alloc, &[text], 5).expect(rt, "a file");
     check_f2(rt, file);
 }
 
-/// That the records of the file of one schedule with this line end are.
+/// Asserts that the records of the file of one schedule are accepted with this line end.
 fn check_f2_ends(rt: &impl Abort, alloc: Global, end: &[u8]) {
     let whole = text(rt, alloc, &F2, end);
     check_f2_text(rt, alloc, whole.as_slice());
 }
 
-/// That they are without the last line feed.
+/// Asserts that they are accepted without the last line feed.
 fn check_f2_open(rt: &impl Abort, alloc: Global) {
     let mut whole = text(rt, alloc, &F2, b"\n");
     whole.pop();
     check_f2_text(rt, alloc, whole.as_slice());
 }
 
-/// That they are in pieces of one byte.
+/// Asserts that they are accepted in pieces of one byte.
 fn check_f2_bytes(rt: &impl Abort, alloc: Global) {
     let whole = text(rt, alloc, &F2, b"\n");
     let mut parser = FileParser::new(alloc, 4_294_967_294);
@@ -461,7 +463,8 @@ fn renames(rt: HostRuntime) {
     changes_are(&rt, alloc, &[HD, TA_SAME, ZZ], &[put(&old, CENTRAL)]);
 }
 
-/// The fault of the first bytes of the file of one schedule, so many, where each line and its end have this many bytes.
+/// The fault of the first `length` bytes of the file of one schedule, whose lines have `width`
+/// bytes with their ends.
 fn cut_fault(length: u32, width: u32) -> Option<FileFault>
     requires { 80 < width }
 {
@@ -481,7 +484,8 @@ fn cut_fault(length: u32, width: u32) -> Option<FileFault>
     Some(at(records.saturating_add(1), FileCause::NoEnd))
 }
 
-/// That each beginning of the file of one schedule has its fault, where a line and its end have this many bytes.
+/// Asserts that each proper beginning of the file of one schedule has its fault. A line has `width`
+/// bytes with its end.
 fn check_cuts(rt: &impl Abort, alloc: Global, end: &[u8], width: u32)
     requires { 80 < width }
 {
@@ -504,7 +508,7 @@ fn cut_texts(rt: HostRuntime) {
     check_cuts(&rt, rt.alloc(), b"\r\n", 82);
 }
 
-/// That a parser takes records without end up to the thousandth, and no more.
+/// Asserts that a parser accepts a thousand records of an endless text, and no more.
 fn check_records_without_end(rt: &impl Abort, alloc: Global) {
     let mut parser = FileParser::new(alloc, 1000);
     let mut again = Ok(());
@@ -520,7 +524,7 @@ fn check_records_without_end(rt: &impl Abort, alloc: Global) {
     same(rt, parser.finish().err(), Some(fault));
 }
 
-/// The fault of a line without end of which so many bytes came.
+/// The fault of an endless line after its first `length` bytes.
 fn long_fault(length: u32) -> Option<FileFault> {
     if length <= 81 {
         None
@@ -556,7 +560,8 @@ fn a_journey(rt: HostRuntime) {
     same(&rt, journey.complete(), true);
 }
 
-/// The want of memory that is told from then on, where what the line feed of this record told comes after another.
+/// The out-of-memory fault that each later call returns: the earlier one, or the one that the line
+/// feed of this record gave.
 fn memory_fault_from(
     fed: Option<FileFault>,
     wanting: Option<FileFault>,
@@ -568,7 +573,8 @@ fn memory_fault_from(
     }
 }
 
-/// The file that the parser has, where no memory was wanting; else none, and the fault is want of memory at this record, or as it was told before.
+/// The file that the parser has, if memory sufficed. Otherwise none, and the fault is out of memory
+/// at this record, or the earlier fault.
 fn file_at_end(
     rt: &impl Abort,
     parser: FileParser,
@@ -588,8 +594,9 @@ fn file_at_end(
     }
 }
 
-/// The file of these records, fed one by one with a line feed between them; none where memory was wanting. That is told by the line feed of the very record
-/// at which it was wanting, or at the end of the last one, and by each call from then on.
+/// The file of these records, fed one by one with a line feed between them; none if memory runs
+/// out. The line feed of the record for which memory ran out reports it, or the end of the text for
+/// the last record. Each later call reports it again.
 fn file_or_out_of_memory(
     rt: &impl Abort,
     alloc: Global,
@@ -622,7 +629,7 @@ fn out_of_memory(rt: HostRuntime) {
     }
 }
 
-/// That a fault of this cause at the seventh record is printed so.
+/// Asserts that a fault with this cause at the seventh record is printed like this.
 fn cause_prints(rt: &impl Abort, alloc: Global, cause: FileCause, wanted: &str) {
     prints(rt, alloc, at(7, cause), wanted);
 }

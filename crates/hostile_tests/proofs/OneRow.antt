@@ -1,4 +1,5 @@
--- The one item and the one entry of a valid state, given again: the item as it is, and a copy of the entry.
+-- The one item and the one entry of a valid state, given again: the item as it is, and a copy of
+-- the entry.
 use Rattle.std.proofs.Common.{◌≡◌, List, [], ◌∷◌, ◌++◌, map, length, get_or, refl, ap, sym, ◌∙◌, subst, arith}
 use Rattle.docker_model.specs.state.Stamp as stamps
 use Rattle.docker_model.specs.state.State.{State, IsLedger, IsValid, IsGoodEntry}
@@ -16,7 +17,7 @@ only_element [] x d one is = absurd (let bad : 0 ≡ 1 = one in omega arith)
 only_element (y ∷ []) x d one is = ap (λ v. v ∷ []) (sym is)
 only_element (y ∷ z ∷ xs) x d one is = absurd (omega arith)
 
--- the ledger of the item alone is good
+-- a ledger of only the item is good
 pub good_item : (items : List LedgerItem) (item other : LedgerItem) → length items ≡ 1 → item ≡ get_or items 0 other
     → (state : State) → map item_meant items ≡ state.ledger → IsValid state → IsLedger (item_meant item ∷ [])
 good_item items item other one is state items_are valid =
@@ -44,12 +45,12 @@ good_copy items item other one is rows row next single is_row state items_are ro
     subst (IsGoodEntry (item_meant item ∷ [])) (sym same)
     (good_row items item other one is rows row next single is_row state items_are rows_are valid)
 
--- a vector that the item was pushed on, when it was empty
+-- an empty vector after the item is pushed
 pub pushed_item : (item : LedgerItem) (before after : List LedgerItem) → before ≡ [] → after ≡ before ++ item ∷ []
     → map item_meant after ≡ item_meant item ∷ []
 pushed_item item before after none pushed = ap (map item_meant) (pushed ∙ ap (λ (xs : List LedgerItem). xs ++ item ∷ []) none)
 
--- and may be given behind the item
+-- and may be given after the item
 pub here_copy : (items : List LedgerItem) (item other : LedgerItem) → length items ≡ 1 → item ≡ get_or items 0 other
     → (rows : List (Key × Entry)) (row next : Key × Entry) → length rows ≡ 1 → row ≡ get_or rows 0 next
     → (state : State) → map item_meant items ≡ state.ledger → map row_meant rows ≡ state.entries → IsValid state

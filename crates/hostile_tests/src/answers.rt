@@ -1,22 +1,22 @@
-//! What is answered to a row of a table.
+//! Answers to a row of a table.
 
 use crate::desk::Desk;
 use docker_cmd::{Fault, fault_text};
 
-/// An answer, and what is wrong with it.
+/// An answer, or what is wrong with it.
 #[derive(Clone, Copy, PartialEq, Eq)]
 pub(crate) enum Answer {
-    /// Done, with what the row wants.
+    /// Done, with the result that the row names.
     Done,
     /// Refused, with nothing changed.
     Refused(Fault),
-    /// The answers differ by how many bytes a read gives.
+    /// The answers differ with the number of bytes per read.
     Uneven,
-    /// Refused, and the office has another state.
+    /// Refused, but the office has another state.
     Changed,
-    /// Something else came of it than the row wants.
+    /// The result isn't the one that the row names.
     Unlike,
-    /// Asked again with good devices, another answer came.
+    /// A second try with good devices gave another answer.
     Stuck,
 }
 

@@ -1,4 +1,4 @@
-//! The calls by which an office reads a source.
+//! The calls with which an office reads a source.
 ghost use Rattle.std.specs.Prelude.{◌<◌, ◌^◌, ◌-◌};
 
 use crate::texts::MOST_RECORDS;
@@ -12,13 +12,13 @@ pub(crate) enum Call {
     Take,
     /// It receives a state.
     Receive,
-    /// It reloads one.
+    /// It reloads a state.
     Reload,
-    /// It reloads one of the older format.
+    /// It reloads a state of the older format.
     Migrate,
 }
 
-/// The call of this name.
+/// The call with this name.
 pub(crate) fn call_of(name: &str) -> Call {
     match name {
         "Office::take" => Call::Take,
@@ -45,7 +45,7 @@ pub(crate) fn ask<S: Source>(
     }
 }
 
-/// A limit of records, at most the greatest that there is.
+/// A limit of records, at most the greatest possible one.
 fn records_of(limit: u64) -> u32
     ensures { result < 2 ^ 32 - 1 }
 {

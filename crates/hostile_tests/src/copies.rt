@@ -1,4 +1,4 @@
-//! Rows of states, copied.
+//! Copies of the rows of states.
 ghost use Rattle.std.specs.Prelude.{◌≡◌, IfOk};
 ghost use Rattle.cif_file.specs.Meaning.{body_meant};
 ghost use Rattle.docker_join.specs.Meaning.{op_meant};
@@ -8,7 +8,7 @@ use cif_file::{Body, Key, Lines};
 use docker_join::{Entry, Op};
 use std::alloc::{AllocError, Global};
 
-/// A row like this one.
+/// A copy of this row.
 pub(crate) fn copied_row(alloc: Global, row: &(Key, Entry)) -> Result<(Key, Entry), AllocError>
     ensures { IfOk result (λ copy. row_meant copy ≡ row_meant row.now) }
 {
@@ -17,7 +17,7 @@ pub(crate) fn copied_row(alloc: Global, row: &(Key, Entry)) -> Result<(Key, Entr
     Ok((row.0, Entry { stamp, op }))
 }
 
-/// An op like this one.
+/// A copy of this op.
 fn copied_op(alloc: Global, op: &Op) -> Result<Op, AllocError>
     ensures { IfOk result (λ copy. op_meant copy ≡ op_meant op.now) }
 {
@@ -31,7 +31,7 @@ fn copied_op(alloc: Global, op: &Op) -> Result<Op, AllocError>
     }
 }
 
-/// A body like this one.
+/// A copy of this body.
 fn copied_body(alloc: Global, body: &Body) -> Result<Body, AllocError>
     ensures { IfOk result (λ copy. body_meant copy ≡ body_meant body.now) }
 {
@@ -42,7 +42,7 @@ fn copied_body(alloc: Global, body: &Body) -> Result<Body, AllocError>
     }
 }
 
-/// A schedule of the same lines.
+/// A schedule with the same lines.
 fn copied_lines(alloc: Global, lines: &Lines) -> Result<Body, AllocError>
     ensures { IfOk result (λ copy. body_meant copy ≡ body_meant (Body.Schedule lines.now)) }
 {

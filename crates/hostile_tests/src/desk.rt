@@ -1,11 +1,11 @@
-//! Where a row is done: the texts that it names, and what is printed of it.
+//! Where a row runs: the texts that it names, and what is printed about it.
 
 use crate::endings::Ending;
 use std::alloc::Global;
 use std::fs;
 use std::io::Write;
 
-/// A row, at the runtime that it is done with.
+/// A row, and the runtime in which it runs.
 #[derive(Drop)]
 pub(crate) struct Desk<'a> {
     rt: HostRuntime,
@@ -31,7 +31,7 @@ impl<'a> Desk<'a> {
         }
     }
 
-    /// A text that lies beside the program.
+    /// A text from the folder `data`.
     pub(crate) fn text(&self, name: &str) -> Vec<u8> {
         match fs::read(&self.rt, name) {
             Ok(text) => text,
@@ -42,12 +42,13 @@ impl<'a> Desk<'a> {
         }
     }
 
-    /// Prints bytes, by one write.
+    /// Prints bytes with one write.
     pub(crate) fn print(&self, bytes: &[u8]) {
         let _ = self.rt.stdout().write_all(bytes);
     }
 
-    /// Prints the row, by one write: what takes memory between this and the next write is its call.
+    /// Prints the row with one write. What takes memory between this and the next write is the
+    /// row's call.
     pub(crate) fn begin(&self) {
         let row = self.row;
         match format!(in self.alloc(); "{row}\n") {
@@ -56,18 +57,18 @@ impl<'a> Desk<'a> {
         }
     }
 
-    /// Prints how the call ended. It takes no memory.
+    /// Prints how the call ended, without taking memory.
     pub(crate) fn end(&self, ending: Ending) {
         self.print(ending.line());
     }
 
-    /// Prints what holds, or that it doesn't.
+    /// Prints that something holds, or that it doesn't.
     pub(crate) fn report(&self, holds: bool, what: &str) {
         let front = if holds { "" } else { "not so: " };
         let _ = println!(self.rt; "  {front}{what}");
     }
 
-    /// Prints what the row can't be done for.
+    /// Prints why the row can't run.
     pub(crate) fn trouble(&self, what: &str) {
         let _ = println!(self.rt; "  trouble: {what}");
     }
@@ -81,12 +82,12 @@ impl<'a> Desk<'a> {
         }
     }
 
-    /// Whether a text of this name lies beside the program.
+    /// Whether these bytes are the text with this name in the folder `data`.
     pub(crate) fn is_text(&self, bytes: &[u8], name: &str) -> bool {
         self.text(name).as_slice() == bytes
     }
 
-    /// Prints the name of a text that lies beside the program, if these bytes are that text.
+    /// Prints the name of a text in the folder `data`, if these bytes are that text.
     pub(crate) fn compare(&self, bytes: &[u8], name: &str) {
         self.report(self.is_text(bytes, name), name);
     }

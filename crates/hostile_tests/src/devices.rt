@@ -1,4 +1,5 @@
-//! Devices that move one byte at a call, and fail at one call alone: at the first, then at the second, and so on.
+//! Devices that move one byte per call and fail at only one call: at the first, then at the second,
+//! and so on.
 ghost use Rattle.std.specs.Prelude.{◌<◌, ◌^◌, ◌-◌};
 
 use crate::answers::Answer;
@@ -14,7 +15,7 @@ use docker_office::{Office, OfficeFault};
 /// More calls than any row makes.
 const MOST_CALLS: u64 = 5000;
 
-/// `CALL STATE TEXT STATE`: the office reads the text from a source of which a read fails.
+/// `CALL STATE TEXT STATE`: the office reads the text from a source that fails at a read.
 pub(crate) fn source(desk: &Desk, words: &[&str]) {
     let [call, own, name, wanted] = words else {
         return desk.trouble("CALL STATE TEXT STATE");
@@ -30,7 +31,8 @@ pub(crate) fn source(desk: &Desk, words: &[&str]) {
     sources(desk, asked, text.as_slice());
 }
 
-/// Prints the answers where the first read fails, the second and so on, up to a source of which none does.
+/// Prints the answers if the first read fails, the second, and so on, up to a source that doesn't
+/// fail.
 fn sources(desk: &Desk, asked: Asked<'_>, text: &[u8]) {
     let good = asked.answer_to(desk, text);
     let mut spans = Spans::new();
@@ -44,7 +46,8 @@ fn sources(desk: &Desk, asked: Asked<'_>, text: &[u8]) {
     spans.report(desk);
 }
 
-/// The answer where a source fails at this call, and whether it came to that. After a failure the same is asked of a good source.
+/// The answer if a source fails at this call, and whether it failed. After a failure the office is
+/// asked again with a good source.
 fn fused(desk: &Desk, asked: Asked<'_>, text: &[u8], call: u64, good: Answer) -> (Answer, bool)
     requires { 0 < call }
 {
@@ -71,7 +74,7 @@ enum Output {
     Files,
 }
 
-/// Has an office write.
+/// Lets an office write.
 fn write<K: Sink>(output: &Output, office: &Office, sink: &mut K) -> Result<(), OfficeFault>
     requires { K.failures sink.old < 2 ^ 64 - 1 }
 {
@@ -82,7 +85,7 @@ fn write<K: Sink>(output: &Output, office: &Office, sink: &mut K) -> Result<(), 
     }
 }
 
-/// `STATE TIPLOC DATE DOCKER`: the office prints into a sink of which a write fails.
+/// `STATE TIPLOC DATE DOCKER`: the office prints to a sink that fails at a write.
 pub(crate) fn print(desk: &Desk, words: &[&str]) {
     let [own, place, day, wanted] = words else {
         return desk.trouble("STATE TIPLOC DATE DOCKER");
@@ -92,7 +95,7 @@ pub(crate) fn print(desk: &Desk, words: &[&str]) {
     }
 }
 
-/// `STATE`: the office sends its state into one.
+/// `STATE`: the office sends its state to a sink that fails at a write.
 pub(crate) fn send(desk: &Desk, words: &[&str]) {
     let [own] = words else {
         return desk.trouble("STATE");
@@ -100,7 +103,7 @@ pub(crate) fn send(desk: &Desk, words: &[&str]) {
     sinks(desk, own, Output::State, own);
 }
 
-/// `STATE FILES`: the office lists its files into one.
+/// `STATE FILES`: the office lists its files to a sink that fails at a write.
 pub(crate) fn files(desk: &Desk, words: &[&str]) {
     let [own, wanted] = words else {
         return desk.trouble("STATE FILES");
@@ -108,7 +111,8 @@ pub(crate) fn files(desk: &Desk, words: &[&str]) {
     sinks(desk, own, Output::Files, wanted);
 }
 
-/// Has an office write into sinks that fail at the first call, the second and so on, up to one that doesn't.
+/// Lets an office write to sinks that fail at the first call, the second, and so on, up to a sink
+/// that doesn't fail.
 fn sinks(desk: &Desk, own: &str, output: Output, wanted: &str) {
     let (before, wanted) = (desk.text(own), desk.text(wanted));
     let office = office_of(desk, before.as_slice());
@@ -116,7 +120,7 @@ fn sinks(desk: &Desk, own: &str, output: Output, wanted: &str) {
     write_all(desk, &office, output, before.as_slice(), wanted.as_slice());
 }
 
-/// Prints the answers of each of these sinks. The office keeps its state.
+/// Prints the answers for each of these sinks. The office keeps its state.
 fn write_all(desk: &Desk, office: &Office, output: Output, before: &[u8], wanted: &[u8]) {
     let mut spans = Spans::new();
     for call in 1..=MOST_CALLS {
@@ -130,7 +134,8 @@ fn write_all(desk: &Desk, office: &Office, output: Output, before: &[u8], wanted
     spans.report(desk);
 }
 
-/// The answer where a sink fails at this call, and whether it came to that: the sink has the bytes before, and a good sink gets the whole text then.
+/// The answer if a sink fails at this call, and whether it failed. The sink has the bytes before,
+/// and a good sink then receives the whole text.
 fn written(
     desk: &Desk,
     office: &Office,
@@ -153,7 +158,8 @@ fn written(
     (if again { answer } else { Answer::Stuck }, true)
 }
 
-/// The answer of a sink that took these bytes: all of the text, or those of the calls before the one that failed.
+/// The answer for a sink that received these bytes: the whole text, or the bytes of the calls
+/// before the one that failed.
 fn written_answer(done: Result<(), OfficeFault>, bytes: &[u8], wanted: &[u8], call: u64) -> Answer {
     match done {
         Ok(()) => {
@@ -173,7 +179,7 @@ fn written_answer(done: Result<(), OfficeFault>, bytes: &[u8], wanted: &[u8], ca
     }
 }
 
-/// Whether a good sink gets the whole text.
+/// Whether a good sink receives the whole text.
 fn is_written(desk: &Desk, office: &Office, output: &Output, wanted: &[u8]) -> bool {
     match sink(desk) {
         Some(mut good) => write(output, office, &mut good).is_ok() && good.bytes() == wanted,
@@ -181,12 +187,12 @@ fn is_written(desk: &Desk, office: &Office, output: &Output, wanted: &[u8]) -> b
     }
 }
 
-/// Whether these are the bytes that a sink takes at the calls before this one.
+/// Whether these are the bytes that a sink receives before this call.
 fn is_front(bytes: &[u8], wanted: &[u8], call: u64) -> bool {
     bytes.len() as u64 == call.saturating_sub(1) && wanted.starts_with(bytes)
 }
 
-/// `LINE`: the job of the line is read from a source of which a read fails.
+/// `LINE`: the job of the line is read from a source that fails at a read.
 pub(crate) fn line(desk: &Desk, words: &[&str]) {
     let [name] = words else {
         return desk.trouble("LINE");
@@ -204,7 +210,8 @@ pub(crate) fn line(desk: &Desk, words: &[&str]) {
     spans.report(desk);
 }
 
-/// The answer where the source of a line fails at this call, and whether it came to that. A good source gives a job then.
+/// The answer if the source of a line fails at this call, and whether it failed. A good source then
+/// gives a job.
 fn line_read(desk: &Desk, text: &[u8], call: u64) -> (Answer, bool)
     requires { 0 < call }
 {

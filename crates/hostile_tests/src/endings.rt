@@ -1,4 +1,4 @@
-//! How a call of which a growth may be refused ends.
+//! How a call ends for which a growth may be refused.
 
 use cif_file::{FileCause, FileFault};
 use cif_line::Memory;
@@ -12,14 +12,14 @@ use docker_office::OfficeFault;
 pub(crate) enum Ending {
     /// It was done.
     Done,
-    /// It answered want of memory, as its type says that.
+    /// It ran out of memory, as its type reports that.
     Memory,
-    /// It was refused for something else.
+    /// It was refused for another reason.
     Other,
 }
 
 impl Ending {
-    /// The line that tells it.
+    /// The line that is printed for it.
     pub(crate) fn line<'a>(self) -> &'a [u8] {
         match self {
             Ending::Done => b"  done\n",
@@ -29,13 +29,13 @@ impl Ending {
     }
 }
 
-/// A fault that may be want of memory.
+/// A fault that may be out of memory.
 pub(crate) trait MayWant {
-    /// Whether it is.
+    /// Whether the fault is out of memory.
     fn is_memory(&self) -> bool;
 }
 
-/// How a call of this result ended.
+/// How a call with this result ended.
 pub(crate) fn ending_of<T, F: MayWant>(answer: &Result<T, F>) -> Ending {
     match answer {
         Ok(_) => Ending::Done,

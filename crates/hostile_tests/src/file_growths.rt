@@ -11,7 +11,7 @@ fn new_parser(desk: &Desk) -> FileParser {
     FileParser::new(desk.alloc(), MOST_RECORDS)
 }
 
-/// Feeds a text in pieces, up to the first refusal.
+/// Feeds a text in pieces, up to the first fault.
 fn feed_all(parser: &mut FileParser, text: &[u8]) -> Result<(), FileFault> {
     for piece in text.chunks(STEP) {
         parser.feed(piece)?;
@@ -19,7 +19,7 @@ fn feed_all(parser: &mut FileParser, text: &[u8]) -> Result<(), FileFault> {
     Ok(())
 }
 
-/// Whether a parser answers each later call by the same fault.
+/// Whether a parser returns the same fault from each later call.
 fn repeats(mut parser: FileParser, fault: FileFault) -> bool {
     let fed = parser.feed(b"");
     let again = parser.feed(b"ZZ\n");
@@ -35,7 +35,7 @@ fn compare(desk: &Desk, file: CifFile, wanted: &str) {
     }
 }
 
-/// Compares the text of the state of what a parser that was fed a file gives.
+/// Compares the text of the state of the file that a fed parser returns.
 fn compare_fed(desk: &Desk, parser: FileParser, wanted: &str) {
     match parser.finish() {
         Ok(file) => compare(desk, file, wanted),
@@ -43,7 +43,7 @@ fn compare_fed(desk: &Desk, parser: FileParser, wanted: &str) {
     }
 }
 
-/// Feeds a file once more, to another parser.
+/// Feeds a file to another parser.
 fn feed_again(desk: &Desk, text: &[u8], wanted: &str) {
     let mut parser = new_parser(desk);
     match feed_all(&mut parser, text) {
@@ -71,7 +71,7 @@ pub(crate) fn feed(desk: &Desk, words: &[&str]) {
     }
 }
 
-/// `FILE STATE`: the parser that was fed the file is asked for it.
+/// `FILE STATE`: the parser, which was fed the file, is asked for it.
 pub(crate) fn finish(desk: &Desk, words: &[&str]) {
     let [name, wanted] = words else {
         return desk.trouble("FILE STATE");
@@ -90,14 +90,14 @@ pub(crate) fn finish(desk: &Desk, words: &[&str]) {
     }
 }
 
-/// Whether two files are the same.
+/// Whether two files are equal.
 fn are_same(one: &CifFile, other: &CifFile) -> bool {
     are_same_headers(one, other)
         && one.records() == other.records()
         && one.changes() == other.changes()
 }
 
-/// Whether the headers of two files are the same.
+/// Whether the headers of two files are equal.
 fn are_same_headers(one: &CifFile, other: &CifFile) -> bool {
     let (first, second) = (one.header(), other.header());
     first.day() == second.day()
@@ -118,7 +118,7 @@ pub(crate) fn of_file(desk: &Desk, words: &[&str]) {
     }
 }
 
-/// The state of a file of this text.
+/// Makes the state of a file with this text.
 fn of_this_file(desk: &Desk, file: CifFile, text: &[u8], wanted: &str) {
     desk.begin();
     let made = State::of_file(desk.alloc(), file);
@@ -135,7 +135,7 @@ fn of_this_file(desk: &Desk, file: CifFile, text: &[u8], wanted: &str) {
     }
 }
 
-/// Prints whether a file that is handed back is that of the text.
+/// Prints whether a returned file is the file of the text.
 fn report_returned(desk: &Desk, back: &CifFile, text: &[u8]) {
     if let Some(file) = file_of(desk, text) {
         desk.report(are_same(back, &file), "the file is handed back");

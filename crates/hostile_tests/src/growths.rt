@@ -1,9 +1,9 @@
-//! The rows of growths, by the call that each names.
+//! The rows of growths, each named by its call.
 
 use crate::desk::Desk;
 use crate::{file_growths, job_growths, office_growths, part_growths, run_growth, state_growths};
 
-/// Does the row of a call.
+/// Runs the row of a call.
 pub(crate) fn do_row(desk: &Desk, call: &str, words: &[&str]) {
     match call {
         "FileParser::feed" => file_growths::feed(desk, words),
@@ -16,7 +16,7 @@ pub(crate) fn do_row(desk: &Desk, call: &str, words: &[&str]) {
     }
 }
 
-/// Does the row of a call on states.
+/// Runs the row of a call on states.
 fn do_state_row(desk: &Desk, call: &str, words: &[&str]) {
     match call {
         "State::join" => state_growths::join(desk, words),
@@ -31,7 +31,7 @@ fn do_state_row(desk: &Desk, call: &str, words: &[&str]) {
     }
 }
 
-/// Does the row of a call of an office, or of a job.
+/// Runs the row of a call of an office or of a job.
 fn do_office_row(desk: &Desk, call: &str, words: &[&str]) {
     match call {
         "Office::take" | "Office::receive" | "Office::reload" | "Office::migrate" => {

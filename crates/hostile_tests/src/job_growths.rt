@@ -24,12 +24,12 @@ fn name_of<'a>(subcommand: Subcommand) -> &'a str {
     }
 }
 
-/// Whether two words are the same.
+/// Whether two words are equal.
 fn are_same(one: &str, other: &str) -> bool {
     one == other
 }
 
-/// Whether a job is that of these words.
+/// Whether a job has these words.
 fn is_of(job: &Job, words: &[&str]) -> bool {
     let Some((first, rest)) = words.split_first() else {
         return false;
@@ -46,12 +46,12 @@ fn is_of(job: &Job, words: &[&str]) -> bool {
     are_same(first, name_of(job.subcommand()))
 }
 
-/// Prints whether the fault of a job has the status of want of memory.
+/// Prints whether the fault has the status for out of memory.
 fn report_status(desk: &Desk, fault: Fault) {
     desk.report(status(&fault) == 3, "status 3");
 }
 
-/// Prints whether a job is that of these words.
+/// Prints whether a job has these words.
 fn report_job(desk: &Desk, named: Result<Job, JobFault>, words: &[&str]) {
     match named {
         Ok(job) => desk.report(is_of(&job, words), "the job of these words"),
@@ -73,7 +73,7 @@ pub(crate) fn words_of_job(desk: &Desk, words: &[&str]) {
     }
 }
 
-/// A line of these words; none where memory is wanting.
+/// A line of these words; none if memory runs out.
 fn line_of(desk: &Desk, words: &[&str]) -> Option<Vec<u8>> {
     let mut line = Vec::new(desk.alloc());
     for word in words {
@@ -108,7 +108,7 @@ fn job_of_line(desk: &Desk, line: &[u8], words: &[&str]) {
     }
 }
 
-/// What a job has read of two texts.
+/// What a job has read from two texts.
 fn prepared<'a>(
     desk: &Desk,
     job: &'a Job,
@@ -123,7 +123,8 @@ fn prepared<'a>(
     )
 }
 
-/// Writes what a job has prepared, and compares it; the fault where it is refused, and nothing is written.
+/// Writes what a job has prepared, and compares it. Returns the fault if it is refused and nothing
+/// is written.
 fn has_written(
     desk: &Desk,
     prepared: &Prepared<'_>,
@@ -147,14 +148,14 @@ fn has_written(
     None
 }
 
-/// Writes what a job has prepared, which wants memory no more.
+/// Writes what a job has prepared, with enough memory.
 fn write_again(desk: &Desk, prepared: &Prepared<'_>, wanted: &str) {
     if has_written(desk, prepared, wanted, false).is_some() {
         desk.trouble("refused again");
     }
 }
 
-/// The job of some words, told where there is none.
+/// The job of these words. If there is none, that is printed.
 fn job_of(desk: &Desk, words: &[&str]) -> Option<Job> {
     match job(desk.alloc(), words) {
         Ok(named) => Some(named),
@@ -165,7 +166,7 @@ fn job_of(desk: &Desk, words: &[&str]) -> Option<Job> {
     }
 }
 
-/// `FIRST SECOND TEXT WORDS`: the job of these words reads its sources, and the text is what it writes.
+/// `FIRST SECOND TEXT WORDS`: the job of these words reads its sources, and then writes the text.
 pub(crate) fn read_for_job(desk: &Desk, words: &[&str]) {
     let [first, second, wanted, words @ ..] = words else {
         return desk.trouble("FIRST SECOND TEXT WORDS");
@@ -182,7 +183,7 @@ pub(crate) fn read_for_job(desk: &Desk, words: &[&str]) {
     }
 }
 
-/// A job reads two texts.
+/// Lets a job read two texts.
 fn read_texts(desk: &Desk, named: &Job, texts: [&[u8]; 2], wanted: &str, words: &[&str]) {
     let [one, other] = texts;
     desk.begin();
@@ -215,7 +216,7 @@ pub(crate) fn write_for_job(desk: &Desk, words: &[&str]) {
     }
 }
 
-/// A job writes what it has prepared.
+/// Lets a job write what it has prepared.
 fn write_prepared(desk: &Desk, prepared: &Prepared<'_>, wanted: &str) {
     if let Some(fault) = has_written(desk, prepared, wanted, true) {
         report_status(desk, Fault::Office(fault));

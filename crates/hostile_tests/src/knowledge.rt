@@ -1,4 +1,4 @@
-//! What offices know after events, by the replies to them.
+//! What offices know after events, computed from the replies.
 
 use cif_file::{FileCause, FileFault};
 use docker_office::{OfficeFault, Reply, RunFault};
@@ -47,7 +47,7 @@ const NINTH: Known = Known {
 };
 
 impl Known {
-    /// The files known here or there.
+    /// The files known to either.
     fn with(self, other: Known) -> Known {
         Known {
             fifth: self.fifth | other.fifth,
@@ -56,7 +56,7 @@ impl Known {
         }
     }
 
-    /// The name of the text of their state: the full extract is the floor.
+    /// The name of the text of their state. The full extract is the floor.
     pub(crate) fn state<'a>(self) -> &'a str {
         if self.seventh {
             return if self.ninth {
@@ -73,7 +73,7 @@ impl Known {
         }
     }
 
-    /// The name of their docker at Ashfeld on 10 June.
+    /// The name of their docker for Ashfeld on 10 June.
     pub(crate) fn docker<'a>(self) -> &'a str {
         match (self.seventh, self.ninth) {
             (false, true) => "ninth.docker",
@@ -90,12 +90,12 @@ impl Known {
     }
 }
 
-/// What happens.
+/// An event.
 #[derive(Clone, Copy, PartialEq, Eq)]
 pub(crate) enum Step {
     /// An office takes a file.
     Take(usize, Known),
-    /// An office is given the file of 9 June without its end.
+    /// An office takes the file of 9 June without its end.
     TakeOpen(usize),
     /// An office sends its state.
     Send(usize),
@@ -105,7 +105,7 @@ pub(crate) enum Step {
     Reload(usize, usize),
 }
 
-/// The events of the run, in turn.
+/// The events of the run, in order.
 pub(crate) const STEPS: [Step; 18] = [
     Step::Take(0, FIFTH),
     Step::Send(0),
@@ -127,19 +127,19 @@ pub(crate) const STEPS: [Step; 18] = [
     Step::TakeOpen(2),
 ];
 
-/// The reply to an event that wants memory.
+/// The reply to an event that runs out of memory.
 const OUT_OF_MEMORY: Reply = Reply::Refused(RunFault::Office(OfficeFault::Memory));
 
-/// What each office knows, and each message tells, so far.
+/// What each office knows and each message carries, so far.
 #[derive(Drop)]
 pub(crate) struct Book {
     /// The offices.
     pub(crate) offices: [Known; OFFICES],
     /// The messages.
     pub(crate) messages: Vec<Known>,
-    /// Whether each reply so far was one that its event may have there.
+    /// Whether each reply so far is one that its event may get.
     pub(crate) fits: bool,
-    /// How many of them were want of memory.
+    /// How many replies were out of memory.
     pub(crate) wanting: u32,
 }
 
@@ -154,7 +154,7 @@ impl Book {
         }
     }
 
-    /// Enters an event and its reply.
+    /// Records an event and its reply.
     pub(crate) fn enter(&mut self, step: Step, reply: Reply) -> Result<(), AllocError> {
         let wanted = self.reply_to(step);
         if reply == OUT_OF_MEMORY {
@@ -169,7 +169,7 @@ impl Book {
         Ok(())
     }
 
-    /// The reply to an event where memory is ample.
+    /// The reply to an event if memory suffices.
     fn reply_to(&self, step: Step) -> Reply {
         match step {
             Step::Take(_, _) | Step::Send(_) => Reply::Done,
@@ -189,7 +189,7 @@ impl Book {
         }
     }
 
-    /// Enters what an event that was done has changed.
+    /// Records what an event that was done changed.
     fn meet(&mut self, step: Step) -> Result<(), AllocError> {
         match step {
             Step::Take(office, file) => self.learn(office, file),
@@ -215,18 +215,18 @@ impl Book {
         self.offices.get(office).copied().unwrap_or(NONE)
     }
 
-    /// What a message tells.
+    /// What a message carries.
     fn known_by(&self, message: usize) -> Known {
         self.messages.get(message).copied().unwrap_or(NONE)
     }
 
-    /// An office knows these files too.
+    /// Adds these files to what an office knows.
     fn learn(&mut self, office: usize, files: Known) {
         let all = self.known(office).with(files);
         self.set(office, all);
     }
 
-    /// An office knows these files alone.
+    /// Sets what an office knows to these files only.
     fn set(&mut self, office: usize, files: Known) {
         if let Some(known) = self.offices.get_mut(office) {
             *known = files;
@@ -234,12 +234,12 @@ impl Book {
     }
 }
 
-/// Whether a reply is want of memory.
+/// Whether a reply is out of memory.
 pub(crate) fn is_out_of_memory(reply: &Reply) -> bool {
     *reply == OUT_OF_MEMORY
 }
 
-/// Whether an event with this reply is tried at all, so that it may want memory.
+/// Whether an event with this reply is tried at all, so that it may run out of memory.
 fn is_tried(reply: Reply) -> bool {
     match reply {
         Reply::Done => true,

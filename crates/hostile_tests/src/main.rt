@@ -1,6 +1,8 @@
-//! The rows of hostile use. Each line of standard input is one: it names what is called, on which of the texts beside the program, and the text that is to come
-//! of it. What came is printed, and what went wrong too, so that it is other than what the file `stdout` has. A row of `growth` makes its call once, and where
-//! memory was wanting once more: it is meant to be run while that call's growths are refused in turn.
+//! The rows of hostile use. Each line of standard input is a row: it names the call, the texts in
+//! the folder `data` on which it runs, and the text that must come out. The program prints what
+//! came out, and what went wrong too, which then differs from the file `stdout`. A row of `growth`
+//! makes its call once, and once more if memory ran out. It is meant to run while the growths of
+//! that call are refused in turn.
 #![tactic(auto)]
 
 mod answers;
@@ -32,7 +34,7 @@ fn main(rt: HostRuntime) {
     }
 }
 
-/// Does a row: its first word says whether it is of a growth.
+/// Runs a row. Its first word says whether it is a growth.
 fn do_row(desk: &Desk) {
     let words = desk.words();
     match words.as_slice() {

@@ -7,7 +7,7 @@ use crate::texts::{MOST_BYTES, compare_state, has_text, occasion_of, office_of, 
 use cif_line::Sink;
 use docker_office::Office;
 
-/// `STATE TEXT STATE`: an office with the first state reads the text, and has the last one then.
+/// `STATE TEXT STATE`: an office with the first state reads the text, and then has the last state.
 pub(crate) fn read(desk: &Desk, call: &str, words: &[&str]) {
     let [own, name, wanted] = words else {
         return desk.trouble("STATE TEXT STATE");
@@ -60,7 +60,8 @@ pub(crate) fn print(desk: &Desk, words: &[&str]) {
     }
 }
 
-/// Has an office print and compares that; false where it is refused and nothing is written. How the first call ended is printed.
+/// Lets an office print, prints how the call ended, and compares the docker. Returns false if the
+/// call is refused and nothing is written.
 fn has_printed(desk: &Desk, office: &Office, words: [&str; 3], is_first: bool) -> bool {
     let [place, day, wanted] = words;
     let Some((place, day)) = occasion_of(desk, place, day) else {

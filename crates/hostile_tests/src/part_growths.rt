@@ -1,4 +1,4 @@
-//! Growths of states that are built from their parts, and of what a state receives.
+//! Growths of states that are built from their parts, and of received parts.
 
 ghost use Rattle.std.specs.Prelude.{◌++◌};
 ghost use Rattle.docker_model.specs.state.Stamp.{IsFloor};
@@ -10,7 +10,7 @@ use crate::texts::{compare_state, has_text, state_of};
 use cif_line::Memory;
 use docker_state::{Parts, Staging, State};
 
-/// Which call is the row's.
+/// Which call is the call of the row.
 #[derive(Clone, Copy, PartialEq, Eq)]
 enum At {
     Item,
@@ -21,7 +21,7 @@ enum At {
     Nowhere,
 }
 
-/// The call of this name.
+/// The call with this name.
 fn call_of(call: &str) -> At {
     match call {
         "Parts::item" => At::Item,
@@ -32,21 +32,21 @@ fn call_of(call: &str) -> At {
     }
 }
 
-/// Prints the row where its call comes.
+/// Prints the row when its call begins.
 fn begin(desk: &Desk, here: bool) {
     if here {
         desk.begin();
     }
 }
 
-/// Prints how the row's call ended.
+/// Prints how the call of the row ended.
 fn end<T>(desk: &Desk, here: bool, done: &Result<T, Memory>) {
     if here {
         desk.end(ending_of(done));
     }
 }
 
-/// The state of one item and one entry, built from these parts, in the memory that the call at hand wants.
+/// The state of one item and one entry, built from its parts. Prints how the call `at` ends.
 fn rebuilt(desk: &Desk, one: &State, at: At) -> Result<State, Memory> {
     let (items, rows) = (one.ledger(), one.entries());
     if items.len() != 1 {
@@ -122,7 +122,7 @@ fn receive(desk: &Desk, own: &mut State, other: &State, at: At) -> Result<(), Me
     }
 }
 
-/// Commits what was received.
+/// Commits what was staged.
 fn commit(desk: &Desk, own: &mut State, staging: Staging, at: At) -> Result<(), Memory>
     requires { IsFloor (own.old.ledger ++ staging.items) staging.floor }
 {

@@ -45,7 +45,7 @@ macro_rules! deliver {
     };
 }
 
-/// What the run leaves.
+/// The results of the run.
 fn left_by_run(alloc: Global, files: &Files) -> Result<Exchange, Memory> {
     run(
         alloc,
@@ -76,7 +76,7 @@ fn left_by_run(alloc: Global, files: &Files) -> Result<Exchange, Memory> {
     )
 }
 
-/// What is known by the replies of a run.
+/// What is known from the replies of a run.
 fn book_of(desk: &Desk, left: &Exchange) -> Book {
     let mut book = Book::new(desk.alloc());
     for (step, reply) in STEPS.iter().zip(left.replies()) {
@@ -87,7 +87,7 @@ fn book_of(desk: &Desk, left: &Exchange) -> Book {
     book
 }
 
-/// Whether an office prints this docker of Ashfeld on 10 June.
+/// Whether an office prints this docker for Ashfeld on 10 June.
 fn prints(desk: &Desk, office: &Office, name: &str) -> bool {
     let Some((place, day)) = occasion_of(desk, "ASHFELD", "2024-06-10") else {
         return false;
@@ -106,7 +106,7 @@ fn knows(desk: &Desk, office: &Office, known: Known) -> bool {
     has_text(desk, office.state(), text.as_slice()) && prints(desk, office, known.docker())
 }
 
-/// Whether offices and messages are those of the book.
+/// Whether offices and messages are as the book says.
 fn is_left(desk: &Desk, left: &Exchange, book: &Book) -> bool {
     let mut same = book.fits
         && left.replies().len() == STEPS.len()
@@ -121,7 +121,7 @@ fn is_left(desk: &Desk, left: &Exchange, book: &Book) -> bool {
     same
 }
 
-/// The word for a reply.
+/// The word that is printed for a reply.
 fn word_of<'a>(reply: &Reply) -> &'a str {
     match reply {
         Reply::Done => "Done",
@@ -133,7 +133,7 @@ fn word_of<'a>(reply: &Reply) -> &'a str {
     }
 }
 
-/// Prints the replies, what each office has in the end, and what each message tells.
+/// Prints the replies, the final state of each office, and what each message carries.
 fn report_left(desk: &Desk, left: &Exchange) {
     let book = book_of(desk, left);
     for reply in left.replies() {
@@ -148,7 +148,7 @@ fn report_left(desk: &Desk, left: &Exchange) {
     report_same(desk, left, &book, 0);
 }
 
-/// Prints whether so many replies want memory, and all else is what the replies leave.
+/// Prints whether `wanting` replies are out of memory, and whether all else is as the replies say.
 fn report_same(desk: &Desk, left: &Exchange, book: &Book, wanting: u32) {
     let same = book.wanting == wanting && is_left(desk, left, book);
     desk.report(
@@ -157,7 +157,8 @@ fn report_same(desk: &Desk, left: &Exchange, book: &Book, wanting: u32) {
     );
 }
 
-/// `FIFTH SEVENTH NINTH OPEN`: the files are met by three offices that send, lose, repeat, reload and are asked for what isn't there.
+/// `FIFTH SEVENTH NINTH OPEN`: three offices meet the files. They send, lose, repeat, reload, and
+/// are asked for what doesn't exist.
 pub(crate) fn run_events(desk: &Desk, words: &[&str]) {
     let [fifth, seventh, ninth, open] = words else {
         return desk.trouble("FIFTH SEVENTH NINTH OPEN");
@@ -177,7 +178,8 @@ pub(crate) fn run_events(desk: &Desk, words: &[&str]) {
     }
 }
 
-/// Prints how a run ended, and of one in which an event wanted memory whether it left what its replies say.
+/// Prints how a run ended. If an event ran out of memory, prints whether the run left what its
+/// replies say.
 fn report_first(desk: &Desk, left: Result<Exchange, Memory>) {
     match left {
         Ok(left) => report_ended(desk, &left),
@@ -188,7 +190,7 @@ fn report_first(desk: &Desk, left: Result<Exchange, Memory>) {
     }
 }
 
-/// The same of a run that met its events.
+/// Like `report_first`, for a run that met its events.
 fn report_ended(desk: &Desk, left: &Exchange) {
     if !ran_out_of_memory(left) {
         return desk.end(Ending::Done);
@@ -199,7 +201,7 @@ fn report_ended(desk: &Desk, left: &Exchange) {
     report_same(desk, left, &book, 1);
 }
 
-/// Whether a reply is want of memory.
+/// Whether a reply is out of memory.
 fn ran_out_of_memory(left: &Exchange) -> bool {
     left.replies().iter().any(is_out_of_memory)
 }

@@ -1,4 +1,4 @@
-//! Answers to numbers, told by spans in which they are the same.
+//! Answers to consecutive numbers, printed as spans with equal answers.
 
 use crate::answers::Answer;
 use crate::desk::Desk;

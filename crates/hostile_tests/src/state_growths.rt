@@ -1,4 +1,5 @@
-//! Growths of the join of states, of the readers of their texts, of dockers, and of a sink in memory.
+//! Growths of the join of states, of the readers of their texts, of dockers, and of a sink in
+//! memory.
 
 use crate::desk::Desk;
 use crate::endings::{Ending, ending_of};
@@ -28,7 +29,7 @@ pub(crate) fn join(desk: &Desk, words: &[&str]) {
     }
 }
 
-/// Joins two states, and compares what came of it; or they are handed back.
+/// Joins two states, and compares the result. If memory runs out, both are returned.
 fn joined(desk: &Desk, one: State, other: State, wanted: &str) -> Result<(), (State, State)> {
     match one.join(desk.alloc(), other) {
         Ok(state) => {
@@ -43,7 +44,7 @@ fn joined(desk: &Desk, one: State, other: State, wanted: &str) -> Result<(), (St
     }
 }
 
-/// Joins states that were handed back.
+/// Joins states that were returned.
 fn join_again(desk: &Desk, one: State, other: State, wanted: &str) {
     match one.join(desk.alloc(), other) {
         Ok(state) => compare_state(desk, &state, wanted),
@@ -56,7 +57,7 @@ fn new_parser(desk: &Desk) -> StateParser {
     StateParser::new(desk.alloc(), MOST_BYTES)
 }
 
-/// Feeds a text in pieces, up to the first refusal.
+/// Feeds a text in pieces, up to the first fault.
 fn feed_all(parser: &mut StateParser, text: &[u8]) -> Result<(), StateFault> {
     for piece in text.chunks(STEP) {
         parser.feed(piece)?;
@@ -64,7 +65,7 @@ fn feed_all(parser: &mut StateParser, text: &[u8]) -> Result<(), StateFault> {
     Ok(())
 }
 
-/// Whether a parser answers each later call by the same fault.
+/// Whether a parser returns the same fault from each later call.
 fn repeats(mut parser: StateParser, fault: StateFault) -> bool {
     let fed = parser.feed(b"").err();
     let again = parser.feed(b"DKS2").err();
@@ -72,7 +73,7 @@ fn repeats(mut parser: StateParser, fault: StateFault) -> bool {
     fed == Some(fault) && again == Some(fault) && finished == Some(fault)
 }
 
-/// Compares the state of what a parser was fed.
+/// Compares the text of the state that a fed parser returns.
 fn compare_fed(desk: &Desk, parser: StateParser, wanted: &str) {
     match parser.finish() {
         Ok(state) => compare_state(desk, &state, wanted),
@@ -80,7 +81,7 @@ fn compare_fed(desk: &Desk, parser: StateParser, wanted: &str) {
     }
 }
 
-/// Feeds a text once more, to another parser.
+/// Feeds a text to another parser.
 fn feed_again(desk: &Desk, text: &[u8], wanted: &str) {
     let mut parser = new_parser(desk);
     match feed_all(&mut parser, text) {
@@ -108,7 +109,7 @@ pub(crate) fn feed(desk: &Desk, words: &[&str]) {
     }
 }
 
-/// `STATE`: the parser that was fed the text is asked for its state.
+/// `STATE`: the parser, which was fed the text, is asked for its state.
 pub(crate) fn finish(desk: &Desk, words: &[&str]) {
     let [name] = words else {
         return desk.trouble("STATE");
@@ -127,7 +128,7 @@ pub(crate) fn finish(desk: &Desk, words: &[&str]) {
     }
 }
 
-/// `STATE`: the state of a source.
+/// `STATE`: the state is read from a source.
 pub(crate) fn read(desk: &Desk, words: &[&str]) {
     let [name] = words else {
         return desk.trouble("STATE");
@@ -142,12 +143,12 @@ pub(crate) fn read(desk: &Desk, words: &[&str]) {
     }
 }
 
-/// A state receives that of a text.
+/// Lets a state receive the state of a text.
 fn receive(desk: &Desk, state: &mut State, text: &[u8]) -> Result<(), ReadFault> {
     join_state(desk.alloc(), state, &mut source_of(text), MOST_BYTES)
 }
 
-/// `STATE OTHER JOINED`: a state receives that of a source.
+/// `STATE OTHER JOINED`: a state receives the state from a source.
 pub(crate) fn join_text(desk: &Desk, words: &[&str]) {
     let [own, other, wanted] = words else {
         return desk.trouble("STATE OTHER JOINED");
@@ -172,7 +173,7 @@ fn migrated(desk: &Desk, text: &[u8]) -> Result<State, ReadFault> {
     migrate(desk.alloc(), &mut source_of(text), MOST_BYTES)
 }
 
-/// `OLDER STATE`: the state of a source in the older format.
+/// `OLDER STATE`: the state is read from a source in the older format.
 pub(crate) fn migrate_text(desk: &Desk, words: &[&str]) {
     let [name, wanted] = words else {
         return desk.trouble("OLDER STATE");
@@ -198,7 +199,7 @@ fn compare_docker(desk: &Desk, docker: &Docker<'_>, wanted: &str) {
     }
 }
 
-/// `STATE TIPLOC DATE DOCKER`: the docker of a place on a day.
+/// `STATE TIPLOC DATE DOCKER`: the docker for a place and a day.
 pub(crate) fn make_docker(desk: &Desk, words: &[&str]) {
     let [name, place, day, wanted] = words else {
         return desk.trouble("STATE TIPLOC DATE DOCKER");
@@ -214,7 +215,8 @@ pub(crate) fn make_docker(desk: &Desk, words: &[&str]) {
     }
 }
 
-/// Makes a docker and compares it; false where memory is wanting. How the first call ended is printed.
+/// Makes a docker, prints how the first call ended, and compares the docker. Returns false if
+/// memory runs out.
 fn has_made(desk: &Desk, state: &State, words: [&str; 3], is_first: bool) -> bool {
     let [place, day, wanted] = words;
     let Some((place, day)) = occasion_of(desk, place, day) else {
@@ -241,7 +243,7 @@ fn room_for(desk: &Desk, text: &[u8]) -> Result<Kept, Memory> {
     Kept::new(desk.alloc(), text.len())
 }
 
-/// Compares a text with what a sink keeps of it.
+/// Compares a text with what a sink keeps.
 fn compare_kept(desk: &Desk, kept: Result<Kept, Memory>, text: &[u8], name: &str) {
     match kept {
         Ok(mut kept) => {

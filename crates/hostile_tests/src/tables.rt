@@ -1,4 +1,4 @@
-//! The tables: texts that are cut, limits, sources without end, and devices that fail.
+//! The tables: texts that are cut, limits, sources without end, and failing devices.
 ghost use Rattle.std.specs.Prelude.{◌<◌, length};
 
 use crate::answers::Answer;
@@ -11,24 +11,25 @@ use cif_line::{Bytes, Endless};
 use docker_cmd::Fault;
 use docker_office::{Office, OfficeFault};
 
-/// How many bytes a read gives at most, in turn, where it isn't one.
+/// The greatest numbers of bytes per read that are tried, besides one.
 const STEPS: [usize; 2] = [7, 4096];
 
-/// What an office is asked for: a call under a limit, on an office with the state of one text, after which it is to have that of another.
+/// What an office is asked to do: a call under a limit, for an office with the state of one text,
+/// which then must have the state of another text.
 #[derive(Clone, Copy, Drop)]
 pub(crate) struct Asked<'a> {
     /// The call.
     pub(crate) call: Call,
     /// The text before.
     pub(crate) before: &'a [u8],
-    /// The text after, where the call is done.
+    /// The text after, if the call is done.
     pub(crate) after: &'a [u8],
     /// The most records, or bytes.
     pub(crate) limit: u64,
 }
 
 impl<'a> Asked<'a> {
-    /// What an office answers that was asked.
+    /// The answer of an office that was asked.
     pub(crate) fn judge(
         &self,
         desk: &Desk,
@@ -53,7 +54,7 @@ impl<'a> Asked<'a> {
         }
     }
 
-    /// The answer where a source gives this text, so many bytes at a read.
+    /// The answer if a source gives this text, `step` bytes per read.
     fn answer(&self, desk: &Desk, text: &[u8], step: usize) -> Answer
         requires { 0 < step }
     {
@@ -67,7 +68,7 @@ impl<'a> Asked<'a> {
         self.judge(desk, &office, done)
     }
 
-    /// The answer where it is the same for each number of bytes at a read.
+    /// The answer, if it is the same for each number of bytes per read.
     pub(crate) fn answer_to(&self, desk: &Desk, text: &[u8]) -> Answer {
         let mut answer = self.answer(desk, text, 1);
         for step in STEPS {
@@ -78,7 +79,7 @@ impl<'a> Asked<'a> {
         answer
     }
 
-    /// The answer where a source gives one text, and then another without end.
+    /// The answer if a source gives one text, and then another without end.
     fn answer_without_end(&self, desk: &Desk, front: &[u8], again: &[u8], step: usize) -> Answer
         requires step { 0 < step }
         requires again { 0 < length again.now }
@@ -89,7 +90,7 @@ impl<'a> Asked<'a> {
         self.judge(desk, &office, done)
     }
 
-    /// The same where it is the same for each number of bytes at a read.
+    /// Like `answer_to`, for a text without end.
     fn answer_to_endless(&self, desk: &Desk, front: &[u8], again: &[u8]) -> Answer
         requires { 0 < length again.now }
     {
@@ -103,7 +104,7 @@ impl<'a> Asked<'a> {
     }
 }
 
-/// Does the row of a table.
+/// Runs the row of a table.
 pub(crate) fn do_row(desk: &Desk, table: &str, words: &[&str]) {
     match table {
         "cut" => cut(desk, words),
@@ -118,7 +119,7 @@ pub(crate) fn do_row(desk: &Desk, table: &str, words: &[&str]) {
     }
 }
 
-/// `CALL STATE TEXT STATE`: the text is cut to each number of bytes.
+/// `CALL STATE TEXT STATE`: the text is cut after each number of bytes.
 fn cut(desk: &Desk, words: &[&str]) {
     let [call, own, name, wanted] = words else {
         return desk.trouble("CALL STATE TEXT STATE");
@@ -143,7 +144,7 @@ fn cut_all(desk: &Desk, asked: Asked<'_>, text: &[u8]) {
     spans.report(desk);
 }
 
-/// A limit; that of a word that is no number is 0.
+/// A limit. A word that isn't a number gives 0.
 fn limit_of(word: &str) -> u64 {
     word.parse::<u64>().unwrap_or(0)
 }
@@ -165,7 +166,7 @@ fn limit(desk: &Desk, words: &[&str]) {
     asked.answer_to(desk, text.as_slice()).report(desk);
 }
 
-/// `CALL STATE FRONT AGAIN LIMIT`: a front and then another text again and again, under a limit.
+/// `CALL STATE FRONT AGAIN LIMIT`: a front, then another text repeated without end, under a limit.
 fn endless(desk: &Desk, words: &[&str]) {
     let [call, own, front, again, limit] = words else {
         return desk.trouble("CALL STATE FRONT AGAIN LIMIT");

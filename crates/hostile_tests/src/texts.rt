@@ -1,4 +1,4 @@
-//! What is made of texts, and the texts of what was made.
+//! What is made from texts, and the texts of what was made.
 ghost use Rattle.std.specs.Prelude.{◌≡◌, IfSome};
 
 use crate::desk::Desk;
@@ -9,13 +9,13 @@ use docker_bytes::{read_state, write_state};
 use docker_office::Office;
 use docker_state::State;
 
-/// The most bytes that a text has that is written.
+/// The greatest length of a written text.
 pub(crate) const ROOM: usize = 2000;
 
-/// How many bytes a source gives at a read, where that decides nothing.
+/// How many bytes a source gives per read, if the number doesn't matter.
 pub(crate) const STEP: usize = 100;
 
-/// The most bytes of a state, where that decides nothing.
+/// The most bytes of a state, if the number doesn't matter.
 pub(crate) const MOST_BYTES: u64 = 1_099_511_627_776;
 
 /// A source that gives this text.
@@ -54,7 +54,7 @@ pub(crate) fn office_of(desk: &Desk, text: &[u8]) -> Office {
     office
 }
 
-/// A sink with room for each text that is written.
+/// A sink with room for each written text.
 pub(crate) fn sink(desk: &Desk) -> Option<Kept>
     ensures { IfSome result (λ kept. kept.failures ≡ 0) }
 {
@@ -75,13 +75,13 @@ pub(crate) fn has_text(desk: &Desk, state: &State, text: &[u8]) -> bool {
     }
 }
 
-/// Prints the name of a text that lies beside the program, if it is that of a state.
+/// Prints the name of a text in the folder `data`, if it is the text of a state.
 pub(crate) fn compare_state(desk: &Desk, state: &State, name: &str) {
     let text = desk.text(name);
     desk.report(has_text(desk, state, text.as_slice()), name);
 }
 
-/// The timing point and the day of two words.
+/// The timing point and the day that two words name.
 pub(crate) fn occasion_of(desk: &Desk, place: &str, day: &str) -> Option<(Tiploc, Day)> {
     match (Tiploc::from_text(place), Day::from_iso(day)) {
         (Some(place), Some(day)) => Some((place, day)),

@@ -10,13 +10,14 @@ use Rattle.docker_model.specs.state.Stamp.{IsFloor}
 use Rattle.docker_model.specs.state.State.{State, IsGoodEntry, AreAscending, AreEntries}
 use Rattle.docker_state.specs.Staging.{Staging, IsAboveStaged, IsOffered}
 
--- entries that can be offered in their order: each is good over the items received and above what is staged, and their keys ascend
+-- entries that can be offered in their order: each is good over the items received and above what
+-- is staged, and their keys ascend
 pub record CanBeOffered (staging : Staging) (entries : List (Key × Entry)) : Type 0 where
   pub good : AllByRecursion (IsGoodEntry staging.items) entries
   pub above : AllByRecursion (λ (entry : Key × Entry). IsAboveStaged staging.staged entry.0) entries
   pub ascending : AreAscending entries
 
--- the key is above the one that is staged last too
+-- the key is above the last staged key too
 above_both : (staged : List (Key × Entry)) (entry next : Key × Entry) → IsAboveStaged staged next.0 → key_cmp entry.0 next.0 ≡ Less
     → IsAboveStaged (staged ++ entry ∷ []) next.0
 above_both staged entry next above below other among = by (Contains-push_cases staged entry other among)
@@ -32,7 +33,7 @@ all_above : (staged : List (Key × Entry)) (entry : Key × Entry) (rest : List (
 all_above staged entry [] below above = tt
 all_above staged entry (next ∷ rest) below above = (above_both staged entry next above.0 below.0, all_above staged entry rest below.1 above.1)
 
--- after the first the rest can be offered
+-- after the first entry, the rest can be offered
 pub rest_offered : (own : State) (staging after : Staging) (entry : Key × Entry) (rest : List (Key × Entry)) → CanBeOffered staging (entry ∷ rest)
     → IsOffered own staging entry.0 entry.1 after → CanBeOffered after rest
 rest_offered own staging after entry rest can (inl to) =
@@ -51,7 +52,7 @@ none_staged : (entries : List (Key × Entry)) → AllByRecursion (λ (entry : Ke
 none_staged [] = tt
 none_staged (entry ∷ rest) = (λ other among. absurd (let below : among.0 < length {A = Key × Entry} [] = among.1 in omega arith), none_staged rest)
 
--- where nothing is staged, the entries of a state can be offered
+-- if nothing is staged, the entries of a state can be offered
 pub all_offered : (staging : Staging) (entries : List (Key × Entry)) → staging.staged ≡ [] → AreEntries staging.items entries → CanBeOffered staging entries
 all_offered staging entries none are = record {
   good = recursion_from_All (IsGoodEntry staging.items) entries are.0;

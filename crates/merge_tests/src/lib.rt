@@ -1,4 +1,5 @@
-//! The worked rows of entries, tables and states: made of files, merged, joined, with horizons, staged, and the calls at a place; and of indexes of rows. There is no code here, only tests.
+//! Worked rows for entries, tables and states: made of files, merged, joined, with horizons, and
+//! staged; the calls at a place; and indexes of rows. This crate holds only tests.
 #![tactic(auto)]
 
 #[cfg(test)]

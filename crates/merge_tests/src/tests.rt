@@ -19,7 +19,8 @@ mod tables;
 
 use shown::{add_line, shown};
 
-// A test's values are compared by calls of this, which ends the test where they differ: an assertion in a function of its own is proved once for all rows.
+// Tests compare values with this function, which ends the test if they differ. An assertion in its
+// own function is proved once for all rows.
 
 fn same<T: PartialEq + Debug + Drop>(rt: &impl Abort, got: T, wanted: T) {
     assert_eq!(rt; got, wanted);
@@ -56,7 +57,7 @@ fn pair(rt: &impl Abort, alloc: Global, one: &[&[u8]], other: &[&[u8]]) -> State
     joined(rt, alloc, first, state(rt, alloc, other))
 }
 
-/// A state with these days set as its horizon, in turn.
+/// A state after these days are set as its horizon, one by one.
 fn set(rt: &impl Abort, mut state: State, days: &[&str]) -> State {
     for day in days {
         state.set_horizon(Day::from_iso(day).expect(rt, "a day"));
@@ -64,19 +65,19 @@ fn set(rt: &impl Abort, mut state: State, days: &[&str]) -> State {
     state
 }
 
-/// The state of a file with these days set.
+/// The state of a file after these days are set.
 fn set_on(rt: &impl Abort, alloc: Global, file: &[&[u8]], days: &[&str]) -> State {
     set(rt, state(rt, alloc, file), days)
 }
 
-/// That a state is told as these lines say.
+/// Asserts that a state is shown as these lines.
 fn shown_is(rt: &impl Abort, alloc: Global, state: &State, lines: &[&[u8]]) {
     let shown = shown(rt, alloc, state);
     let wanted = text(rt, alloc, lines);
     same(rt, shown.as_slice(), wanted.as_slice());
 }
 
-/// That a state is as these lines say, and answers the entry of each of its keys.
+/// Asserts that a state is shown as these lines, and returns the entry of each of its keys.
 fn state_is(rt: &impl Abort, alloc: Global, state: &State, lines: &[&[u8]]) {
     shown_is(rt, alloc, state, lines);
     for row in state.entries() {
@@ -84,12 +85,12 @@ fn state_is(rt: &impl Abort, alloc: Global, state: &State, lines: &[&[u8]]) {
     }
 }
 
-/// That a state that was made is so.
+/// Asserts that a state was made, and is shown as these lines.
 fn made_is(rt: &impl Abort, alloc: Global, made: State, lines: &[&[u8]]) {
     state_is(rt, alloc, &made, lines);
 }
 
-/// That a state is told as it was before.
+/// Asserts that a state is shown as before.
 fn shown_again(rt: &impl Abort, alloc: Global, state: &State, before: &[u8]) {
     let again = shown(rt, alloc, state);
     same(rt, again.as_slice(), before);

@@ -1,4 +1,5 @@
-//! The worked rows of records: devices, fields, and the view and the leftmost bad field of each kind. There is no code here, only tests.
+//! Worked rows for records: devices, fields, and for each kind of record its view and its leftmost
+//! bad field. This crate holds only tests.
 #![tactic(auto)]
 
 #[cfg(test)]

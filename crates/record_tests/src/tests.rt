@@ -10,7 +10,8 @@ mod records;
 mod times;
 mod tiplocs;
 
-// A test's values are compared by calls of these, which end the test where they differ: an assertion in a function of its own is proved once for all rows.
+// Tests compare values with these functions, which end the test if they differ. An assertion in its
+// own function is proved once for all rows.
 
 fn same<T: PartialEq + Debug + Drop>(rt: &impl Abort, got: T, wanted: T) {
     assert_eq!(rt; got, wanted);

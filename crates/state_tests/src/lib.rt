@@ -1,4 +1,5 @@
-//! The worked rows of states and of their texts: made, joined, written, read, received and migrated. There is no code here, only tests.
+//! Worked rows for states and their texts: made, joined, written, read, received and migrated. This
+//! crate holds only tests.
 #![tactic(auto)]
 
 #[cfg(test)]

@@ -25,7 +25,8 @@ mod parts;
 mod received;
 mod records;
 
-// A test's values are compared by calls of these, which end the test where they differ: an assertion in a function of its own is proved once for all rows.
+// Tests compare values with these functions, which end the test if they differ. An assertion in its
+// own function is proved once for all rows.
 
 fn same<T: PartialEq + Debug + Drop>(rt: &impl Abort, got: T, wanted: T) {
     assert_eq!(rt; got, wanted);
@@ -66,20 +67,20 @@ fn join(rt: &impl Abort, alloc: Global, one: State, other: State) -> State {
     one.join(alloc, other).expect(rt, "room")
 }
 
-/// The text that is written of a state.
+/// The text that is written for a state.
 fn written(rt: &impl Abort, alloc: Global, state: &State) -> Kept {
     let mut kept = Kept::new(alloc, 1000).expect(rt, "room");
     same(rt, write_state(state, &mut kept), Ok(()));
     kept
 }
 
-/// That a state has this text.
+/// Asserts that a state has this text.
 fn text_is(rt: &impl Abort, alloc: Global, state: &State, wanted: &[u8]) {
     let text = written(rt, alloc, state);
     same(rt, text.bytes(), wanted);
 }
 
-/// The state of a text, which is read by so many bytes.
+/// The state of a text, which is read `step` bytes at a time.
 fn read(rt: &impl Abort, alloc: Global, text: &[u8], step: usize, limit: u64) -> State
     requires { 0 < step }
 {
@@ -97,7 +98,7 @@ fn known_state(rt: &impl Abort, alloc: Global) -> State {
     state(rt, alloc, &[HD, BS, LO, LT, ZZ])
 }
 
-/// That a state has a text of so many bytes, and that this text is read back.
+/// Asserts that a state has a text of `len` bytes, and that this text is read back.
 fn goes_round(rt: &impl Abort, alloc: Global, state: &State, len: usize, step: usize)
     requires { 0 < step }
 {
@@ -153,12 +154,13 @@ fn a_full_sink_has_a_beginning(rt: HostRuntime) {
     same(&rt, kept.bytes(), front);
 }
 
-/// A fault of a text.
+/// A fault at this offset.
 fn at(at: u64, cause: StateCause) -> StateFault {
     StateFault { at, cause }
 }
 
-/// The fault that a parser tells of a piece which begins there, or a byte of it behind the state.
+/// The fault that a parser returns for a piece beginning at this offset, or the fault of a byte
+/// after the state.
 fn fault_in(parser: &mut StateParser, piece: &[u8], begins: u64) -> Option<StateFault> {
     match parser.feed(piece) {
         Ok((used, _)) if used < piece.len() => {
@@ -170,7 +172,8 @@ fn fault_in(parser: &mut StateParser, piece: &[u8], begins: u64) -> Option<State
     }
 }
 
-/// The fault of a text, as a parser that is fed so many bytes at once tells it, and a byte behind the state where it is left.
+/// The fault of a text that a parser is fed `step` bytes at a time. A byte that it leaves after the
+/// state is a fault too.
 fn fault_fed(alloc: Global, text: &[u8], limit: u64, step: usize) -> Option<StateFault>
     requires { 0 < step }
 {
@@ -186,7 +189,8 @@ fn fault_fed(alloc: Global, text: &[u8], limit: u64, step: usize) -> Option<Stat
     parser.finish().err()
 }
 
-/// That a text has this fault under this limit, where it is read by so many bytes and where a parser is fed so many.
+/// Asserts that a text has this fault under this limit, both when it is read and when a parser is
+/// fed, `step` bytes at a time.
 fn refused_by(
     rt: &impl Abort,
     alloc: Global,
@@ -203,7 +207,7 @@ fn refused_by(
     same(rt, fault_fed(alloc, text, limit, step), Some(fault));
 }
 
-/// That a text of these pieces has this fault under this limit, as each way of reading tells it.
+/// Asserts that each way of reading finds this fault in a text of these pieces under this limit.
 fn refused(rt: &impl Abort, alloc: Global, pieces: &[&[u8]], limit: u64, fault: StateFault) {
     let text = joined_text(rt, alloc, pieces);
     refused_by(rt, alloc, text.as_slice(), limit, fault, 1);
@@ -213,10 +217,10 @@ fn refused(rt: &impl Abort, alloc: Global, pieces: &[&[u8]], limit: u64, fault: 
 /// Pieces of a text that is refused, and its fault.
 type Row = (&'static [&'static [u8]], u64, StateCause);
 
-/// Where the parts of the text of a schedule begin that may be cut.
+/// Where the parts of the text of a schedule begin, for cutting it.
 const BEGINNINGS: [u64; 6] = [0, 4, 6, 14, 33, 41];
 
-/// The last of these places, which ascend from 0, that is not behind a length.
+/// The last of these places that isn't after a length. They ascend from 0.
 fn last_place(places: &[u64], len: usize) -> u64 {
     let mut last = 0;
     for place in places {
@@ -294,7 +298,7 @@ fn faults_of_an_entry(rt: HostRuntime) {
     }
 }
 
-/// That each front of a text, whose parts begin at these places, is too short.
+/// Asserts that each front of a text, whose parts begin at these places, is too short.
 fn refused_fronts(rt: &impl Abort, alloc: Global, text: &[u8], places: &[u64]) {
     for (n, _) in text.iter().enumerate() {
         let fault = at(last_place(places, n), StateCause::Short);
@@ -314,7 +318,7 @@ fn faults_of_length(rt: HostRuntime) {
     refused_fronts(&rt, alloc, known, &BEGINNINGS);
 }
 
-/// That a parser which is fed more than a state uses the bytes of the state alone.
+/// Asserts that a parser which is fed more than a state uses only the bytes of the state.
 fn uses_the_state(rt: &impl Abort, alloc: Global, known: &[u8]) {
     let longer = joined_text(rt, alloc, &[known, b"\0"]);
     let mut parser = StateParser::new(alloc, 1000);
@@ -345,14 +349,14 @@ fn a_fault_is_reported_again(rt: HostRuntime) {
     same(&rt, parser.finish().err(), Some(fault));
 }
 
-/// That a parser wants memory, at the item or at the entry, and does so again.
+/// Asserts that a parser ran out of memory at the item or at the entry, and reports it again.
 fn runs_out_of_memory(rt: &impl Abort, parser: &mut StateParser, known: &[u8], fault: StateFault) {
     same(rt, fault.cause, StateCause::Memory);
     same(rt, fault.at == 14 || fault.at == 41, true);
     same(rt, parser.feed(known), Err(fault));
 }
 
-/// That a text is fed, or memory is wanting.
+/// Asserts that a parser takes a text, or runs out of memory.
 fn fed_or_out_of_memory(rt: &impl Abort, alloc: Global, known: &[u8]) {
     let mut parser = StateParser::new(alloc, 1000);
     match parser.feed(known) {
@@ -361,7 +365,7 @@ fn fed_or_out_of_memory(rt: &impl Abort, alloc: Global, known: &[u8]) {
     }
 }
 
-/// That it is read, or memory is wanting.
+/// Asserts that a text is read, or memory runs out.
 fn read_or_out_of_memory(rt: &impl Abort, alloc: Global, known: &[u8]) {
     match read_state(alloc, &mut Bytes::new(known, 64), 311) {
         Ok(state) => same(rt, encoded_len(&state), 311),

@@ -32,7 +32,7 @@ fn suffixes(rt: HostRuntime) {
     shows(&rt, rt.alloc(), &[file], "COLWELL", "2024-06-10", lines);
 }
 
-/// There is no day behind the last one.
+/// No day follows the last one.
 #[test]
 fn last_day_of_the_calendar(rt: HostRuntime) {
     let file: &[&[u8]] = &[HD, BS_LAST_DAY, LO_2300, LT_2350, AA_LAST_DAY, ZZ];
@@ -40,7 +40,8 @@ fn last_day_of_the_calendar(rt: HostRuntime) {
     shows(&rt, rt.alloc(), &[file], "COLWELL", "2059-12-31", lines);
 }
 
-/// That C40001 with the cancellation of a schedule, and C40002 a day later, which it works on as, give these lines at Colwell.
+/// Asserts the lines at Colwell when one of two trains is cancelled: C40001, or C40002, which
+/// C40001 becomes a day later.
 fn without(rt: &impl Abort, alloc: Global, cancellation: &[u8], lines: &[&[u8]]) {
     let file: &[&[u8]] = &[
         HD,
@@ -70,7 +71,7 @@ fn cancelled_base(rt: HostRuntime) {
     without(&rt, rt.alloc(), BS_BASE_CANCELLED, &[]);
 }
 
-/// That C40001 with this association, and C40002 a day later, give these lines at Colwell.
+/// Asserts the lines at Colwell of C40001 with this association, and of C40002 a day later.
 fn works_on(rt: &impl Abort, alloc: Global, association: &[u8], lines: &[&[u8]]) {
     let file: &[&[u8]] = &[
         HD,
@@ -86,16 +87,16 @@ fn works_on(rt: &impl Abort, alloc: Global, association: &[u8], lines: &[&[u8]])
     shows(rt, alloc, &[file], "COLWELL", "2024-06-10", lines);
 }
 
-/// Each date indicator, another one, and another category.
+/// Each date indicator, an unknown one, and an unknown category.
 #[test]
 fn date_indicators(rt: HostRuntime) {
-    let alone: &[&[u8]] = &[COMES_2350];
+    let only: &[&[u8]] = &[COMES_2350];
     let known: &[&[u8]] = &[COMES_2350, WORKS_ON];
     let unknown: &[&[u8]] = &[COMES_2350, WORKS_ON_UNKNOWN];
     works_on(&rt, rt.alloc(), AA_NEXT, known);
     works_on(&rt, rt.alloc(), AA_SAME, unknown);
     works_on(&rt, rt.alloc(), AA_SPACE, unknown);
     works_on(&rt, rt.alloc(), AA_BEFORE, unknown);
-    works_on(&rt, rt.alloc(), AA_NO_INDICATOR, alone);
-    works_on(&rt, rt.alloc(), AA_NO_CATEGORY, alone);
+    works_on(&rt, rt.alloc(), AA_NO_INDICATOR, only);
+    works_on(&rt, rt.alloc(), AA_NO_CATEGORY, only);
 }

@@ -1,4 +1,4 @@
-//! The schedule that counts on a day.
+//! Which schedule a train runs by on a day.
 
 use super::lines::{LEAVES_0900, LEAVES_0910, LEAVES_0915};
 use super::records::{
@@ -34,7 +34,7 @@ fn choice(rt: HostRuntime) {
     shows(&rt, alloc, files, "ASHFELD", "2024-06-16", &[LEAVES_0900]);
 }
 
-/// The same with a fourth schedule, which begins later.
+/// The same file with a fourth schedule, which begins later.
 #[test]
 fn choice_with_a_later_schedule(rt: HostRuntime) {
     let alloc = rt.alloc();
@@ -61,7 +61,7 @@ fn choice_with_a_later_schedule(rt: HostRuntime) {
     shows(&rt, alloc, files, "ASHFELD", "2024-06-16", &[LEAVES_0910]);
 }
 
-/// That the schedule of C10001 that is chosen for a day has this STP indicator.
+/// Asserts that the schedule chosen for C10001 on a day has this STP indicator.
 fn chosen_is(rt: &impl Abort, state: &State, on: &str, wanted: Option<Stp>) {
     let uid = Uid::from_field(b"C10001").expect(rt, "a UID");
     let stp = match chosen(state, &uid, day(rt, on)) {
@@ -71,7 +71,7 @@ fn chosen_is(rt: &impl Abort, state: &State, on: &str, wanted: Option<Stp>) {
     same(rt, stp, wanted);
 }
 
-/// A chosen cancellation is handed out.
+/// A chosen cancellation is returned.
 #[test]
 fn chosen_cancellation(rt: HostRuntime) {
     let state = state(&rt, rt.alloc(), &[HD, BS_WEEK, LO, LT, BS_CANCELLED, ZZ]);
@@ -80,7 +80,7 @@ fn chosen_cancellation(rt: HostRuntime) {
     chosen_is(&rt, &state, "2024-06-17", None);
 }
 
-/// The days of a basic schedule by itself.
+/// The days on which a basic schedule runs.
 #[test]
 fn days(rt: HostRuntime) {
     let line = Line::new(BS).expect(&rt, "a line");

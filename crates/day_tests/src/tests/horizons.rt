@@ -7,13 +7,14 @@ use docker_state::State;
 use std::alloc::Global;
 use std::process::Abort;
 
-/// That a day's docker of Ashfeld is refused.
+/// Asserts that the docker of Ashfeld on a day is refused.
 fn is_refused(rt: &impl Abort, alloc: Global, state: &State, on: &str) {
     let fault = docker(alloc, state, &place(rt, "ASHFELD"), day(rt, on)).err();
     same(rt, fault, Some(DockerFault::Lapsed));
 }
 
-/// A docker is refused before the horizon plus three days; an earlier horizon changes nothing.
+/// A docker is refused for days before the horizon plus three. Setting an earlier horizon changes
+/// nothing.
 #[test]
 fn horizons(rt: HostRuntime) {
     let alloc = rt.alloc();
@@ -29,7 +30,7 @@ fn horizons(rt: HostRuntime) {
     lines_are(&rt, alloc, &state, "ASHFELD", "2024-06-18", &[]);
 }
 
-/// What has lapsed keeps its stamp, so that no older file brings it back.
+/// A lapsed entry keeps its stamp, so that an older file can't bring it back.
 #[test]
 fn older_file_after_a_horizon(rt: HostRuntime) {
     let alloc = rt.alloc();

@@ -1,5 +1,5 @@
-//! A docker where a growth is refused: the state is as it was, and the same call again gives the docker. Which growth that is says the run of the tests: each
-//! other call is tried twice.
+//! Dockers when memory runs out: the state stays as it was, and a second call gives the docker. The
+//! test run decides which growth fails. Every other call is tried twice.
 
 use super::lines::{AGAIN_COMES, AGAIN_LEAVES, DIVIDES, FIRST_COMES, FIRST_LEAVES, OTHER_LEAVES};
 use super::records::{
@@ -13,13 +13,13 @@ use docker_state::State;
 use std::alloc::Global;
 use std::process::Abort;
 
-/// The file of a train that calls twice at Colwell, and of another that divides from it there.
+/// The file of a train that calls twice at Colwell, and of a train that divides from it there.
 const DIVIDED: &[&[u8]] = &[
     HD, BS_C30001, LO_1000, LI_1010, LI_1040, LT_1100, BS_C30002, LO_1045, LT_DUNMERE, AA_DIVIDES,
     ZZ,
 ];
 
-/// The text of the docker of Colwell, which grows its list more than once.
+/// The text of the docker for Colwell. Its list grows more than once.
 const COLWELL: &[&[u8]] = &[
     b"DOCKER COLWELL 2024-06-10                               ",
     FIRST_COMES,
@@ -39,7 +39,7 @@ fn divided(rt: &impl Abort, alloc: Global) -> State {
     }
 }
 
-/// That a state has so many ledger items, entries and live rows.
+/// Asserts how many ledger items, entries and live rows a state has.
 fn counts_are(rt: &impl Abort, state: &State, items: usize, entries: usize, rows: usize) {
     let mut live = 0usize;
     for _ in state.live() {
@@ -50,7 +50,7 @@ fn counts_are(rt: &impl Abort, state: &State, items: usize, entries: usize, rows
     same(rt, live, rows);
 }
 
-/// What a sink takes of a docker; again where the sink's growth was refused.
+/// What a sink receives of a docker, on a second try if the sink couldn't grow.
 fn taken(rt: &impl Abort, alloc: Global, docker: &Docker<'_>) -> Kept {
     match written(alloc, docker) {
         Some(kept) => kept,
@@ -58,7 +58,7 @@ fn taken(rt: &impl Abort, alloc: Global, docker: &Docker<'_>) -> Kept {
     }
 }
 
-/// The text of the docker of Colwell, which is made again where a growth of it was refused.
+/// The text of the docker for Colwell, on a second try if the first ran out of memory.
 fn made(rt: &impl Abort, alloc: Global, state: &State) -> Kept {
     let place = place(rt, "COLWELL");
     let day = day(rt, "2024-06-10");
@@ -72,7 +72,7 @@ fn made(rt: &impl Abort, alloc: Global, state: &State) -> Kept {
     }
 }
 
-/// The text that it has to be.
+/// The expected text.
 fn wanted(rt: &impl Abort, alloc: Global) -> Vec<u8> {
     match text(alloc, COLWELL) {
         Some(wanted) => wanted,

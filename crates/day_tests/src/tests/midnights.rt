@@ -13,7 +13,7 @@ use std::process::Abort;
 /// The file of a train that passes two midnights.
 const TWO_NIGHTS: &[&[u8]] = &[HD, BS_NIGHT, LO_2355, LI_0010, LI_0005, LT_0006, ZZ];
 
-/// Events half a minute and more past midnight.
+/// Events half a minute after midnight, and later.
 #[test]
 fn midnight(rt: HostRuntime) {
     let alloc = rt.alloc();
@@ -25,7 +25,7 @@ fn midnight(rt: HostRuntime) {
     shows(&rt, alloc, files, "DUNMERE", "2024-06-11", &[NIGHT_PASSES]);
 }
 
-/// Events past a second midnight.
+/// Events after a second midnight.
 #[test]
 fn two_midnights(rt: HostRuntime) {
     let alloc = rt.alloc();
@@ -39,14 +39,14 @@ fn two_midnights(rt: HostRuntime) {
     shows(&rt, alloc, files, "BRAYTON", "2024-06-12", come);
 }
 
-/// That so many midnights lie up to an event of C20001 on 10 June.
+/// Asserts how many midnights C20001 has passed at an event, starting on 10 June.
 fn midnights_are(rt: &impl Abort, state: &State, event: u64, wanted: Option<u8>) {
     let uid = Uid::from_field(b"C20001").expect(rt, "a UID");
     let view = chosen(state, &uid, day(rt, "2024-06-10")).expect(rt, "a schedule");
     same(rt, falls(&view, event), wanted);
 }
 
-/// The midnights up to each event, and none of events that there are not.
+/// The midnights before each event. Events that don't exist have none.
 #[test]
 fn midnights_up_to_events(rt: HostRuntime) {
     let state = state(&rt, rt.alloc(), TWO_NIGHTS);

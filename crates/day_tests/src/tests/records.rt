@@ -4,7 +4,7 @@
 pub(crate) const HD: &[u8] =
     b"HDTPS.UDFROC1.PD2406090906242100DFROC1ADFROC1ZUA                                ";
 
-/// The header of an update of that time, behind another file.
+/// The header of an update of the same time that follows another file.
 pub(crate) const HD_9: &[u8] =
     b"HDTPS.UDFROC1.PD2406090906242100DFROC1BDFROC1AUA                                ";
 
@@ -20,7 +20,7 @@ pub(crate) const HD_7: &[u8] =
 pub(crate) const HD_8: &[u8] =
     b"HDTPS.UDFROC1.PD2406090806242100DFROC1ADFROC1ZUA                                ";
 
-/// The header of an update of 9 June behind the full extract.
+/// The header of an update of 9 June that follows the full extract.
 pub(crate) const HD_9_LAST: &[u8] =
     b"HDTPS.UDFROC1.PD2406090906242100DFROC1CDFROC1BUA                                ";
 
@@ -36,27 +36,27 @@ pub(crate) const ZZ: &[u8] =
 pub(crate) const BS: &[u8] =
     b"BSNC100012406102406141111100 POO1A10                                           P";
 
-/// The same, revised.
+/// The revision of that schedule.
 pub(crate) const BS_REVISED: &[u8] =
     b"BSRC100012406102406141111100 POO1A10                                           P";
 
-/// The same up to 21 June.
+/// C10001 on weekdays from 10 to 21 June.
 pub(crate) const BS_LONGER: &[u8] =
     b"BSNC100012406102406211111100 POO1A10                                           P";
 
-/// The same up to 31 July.
+/// C10001 on weekdays from 10 June to 31 July.
 pub(crate) const BS_TO_JULY: &[u8] =
     b"BSNC100012406102407311111100 POO1A10                                           P";
 
-/// Its deletion.
+/// The deletion of C10001.
 pub(crate) const BS_DELETED: &[u8] =
     b"BSDC10001240610                                                                P";
 
-/// It leaves Ashfeld at 09:00.
+/// C10001 leaves Ashfeld at 09:00.
 pub(crate) const LO: &[u8] =
     b"LOASHFELD 0900 09001  SL                                                        ";
 
-/// It is at Colwell without a time.
+/// It calls at Colwell without a time.
 pub(crate) const LI_TIMELESS: &[u8] =
     b"LICOLWELL                        2                                              ";
 
@@ -220,27 +220,27 @@ pub(crate) const LO_0010: &[u8] =
 pub(crate) const LT_0100: &[u8] =
     b"LTASHFELD 0100     1                                                            ";
 
-/// C40001 works on as C40002, which starts a day later.
+/// C40001 becomes C40002, which starts a day later.
 pub(crate) const AA_NEXT: &[u8] =
     b"AANC40001C400022406102406101000000NPNCOLWELL  TP                               P";
 
-/// The same, as if it started on the same day.
+/// The same association, with a start on the same day.
 pub(crate) const AA_SAME: &[u8] =
     b"AANC40001C400022406102406101000000NPSCOLWELL  TP                               P";
 
-/// The same, where the date indicator is a space.
+/// The same association, with a space as its date indicator.
 pub(crate) const AA_SPACE: &[u8] =
     b"AANC40001C400022406102406101000000NP COLWELL  TP                               P";
 
-/// The same, as if it started a day before.
+/// The same association, with a start a day before.
 pub(crate) const AA_BEFORE: &[u8] =
     b"AANC40001C400022406102406101000000NPPCOLWELL  TP                               P";
 
-/// The same under a date indicator that is none.
+/// The same association, with an unknown date indicator.
 pub(crate) const AA_NO_INDICATOR: &[u8] =
     b"AANC40001C400022406102406101000000NPXCOLWELL  TP                               P";
 
-/// The same under a category that is none.
+/// The same association, with an unknown category.
 pub(crate) const AA_NO_CATEGORY: &[u8] =
     b"AANC40001C400022406102406101000000XXNCOLWELL  TP                               P";
 
@@ -248,7 +248,7 @@ pub(crate) const AA_NO_CATEGORY: &[u8] =
 pub(crate) const BS_LAST_DAY: &[u8] =
     b"BSNC400015912315912310010000 POO4D40                                           P";
 
-/// It works on as C40002 a day later, which there is not.
+/// It becomes C40002 a day later, a day that doesn't exist.
 pub(crate) const AA_LAST_DAY: &[u8] =
     b"AANC40001C400025912315912310010000NPNCOLWELL  TP                               P";
 
@@ -260,7 +260,7 @@ pub(crate) const BS_C50001: &[u8] =
 pub(crate) const LO_1200: &[u8] =
     b"LOASHFELD 1200                                                                  ";
 
-/// It is 5E51 from Colwell on.
+/// It becomes 5E51 at Colwell.
 pub(crate) const CR: &[u8] =
     b"CRCOLWELL OO5E51                                                                ";
 
@@ -272,7 +272,7 @@ pub(crate) const LI_1210: &[u8] =
 pub(crate) const LT_1230: &[u8] =
     b"LTBRAYTON 1230                                                                  ";
 
-/// C10001 on Wednesdays, without end.
+/// C10001 on Wednesdays, without an end.
 pub(crate) const BS_ENDLESS: &[u8] =
     b"BSNC100012406109999990010000 POO1A10                                           P";
 

@@ -1,4 +1,4 @@
-//! Which of several files counts.
+//! Which of several files takes precedence.
 
 use super::lines::{LEAVES_0850, LEAVES_0900, LEAVES_0905, LEAVES_1000, LEAVES_1100};
 use super::records::{
@@ -10,7 +10,7 @@ use super::shows;
 use std::alloc::Global;
 use std::process::Abort;
 
-/// That the docker of Ashfeld on 10 June has these lines.
+/// Asserts that the docker of Ashfeld on 10 June has these lines.
 fn at_ashfeld(rt: &impl Abort, alloc: Global, files: &[&[&[u8]]], lines: &[&[u8]]) {
     shows(rt, alloc, files, "ASHFELD", "2024-06-10", lines);
 }
@@ -23,7 +23,7 @@ fn revision(rt: HostRuntime) {
     at_ashfeld(&rt, rt.alloc(), &[first, second], &[LEAVES_0905]);
 }
 
-/// What is older than the full extract is gone.
+/// What is older than the full extract is dropped.
 #[test]
 fn late_full_extract(rt: HostRuntime) {
     let first: &[&[u8]] = &[HD_5, BS_C10003_DELETED, BS, LO, LT, ZZ];
@@ -46,7 +46,7 @@ fn deletion_first(rt: HostRuntime) {
     shows(&rt, alloc, files, "BRAYTON", "2024-06-10", &[]);
 }
 
-/// Of two schedules of one stamp the later end wins.
+/// Of two schedules with the same stamp, the one that ends later wins.
 #[test]
 fn later_end_of_equal_stamps(rt: HostRuntime) {
     let first: &[&[u8]] = &[HD, BS, LO, LT, ZZ];
@@ -54,7 +54,7 @@ fn later_end_of_equal_stamps(rt: HostRuntime) {
     at_ashfeld(&rt, rt.alloc(), &[first, second], &[LEAVES_0850]);
 }
 
-/// Of two schedules of one stamp and end the greater bytes win.
+/// Of two schedules with the same stamp and end, the one with the greater bytes wins.
 #[test]
 fn greater_bytes_of_equal_stamps(rt: HostRuntime) {
     let first: &[&[u8]] = &[HD, BS, LO, LT, ZZ];
@@ -62,7 +62,7 @@ fn greater_bytes_of_equal_stamps(rt: HostRuntime) {
     at_ashfeld(&rt, rt.alloc(), &[first, second], &[LEAVES_0905]);
 }
 
-/// Of one stamp a schedule wins over its deletion.
+/// Of a schedule and its deletion with the same stamp, the schedule wins.
 #[test]
 fn put_before_deletion_of_equal_stamps(rt: HostRuntime) {
     let first: &[&[u8]] = &[HD, BS, LO, LT, ZZ];

@@ -1,4 +1,4 @@
-//! Whole dockers, as they are printed.
+//! Whole dockers as printed.
 
 use super::lines::LEAVES_0900;
 use super::records::{BS, HD, HD_10, LO, LT, TA, TI, ZZ};
@@ -12,7 +12,7 @@ use std::process::Abort;
 /// The last line of a docker.
 const END: &[u8] = b"END                                                     ";
 
-/// That the docker of a place on 10 June is these lines, of some files.
+/// Asserts that these files give this docker for a place on 10 June.
 fn prints(rt: &impl Abort, alloc: Global, files: &[&[&[u8]]], at: &str, wanted: &[&[u8]]) {
     let state = joined(rt, alloc, files);
     let kept = printed(rt, alloc, &state, at, "2024-06-10");
@@ -37,7 +37,7 @@ fn place_without_a_record(rt: HostRuntime) {
     prints(&rt, rt.alloc(), files, "ELM", &[heading, END]);
 }
 
-/// The heading of a place is that of its live timing point.
+/// The heading names the place by its live timing point.
 #[test]
 fn headings(rt: HostRuntime) {
     let renamed: &[u8] = b"DOCKER ASHFLDN 2024-06-10 ASHFIELD NEW                  ";
@@ -47,7 +47,7 @@ fn headings(rt: HostRuntime) {
     prints(&rt, rt.alloc(), files, "ASHFELD", &[deleted, END]);
 }
 
-/// Whether a sink with so much room takes the docker of Ashfeld on 10 June.
+/// Asserts whether a sink with this room takes the docker of Ashfeld on 10 June.
 fn fits(rt: &impl Abort, alloc: Global, state: &State, room: usize, wanted: bool) {
     let docker = docker(alloc, state, &place(rt, "ASHFELD"), day(rt, "2024-06-10")).expect(
         rt, "a docker",
@@ -56,7 +56,7 @@ fn fits(rt: &impl Abort, alloc: Global, state: &State, room: usize, wanted: bool
     same(rt, write_docker(&docker, &mut kept).is_ok(), wanted);
 }
 
-/// A sink that has room for all but the last byte, and one that has room for all.
+/// A sink with room for all but the last byte, and a sink with room for all bytes.
 #[test]
 fn full_sink(rt: HostRuntime) {
     let state = state(&rt, rt.alloc(), &[HD, BS, LO, LT, ZZ]);

@@ -6,7 +6,7 @@ use super::records::{
 };
 use super::shows;
 
-/// A weekday and a Saturday, at each end and elsewhere.
+/// A weekday and a Saturday, at both ends of the journey and elsewhere.
 #[test]
 fn one_schedule(rt: HostRuntime) {
     let alloc = rt.alloc();
@@ -18,7 +18,7 @@ fn one_schedule(rt: HostRuntime) {
     shows(&rt, alloc, files, "ELM", "2024-06-10", &[]);
 }
 
-/// A call without times gives no line.
+/// A call without times adds no line.
 #[test]
 fn no_line_without_a_time(rt: HostRuntime) {
     let alloc = rt.alloc();
@@ -27,7 +27,7 @@ fn no_line_without_a_time(rt: HostRuntime) {
     shows(&rt, alloc, files, "BRAYTON", "2024-06-10", &[COMES_0930]);
 }
 
-/// A train changes its identity on its way.
+/// A train changes its identity on the way.
 #[test]
 fn identity(rt: HostRuntime) {
     let alloc = rt.alloc();
@@ -51,7 +51,7 @@ fn identity(rt: HostRuntime) {
     shows(&rt, alloc, files, "BRAYTON", "2024-06-10", &[COMES_AS_5E51]);
 }
 
-/// A schedule without end runs on the last day of the calendar, a Wednesday.
+/// A schedule without an end runs on the last day of the calendar, a Wednesday.
 #[test]
 fn without_end(rt: HostRuntime) {
     let alloc = rt.alloc();

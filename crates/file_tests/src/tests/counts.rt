@@ -1,4 +1,4 @@
-//! Files that are judged, and not kept.
+//! Files that are judged without being kept.
 ghost use Rattle.std.specs.Prelude.{◌<◌};
 
 use super::{
@@ -10,7 +10,7 @@ use cif_line::{Bytes, Extract};
 use std::alloc::Global;
 use std::process::Abort;
 
-/// Lines of a file, how many records and changes it has, and the row's name.
+/// The lines of a file, how many records and changes it has, and the row's name.
 type Row = (&'static [&'static [u8]], u32, u64, &'static str);
 
 const ROWS: &[Row] = &[
@@ -42,7 +42,7 @@ const ROWS: &[Row] = &[
     ),
 ];
 
-/// That a text which is read in pieces of so many bytes has these counts.
+/// Asserts that a text has these counts when it is read in pieces of `step` bytes.
 fn check_count(rt: &impl Abort, alloc: Global, text: &[u8], step: usize, row: Row)
     requires { 0 < step }
 {

@@ -7,7 +7,7 @@ use cif_line::{Bytes, Endless, Failed, Source};
 use std::alloc::Global;
 use std::process::Abort;
 
-/// A source that fails where its bytes end, once for each read. It can't tell its bytes.
+/// A source that fails at the end of its bytes, and at each later read. It can't show its bytes.
 #[derive(Drop)]
 struct Broken<'a> {
     bytes: &'a [u8],
@@ -37,7 +37,8 @@ impl Source for Broken<'_> {
     }
 }
 
-/// That this text, read in pieces of so many bytes, is the file of one schedule, and has too many records where four is the limit.
+/// Asserts that this text, read in pieces of `step` bytes, is the file of one schedule, and has too
+/// many records for a limit of four.
 fn check_reads(rt: &impl Abort, alloc: Global, text: &[u8], step: usize)
     requires { 0 < step }
 {
@@ -60,7 +61,8 @@ fn a_file_by_reads_of_any_length(rt: HostRuntime) {
     check_reads(&rt, rt.alloc(), whole.as_slice(), 4096);
 }
 
-/// That a source which fails behind these bytes is told to be read, and that it failed once.
+/// Asserts that `read_file` reports a source that fails after these bytes, and that the source
+/// failed once.
 fn read_fails(rt: &impl Abort, alloc: Global, bytes: &[u8], name: &str) {
     let mut source = Broken { bytes, failures: 0 };
     let fault = read_file(alloc, &mut source, 5).err();
@@ -68,7 +70,7 @@ fn read_fails(rt: &impl Abort, alloc: Global, bytes: &[u8], name: &str) {
     same_in(rt, name, source.failures, 1);
 }
 
-/// The same where it is judged.
+/// Like `read_fails`, for `judge_file`.
 fn judging_fails(rt: &impl Abort, alloc: Global, bytes: &[u8], name: &str) {
     let mut source = Broken { bytes, failures: 0 };
     let fault = judge_file(alloc, &mut source, 5).err();
@@ -76,7 +78,7 @@ fn judging_fails(rt: &impl Abort, alloc: Global, bytes: &[u8], name: &str) {
     same_in(rt, name, source.failures, 1);
 }
 
-/// That both fail behind so many bytes of a text.
+/// Asserts that both calls fail when the source fails after `length` bytes of a text.
 fn front_fails(rt: &impl Abort, alloc: Global, text: &[u8], length: usize, name: &str) {
     let bytes = text.get(..length).expect(rt, "a front");
     read_fails(rt, alloc, bytes, name);
@@ -93,7 +95,8 @@ fn sources_that_fail(rt: HostRuntime) {
     read_fails(&rt, rt.alloc(), TI, "an open line");
 }
 
-/// That a text which goes on without end has this fault, where it is read and where it is judged, in pieces of so many bytes.
+/// Asserts that a text without end has this fault, whether it is read or judged, in pieces of
+/// `step` bytes.
 fn endless_fails(
     rt: &impl Abort,
     alloc: Global,
@@ -108,14 +111,14 @@ fn endless_fails(
     assert!(rt; !again.is_empty());
     let limit = u32::from(limit);
     let mut source = Endless::new(first, again, step);
-    let told = read_file(alloc, &mut source, limit).err();
-    same(rt, told, Some(ReadFault::File(fault)));
+    let found = read_file(alloc, &mut source, limit).err();
+    same(rt, found, Some(ReadFault::File(fault)));
     let mut source = Endless::new(first, again, step);
-    let told = judge_file(alloc, &mut source, limit).err();
-    same(rt, told, Some(ReadFault::File(fault)));
+    let found = judge_file(alloc, &mut source, limit).err();
+    same(rt, found, Some(ReadFault::File(fault)));
 }
 
-/// The same in pieces of any length.
+/// Like `endless_fails`, in pieces of each length.
 fn check_endless(
     rt: &impl Abort,
     alloc: Global,

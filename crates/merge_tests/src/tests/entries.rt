@@ -11,19 +11,19 @@ use std::process::Abort;
 const ENDS_1960: &[u8; 80] =
     b"AANC10001C200012406106001011111100VVSCOLWELL  TP                               P";
 
-/// The same, that ends on 31 December 2059.
+/// The same association, ending on 31 December 2059.
 const ENDS_2059: &[u8; 80] =
     b"AANC10001C200012406105912311111100VVSCOLWELL  TP                               P";
 
-/// The same without an end: the trains join.
+/// The same association without an end: the trains join.
 const JOIN: &[u8; 80] =
     b"AANC10001C200012406109999991111100JJSCOLWELL  TP                               P";
 
-/// The same: the train divides.
+/// The same association without an end: the train divides.
 const DIVIDE: &[u8; 80] =
     b"AANC10001C200012406109999991111100VVSCOLWELL  TP                               P";
 
-/// The day of the horizon that follows 31 December 2059, the last day there is.
+/// The horizon after 31 December 2059, the last day of the calendar.
 const AFTER_2059: u16 = 36525;
 
 /// The put of an association.
@@ -40,7 +40,7 @@ fn file(rt: &impl Abort, day: u16, minute: u16, reference: &[u8; 7]) -> FileStam
     }
 }
 
-/// The op of one of some entries in ascending order.
+/// The op of the entry at this place in ascending order.
 fn op(rt: &impl Abort, place: u8) -> Op {
     match place {
         1 => Op::Deleted,
@@ -54,7 +54,7 @@ fn op(rt: &impl Abort, place: u8) -> Op {
     }
 }
 
-/// The number of its record.
+/// The record number of that entry.
 fn number(place: u8) -> u32 {
     match place {
         0 => 2,
@@ -63,7 +63,7 @@ fn number(place: u8) -> u32 {
     }
 }
 
-/// One of some entries in ascending order.
+/// The entry at this place in ascending order.
 pub(super) fn entry(rt: &impl Abort, place: u8) -> Entry {
     let stamp = Stamp {
         file: file(rt, 23536, 1260, b"DFROC1A"),
@@ -73,7 +73,7 @@ pub(super) fn entry(rt: &impl Abort, place: u8) -> Entry {
     Entry { stamp, op }
 }
 
-/// That a file stamp is below another, which is their join.
+/// Asserts that a file stamp is below another, and that their join is the greater one.
 fn file_is_below(rt: &impl Abort, alloc: Global, low: FileStamp, high: FileStamp) {
     same(rt, low < high, true);
     same(rt, low.pick(high), high);
@@ -110,7 +110,7 @@ fn stamps(rt: HostRuntime) {
     same(&rt, high.join(rt.alloc(), next), Ok(next));
 }
 
-/// That one of the entries is below another, which is their join.
+/// Asserts that one entry is below another, and that their join is the greater one.
 fn is_below(rt: &impl Abort, alloc: Global, low: u8, high: u8) {
     same(rt, entry(rt, low) < entry(rt, high), true);
     same(rt, entry(rt, low).pick(entry(rt, high)), entry(rt, high));
@@ -131,12 +131,12 @@ fn entries(rt: HostRuntime) {
     is_below(&rt, rt.alloc(), 7, 8);
 }
 
-/// That the op of one of the entries is the same under a horizon.
+/// Asserts that a horizon leaves the op of an entry as it is.
 fn stays(rt: &impl Abort, place: u8, horizon: u16) {
     same(rt, op(rt, place).lapse(horizon), op(rt, place));
 }
 
-/// That it has lapsed.
+/// Asserts that the entry lapses under the horizon.
 fn lapses(rt: &impl Abort, place: u8, horizon: u16) {
     same(rt, op(rt, place).lapse(horizon), Op::Lapsed);
 }

@@ -13,7 +13,7 @@ use docker_state::State;
 use std::alloc::Global;
 use std::process::Abort;
 
-/// That a state has nothing at a timing point.
+/// Asserts that a state has nothing at a timing point.
 fn has_none_at(rt: &impl Abort, state: &State, code: &str) {
     let code = Tiploc::from_text(code).expect(rt, "a TIPLOC");
     same(rt, state.get(&Key::Tiploc(code)), None);
@@ -35,19 +35,19 @@ fn no_file(rt: HostRuntime) {
     has_none_at(&rt, &all, "ASHFLDN");
 }
 
-/// That the state of a file is as these lines say.
+/// Asserts that the state of a file is shown as these lines.
 fn file_is(rt: &impl Abort, alloc: Global, file: &[&[u8]], lines: &[&[u8]]) {
     made_is(rt, alloc, state(rt, alloc, file), lines);
 }
 
-/// What a file says in which a deletion stands behind a put.
+/// How the state of a file is shown that deletes an entry after putting it.
 const PUT_AND_DELETED: &[&[u8]] = &[
     b"item 23536 1260 DFROC1A U DFROC1Z",
     b"C10001 23537: record 5 of 23536 1260 DFROC1A",
     b"deleted",
 ];
 
-/// What a full extract says of the same.
+/// How the state of the same file is shown if it is a full extract.
 const PUT_AND_DELETED_IN_FULL: &[&[u8]] = &[
     b"item 23536 1260 DFROC1A F DFROC1Z",
     b"floor 23536 1260 DFROC1A",
@@ -64,19 +64,20 @@ fn one_file(rt: HostRuntime) {
     file_is(&rt, alloc, full, PUT_AND_DELETED_IN_FULL);
 }
 
-/// The join of the states of two files, and then with the first once more.
+/// Joins the states of two files, then joins the first once more.
 fn merged_back(rt: &impl Abort, alloc: Global, one: &[&[u8]], other: &[&[u8]]) -> State {
     let both = pair(rt, alloc, one, other);
     joined(rt, alloc, both, state(rt, alloc, one))
 }
 
-/// The same, and that with the second once more.
+/// Joins the states of two files, then joins the second once more.
 fn merged_twice(rt: &impl Abort, alloc: Global, one: &[&[u8]], other: &[&[u8]]) -> State {
     let second = state(rt, alloc, other);
     joined(rt, alloc, second, merged_back(rt, alloc, one, other))
 }
 
-/// That the join of the states of two files is as these lines say in either order, and with either once more.
+/// Asserts that the join of the states of two files is shown as these lines, in either order, and
+/// again after either is joined once more.
 fn pair_is(rt: &impl Abort, alloc: Global, one: &[&[u8]], other: &[&[u8]], lines: &[&[u8]]) {
     made_is(rt, alloc, pair(rt, alloc, one, other), lines);
     made_is(rt, alloc, pair(rt, alloc, other, one), lines);
@@ -87,7 +88,7 @@ fn pair_is(rt: &impl Abort, alloc: Global, one: &[&[u8]], other: &[&[u8]], lines
 /// A file of one schedule.
 const ONE_SCHEDULE: &[&[u8]] = &[HD_9A, BS, LO, LT, ZZ];
 
-/// What the states of a schedule and of its revision say.
+/// How the join of a schedule and its revision is shown.
 pub(super) const REVISED: &[&[u8]] = &[
     b"item 23536 1260 DFROC1A U DFROC1Z",
     b"item 23537 1260 DFROC1B U DFROC1A",
@@ -101,7 +102,7 @@ pub(super) const REVISED: &[&[u8]] = &[
     LT_0935,
 ];
 
-/// What the states of a deletion and of an older schedule say.
+/// How the join of a deletion and an older schedule is shown.
 const DELETED_FIRST: &[&[u8]] = &[
     b"item 23535 1260 DFROC1A U DFROC1Z",
     b"item 23536 1260 DFROC1B U DFROC1A",
@@ -109,7 +110,7 @@ const DELETED_FIRST: &[&[u8]] = &[
     b"deleted",
 ];
 
-/// What the states of a timing point and of its new code say.
+/// How the join of a timing point and its new code is shown.
 const RENAMED: &[&[u8]] = &[
     b"item 23536 1260 DFROC1A U DFROC1Z",
     b"item 23537 1260 DFROC1B U DFROC1A",
@@ -121,7 +122,7 @@ const RENAMED: &[&[u8]] = &[
     &NEW,
 ];
 
-/// What the states of two files of one file stamp say.
+/// How the join of two files with one file stamp is shown.
 const OF_ONE_STAMP: &[&[u8]] = &[
     b"item 23536 1260 DFROC1A F DFROC1Z",
     b"item 23536 1260 DFROC1A U DFROC1Z",
@@ -150,7 +151,8 @@ fn two_files(rt: HostRuntime) {
     pair_is(&rt, alloc, ONE_SCHEDULE, full, OF_ONE_STAMP);
 }
 
-/// That of a schedule and what another file of the same stamp says of it the one with this basic record and this origin stays.
+/// Asserts which of two schedules from files with the same stamp wins: the one with this basic
+/// record and this origin.
 fn stays(rt: &impl Abort, alloc: Global, other: &[&[u8]], basic: &[u8], origin: &[u8]) {
     let lines: &[&[u8]] = &[
         b"item 23536 1260 DFROC1A U DFROC1Z",
@@ -176,7 +178,7 @@ fn equal_stamps(rt: HostRuntime) {
     stays(&rt, alloc, &[HD_9A, BS_DELETED, ZZ], BS, LO);
 }
 
-/// What an update, a later full extract and a still later update say.
+/// How the join of an update, a later full extract and a still later update is shown.
 const THREE_FILES: &[&[u8]] = &[
     b"item 23534 1260 DFROC1B F DFROC1A",
     b"item 23536 1260 DFROC1C U DFROC1B",
@@ -199,7 +201,8 @@ const THREE_FILES: &[&[u8]] = &[
     LT_1030,
 ];
 
-/// That the join of the states of three files is so, whichever two are joined first.
+/// Asserts that the join of the states of three files is shown as these lines, whichever two are
+/// joined first.
 fn three_are(rt: &impl Abort, alloc: Global, first: &[&[u8]], second: &[&[u8]], third: &[&[u8]]) {
     let front = pair(rt, alloc, first, second);
     let all = joined(rt, alloc, front, state(rt, alloc, third));
@@ -223,7 +226,7 @@ fn a_late_full_extract(rt: HostRuntime) {
     three_are(&rt, alloc, u9, f7, u5);
 }
 
-/// The join of two states, where memory is wanting by a second try with those that were handed back.
+/// The join of two states. If memory runs out, a second try with the states that were returned.
 fn joined_again(
     rt: &impl Abort,
     alloc: Global,
@@ -241,7 +244,8 @@ fn joined_again(
     }
 }
 
-/// The state of a file of five records and one change, where memory is wanting by a second try with the file that was handed back.
+/// The state of a file of five records and one change. If memory runs out, a second try with the
+/// file that was returned.
 fn of_file_again(rt: &impl Abort, alloc: Global, file: CifFile) -> State {
     match State::of_file(alloc, file) {
         Ok(state) => state,
@@ -253,7 +257,7 @@ fn of_file_again(rt: &impl Abort, alloc: Global, file: CifFile) -> State {
     }
 }
 
-/// That two states are joined at the second try at the latest.
+/// Asserts that two states are joined by the second try at the latest.
 fn join_succeeds(rt: &impl Abort, alloc: Global, one: State, other: State) {
     let before = shown(rt, alloc, &one);
     let before_other = shown(rt, alloc, &other);
@@ -262,7 +266,8 @@ fn join_succeeds(rt: &impl Abort, alloc: Global, one: State, other: State) {
     same(rt, joined.entries().len(), 2);
 }
 
-/// That the state of a file of five records and one change is made at the second try at the latest.
+/// Asserts that the state of a file of five records and one change is made by the second try at the
+/// latest.
 fn of_file_succeeds(rt: &impl Abort, alloc: Global, records: &[&[u8]]) {
     let one = state(rt, alloc, records);
     let before = shown(rt, alloc, &one);

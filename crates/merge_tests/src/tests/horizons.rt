@@ -9,7 +9,7 @@ use docker_state::State;
 use std::alloc::Global;
 use std::process::Abort;
 
-/// What a schedule says on its last day.
+/// How a schedule is shown on its last day.
 const LIVE: &[&[u8]] = &[
     b"horizon 23541",
     b"item 23536 1260 DFROC1A U DFROC1Z",
@@ -23,7 +23,7 @@ const LIVE: &[&[u8]] = &[
     LT,
 ];
 
-/// What it says the day after.
+/// How it is shown the day after.
 const LAPSED: &[&[u8]] = &[
     b"horizon 23542",
     b"item 23536 1260 DFROC1A U DFROC1Z",
@@ -31,7 +31,7 @@ const LAPSED: &[&[u8]] = &[
     b"lapsed",
 ];
 
-/// That a schedule under horizons set in turn says these lines.
+/// Asserts that a schedule is shown as these lines after horizons are set one by one.
 fn under_is(rt: &impl Abort, alloc: Global, days: &[&str], lines: &[&[u8]]) {
     let file: &[&[u8]] = &[HD_9A, BS, LO, LT, ZZ];
     made_is(rt, alloc, set_on(rt, alloc, file, days), lines);
@@ -51,7 +51,7 @@ const REVISION: &[&[u8]] = &[HD_10B, BS_REVISED, LO_0905, LT_0935, ZZ];
 /// An older file, whose schedule ends later.
 const OLDER: &[&[u8]] = &[HD_8A, BS_JULY, LO, LT, ZZ];
 
-/// What both say under a horizon behind the end of the revision.
+/// How the join of both is shown under a horizon after the end of the revision.
 const REVISION_LAPSED: &[&[u8]] = &[
     b"horizon 23542",
     b"item 23535 1260 DFROC1A U DFROC1Z",
@@ -60,13 +60,15 @@ const REVISION_LAPSED: &[&[u8]] = &[
     b"lapsed",
 ];
 
-/// That of the join of two states, with these days set behind it, the revision has lapsed.
+/// Asserts that the revision has lapsed in the join of two states, after these days are set for the
+/// join.
 fn has_lapsed(rt: &impl Abort, alloc: Global, one: State, other: State, days: &[&str]) {
     let both = joined(rt, alloc, one, other);
     made_is(rt, alloc, set(rt, both, days), REVISION_LAPSED);
 }
 
-/// That it has where these days are set for the first file, for the second, and behind the join.
+/// Asserts that the revision has lapsed whether these days are set for the first file, for the
+/// second, or after the join.
 fn lapses(
     rt: &impl Abort,
     alloc: Global,
@@ -91,7 +93,7 @@ fn a_horizon_between_two_files(rt: HostRuntime) {
     lapses(&rt, alloc, (REVISION, none), (OLDER, none), day);
 }
 
-/// What has no end, and a deletion, under the last horizon there is.
+/// A schedule without an end, and a deletion, under the last possible horizon.
 const WITHOUT_END: &[&[u8]] = &[
     b"horizon 36524",
     b"item 23536 1260 DFROC1A U DFROC1Z",

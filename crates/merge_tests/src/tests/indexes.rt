@@ -1,4 +1,5 @@
-//! Indexes of rows: which rows call, or are linked, at which places; what a lapse takes out, and what a join has.
+//! Indexes of rows: which rows call or are linked at which places, what a lapse removes, and what a
+//! join contains.
 
 use super::same;
 use cif_file::{AssocKey, Body, Key, Lines, ScheduleKey};
@@ -39,7 +40,7 @@ fn uid(rt: &impl Abort, text: &[u8; 6]) -> Uid {
     Uid::from_field(text).expect(rt, "a UID")
 }
 
-/// The file stamp of a file of this day.
+/// The file stamp of a file dated this day.
 fn file(rt: &impl Abort, day: u16) -> FileStamp {
     FileStamp {
         day: Day::from_number(day).expect(rt, "a day"),
@@ -84,7 +85,7 @@ fn association(rt: &impl Abort) -> Key {
     })
 }
 
-/// A table with one more row, of a file of this day.
+/// A table with one more row, from a file dated this day.
 fn and(
     rt: &impl Abort,
     alloc: Global,
@@ -143,14 +144,14 @@ fn joined(rt: &impl Abort, alloc: Global, floor: &Option<FileStamp>) -> Index {
     Index::of_join(alloc, &first, &second, &moves).expect(rt, "memory")
 }
 
-/// That a mark stands for this row at this place.
+/// Asserts that a mark points to this row at this place.
 fn mark_is(rt: &impl Abort, index: &Index, mark: &Mark, code: &str, at: u32) {
     let place = index.places.get(mark.place as usize).expect(rt, "a place");
     same(rt, place, tiploc(rt, code).bytes());
     same(rt, mark.at, at);
 }
 
-/// That marks stand for these rows at these places.
+/// Asserts that marks point to these rows at these places.
 fn marks_are(rt: &impl Abort, index: &Index, marks: &[Mark], wanted: &[(&str, u32)]) {
     same(rt, marks.len(), wanted.len());
     for (mark, (code, at)) in marks.iter().zip(wanted) {
@@ -158,7 +159,7 @@ fn marks_are(rt: &impl Abort, index: &Index, marks: &[Mark], wanted: &[(&str, u3
     }
 }
 
-/// That these call, and that the association is linked at Colwell.
+/// Asserts that these rows call, and that the association is linked at Colwell.
 fn index_is(rt: &impl Abort, index: &Index, calls: &[(&str, u32)]) {
     marks_are(rt, index, index.calls.as_slice(), calls);
     marks_are(rt, index, index.links.as_slice(), &[("COLWELL", 0)]);

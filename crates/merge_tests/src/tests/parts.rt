@@ -1,4 +1,4 @@
-//! A state put together from its parts.
+//! A state assembled from its parts.
 
 use super::records::{BS_DELETED, HD_9A, ZZ};
 use super::{same, shown, shown_again, state};
@@ -8,12 +8,12 @@ use docker_state::{LedgerItem, Parts, State};
 use std::alloc::Global;
 use std::process::Abort;
 
-/// That the last key given is this one.
+/// Asserts the last key that was given.
 fn last_is(rt: &impl Abort, parts: &Parts, wanted: Option<Key>) {
     same(rt, parts.last().copied(), wanted);
 }
 
-/// That the items given are these.
+/// Asserts the items that were given.
 fn ledger_is(rt: &impl Abort, parts: &Parts, wanted: &[LedgerItem]) {
     assert_eq!(rt; parts.ledger(), wanted);
 }

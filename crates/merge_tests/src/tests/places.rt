@@ -1,4 +1,4 @@
-//! What calls, and what is linked, at a TIPLOC.
+//! What calls and what is linked at a TIPLOC.
 
 use super::records::{
     AA_COLWELL, BS, BS_C30001, BS_C30002, BS_C30002_DELETED, BS_DELETED, HD_8A, HD_9A, HD_9B,
@@ -13,7 +13,7 @@ use docker_state::State;
 use std::alloc::Global;
 use std::process::Abort;
 
-/// Adds a key that was found and its body to a text, after a word.
+/// Adds a word, then a key that was found and its body, to a text.
 fn add_found(
     rt: &impl Abort,
     alloc: Global,
@@ -28,14 +28,14 @@ fn add_found(
     add_body(rt, text, body);
 }
 
-/// Adds what calls at a TIPLOC to a text.
+/// Adds the schedules that call at a TIPLOC to a text.
 fn add_calling(rt: &impl Abort, alloc: Global, text: &mut Vec<u8>, state: &State, at: &Tiploc) {
     for (key, body) in state.calling(at) {
         add_found(rt, alloc, text, b"calls ", key, body);
     }
 }
 
-/// Adds what is linked at a TIPLOC to a text.
+/// Adds the associations that are linked at a TIPLOC to a text.
 fn add_linked(rt: &impl Abort, alloc: Global, text: &mut Vec<u8>, state: &State, at: &Tiploc) {
     for (key, body) in state.linked(at) {
         add_found(rt, alloc, text, b"linked ", key, body);
@@ -49,7 +49,8 @@ fn add_of_uid(rt: &impl Abort, alloc: Global, text: &mut Vec<u8>, state: &State,
     }
 }
 
-/// That what calls and what is linked at a TIPLOC, and the schedules of C30002, are as these lines say.
+/// Asserts that what calls and what is linked at a TIPLOC, and the schedules of C30002, are shown
+/// as these lines.
 fn found_is(rt: &impl Abort, alloc: Global, state: &State, tiploc: &str, lines: &[&[u8]]) {
     let mut found = Vec::new(alloc);
     let tiploc = Tiploc::from_text(tiploc).expect(rt, "a TIPLOC");
@@ -76,7 +77,7 @@ const FILE: &[&[u8]] = &[
     ZZ,
 ];
 
-/// What that file's state has at Colwell.
+/// What is shown at Colwell for that file.
 const AT_COLWELL: &[&[u8]] = &[
     b"calls C30001 23537",
     BS_C30001,
@@ -96,10 +97,10 @@ const AT_COLWELL: &[&[u8]] = &[
     LT_DUNMERE,
 ];
 
-/// What it has at a place where nothing calls.
+/// What is shown at a place where nothing calls.
 const AT_ELM: &[&[u8]] = &[b"of it C30002 23537", BS_C30002, LO_COLWELL, LT_DUNMERE];
 
-/// What is left at Colwell once C30002 is deleted.
+/// What is shown at Colwell after C30002 is deleted.
 const LEFT_AT_COLWELL: &[&[u8]] = &[
     b"calls C30001 23537",
     BS_C30001,
@@ -111,7 +112,7 @@ const LEFT_AT_COLWELL: &[&[u8]] = &[
     AA_COLWELL,
 ];
 
-/// What calls at Ashfeld where C10001 is put too.
+/// What calls at Ashfeld when C10001 is put too.
 const AT_ASHFELD: &[&[u8]] = &[
     b"calls C10001 23537",
     BS,

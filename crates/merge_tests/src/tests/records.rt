@@ -1,10 +1,10 @@
-//! Records, and what states say of them, of which the tests are made.
+//! Records, and how states show them, from which the tests are made.
 
 /// The header of an update of 9 June 2024, 21:00.
 pub(super) const HD_9A: &[u8] =
     b"HDTPS.UDFROC1.PD2406090906242100DFROC1ADFROC1ZUA                                ";
 
-/// The same of a full extract.
+/// The header of a full extract of 9 June 2024, 21:00.
 pub(super) const HD_9A_FULL: &[u8] =
     b"HDTPS.UDFROC1.PD2406090906242100DFROC1ADFROC1ZFA                                ";
 
@@ -72,19 +72,19 @@ pub(super) const BS_C10003: &[u8] =
 pub(super) const LO: &[u8] =
     b"LOASHFELD 0900 09001  SL                                                        ";
 
-/// The same at 08:50.
+/// An origin: Ashfeld, 08:50.
 pub(super) const LO_0850: &[u8] =
     b"LOASHFELD 0850 08501  SL                                                        ";
 
-/// The same at 09:05.
+/// An origin: Ashfeld, 09:05.
 pub(super) const LO_0905: &[u8] =
     b"LOASHFELD 0905 09051  SL                                                        ";
 
-/// The same at 10:00.
+/// An origin: Ashfeld, 10:00.
 pub(super) const LO_1000: &[u8] =
     b"LOASHFELD 1000 10001  SL                                                        ";
 
-/// The same at 11:00.
+/// An origin: Ashfeld, 11:00.
 pub(super) const LO_1100: &[u8] =
     b"LOASHFELD 1100 11001  SL                                                        ";
 
@@ -92,15 +92,15 @@ pub(super) const LO_1100: &[u8] =
 pub(super) const LT: &[u8] =
     b"LTBRAYTON 0930 09322  FL                                                        ";
 
-/// The same at 09:35.
+/// A terminus: Brayton, 09:35.
 pub(super) const LT_0935: &[u8] =
     b"LTBRAYTON 0935 09372  FL                                                        ";
 
-/// The same at 10:30.
+/// A terminus: Brayton, 10:30.
 pub(super) const LT_1030: &[u8] =
     b"LTBRAYTON 1030 10322  FL                                                        ";
 
-/// The same at 11:30.
+/// A terminus: Brayton, 11:30.
 pub(super) const LT_1130: &[u8] =
     b"LTBRAYTON 1130 11322  FL                                                        ";
 
@@ -156,10 +156,10 @@ pub(super) const AA_COLWELL: &[u8] =
 pub(super) const ZZ: &[u8] =
     b"ZZ                                                                              ";
 
-/// What the amendment says of the new code.
+/// How the new code that the amendment gives is shown.
 pub(super) const NEW: [u8; 63] =
     *b"         ASHFIELD NEW                                          ";
 
-/// What the insertion of Ashfield Central says.
+/// How the insertion of Ashfield Central is shown.
 pub(super) const CENTRAL: [u8; 63] =
     *b"         ASHFIELD CENTRAL                                      ";

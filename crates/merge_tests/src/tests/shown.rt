@@ -1,4 +1,4 @@
-//! What a state tells, as lines of text.
+//! A state shown as lines of text.
 
 use cif_file::{Body, Key};
 use cif_line::Line;
@@ -72,7 +72,7 @@ pub(super) fn add_body(rt: &impl Abort, text: &mut Vec<u8>, body: &Body) {
     }
 }
 
-/// Adds what is known of a key to a text.
+/// Adds the entry of a key to a text.
 fn add_op(rt: &impl Abort, text: &mut Vec<u8>, op: &Op) {
     match op {
         Op::Deleted => add_line(rt, text, b"deleted"),
@@ -124,7 +124,7 @@ fn add_rows(rt: &impl Abort, alloc: Global, text: &mut Vec<u8>, rows: &[(Key, En
     }
 }
 
-/// Adds what is live in a state to a text.
+/// Adds the live rows of a state to a text.
 fn add_live(rt: &impl Abort, alloc: Global, text: &mut Vec<u8>, state: &State) {
     for (key, body) in state.live() {
         add(rt, text, b"live ");
@@ -134,7 +134,7 @@ fn add_live(rt: &impl Abort, alloc: Global, text: &mut Vec<u8>, state: &State) {
     }
 }
 
-/// A state as text: its horizon, its ledger, its floor, its entries and what is live.
+/// A state as text: its horizon, its ledger, its floor, its entries and its live rows.
 pub(super) fn shown(rt: &impl Abort, alloc: Global, state: &State) -> Vec<u8> {
     let mut text = Vec::new(alloc);
     add_horizon(rt, alloc, &mut text, state.horizon());

@@ -1,4 +1,4 @@
-//! The entries of another state received.
+//! Receiving the entries of another state.
 ghost use Rattle.std.specs.Prelude.{◌≡◌, ◌++◌, [], map};
 ghost use Rattle.docker_model.specs.state.Stamp.{IsFloor};
 ghost use Rattle.docker_model.specs.state.State.{AreEntries, IsGoodEntry};
@@ -19,7 +19,7 @@ use docker_state::{Staging, State};
 use std::alloc::Global;
 use std::process::Abort;
 
-/// An op like this one.
+/// A copy of this op.
 fn copied(rt: &impl Abort, alloc: Global, op: &Op) -> Op
     ensures { op_meant result ≡ op_meant op.now }
 {
@@ -35,7 +35,7 @@ fn copied(rt: &impl Abort, alloc: Global, op: &Op) -> Op
     }
 }
 
-/// Offers an entry like this one.
+/// Offers a copy of this entry.
 fn offer(rt: &impl Abort, alloc: Global, own: &State, staging: &mut Staging, row: &(Key, Entry))
     requires floor { IsFloor (own.now.ledger ++ staging.old.items) staging.old.floor }
     requires above { IsAboveStaged staging.old.staged (key_meant row.now.0) }
@@ -50,7 +50,7 @@ fn offer(rt: &impl Abort, alloc: Global, own: &State, staging: &mut Staging, row
         .expect(rt, "memory");
 }
 
-/// Offers entries like these, one by one.
+/// Offers copies of these entries, one by one.
 fn offer_all(
     rt: &impl Abort,
     alloc: Global,
@@ -70,7 +70,7 @@ fn offer_all(
     }
 }
 
-/// Receives another state entry by entry, and answers how many entries were staged at the commit.
+/// Receives another state entry by entry, and returns how many entries were staged at the commit.
 fn receive(rt: &impl Abort, alloc: Global, own: &mut State, other: &State) -> u64 {
     let ledger = Vec::from_slice(alloc, other.ledger()).expect(rt, "memory");
     let mut staging = Staging::new(alloc, own, ledger).expect(rt, "memory");
@@ -80,7 +80,7 @@ fn receive(rt: &impl Abort, alloc: Global, own: &mut State, other: &State) -> u6
     count
 }
 
-/// That so many entries are staged, and that the state is then as these lines say.
+/// Asserts how many entries are staged, and that the state is then shown as these lines.
 fn receive_is(
     rt: &impl Abort,
     alloc: Global,
@@ -93,7 +93,8 @@ fn receive_is(
     state_is(rt, alloc, own, lines);
 }
 
-/// That a state receives the state of a file so, and then nothing of it again.
+/// Asserts that a state receives the state of a file as expected, and nothing more from a second
+/// try.
 fn received_is(
     rt: &impl Abort,
     alloc: Global,
@@ -113,13 +114,13 @@ const SCHEDULE: &[&[u8]] = &[HD_9A, BS, LO, LT, ZZ];
 /// Its revision.
 const REVISION: &[&[u8]] = &[HD_10B, BS_REVISED, LO_0905, LT_0935, ZZ];
 
-/// An update that deletes a schedule and has another.
+/// An update that deletes a schedule and puts another.
 const UPDATE: &[&[u8]] = &[HD_5A, BS_C10003, BS, LO, LT, ZZ];
 
-/// A later full extract of a third one.
+/// A later full extract with a third schedule.
 const EXTRACT: &[&[u8]] = &[HD_7B, BS_C10002, LO_1000, LT_1030, ZZ];
 
-/// What a state says of that extract alone.
+/// How a state of only that extract is shown.
 const EXTRACT_ONLY: &[&[u8]] = &[
     b"item 23534 1260 DFROC1B F DFROC1A",
     b"floor 23534 1260 DFROC1B",

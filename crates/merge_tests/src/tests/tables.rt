@@ -13,7 +13,7 @@ fn key(rt: &impl Abort, code: &str) -> Key {
     Key::Tiploc(Tiploc::from_text(code).expect(rt, "a TIPLOC"))
 }
 
-/// The table of one key with one of the entries.
+/// The table of one key with the entry at this place.
 fn one_row(rt: &impl Abort, alloc: Global, code: &str, place: u8) -> Table<Entry> {
     let mut rows = Vec::new(alloc);
     rows.push((key(rt, code), entry(rt, place)))
@@ -21,7 +21,7 @@ fn one_row(rt: &impl Abort, alloc: Global, code: &str, place: u8) -> Table<Entry
     Table::from_rows(rows)
 }
 
-/// The table of these keys, each with one of the entries.
+/// The table of these keys, each with the entry at its place.
 fn table(rt: &impl Abort, alloc: Global, rows: &[(&str, u8)]) -> Table<Entry> {
     let mut all = Table::new(alloc);
     for (code, place) in rows {
@@ -31,12 +31,12 @@ fn table(rt: &impl Abort, alloc: Global, rows: &[(&str, u8)]) -> Table<Entry> {
     all
 }
 
-/// That a table has one of the entries at a key.
+/// Asserts that a table has the entry of this place at a key.
 fn entry_is(rt: &impl Abort, table: &Table<Entry>, code: &str, place: u8) {
     same(rt, table.get(&key(rt, code)), Some(&entry(rt, place)));
 }
 
-/// That a row is of a key.
+/// Asserts that a row has this key.
 fn key_is(rt: &impl Abort, rows: &[(Key, Entry)], at: usize, code: &str) {
     let row = rows.get(at).expect(rt, "a row");
     same(rt, row.0, key(rt, code));

@@ -1,11 +1,12 @@
-//! The devices in memory, and a sink that fails once and can't tell its bytes.
+//! The devices in memory, and a sink that fails once and can't show its bytes.
 ghost use Rattle.std.specs.Prelude.{◌-◌, ◌^◌, ◌<◌, ◌≡◌, None};
 
 use super::{prints, same};
 use cif_line::{Bytes, Endless, Failed, Fuse, Kept, Memory, Sink, Source, write_all};
 use std::process::Abort;
 
-// A device's next call asks that it hasn't failed without end.
+// Returns only if the numbers are equal: a device's next call requires that its failures can still
+// be counted.
 fn failures_are(rt: &impl Abort, failures: u64, wanted: u64)
     ensures { failures ≡ wanted }
 {
@@ -123,7 +124,7 @@ fn gives_a_text_again_and_again(rt: HostRuntime) {
     failures_are(&rt, slow.failures(), 0);
 }
 
-// A sink that can't tell its bytes. It takes one at a write, and fails at the third.
+// A sink that can't show its bytes. It takes one byte per write, and fails at the third write.
 #[derive(Drop)]
 struct FailsOnce {
     writes: u8,

@@ -7,7 +7,7 @@ use cif_line::{
 };
 use std::process::Abort;
 
-// A line of this text, then spaces, and the last byte.
+// A line of this text, padded with spaces, and the last byte.
 fn record(rt: &impl Abort, text: &[u8], last: u8) -> Line {
     let mut bytes = [b' '; 80];
     let n = text.len().min(79);
@@ -74,7 +74,7 @@ fn terminus_of<'a>(rt: &impl Abort, line: &'a Line) -> Terminus<'a> {
     }
 }
 
-// The leftmost bad field of a line of this text, then spaces, and the last byte.
+// Asserts the leftmost bad field of a line of this text, padded with spaces, and the last byte.
 fn bad_field_is(rt: &impl Abort, text: &[u8], last: u8, wanted: Option<u8>) {
     let line = record(rt, text, last);
     let fault = match kind(&line) {

@@ -1,4 +1,4 @@
-//! Texts cut short, texts without end and texts whose counts are huge, as each way of reading answers them.
+//! Texts cut short, texts without end, and texts with huge counts, read in each way.
 ghost use Rattle.std.specs.Prelude.{◌<◌, length};
 
 use super::migrated::{refused_old, refused_old_source};
@@ -16,14 +16,14 @@ use docker_state::State;
 use std::alloc::Global;
 use std::process::Abort;
 
-/// The limit of what has none.
+/// The limit if a text has no limit.
 const MOST_BYTES: u64 = 1_099_511_627_776;
 
-/// An entry of the schedule, up to its lines, that has as many as there may be.
+/// An entry of the schedule, up to its lines, with the greatest number of lines.
 const HEAD_OF_MOST: &[u8] =
     b"\x03C10001\x5b\xf1P\x5b\xf0\x04\xecDFROC1A\x00\x00\x00\x02\x01\xff\xff\xff\xfe";
 
-/// The same with one line too many.
+/// An entry of the schedule, up to its lines, with one line too many.
 const HEAD_ABOVE_MOST: &[u8] =
     b"\x03C10001\x5b\xf1P\x5b\xf0\x04\xecDFROC1A\x00\x00\x00\x02\x01\xff\xff\xff\xff";
 
@@ -36,7 +36,8 @@ const UNDER_AFTER: &[u8] = b"DKS2\x5b\xf6";
 /// A mark and a day after the last one of all.
 const UNDER_TOO_LATE: &[u8] = b"DKS2\x8e\xad";
 
-/// That a text is refused where it is read by so many bytes, and not received by a state, which has this text as before.
+/// Asserts that a text is refused when it is read `step` bytes at a time, and isn't received by a
+/// state, which still has this text.
 fn refused_by(
     rt: &impl Abort,
     alloc: Global,
@@ -57,7 +58,8 @@ fn refused_by(
     text_is(rt, alloc, own, before);
 }
 
-/// That a text is refused, and received by no state: one that tries is left as it was.
+/// Asserts that a text is refused and that no state receives it. A state that tries stays as it
+/// was.
 pub(super) fn refused_each_way(
     rt: &impl Abort,
     alloc: Global,
@@ -73,7 +75,8 @@ pub(super) fn refused_each_way(
     refused_by(rt, alloc, &mut own, before, text, limit, fault, 4096);
 }
 
-/// That a text which goes on with another again and again is refused where it is read by so many bytes, and not received.
+/// Asserts that a front of a text, followed by another text without end, is refused when it is read
+/// `step` bytes at a time, and isn't received.
 fn refused_endless_by(
     rt: &impl Abort,
     alloc: Global,
@@ -96,7 +99,7 @@ fn refused_endless_by(
     text_is(rt, alloc, own, before);
 }
 
-/// The same of a text that goes on with another again and again.
+/// Like `refused_each_way`, for a front followed by another text without end.
 fn refused_without_end(
     rt: &impl Abort,
     alloc: Global,
@@ -117,7 +120,7 @@ fn refused_without_end(
     );
 }
 
-/// A front of a text, and 60 ledger items, a minute apart each.
+/// A front of a text, and 60 ledger items, each a minute after the one before.
 fn with_items(rt: &impl Abort, alloc: Global, front: &[&[u8]]) -> Vec<u8> {
     let mut items = joined_text(rt, alloc, front);
     for minute in 0..60u16 {
@@ -132,7 +135,7 @@ fn with_items(rt: &impl Abort, alloc: Global, front: &[&[u8]]) -> Vec<u8> {
     items
 }
 
-/// That the front of a text, of so many bytes, is too short.
+/// Asserts that the first `n` bytes of a text are too short.
 fn refused_front(rt: &impl Abort, alloc: Global, text: &[u8], n: usize) {
     let fault = at(last_place(&BEGINNINGS, n), StateCause::Short);
     let front = text.get(..n).expect(rt, "a front");
@@ -171,14 +174,14 @@ fn text_with(rt: &impl Abort, alloc: Global, mark: &[u8], head: &[u8]) -> Vec<u8
     joined_text(rt, alloc, &[mark, ONE, ITEM, ONE, head, BS, LO, LT])
 }
 
-/// That such a text is refused.
+/// Asserts that such a text is refused.
 fn refused_change(rt: &impl Abort, alloc: Global, row: &Changed) {
     let (mark, head, place, cause) = *row;
     let text = text_with(rt, alloc, mark, head);
     refused_each_way(rt, alloc, text.as_slice(), 1000, at(place, cause));
 }
 
-/// That a text is read by so many bytes, and written so again.
+/// Asserts that a text, read `step` bytes at a time, is written unchanged.
 fn is_kept(rt: &impl Abort, alloc: Global, text: &[u8], step: usize)
     requires { 0 < step }
 {
@@ -233,7 +236,7 @@ const HUGE: &[Row] = &[
     ),
 ];
 
-/// That a text of these pieces is refused as each way of reading tells it, and received by no state.
+/// Asserts that each way of reading refuses a text of these pieces, and that no state receives it.
 fn refused_everywhere(
     rt: &impl Abort,
     alloc: Global,
@@ -257,7 +260,7 @@ fn huge_counts(rt: HostRuntime) {
     refused_everywhere(&rt, alloc, &[items.as_slice()], 1_002, long);
 }
 
-/// That a text of the older format which goes on with another again and again is refused, by so many bytes at a read.
+/// Asserts that a front in the older format, followed by another text without end, is refused.
 fn refused_old_endless(
     rt: &impl Abort,
     alloc: Global,
@@ -294,7 +297,7 @@ fn old_texts_without_end(rt: HostRuntime) {
     refused_old_endless(&rt, alloc, items.as_slice(), &[0], 1_000, long);
 }
 
-/// The same in the older format.
+/// Like the rows above, in the older format.
 const OLD_HUGE: &[Row] = &[
     (
         &[OLD_MARK, MOST, ITEM, ONE, HEAD, BS, LO, LT],

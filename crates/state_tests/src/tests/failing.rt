@@ -1,4 +1,4 @@
-//! Devices of which one byte passes at a call, and which fail at each call in turn.
+//! Devices that pass one byte per call, and fail at each call in turn.
 ghost use Rattle.std.specs.Prelude.{◌<◌};
 
 use super::records::{
@@ -13,7 +13,8 @@ use docker_state::State;
 use std::alloc::Global;
 use std::process::Abort;
 
-/// That a state which is written to a sink that fails at this write has this answer, and the sink these bytes.
+/// Asserts what writing a state to a sink that fails at this write returns, and which bytes the
+/// sink has.
 fn writes(
     rt: &impl Abort,
     alloc: Global,
@@ -30,7 +31,7 @@ fn writes(
     same(rt, sink.device().bytes(), bytes);
 }
 
-/// That it fails at this write, with the bytes before.
+/// Asserts that it fails at this write, and the sink has the bytes before.
 fn fails_to_write(rt: &impl Abort, alloc: Global, state: &State, known: &[u8], call: u64)
     requires { 0 < call }
 {
@@ -49,7 +50,7 @@ fn a_sink_that_fails_has_the_bytes_before(rt: HostRuntime) {
     writes(&rt, alloc, &state, 312, Ok(()), known.as_slice());
 }
 
-/// That a text isn't read from a source that fails at a call, for this fault.
+/// Asserts that reading a text from a source that fails at a call gives this fault.
 fn reads_not(rt: &impl Abort, alloc: Global, text: &[u8], call: u64, fault: ReadFault)
     requires { 0 < call }
 {
@@ -58,7 +59,7 @@ fn reads_not(rt: &impl Abort, alloc: Global, text: &[u8], call: u64, fault: Read
     same(rt, read, Some(fault));
 }
 
-/// What a state answers that receives a text from a source that fails at a call.
+/// What a state returns when it receives a text from a source that fails at a call.
 fn received(alloc: Global, own: &mut State, text: &[u8], call: u64) -> Result<(), ReadFault>
     requires { 0 < call }
 {
@@ -66,7 +67,8 @@ fn received(alloc: Global, own: &mut State, text: &[u8], call: u64) -> Result<()
     join_state(alloc, own, &mut source, 1000)
 }
 
-/// That a text is neither read nor received from a source that fails at a call, and that a state which tries has this text as before.
+/// Asserts that a text is neither read nor received from a source that fails at a call, and that a
+/// state which tries still has this text.
 fn fails_before(
     rt: &impl Abort,
     alloc: Global,
@@ -83,7 +85,8 @@ fn fails_before(
     text_is(rt, alloc, own, before);
 }
 
-/// That a text is neither read nor received from a source that fails at a call: a state that tries is as before, and receives it from a good source.
+/// Asserts that a text is neither read nor received from a source that fails at a call. A state
+/// that tries stays as it was, and then receives the text from a good source.
 fn fails_at(rt: &impl Abort, alloc: Global, text: &[u8], call: u64, joined: &[u8])
     requires { 0 < call }
 {
@@ -96,7 +99,8 @@ fn fails_at(rt: &impl Abort, alloc: Global, text: &[u8], call: u64, joined: &[u8
     text_is(rt, alloc, &own, joined);
 }
 
-/// That a text is read and received where its source would fail at the call behind the last.
+/// Asserts that a text is read and received if its source would fail only at the call after the
+/// last.
 fn passes(rt: &impl Abort, alloc: Global, text: &[u8], joined: &[u8]) {
     let mut source = Fuse::new(Bytes::new(text, 4096), 313);
     let state_read = read_state(alloc, &mut source, 1000).expect(rt, "a state");
@@ -120,7 +124,7 @@ fn a_source_that_fails_at_each_call(rt: HostRuntime) {
     passes(&rt, alloc, known, joined.as_slice());
 }
 
-/// The fault of a source of another mark that fails at this call.
+/// The fault of a source with another mark that fails at this call.
 fn fault_at(call: u64) -> ReadFault {
     if call < 5 {
         ReadFault::Source
@@ -143,7 +147,7 @@ fn a_source_of_another_mark_that_fails(rt: HostRuntime) {
     }
 }
 
-/// That a text of the older format isn't read from a source that fails at a call.
+/// Asserts that a text of the older format isn't read from a source that fails at a call.
 fn migrates_not(rt: &impl Abort, alloc: Global, old: &[u8], call: u64)
     requires { 0 < call }
 {

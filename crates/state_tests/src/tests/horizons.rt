@@ -11,14 +11,14 @@ use docker_state::State;
 use std::alloc::Global;
 use std::process::Abort;
 
-/// The text of one file and of one entry of these parts, under a horizon.
+/// The text of one file and one entry of these parts, under a horizon.
 fn under(rt: &impl Abort, alloc: Global, horizon: &[u8], parts: &[&[u8]]) -> Vec<u8> {
     let entry = joined_text(rt, alloc, parts);
     let pieces = [b"DKS2", horizon, ONE, ITEM, ONE, entry.as_slice()];
     joined_text(rt, alloc, &pieces)
 }
 
-/// That a text is that of a state, which is written so again, of which the horizon is told.
+/// Asserts that a text is the text of a state with this horizon, and is written unchanged.
 fn accepted(rt: &impl Abort, alloc: Global, text: &[u8], horizon: u16) {
     let state = read(rt, alloc, text, 4096, 1000);
     same(rt, state.horizon(), horizon);
@@ -26,13 +26,13 @@ fn accepted(rt: &impl Abort, alloc: Global, text: &[u8], horizon: u16) {
     goes_round(rt, alloc, &state, text.len(), 1);
 }
 
-/// That a text of one entry under a horizon is so.
+/// Asserts that a text of one entry under a horizon is accepted.
 fn accepted_under(rt: &impl Abort, alloc: Global, horizon: &[u8], parts: &[&[u8]], number: u16) {
     let text = under(rt, alloc, horizon, parts);
     accepted(rt, alloc, text.as_slice(), number);
 }
 
-/// That it is refused there.
+/// Asserts that it is refused at this offset.
 fn refused_under(
     rt: &impl Abort,
     alloc: Global,
@@ -66,7 +66,7 @@ fn horizons_of_no_day(rt: HostRuntime) {
 const ENDLESS: &[u8] =
     b"BSNC100012406109999991111100 POO1A10                                           P";
 
-/// What is told of Ashfield Central.
+/// The body of Ashfield Central.
 const CENTRAL: &[u8] = b"         ASHFIELD CENTRAL                                      ";
 
 #[test]
@@ -86,7 +86,7 @@ fn puts_that_end_before_the_horizon(rt: HostRuntime) {
     accepted_under(&rt, alloc, GREATEST, &[ASHFELD_HEAD, PUT, CENTRAL], 36524);
 }
 
-/// That what has lapsed of an entry is accepted under a horizon, as a text of so many bytes.
+/// Asserts that a lapsed entry is accepted under a horizon, and its text has `len` bytes.
 fn accepted_lapsed(
     rt: &impl Abort,
     alloc: Global,
@@ -100,7 +100,7 @@ fn accepted_lapsed(
     accepted(rt, alloc, text.as_slice(), number);
 }
 
-/// That it is so of each kind of entry.
+/// Asserts that lapsed entries of each kind are accepted.
 fn each_accepted_lapsed(rt: &impl Abort, alloc: Global, horizon: &[u8], number: u16) {
     accepted_lapsed(rt, alloc, horizon, number, ASHFELD_HEAD, 65);
     accepted_lapsed(rt, alloc, horizon, number, JOINS_HEAD, 81);
@@ -126,7 +126,8 @@ fn lapsed(rt: &impl Abort, alloc: Global, records: &[&[u8]], day: &str) -> State
     state
 }
 
-/// That the state of the schedule under the horizon of a day has the text of so many bytes of one entry of these parts.
+/// Asserts that the state of the schedule under the horizon of a day has a text of `len` bytes,
+/// with one entry of these parts.
 fn has_under(
     rt: &impl Abort,
     alloc: Global,

@@ -13,7 +13,7 @@ use docker_state::State;
 use std::alloc::Global;
 use std::process::Abort;
 
-/// The join of the states of some files, one behind the other.
+/// The join of the states of these files, one after the other.
 fn merged(rt: &impl Abort, alloc: Global, files: &[&[&[u8]]]) -> State {
     let mut all = State::empty(alloc);
     for file in files {
@@ -23,7 +23,7 @@ fn merged(rt: &impl Abort, alloc: Global, files: &[&[&[u8]]]) -> State {
     all
 }
 
-/// Receives a text, so many bytes at a read.
+/// Receives a text, `step` bytes per read.
 fn receive(rt: &impl Abort, alloc: Global, all: &mut State, text: &[u8], step: usize)
     requires { 0 < step }
 {
@@ -40,8 +40,8 @@ fn receive_file(rt: &impl Abort, alloc: Global, all: &mut State, file: &[&[u8]],
     receive(rt, alloc, all, text.bytes(), step);
 }
 
-/// That a state which receives the texts of the states of these files, in this order and so many bytes at a read, has this text in the end, and receives it again
-/// with no change.
+/// Asserts that a state ends with this text if it receives the texts of the states of these files
+/// in this order, `step` bytes per read. Receiving them once more changes nothing.
 fn receives(rt: &impl Abort, alloc: Global, files: &[&[&[u8]]], wanted: &[u8], step: usize)
     requires { 0 < step }
 {
@@ -54,7 +54,8 @@ fn receives(rt: &impl Abort, alloc: Global, files: &[&[&[u8]]], wanted: &[u8], s
     text_is(rt, alloc, &all, wanted);
 }
 
-/// That the states of these files, joined in this order, and a state that receives their texts, have this text.
+/// Asserts that the states of these files, joined in this order, have this text, and so does a
+/// state that receives their texts.
 fn merges_to(rt: &impl Abort, alloc: Global, files: &[&[&[u8]]], pieces: &[&[u8]], name: &str) {
     let all = merged(rt, alloc, files);
     let wanted = joined_text(rt, alloc, pieces);
@@ -65,7 +66,7 @@ fn merges_to(rt: &impl Abort, alloc: Global, files: &[&[&[u8]]], pieces: &[&[u8]
     goes_round(rt, alloc, &all, wanted.len(), 80);
 }
 
-/// That pieces are a text of so many bytes.
+/// Asserts that pieces are a text of `len` bytes.
 fn len_is(rt: &impl Abort, alloc: Global, pieces: &[&[u8]], len: usize) {
     let text = joined_text(rt, alloc, pieces);
     same(rt, text.len(), len);
@@ -124,7 +125,7 @@ const OF_LATE: Records = &[
     LT_1030,
 ];
 
-/// The three in each order, and its name.
+/// The three files in each order, and the row's name.
 const ORDERS: &[(&[Records], &str)] = &[
     (&[FIFTH, SEVENTH, NINTH], "5, 7, 9"),
     (&[FIFTH, NINTH, SEVENTH], "5, 9, 7"),
@@ -152,12 +153,12 @@ const LATER: Records = &[HD, BS, LO_0905, LT, ZZ];
 /// Its deletion.
 const DELETION: Records = &[HD, BS_DELETED, ZZ];
 
-/// The texts of these.
+/// The texts of these files.
 const OF_LONGER: Records = &[MARK, ONE, ITEM, ONE, HEAD, BS_LONGER, LO_0850, LT];
 
 const OF_LATER: Records = &[MARK, ONE, ITEM, ONE, HEAD, BS, LO_0905, LT];
 
-/// Files of one stamp in an order, the text of both, and the row's name.
+/// Files with one stamp in some order, the text of both, and the row's name.
 const TIES: &[(&[Records], Records, &str)] = &[
     (&[PLAIN, PLAIN], OF_PLAIN, "the same"),
     (&[PLAIN, LONGER], OF_LONGER, "longer"),

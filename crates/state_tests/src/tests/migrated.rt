@@ -1,4 +1,4 @@
-//! Texts that tell no horizon.
+//! Texts of the older format, which have no horizon.
 ghost use Rattle.std.specs.Prelude.{◌-◌, ◌^◌, ◌<◌};
 
 use super::records::{
@@ -16,10 +16,10 @@ fn old_text(rt: &impl Abort, alloc: Global) -> Vec<u8> {
     joined_text(rt, alloc, &[OLD_MARK, ONE, ITEM, ONE, HEAD, BS, LO, LT])
 }
 
-/// Where the parts of that text begin that may be cut.
+/// Where the parts of that text begin, for cutting it.
 const BEGINNINGS: [u64; 5] = [0, 4, 12, 31, 39];
 
-/// That what a source holds is refused for this fault.
+/// Asserts that the bytes of a source are refused with this fault.
 pub(super) fn refused_old_source<S: Source>(
     rt: &impl Abort,
     alloc: Global,
@@ -33,7 +33,7 @@ pub(super) fn refused_old_source<S: Source>(
     same(rt, read, Some(ReadFault::State(fault)));
 }
 
-/// That a text of these pieces is refused there, by so many bytes at a read.
+/// Asserts that a text of these pieces is refused at this offset.
 pub(super) fn refused_old(
     rt: &impl Abort,
     alloc: Global,
@@ -48,7 +48,8 @@ pub(super) fn refused_old(
     refused_old_source(rt, alloc, &mut Bytes::new(text, 4096), limit, fault);
 }
 
-/// That a text of the older format has the state of the text of today, by so many bytes at a read.
+/// Asserts that a text of the older format gives the state of a text in the new format, `step`
+/// bytes per read.
 fn gives(rt: &impl Abort, alloc: Global, old: &[u8], known: &[u8], step: usize)
     requires { 0 < step }
 {
@@ -68,7 +69,7 @@ fn an_old_text_gives_its_state(rt: HostRuntime) {
     gives(&rt, alloc, old.as_slice(), known.as_slice(), 4096);
 }
 
-/// That each front of a text is too short.
+/// Asserts that each front of a text is too short.
 fn refused_fronts(rt: &impl Abort, alloc: Global, text: &[u8]) {
     for (n, _) in text.iter().enumerate() {
         let fault = at(last_place(&BEGINNINGS, n), StateCause::Short);

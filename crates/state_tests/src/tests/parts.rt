@@ -9,13 +9,13 @@ use docker_bytes::StateCause;
 use std::alloc::Global;
 use std::process::Abort;
 
-/// The parts of an entry behind a ledger of one file.
+/// The parts of an entry, after a ledger of one file.
 fn with_entry(rt: &impl Abort, alloc: Global, parts: &[&[u8]]) -> Vec<u8> {
     let entry = joined_text(rt, alloc, parts);
     joined_text(rt, alloc, &[MARK, ONE, ITEM, ONE, entry.as_slice()])
 }
 
-/// That the text of one entry of these parts is read, and written again.
+/// Asserts that the text of one entry of these parts is read, and written again.
 fn accepted(rt: &impl Abort, alloc: Global, parts: &[&[u8]], len: usize) {
     let text = with_entry(rt, alloc, parts);
     let state = read(rt, alloc, text.as_slice(), 4096, 1000);
@@ -23,23 +23,23 @@ fn accepted(rt: &impl Abort, alloc: Global, parts: &[&[u8]], len: usize) {
     goes_round(rt, alloc, &state, len, 1);
 }
 
-/// That one entry of these parts, the first of the text's, is refused for this cause.
+/// Asserts that one entry of these parts, the first of the text, is refused for this cause.
 fn refused_entry(rt: &impl Abort, alloc: Global, parts: &[&[u8]], cause: StateCause) {
     let text = with_entry(rt, alloc, parts);
     refused(rt, alloc, &[text.as_slice()], 1000, at(41, cause));
 }
 
-/// That a deletion of this key, by this record, is accepted.
+/// Asserts that a deletion of this key by this record is accepted.
 fn accepted_deletion(rt: &impl Abort, alloc: Global, key: &[u8], number: &[u8]) {
     accepted(rt, alloc, &[key, FILE, number, DELETED], 67);
 }
 
-/// That it is refused for this cause.
+/// Asserts that a deletion of this key is refused for this cause.
 fn refused_deletion(rt: &impl Abort, alloc: Global, key: &[u8], number: &[u8], cause: StateCause) {
     refused_entry(rt, alloc, &[key, FILE, number, DELETED], cause);
 }
 
-/// That a body which is put for a key is refused.
+/// Asserts that a body put for a key is refused.
 fn refused_body(rt: &impl Abort, alloc: Global, key: &[u8], body: &[u8]) {
     let parts = [key, FILE, SECOND, PUT, body];
     refused_entry(rt, alloc, &parts, StateCause::Body);
@@ -58,7 +58,7 @@ fn entries_at_their_bounds(rt: HostRuntime) {
     accepted(&rt, alloc, schedule, 311);
 }
 
-/// Keys that are none.
+/// Invalid keys.
 const BAD_KEYS: &[&[u8]] = &[
     b"\x01 SHFELD",
     b"\x01ASHFEL\x7f",
@@ -91,13 +91,13 @@ fn record_numbers_of_no_change(rt: HostRuntime) {
     refused_deletion(&rt, alloc, C10001, b"\xff\xff\xff\xff", stamp);
 }
 
-/// Descriptions of a timing point that are none.
+/// Invalid descriptions of a timing point.
 const BAD_DESCRIPTIONS: &[&[u8]] = &[
     b"\x1f        ASHFIELD CENTRAL                                     ~",
     b"         ASHFIELD CENTRAL                                     \x7f",
 ];
 
-/// Lines of an association that are none.
+/// Invalid lines of an association.
 const BAD_LINES: &[&[u8]] = &[
     b"AARC10001C100022406102406141111100JJSASHFELD  TP                               P",
     b"AANC10003C100022406102406141111100JJSASHFELD  TP                               P",
@@ -117,7 +117,7 @@ fn bad_bodies(rt: HostRuntime) {
     }
 }
 
-/// That a schedule of so many lines, which are these, is refused.
+/// Asserts that a schedule with this count and these lines is refused.
 fn refused_schedule(rt: &impl Abort, alloc: Global, count: &[u8; 4], lines: &[&[u8]]) {
     let lines = joined_text(rt, alloc, lines);
     let parts = [C10001, FILE, SECOND, PUT, count, lines.as_slice()];

@@ -1,4 +1,4 @@
-//! States that receive texts: what is refused leaves them as they were.
+//! States that receive texts. A refused text leaves them as they were.
 
 use super::endless::refused_each_way;
 use super::records::{
@@ -12,7 +12,7 @@ use docker_state::State;
 use std::alloc::Global;
 use std::process::Abort;
 
-/// That a state which receives two texts has the second horizon and this text.
+/// Asserts that a state which receives two texts has the second one's horizon and this text.
 fn receives(rt: &impl Abort, alloc: Global, first: &[u8], second: &[u8], wanted: &[u8]) {
     let mut all = State::empty(alloc);
     let answer = join_state(alloc, &mut all, &mut Bytes::new(first, 7), 1000);
@@ -37,13 +37,13 @@ fn a_horizon_received(rt: HostRuntime) {
     receives(&rt, alloc, lapsed, known, lapsed);
 }
 
-/// That a text of these pieces is refused, and received by no state.
+/// Asserts that a text of these pieces is refused, and that no state receives it.
 fn refused(rt: &impl Abort, alloc: Global, pieces: &[&[u8]], limit: u64, fault: StateFault) {
     let text = joined_text(rt, alloc, pieces);
     refused_each_way(rt, alloc, text.as_slice(), limit, fault);
 }
 
-/// That the front of a text, of so many bytes, is refused and received by no state.
+/// Asserts that the first `n` bytes of a text are refused, and that no state receives them.
 fn refused_front(rt: &impl Abort, alloc: Global, text: &[u8], n: usize) {
     let front = text.get(..n).expect(rt, "a front");
     refused(rt, alloc, &[front], 1000, at(60, StateCause::Short));
@@ -67,7 +67,7 @@ fn what_is_refused_changes_nothing(rt: HostRuntime) {
     refused(&rt, alloc, twice, 1000, at(311, StateCause::Order));
 }
 
-/// A source that gives a front, and then fails.
+/// A source that gives a front and then fails.
 #[derive(Drop)]
 struct Broken<'a> {
     front: &'a [u8],
@@ -112,7 +112,7 @@ fn a_source_that_fails_changes_nothing(rt: HostRuntime) {
     text_is(&rt, alloc, &own, before.bytes());
 }
 
-/// That nothing was received for want of memory.
+/// Asserts that nothing was received because memory ran out.
 fn is_empty(rt: &impl Abort, own: &State, fault: ReadFault) {
     same(rt, fault, ReadFault::Memory);
     same(rt, own.entries().len(), 0);

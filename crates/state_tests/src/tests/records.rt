@@ -1,4 +1,4 @@
-//! Records, and parts of texts, of which the rows are made.
+//! Records and parts of texts, from which the rows are made.
 
 /// The header of an update of 9 June 2024, 21:00.
 pub(super) const HD: &[u8] =
@@ -51,7 +51,7 @@ pub(super) const ZZ: &[u8] =
 /// A text up to the number of ledger items: its mark, and no horizon.
 pub(super) const MARK: &[u8] = b"DKS2\0\0";
 
-/// The mark of a text that tells no horizon.
+/// The mark of a text of the older format, which has no horizon.
 pub(super) const OLD_MARK: &[u8] = b"DKS1";
 
 /// The number one in eight bytes.
@@ -66,7 +66,7 @@ pub(super) const MOST: &[u8] = b"\xff\xff\xff\xff\xff\xff\xff\xff";
 /// The ledger item of the file of 9 June.
 pub(super) const ITEM: &[u8] = b"\x5b\xf0\x04\xecDFROC1AUDFROC1Z";
 
-/// The same with a day after the last one.
+/// The ledger item of the file of 9 June, with a day after the last one.
 pub(super) const ITEM_LATE: &[u8] = b"\x8e\xad\x04\xecDFROC1AUDFROC1Z";
 
 /// The ledger item of an update of 5 June.
@@ -95,7 +95,7 @@ pub(super) const HD_9C: &[u8] =
 pub(super) const BS_REVISED: &[u8] =
     b"BSRC100012406102406141111100 POO1A10                                           P";
 
-/// The same schedule to 21 June.
+/// The schedule of C10001 to 21 June.
 pub(super) const BS_LONGER: &[u8] =
     b"BSNC100012406102406211111100 POO1A10                                           P";
 
@@ -111,15 +111,15 @@ pub(super) const BS_C10003: &[u8] =
 pub(super) const LO_0850: &[u8] =
     b"LOASHFELD 0850 08501  SL                                                        ";
 
-/// The same at 09:05.
+/// An origin: Ashfeld, 09:05.
 pub(super) const LO_0905: &[u8] =
     b"LOASHFELD 0905 09051  SL                                                        ";
 
-/// The same at 10:00.
+/// An origin: Ashfeld, 10:00.
 pub(super) const LO_1000: &[u8] =
     b"LOASHFELD 1000 10001  SL                                                        ";
 
-/// The same at 11:00.
+/// An origin: Ashfeld, 11:00.
 pub(super) const LO_1100: &[u8] =
     b"LOASHFELD 1100 11001  SL                                                        ";
 
@@ -127,11 +127,11 @@ pub(super) const LO_1100: &[u8] =
 pub(super) const LT_0935: &[u8] =
     b"LTBRAYTON 0935 09372  FL                                                        ";
 
-/// The same at 10:30.
+/// A terminus: Brayton, 10:30.
 pub(super) const LT_1030: &[u8] =
     b"LTBRAYTON 1030 10322  FL                                                        ";
 
-/// The same at 11:30.
+/// A terminus: Brayton, 11:30.
 pub(super) const LT_1130: &[u8] =
     b"LTBRAYTON 1130 11322  FL                                                        ";
 
@@ -145,7 +145,7 @@ pub(super) const ITEM_9C: &[u8] = b"\x5b\xf0\x04\xecDFROC1CUDFROC1B";
 pub(super) const HEAD_10B: &[u8] =
     b"\x03C10001\x5b\xf1P\x5b\xf1\x04\xecDFROC1B\x00\x00\x00\x02\x01\x00\x00\x00\x03";
 
-/// The same, put by the third update of 9 June.
+/// The entry of the schedule of C10001, put by the third update of 9 June, up to its lines.
 pub(super) const HEAD_9C: &[u8] =
     b"\x03C10001\x5b\xf1P\x5b\xf0\x04\xecDFROC1C\x00\x00\x00\x02\x01\x00\x00\x00\x03";
 
@@ -165,7 +165,7 @@ pub(super) const C10001: &[u8] = b"\x03C10001\x5b\xf1P";
 /// The file stamp of the file of 9 June.
 pub(super) const FILE: &[u8] = b"\x5b\xf0\x04\xecDFROC1A";
 
-/// The number of the first record behind a header.
+/// The number of the first record after a header.
 pub(super) const SECOND: &[u8] = b"\x00\x00\x00\x02";
 
 /// The op of a deletion.
@@ -184,7 +184,7 @@ pub(super) const LAST: &[u8] = b"\x5b\xf5";
 /// The day after it.
 pub(super) const AFTER: &[u8] = b"\x5b\xf6";
 
-/// The last day of all, 2059-12-31.
+/// The last day of the calendar, 2059-12-31.
 pub(super) const GREATEST: &[u8] = b"\x8e\xac";
 
 /// One too many.
@@ -197,28 +197,28 @@ pub(super) const NOTHING: &[u8] = b"\0\0\0\0\0\0\0\0\0\0\0\0\0\0\0\0";
 pub(super) const SCHEDULE_HEAD: &[u8] =
     b"\x03C10001\x5b\xf1P\x5b\xf0\x04\xecDFROC1A\x00\x00\x00\x02";
 
-/// The same of the association of C10001 and C10002.
+/// The tag, the key and the stamp of the association of C10001 and C10002.
 pub(super) const JOINS_HEAD: &[u8] =
     b"\x02C10001C10002\x5b\xf1ASHFELD P\x5b\xf0\x04\xecDFROC1A\x00\x00\x00\x02";
 
-/// The same of the TIPLOC ASHFELD.
+/// The tag, the key and the stamp of the TIPLOC ASHFELD.
 pub(super) const ASHFELD_HEAD: &[u8] = b"\x01ASHFELD\x5b\xf0\x04\xecDFROC1A\x00\x00\x00\x02";
 
-/// The op of what has lapsed.
+/// The op of a lapsed entry.
 pub(super) const LAPSED: &[u8] = b"\x02";
 
-/// The entry of the schedule up to its lines, with a tag that is none.
+/// The entry of the schedule up to its lines, with an invalid tag.
 pub(super) const HEAD_OF_NO_TAG: &[u8] =
     b"\x04C10001\x5b\xf1P\x5b\xf0\x04\xecDFROC1A\x00\x00\x00\x02\x01\x00\x00\x00\x03";
 
-/// The same with a stamp of a file that is not in the ledger.
+/// The entry of the schedule up to its lines, with the stamp of a file that isn't in the ledger.
 pub(super) const HEAD_OF_NO_FILE: &[u8] =
     b"\x03C10001\x5b\xf1P\x5b\xf0\x04\xecDFROC1B\x00\x00\x00\x02\x01\x00\x00\x00\x03";
 
-/// The same with an op that is none.
+/// The entry of the schedule up to its lines, with an invalid op.
 pub(super) const HEAD_OF_NO_OP: &[u8] =
     b"\x03C10001\x5b\xf1P\x5b\xf0\x04\xecDFROC1A\x00\x00\x00\x02\x03\x00\x00\x00\x03";
 
-/// The same with the op of what has lapsed.
+/// The entry of the schedule up to its lines, with the op of a lapsed entry.
 pub(super) const HEAD_LAPSED: &[u8] =
     b"\x03C10001\x5b\xf1P\x5b\xf0\x04\xecDFROC1A\x00\x00\x00\x02\x02\x00\x00\x00\x03";
