@@ -1,8 +1,8 @@
 -- Feeding a taker from a source: what was taken is what the source lost.
 use Rattle.std.proofs.Common.{◌≡◌, ℕ, ◌+◌, ◌<◌, ◌≤◌, List, [], ◌∷◌, ◌++◌, length, take, drop, Some, None, refl, sym, ◌∙◌, ap, subst, arith, append_assoc, append-nil, length-append, ◌^◌, Err, Result, Fits, w64, Ok}
-use Rattle.std.specs.Prelude.{Option, option_map}
+use Rattle.std.specs.Prelude.{Option, option_map, Bool, true, false}
 use Rattle.std.proofs.lemmas.List.{length-take-le, take-append-le, take-take}
-use Rattle.cif_device.specs.Device.{Reads, IsEnd}
+use Rattle.cif_device.specs.Device.{Reads, IsEnd, Ends}
 use Rattle.cif_device.specs.declared.feed.FeedFault.{FeedFault}
 use Rattle.cif_device.specs.declared.feed.FeedFault.TheVariants as feed
 use Rattle.cif_device.specs.Taken.{Taking, Refusing, HasFed, HasRefused, LosesOnePieceMore}
@@ -12,7 +12,7 @@ pub lost_nothing : (left : Option (List ℕ)) → Reads left [] left
 lost_nothing None = refl
 lost_nothing (Some bytes) = refl
 
--- what is read behind what was read
+-- what is read after what was read
 pub lost_more : (initial now next : Option (List ℕ)) (text piece : List ℕ) → Reads initial text now → Reads now piece next → Reads initial (text ++ piece) next
 lost_more initial now None text piece first more = first ∙ ap (option_map (λ rest. text ++ rest)) more
 lost_more initial now (Some rest) text piece first more =
@@ -107,6 +107,27 @@ end_stays now None piece more end = tt
 end_stays None (Some rest) piece more end = cc
 end_stays (Some left) (Some rest) [] more end = cc
 end_stays (Some left) (Some rest) (byte ∷ piece) more end = let none : ⊥ = cc in absurd none
+
+-- a read of no byte into some room reported the end
+pub ended_by : (n room : ℕ) (ended now_ended passed now_passed : Bool) → Ends n room ended now_ended passed now_passed → n ≡ 0 → 0 < room → now_ended ≡ true
+ended_by n room ended now_ended passed now_passed (reports, _, _, _) none some = reports none some
+
+-- a read of some bytes didn't
+pub going_on : (n room : ℕ) (ended now_ended passed now_passed : Bool) → Ends n room ended now_ended passed now_passed → ¬ (n ≡ 0) → ended ≡ false
+    → now_ended ≡ false
+going_on n room ended now_ended passed now_passed (_, going, _, _) some was = going (omega (arith, some)) ∙ was
+
+-- a read passes no end that wasn't reported
+pub not_passed_by : (n room : ℕ) (ended now_ended passed now_passed : Bool) → Ends n room ended now_ended passed now_passed → ended ≡ false
+    → now_passed ≡ passed
+not_passed_by n room ended now_ended passed now_passed (_, _, _, stays) was = stays was
+
+-- a read that failed changes neither
+pub still_going : (ended now_ended passed now_passed : Bool) → (now_ended ≡ ended) × (now_passed ≡ passed) → now_ended ≡ ended
+still_going ended now_ended passed now_passed (same, _) = same
+
+pub still_not_passed : (ended now_ended passed now_passed : Bool) → (now_ended ≡ ended) × (now_passed ≡ passed) → now_passed ≡ passed
+still_not_passed ended now_ended passed now_passed (_, same) = same
 
 -- the bytes of a buffer that were read
 pub same_front : (n len : ℕ) (piece into items : List ℕ) → piece ≡ take len (into ++ drop (length into) items) → length into ≡ len → n ≤ length into

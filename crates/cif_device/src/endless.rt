@@ -1,6 +1,6 @@
 //! A source in memory that never ends.
-ghost use Rattle.std.specs.Prelude.{◌≡◌, ◌<◌, ◌≤◌, min, [], ◌∷◌, length, take, None, Ok, IfOk};
-ghost use Rattle.cif_device.specs.Device.{Goes};
+ghost use Rattle.std.specs.Prelude.{◌≡◌, ◌<◌, ◌≤◌, min, [], ◌∷◌, length, take, false, None, Ok, IfOk};
+ghost use Rattle.cif_device.specs.Device.{Ends, Goes};
 
 use crate::device::{Failed, Source};
 use std::marker::Model;
@@ -62,8 +62,13 @@ impl Source for Endless<'_> {
 
     ghost failures = { λ _. 0 };
 
+    ghost ended = { λ _. false };
+
+    ghost passed = { λ _. false };
+
     fn read(&mut self, into: &mut [u8]) -> Result<usize, Failed>
         ensures within { IfOk result (λ n. n ≤ length into.new) }
+        ensures ending { IfOk result (λ n. Ends n (length into.new) false false false false) }
 
         // What a source promises is above, and what this one adds below.
         ensures count { result ≡ Ok (min self.old.step (length into.old)) }

@@ -1,5 +1,5 @@
 //! What takes a text in pieces, and the feeding of it from a source.
-ghost use Rattle.std.specs.Prelude.{◌≡◌, ◌≢◌, ℕ, ◌+◌, ◌-◌, ◌^◌, ◌<◌, ◌↔◌, ◌++◌, List, length, IsOk, IfOk, IfErr, OnOk, Err};
+ghost use Rattle.std.specs.Prelude.{◌≡◌, ◌≢◌, ℕ, ◌+◌, ◌-◌, ◌^◌, ◌<◌, ◌↔◌, ◌++◌, true, false, List, length, IsOk, IfOk, IfErr, OnOk, OnErr, Err};
 ghost use Rattle.cif_device.specs.Device.{IsEnd};
 ghost use Rattle.cif_device.specs.Taken.{BehindEach, HasFed, HasRefused, IsTaking, LosesOnePieceMore};
 
@@ -72,6 +72,10 @@ pub fn feed_all<S: Source, T: Taker>(
         (S.failures source.new ≡ S.failures source.old + 1) }
     ensures no_failure { result ≢ Err FeedFault.Source →
         S.failures source.new ≡ S.failures source.old }
+    ensures ended { OnOk result (S.ended source.new ≡ true) }
+    ensures not_ended { S.ended source.old ≡ false → OnErr result (S.ended source.new ≡ false) }
+    ensures not_passed { S.ended source.old ≡ false →
+        S.passed source.new ≡ S.passed source.old }
 {
     let Ok(mut piece) = vec![in alloc; 0u8; PIECE] else {
         return Err(FeedFault::Memory);

@@ -1,5 +1,5 @@
 -- What a job has of its sources, from what was read of them.
-use Rattle.std.proofs.Common.{◌≡◌, ℕ, [], ◌∷◌, ◌⊎◌, Option, None, Some, refl, sym, ◌∙◌, ap, subst}
+use Rattle.std.proofs.Common.{◌≡◌, ℕ, [], ◌∷◌, ◌⊎◌, Option, None, refl, sym, ◌∙◌, ap, subst}
 use Rattle.cif_laws.proofs.lists.Membership.{Contains-single, nil-Contains}
 use Rattle.docker_model.specs.file.File.{most_records}
 use Rattle.docker_model.specs.state.State.{State}
@@ -8,10 +8,9 @@ use Rattle.state_laws.proofs.states.PlainLive.{live_table_is_plain}
 use Rattle.state_laws.proofs.states.SummaryLaws.{join_is_summary}
 use Rattle.docker_office.specs.Office.{TakesFile, no_state}
 use Rattle.docker_office.specs.declared.fault.OfficeFault.{OfficeFault}
-use Rattle.docker_job.specs.Job.{JobView, TaskView, new_task, check_task, day_task, take_task, merge_task, print_task, files_task, horizon_task, migrate_task}
-use Rattle.docker_job.specs.Reads.{Sources, checked_file, taken_file, sources_of, horizon_of}
-use Rattle.docker_job.specs.Writes.{Output, output_of}
-use Rattle.docker_cmd.specs.Prepared.{DeviceBytes, HasReadToEnd, HasSecondSource, IsContentOf, IsOfOneFile, IsPreparedFor, IsReadOf, IsStateOf, IsWhyRefused, IsWrittenOf, ReadView, ReadsFew, file_read, office_read, under}
+use Rattle.docker_cmd.specs.Job.{JobView, TaskView, new_task, check_task, day_task, take_task, merge_task, print_task, files_task, horizon_task, migrate_task}
+use Rattle.docker_cmd.specs.Reads.{Sources, checked_file, taken_file, sources_of, horizon_of}
+use Rattle.docker_cmd.specs.Prepared.{DeviceBytes, HasReadToEnd, HasSecondSource, IsContentOf, IsOfOneFile, IsPreparedFor, IsReadOf, IsStateOf, IsWhyRefused, ReadView, ReadsFew, file_read, office_read, under}
 
 -- no file, and no horizon
 no_files : IsSummary [] 0 no_state
@@ -25,7 +24,7 @@ no_files = record {
   entries = λ key entry. (λ among. absurd (nil-Contains (key, entry) among), λ told. absurd (nil-Contains told.1.is.file told.1.is.kept.among));
 }
 
--- an office that knew no file, and took one, has its state, whose live table is plain
+-- an office that knew no file takes one: it has the state of this file, whose live table is plain
 of_one_file : (left : DeviceBytes) (state : State) → TakesFile most_records left no_state state → IsOfOneFile left (office_read state)
 of_one_file left state takes =
     let summary : IsSummary (takes.file ∷ []) 0 state =
@@ -42,7 +41,7 @@ of_one_file left state takes =
           (λ one two is_one is_two same. sym (Contains-single takes.file one is_one) ∙ Contains-single takes.file two is_two);
     }
 
--- a job that has an office take a file has that of this one file
+-- if a task's source is a file that an office takes, it has read the state of this one file
 pub read_one_file : (task : TaskView) (first second : DeviceBytes) (read : ReadView) → sources_of task ≡ taken_file → IsReadOf task first second read
     → IsOfOneFile first read
 read_one_file new_task first second read is reads = let never : ⊥ = cc in absurd never
@@ -58,7 +57,7 @@ read_one_file files_task first second read is reads = let never : ⊥ = cc in ab
 read_one_file (horizon_task day) first second read is reads = let never : ⊥ = cc in absurd never
 read_one_file migrate_task first second read is reads = let never : ⊥ = cc in absurd never
 
--- `check` alone only checks a file
+-- `check` is the only task that just checks a file
 checked : (task : TaskView) → sources_of task ≡ checked_file → task ≡ check_task
 checked new_task is = let never : ⊥ = cc in absurd never
 checked check_task is = refl
@@ -70,7 +69,7 @@ checked files_task is = let never : ⊥ = cc in absurd never
 checked (horizon_task day) is = let never : ⊥ = cc in absurd never
 checked migrate_task is = let never : ⊥ = cc in absurd never
 
--- the state of a task's sources, under the horizon that the task sets, is the one that the task makes
+-- the state of a task's sources, under the horizon that it sets, is the state that the task makes
 state_of : (task : TaskView) (first second : DeviceBytes) (state : State) → IsStateOf (sources_of task) first second state
     → IsReadOf task first second (under (horizon_of task) (office_read state))
 state_of new_task first second state is = is
@@ -83,50 +82,14 @@ state_of files_task first second state is = is
 state_of (horizon_task day) first second state is = record { own = state; reads = is; raised = refl }
 state_of migrate_task first second state is = is
 
--- so is what was read
+-- what was read of them, under this horizon, is what the task reads
 read_of : (task : TaskView) (first second : DeviceBytes) (read : ReadView) → IsContentOf (sources_of task) first second read
     → IsReadOf task first second (under (horizon_of task) read)
 read_of task first second (file_read file) is =
     subst (λ task. IsReadOf task first second (under (horizon_of task) (file_read file))) (sym (checked task is.0)) (refl, is.1)
 read_of task first second (office_read state) is = state_of task first second state is
 
--- what a task writes of a state is no count
-state_written_of : (task : TaskView) (first second : DeviceBytes) (state : State) → IsStateOf (sources_of task) first second state
-    → IsWrittenOf (output_of task) (office_read state)
-state_written_of new_task first second state is = λ same. cc
-state_written_of check_task first second state is = elim is [ ]
-state_written_of (day_task place day) first second state is = λ same. cc
-state_written_of take_task first second state is = λ same. cc
-state_written_of merge_task first second state is = λ same. cc
-state_written_of (print_task place day) first second state is = λ same. cc
-state_written_of files_task first second state is = λ same. cc
-state_written_of (horizon_task day) first second state is = λ same. cc
-state_written_of migrate_task first second state is = λ same. cc
-
--- so its output is written of what was read
-written_of : (task : TaskView) (first second : DeviceBytes) (read : ReadView) → IsContentOf (sources_of task) first second read
-    → IsWrittenOf (output_of task) read
-written_of task first second (file_read file) is = ap output_of (checked task is.0)
-written_of task first second (office_read state) is = state_written_of task first second state is
-
--- under a horizon too
-still_written : (output : Output) (horizon : Option ℕ) (read : ReadView) → IsWrittenOf output read → IsWrittenOf output (under horizon read)
-still_written output None read is = is
-still_written output (Some day) (file_read file) is = is
-still_written output (Some day) (office_read state) is = is
-
--- what was read, and then put under the horizon of its task, can be written
-pub prepared_written : (task asked : TaskView) (sources : Sources) (horizon : Option ℕ) (first left second second_left : DeviceBytes) (own made : ReadView)
-    → asked ≡ task → sources ≡ sources_of asked → made ≡ under horizon own
-    → ReadsFew sources first left second second_left (IsContentOf sources first second own × HasReadToEnd sources left second_left)
-    → IsWrittenOf (output_of task) made
-prepared_written task asked sources horizon first left second second_left own made same_task same_sources same_made reads =
-    let at : sources ≡ sources_of task = same_sources ∙ ap sources_of same_task in
-    let content : IsContentOf (sources_of task) first second own = subst (λ s. IsContentOf s first second own) at reads.ends.0 in
-    subst (λ read. IsWrittenOf (output_of task) read) (sym same_made)
-    (still_written (output_of task) horizon own (written_of task first second own content))
-
--- it is what a job has read of its sources
+-- the result is what a job has read of its sources
 pub prepared_read : (job : JobView) (asked : TaskView) (sources : Sources) (horizon : Option ℕ) (first left second second_left : DeviceBytes)
     (own made : ReadView) → asked ≡ job.task → sources ≡ sources_of asked → horizon ≡ horizon_of asked → made ≡ under horizon own
     → ReadsFew sources first left second second_left (IsContentOf sources first second own × HasReadToEnd sources left second_left)
@@ -144,7 +107,7 @@ prepared_read job asked sources horizon first left second second_left own made s
       ends = ((refl, subst (λ read. IsReadOf job.task first second read) (sym is) (read_of job.task first second own moved.ends.0)), moved.ends.1);
     }
 
--- sources that were refused, as those of the job
+-- sources that were refused, as the sources of the job
 pub refused_for : (job : JobView) (asked : TaskView) (sources : Sources) (first left second second_left : DeviceBytes) (fault : OfficeFault)
     → asked ≡ job.task → sources ≡ sources_of asked
     → ReadsFew sources first left second second_left (IsWhyRefused sources first left second second_left fault)
@@ -153,7 +116,7 @@ refused_for job asked sources first left second second_left fault same_task same
     subst (λ s. ReadsFew s first left second second_left (IsWhyRefused s first left second second_left fault))
     (same_sources ∙ ap sources_of same_task) reads
 
--- a second source that was read only after the first
+-- a second source was read only after the first
 pub second_for : {First Good Kept : Type 0} (sources others : Sources) → sources ≡ others → First ⊎ (HasSecondSource sources × Good × Kept)
     → First ⊎ (HasSecondSource others × Good × Kept)
 second_for {First} {Good} {Kept} sources others same order = subst (λ s. First ⊎ (HasSecondSource s × Good × Kept)) same order

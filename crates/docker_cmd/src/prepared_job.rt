@@ -1,11 +1,11 @@
 //! What a job has read.
-ghost use Rattle.std.specs.Prelude.{◌≡◌, ◌+◌, ◌-◌, ◌^◌, ◌<◌, ◌⊎◌, IfOk};
+ghost use Rattle.std.specs.Prelude.{◌≡◌, ◌-◌, ◌^◌, ◌<◌, ◌⊎◌, IfOk};
 ghost use Rattle.docker_cmd.specs.Content.{content_meant};
 ghost use Rattle.docker_cmd.specs.Prepared.{CountsSources, HasNoSource, HasSecondSource, HoldsSomeState, IsOfOneFile, IsWrittenOf, ReadsInOrder, output_of, sources_of, taken_file};
 
+use crate::jobs::Job;
 use crate::sources::{Content, read_sources};
 use cif_line::Source;
-use docker_job::Job;
 use docker_office::OfficeFault;
 use std::alloc::Global;
 use std::marker::Model;
@@ -40,7 +40,7 @@ impl<'a> Prepared<'a> {
         self.job
     }
 
-    /// What was read: of `check` the counts of a file, of any other an office.
+    /// What was read: for `check` the counts of a file, for any other job an office.
     pub(crate) fn content(&self) -> &Content
         ensures content { self.now.read ≡ content_meant result.now }
         ensures written { IsWrittenOf (output_of self.now.job.task) (content_meant result.now) }
@@ -49,13 +49,15 @@ impl<'a> Prepared<'a> {
     }
 }
 
-/// Reads what the job reads, in the order of its words, and answers the job with the file's counts, or the office, that it made of it. `new` reads nothing; `check`
-/// and `day` read FILE from the first source, `print`, `files`, `horizon` and `migrate` STATE; `take` and `merge` read STATE from the first source, and then
-/// FILE or OTHER from the second, of which nothing is read unless the first held a state. A source is read to its end, or to the piece of at most 65,536
+/// Reads what the job reads, in the order of its words. It returns the job, with the file's counts
+/// or the office that it has made. `new` reads nothing. `check` and `day` read FILE from the first
+/// source; `print`, `files`, `horizon` and `migrate` read STATE from it. `take` and `merge` read
+/// STATE from the first source, and then FILE or OTHER from the second, but nothing of the second
+/// unless the first held a state. A source is read to its end, or to the piece of at most 65,536
 /// bytes that decides.
 ///
-/// `File` and `State` tell why a source holds no text of a file or of a state, `Source` that one failed, and `Memory` that a growth was refused: nothing that
-/// was judged before is bad.
+/// `File` and `State` say why a source holds no text of a file or of a state, and `Source` that one
+/// failed. `Memory` says that a growth was refused: nothing that was judged before is bad.
 pub fn prepare<'a, S: Source, T: Source>(
     alloc: Global,
     job: &'a Job,

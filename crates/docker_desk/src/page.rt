@@ -5,7 +5,7 @@ use cif_line::{Failed, Sink};
 use std::alloc::Global;
 use std::marker::Model;
 
-/// A sink in memory, which grows as it is written. It fails only if a growth is refused.
+/// A sink in memory. It grows as it is written, and fails only if memory runs out.
 #[derive(Debug, Drop)]
 pub struct Page {
     bytes: Vec<u8>,
@@ -35,7 +35,7 @@ impl Page {
         }
     }
 
-    /// What was written on it.
+    /// What was written on the page.
     pub fn text(&self) -> &[u8]
         ensures { result.now ≡ self.now.text }
     {
@@ -57,7 +57,7 @@ impl Sink for Page {
         ensures counted { OnErr result (self.new.failures ≡ self.old.failures + 1) }
         ensures unmoved { OnErr result (self.new.text ≡ self.old.text) }
 
-        // What a sink promises is above, and what this one adds below.
+        // The clauses of a sink are above. What this sink adds is below.
         ensures whole { IfOk result (λ n. n ≡ length piece.now) }
     {
         match self.bytes.extend_from_slice(piece) {

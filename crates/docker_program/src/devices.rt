@@ -1,4 +1,5 @@
-//! The real devices: standard input, a file that is opened, standard output and standard error. They can't tell their bytes.
+//! The real devices: standard input, an opened file, standard output and standard error. Their
+//! bytes can't be named in a contract.
 ghost use Rattle.std.specs.Prelude.{◌≡◌, ◌<◌, ◌≤◌, ◌^◌, ◌-◌, None, IfSome, false, length};
 
 use crate::files::{Files, OpenFault};
@@ -92,7 +93,7 @@ impl Files for Input {
     }
 }
 
-/// Reads once, and again where a signal interrupts that; none where the device fails.
+/// Reads once, and again if a signal interrupts it. Returns `None` if the device fails.
 fn read_some<R: Read>(from: &mut R, into: &mut [u8]) -> Option<usize>
     ensures { IfSome result (λ n. n ≤ length into.new) }
 {
@@ -166,7 +167,8 @@ impl Sink for Output {
     }
 }
 
-/// Writes once, and again where a signal interrupts that; none where the device fails, or takes nothing.
+/// Writes once, and again if a signal interrupts it. Returns `None` if the device fails, or takes
+/// nothing.
 pub(crate) fn write_some<W: Write>(to: &mut W, piece: &[u8]) -> Option<usize>
     ensures within { IfSome result (λ n. n ≤ length piece.now) }
     ensures progress { IfSome result (λ n. 0 < length piece.now → 0 < n) }

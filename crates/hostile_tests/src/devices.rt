@@ -9,8 +9,7 @@ use crate::spans::Spans;
 use crate::tables::Asked;
 use crate::texts::{MOST_BYTES, has_text, occasion_of, office_of, sink, source_of};
 use cif_line::{Day, Fuse, Sink, Source, Tiploc};
-use docker_cmd::Fault;
-use docker_job::job_line;
+use docker_cmd::{Fault, job_line};
 use docker_office::{Office, OfficeFault};
 
 /// More calls than any row makes.

@@ -3,8 +3,8 @@
 use cif_file::{FileCause, FileFault};
 use cif_line::Memory;
 use docker_bytes::{ReadFault, StateCause, StateFault};
+use docker_cmd::JobFault;
 use docker_day::DockerFault;
-use docker_job::JobFault;
 use docker_office::OfficeFault;
 
 /// How a call ended.

@@ -4,8 +4,9 @@ use crate::desk::Desk;
 use crate::endings::ending_of;
 use crate::texts::{sink, source_of};
 use cif_line::Sink;
-use docker_cmd::{Fault, Prepared, emit, prepare, status};
-use docker_job::{Job, JobFault, Subcommand, job, job_line};
+use docker_cmd::{
+    Fault, Job, JobFault, Prepared, Subcommand, emit, job, job_line, prepare, status,
+};
 use docker_office::OfficeFault;
 
 /// The name of a subcommand.

@@ -11,4 +11,6 @@ read-tells g c = record {
   no_failure = c.ensures.no_failure;
   counted = c.ensures.counted;
   unmoved = on_err_weaker c.result (λ same. ap Some same) c.ensures.unmoved;
+  ending = c.ensures.ending;
+  still = c.ensures.still;
 }
