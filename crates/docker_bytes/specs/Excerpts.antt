@@ -7,6 +7,6 @@ use Rattle.docker_excerpt.specs.Values.{Excerpt}
 abbrev pub IsExcerptAt : List ℕ → Excerpt → State → Type 0
 IsExcerptAt place excerpt state = excerpt ≡ record { place = place; state = state }
 
--- the ledger is the state's. It stands in a state that has no horizon
+-- the ledger is the state's; it is kept as a state without a horizon
 abbrev pub IsLedgerOf : State → State → Type 0
 IsLedgerOf kept state = kept.ledger ≡ state.ledger
