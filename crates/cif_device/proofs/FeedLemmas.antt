@@ -81,7 +81,7 @@ unfolding one_more
 refused_behind takes refuses fed terms text initial now next before after piece fault at more few refused =
     record { more = one_more takes fed terms text initial now next before piece at more few; refused = refused }
 
--- a fault is told as itself
+-- a fault that is returned is the one that the taker gave
 pub refused_as : {T Terms Fault : Type 0} (takes : Taking T Terms) (refuses : Refusing T Terms Fault) (terms : Terms) (text : List ℕ)
     (initial next : Option (List ℕ)) (taker : T) (fault told : Fault)
     → ◌≡◌ {A = Result ℕ (FeedFault Fault)} (Err (feed.Refused fault)) (Err (feed.Refused told))
@@ -89,7 +89,7 @@ pub refused_as : {T Terms Fault : Type 0} (takes : Taking T Terms) (refuses : Re
 refused_as takes refuses terms text initial next taker fault told is has =
     let same : fault ≡ told = cc in subst (HasRefused takes refuses 65536 terms text initial next taker) same has
 
--- how many bytes were fed is told in 64 bits
+-- the number of bytes that were fed fits in 64 bits
 pub fits_still : (fed n : ℕ) (text bytes piece : List ℕ) → length bytes ≡ fed → length piece ≡ n → length ((text ++ bytes) ++ piece) < 2 ^ 64
     → Fits w64 (fed + n)
 fits_still fed n text bytes piece size long below =
@@ -101,7 +101,7 @@ fits_still fed n text bytes piece size long below =
 pub at_once : (n len : ℕ) (into : List ℕ) → length into ≡ len → len ≡ 65536 → n ≤ length into → length (take n into) ≤ 65536
 at_once n len into long room within = let size = length-take-le n into within in omega arith
 
--- behind the end nothing is left
+-- nothing is left after the end
 pub end_stays : (now next : Option (List ℕ)) (piece : List ℕ) → Reads now piece next → IsEnd now → IsEnd next
 end_stays now None piece more end = tt
 end_stays None (Some rest) piece more end = cc
@@ -135,7 +135,7 @@ pub same_front : (n len : ℕ) (piece into items : List ℕ) → piece ≡ take 
 same_front n len piece into items is whole within =
     ap (take n) (is ∙ take-append-le len into (drop (length into) items) (omega arith)) ∙ take-take n len into (omega arith)
 
--- where the end is told, or a piece was refused, no source failed
+-- if the end was reported or a piece was refused, the source didn't fail
 pub none_failed : {Fault : Type 0} (result : Result ℕ (FeedFault Fault)) (before now after : ℕ) → ¬ (result ≡ Err feed.Source) → after ≡ now → now ≡ before
     → (result ≡ Err feed.Source → after ≡ before + 1) × (after ≡ before + 1 → result ≡ Err feed.Source)
 none_failed result before now after other same kept = (λ is. absurd (other is), λ more. let none : ⊥ = omega (arith, same, kept, more) in absurd none)

@@ -12,9 +12,9 @@ abbrev pub IsEnd : Option (List ℕ) → Type 0
 IsEnd None = ⊤
 IsEnd (Some left) = left ≡ []
 
--- A read of n bytes into this much room: whether the source had reported its end before and has now,
--- and whether it had been read after its end before and has now. A read of no byte into some room
--- reports the end, a read of some bytes doesn't, and any read after a reported end passes it.
+-- A read of n bytes into this much room: whether the source had reported its end before, and has
+-- now; and whether it had been read after its end before, and has now. A read of no byte into some
+-- room reports the end, a read of some bytes doesn't, and any read after a reported end passes it.
 abbrev pub Ends : ℕ → ℕ → Bool → Bool → Bool → Bool → Type 0
 Ends n room ended now_ended passed now_passed = (n ≡ 0 → 0 < room → now_ended ≡ true)
     × (0 < n → now_ended ≡ ended)
@@ -51,13 +51,15 @@ pub record Store : Type 0 where
 abbrev pub room_left : Store → ℕ
 room_left store = store.room - length store.taken
 
--- a device that fails at one call: the device within, how many calls are left up to that one, 0 after it, and how often it failed
+-- a device that fails at one call: the device within, how many calls are left up to that one, 0
+-- after it, and how often it failed
 pub record Fused (D : Type 0) : Type 0 where
   pub device : D
   pub calls : ℕ
   pub failures : ℕ
 
--- a source that never ends: what is left of the text that it gives, the text that follows again and again, and the most that one read gives
+-- a source that never ends: what is left of the text that it gives, the text that follows again and
+-- again, and the most that one read gives
 pub record Round : Type 0 where
   pub left : List ℕ
   pub again : List ℕ

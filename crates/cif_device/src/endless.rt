@@ -5,7 +5,8 @@ ghost use Rattle.cif_device.specs.Device.{Ends, Goes};
 use crate::device::{Failed, Source};
 use std::marker::Model;
 
-/// A source that gives one text, and then another again and again. It never ends and never fails, so it can't name its bytes.
+/// A source that gives one text, and then another again and again. It never ends and never fails,
+/// so it can't name its bytes.
 #[derive(Clone, Debug, Drop)]
 pub struct Endless<'a> {
     rest: &'a [u8],
@@ -29,7 +30,8 @@ impl<'a> Model for Endless<'a> {
 }
 
 impl<'a> Endless<'a> {
-    /// A source of the first text and then of the other, again and again, with at most `step` bytes a read.
+    /// A source of the first text and then of the other, again and again, with at most `step`
+    /// bytes per read.
     pub fn new(first: &'a [u8], again: &'a [u8], step: usize) -> Self
         requires again { 0 < length again.now }
         requires step { 0 < step }

@@ -41,13 +41,15 @@ pub trait Taker {
         ensures refused { IfErr result (λ fault. BehindEach takes self.old (λ terms text.
             refuses self.new terms text piece.now fault)) };
 
-    // Each text that it may have taken is shorter than this, so that a source without end is refused.
+    // Each text that it may have taken is shorter than this, so a source without end is refused.
     ghost bounded: { (taker : Self) (terms : Terms) (text : List ℕ) → takes taker terms text
         → length text < 2 ^ 64 };
 }
 
-/// Feeds a taker all that a source has left, in pieces of at most 65,536 bytes, and returns their number. Nothing is read after the piece that the
-/// taker refuses. It terminates for every source: what a taker accepts has a bound, so some piece of an endless source is refused.
+/// Feeds a taker all that a source has left, in pieces of at most 65,536 bytes, and returns the
+/// number of bytes. Nothing is read after the source reports its end, or after the piece that the
+/// taker refuses. It terminates for every source: what a taker accepts has a bound, so some piece of
+/// an endless source is refused.
 pub fn feed_all<S: Source, T: Taker>(
     alloc: Global,
     source: &mut S,

@@ -27,7 +27,8 @@ impl<D> Model for Fuse<D> {
 }
 
 impl<D> Fuse<D> {
-    /// Passes the bytes of this device, one a call, and fails only at the call with this number, counted from 1.
+    /// Passes the bytes of this device, one per call, and fails only at the call with this number,
+    /// counted from 1.
     pub fn new(device: D, call: u64) -> Self
         requires { 0 < call }
         ensures device { result.device ≡ device }

@@ -49,10 +49,11 @@ impl Sink for Page {
     ghost failures = { λ page. page.failures };
 
     fn write(&mut self, piece: &[u8]) -> Result<usize, Failed>
-        requires { self.old.failures < 2 ^ 64 - 1 }
+        requires failures { self.old.failures < 2 ^ 64 - 1 }
+        requires piece { 0 < length piece.now }
         ensures within { IfOk result (λ n. n ≤ length piece.now) }
         ensures moved { IfOk result (λ n. self.new.text ≡ self.old.text ++ take n piece.now) }
-        ensures progress { IfOk result (λ n. 0 < length piece.now → 0 < n) }
+        ensures progress { IfOk result (λ n. 0 < n) }
         ensures no_failure { OnOk result (self.new.failures ≡ self.old.failures) }
         ensures counted { OnErr result (self.new.failures ≡ self.old.failures + 1) }
         ensures unmoved { OnErr result (self.new.text ≡ self.old.text) }

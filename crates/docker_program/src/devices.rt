@@ -22,6 +22,8 @@ pub(crate) struct Input {
     rt: HostRuntime,
     from: From,
     pub(crate) failures: u64,
+    pub(crate) ended: bool,
+    pub(crate) passed: bool,
 }
 
 impl Input {
@@ -33,6 +35,8 @@ impl Input {
             rt: *rt,
             from: From::Stdin(rt.stdin()),
             failures: 0,
+            ended: false,
+            passed: false,
         }
     }
 
@@ -44,6 +48,8 @@ impl Input {
             rt: *rt,
             from: From::Closed,
             failures: 0,
+            ended: false,
+            passed: false,
         }
     }
 }
@@ -53,6 +59,10 @@ impl Source for Input {
 
     ghost failures = { λ input. input.failures };
 
+    ghost ended = { λ input. input.ended };
+
+    ghost passed = { λ input. input.passed };
+
     fn read(&mut self, into: &mut [u8]) -> Result<usize, Failed> {
         let read = match &mut self.from {
             From::Stdin(stdin) => read_some(stdin, into),
@@ -60,7 +70,11 @@ impl Source for Input {
             From::Closed => None,
         };
         match read {
-            Some(n) => Ok(n),
+            Some(n) => {
+                self.passed = self.passed || self.ended;
+                self.ended = self.ended || n == 0 && !into.is_empty();
+                Ok(n)
+            }
             None => {
                 self.failures += 1;
                 Err(Failed)
@@ -82,6 +96,8 @@ impl Files for Input {
         match File::open(&self.rt, name) {
             Ok(file) => {
                 self.from = From::File(file);
+                self.ended = false;
+                self.passed = false;
                 Ok(())
             }
             Err(error) if error.kind() == ErrorKind::OutOfMemory => Err(OpenFault::Memory),
@@ -171,11 +187,11 @@ impl Sink for Output {
 /// nothing.
 pub(crate) fn write_some<W: Write>(to: &mut W, piece: &[u8]) -> Option<usize>
     ensures within { IfSome result (λ n. n ≤ length piece.now) }
-    ensures progress { IfSome result (λ n. 0 < length piece.now → 0 < n) }
+    ensures progress { IfSome result (λ n. 0 < n) }
 {
     for _ in 0..u64::MAX {
         match to.write(piece) {
-            Ok(n) if n > 0 || piece.is_empty() => return Some(n),
+            Ok(n) if n > 0 => return Some(n),
             Err(error) if error.kind() == ErrorKind::Interrupted => {}
             _ => return None,
         }

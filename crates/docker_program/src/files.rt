@@ -37,11 +37,13 @@ pub trait Files: Source {
 
     /// Opens the file of this name, to be read from its first byte. If the device fails, the
     /// failure is counted. Running out of memory is no failure of a device. If the file isn't
-    /// opened, the source is as it was.
+    /// opened, the source is as it was; a file that is opened has not reported its end.
     fn open(&mut self, name: &str) -> Result<(), OpenFault>
         requires { Self.failures self.old < 2 ^ 64 - 1 }
         ensures opened { OnOk result (Self.left self.new ≡ held self.old name.now) }
         ensures there { OnOk result (is_missing self.old name.now ≡ false) }
+        ensures fresh { OnOk result
+            ((Self.ended self.new ≡ false) × (Self.passed self.new ≡ false)) }
         ensures unopened { OnErr result (Self.left self.new ≡ Self.left self.old) }
         ensures counted { (result ≡ Err OpenFault.Failed)
             ↔ (Self.failures self.new ≡ Self.failures self.old + 1) }

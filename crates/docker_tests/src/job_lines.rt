@@ -1,5 +1,5 @@
 //! Jobs that the first line of a source names.
-ghost use Rattle.std.specs.Prelude.{None};
+ghost use Rattle.std.specs.Prelude.{None, false};
 
 use crate::compare::{same, same_in};
 use cif_line::{Bytes, Failed, Source};
@@ -90,6 +90,10 @@ impl Source for Endless {
     ghost left = { λ _. None };
 
     ghost failures = { λ _. 0 };
+
+    ghost ended = { λ _. false };
+
+    ghost passed = { λ _. false };
 
     fn read(&mut self, into: &mut [u8]) -> Result<usize, Failed> {
         let Some(first) = into.first_mut() else {

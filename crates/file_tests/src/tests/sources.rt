@@ -15,11 +15,15 @@ struct Broken<'a> {
 }
 
 impl Source for Broken<'_> {
-    ghost use Rattle.std.specs.Prelude.{None};
+    ghost use Rattle.std.specs.Prelude.{None, false};
 
     ghost left = { λ _. None };
 
     ghost failures = { λ broken. broken.failures };
+
+    ghost ended = { λ _. false };
+
+    ghost passed = { λ _. false };
 
     fn read(&mut self, into: &mut [u8]) -> Result<usize, Failed> {
         if self.bytes.is_empty() {

@@ -45,7 +45,6 @@ fn takes_what_it_has_room_for(rt: HostRuntime) {
     same(&rt, sink.write(b"defg"), Ok(2));
     same(&rt, sink.write(b"fg"), Err(Failed));
     failures_are(&rt, sink.failures(), 1);
-    same(&rt, sink.write(b""), Ok(0));
     same(&rt, sink.bytes(), b"abcde".as_slice());
 }
 

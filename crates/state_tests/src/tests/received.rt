@@ -75,11 +75,15 @@ struct Broken<'a> {
 }
 
 impl Source for Broken<'_> {
-    ghost use Rattle.std.specs.Prelude.{None};
+    ghost use Rattle.std.specs.Prelude.{None, false};
 
     ghost left = { λ _. None };
 
     ghost failures = { λ it. it.failures };
+
+    ghost ended = { λ _. false };
+
+    ghost passed = { λ _. false };
 
     fn read(&mut self, into: &mut [u8]) -> Result<usize, Failed> {
         let n = into.len().min(self.front.len());
