@@ -5,6 +5,7 @@ mod buffer;
 mod check_line;
 mod fault;
 mod fault_line;
+mod holding;
 mod output;
 mod prepared_job;
 mod sources;
