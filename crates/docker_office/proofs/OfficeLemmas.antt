@@ -105,7 +105,7 @@ state_read place limit left excerpt reads =
     subst (ReadsState dks_2 limit left) (sym (ap (λ (it : Excerpt). it.state) reads.of.made_of))
     (record { text = reads.text; held = reads.held; is = reads.of.is })
 
--- which is the one that the source tells
+-- which is the one that the source held
 pub one_excerpt : (place : List ℕ) (limit : ℕ) (left : Option (List ℕ)) (excerpt : Excerpt) → ReadsMade (IsExcerptAt place) dks_2 limit left excerpt
     → (sent : State) → HoldsState dks_2 limit left sent → excerpt.state ≡ sent
 one_excerpt place limit left excerpt reads sent holds =

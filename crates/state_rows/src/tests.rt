@@ -88,7 +88,7 @@ fn read(rt: &impl Abort, alloc: Global, text: &[u8], step: usize, limit: u64) ->
     read_state(alloc, &mut source, limit).expect(rt, "a state")
 }
 
-/// The number of files that the ledger of a text has, which is read by so many bytes.
+/// The number of files that the ledger of a text has, read by a step of bytes.
 fn files_in(rt: &impl Abort, alloc: Global, text: &[u8], step: usize, limit: u64) -> usize
     requires { 0 < step }
 {
