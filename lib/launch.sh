@@ -1,8 +1,9 @@
 # shellcheck shell=bash
 # What the launchers share; they source it.
 #   launch PROGRAM [WORD..]
-# runs crates/PROGRAM/out/PROGRAM with these words, its input, output and status untouched. If it isn't built, or is older than a source
-# that it stands on, it is proved and built first. Progress goes to standard error, and the report on each crate to
+# runs crates/PROGRAM/out/PROGRAM with these words. Input, output and status are the program's own.
+# If the program isn't built, or is older than one of its sources, it is proved and built first.
+# Progress goes to standard error, and the report on each crate to
 # crates/PROGRAM/out/proving/CRATE.log. Status 70 says that it couldn't be built.
 
 root=$(dirname "$(dirname "$(readlink -f "${BASH_SOURCE[0]}")")")
@@ -12,7 +13,8 @@ memory_of_a_check=$((5 * 1024 * 1024))
 
 # What is under way: for each process its crate, and the second in which it began.
 declare -A under_way=() began=()
-# The crates that wait, in the order in which they should begin; for each crate the crates that it cites; and the crates that are proved.
+# The crates that wait, in the order in which they should begin; for each crate the crates that it
+# cites; and the crates that are proved.
 declare -a waiting=()
 declare -A cites=() is_proved=()
 # A process that ends soon, while a crate waits for memory.
@@ -20,8 +22,9 @@ pause=
 
 say() { printf '%s: %s\n' "$launched" "$1" >&2; }
 
-# The crates that a program stands on, and itself, each with the crates of this repository that it cites. The crate with the longest
-# chain of crates up to the program comes first, so each comes after the crates that it cites.
+# The crates that a program is built from, its own included, each with the crates of this repository
+# that it cites. The crate with the longest chain of crates up to the program comes first, so each
+# comes after the crates that it cites.
 plan() {
   awk -F'[: ]+' -v program="$1" '
     { line[NR] = $0; is_ours[$1] }
@@ -46,7 +49,7 @@ plan() {
     }' "$root/crates.txt"
 }
 
-# Whether a program is older than one of the sources that it stands on, or isn't there.
+# Whether a program is older than one of its sources, or isn't there.
 is_old() {
   local program=$root/crates/$1/out/$1 crate
   local -a folders=()
@@ -56,7 +59,8 @@ is_old() {
   [ -n "$(find "${folders[@]}" -name out -prune -o \( -name '*.rt' -o -name '*.antt' \) -newer "$program" -print -quit)" ]
 }
 
-# Runs `rt COMMAND` in a crate's folder, in a session of its own, so that it can be ended with all that it started.
+# Runs `rt COMMAND` in a crate's folder, in a session of its own, so that it can be ended with all
+# that it started.
 begin() {
   local crate=$1 command=$2 log=$3 input=$4
   (cd "$root/crates/$crate" && exec setsid rt "$command") <"$input" >"$log" 2>&1 &
@@ -77,7 +81,8 @@ stop() {
 
 free_memory() { awk '/^MemAvailable:/ { free = $2 } END { print free + 0 }' /proc/meminfo; }
 
-# Whether memory allows one more check. One that began less than a minute ago has yet to take what it needs.
+# Whether memory allows one more check. A check that began less than a minute ago hasn't taken all
+# the memory yet that it needs.
 has_memory() {
   local process checks=1
   for process in "${!under_way[@]}"; do
@@ -86,7 +91,8 @@ has_memory() {
   (($(free_memory) >= checks * memory_of_a_check))
 }
 
-# Finds the first crate that waits for nothing: sets `next` to its place in `waiting`, or to nothing.
+# Finds the first crate that waits for no other: sets `next` to its place in `waiting`, or to
+# nothing.
 find_next() {
   local at crate
   for at in "${!waiting[@]}"; do
@@ -99,7 +105,8 @@ find_next() {
   next=
 }
 
-# Begins checks until the lanes are full, memory is short or no crate can begin. If nothing is under way, one begins in any case.
+# Begins checks until the lanes are full, memory is short or no crate can begin. If nothing is under
+# way, one begins in any case.
 begin_more() {
   local lanes=$1 logs=$2 next
   while find_next; [ -n "$next" ] && ((${#under_way[@]} < lanes)); do
@@ -117,8 +124,9 @@ time_since() {
   if ((seconds < 60)); then echo "$seconds s"; else echo "$((seconds / 60)) min"; fi
 }
 
-# Proves the crates of a program in lanes: one for each two processors, and at least two. A crate begins when the crates that it cites
-# are proved. After a failure no other crate begins, and the checks that are under way run to their end.
+# Proves the crates of a program in lanes: one for each two processors, and at least two. A crate
+# begins when the crates that it cites are proved. After a failure no other crate begins, and the
+# checks that are under way run to their end.
 prove() {
   local program=$1 logs=$2 start=$SECONDS failed='' crate rest total lanes ended status
   while read -r crate rest; do

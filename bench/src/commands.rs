@@ -1,5 +1,5 @@
-//! Time and memory of an office's commands, beside `wc -l` of the bytes that each reads, and beside the bench's plain program, which has to give
-//! the same bytes.
+//! Time and memory of an office's commands, beside `wc -l` of the bytes that each reads, and beside
+//! the bench's plain program, which has to give the same bytes.
 
 use crate::measure::{machine, run, Input, Spent};
 use std::collections::HashMap;
@@ -8,7 +8,8 @@ use std::io::{copy, BufRead, BufReader, Error, Result, Seek, SeekFrom, Write};
 
 const ROUNDS: usize = 5;
 
-/// A command: what STATE is before it, its words, the files that it reads, and how many bytes the texts of the states in its memory have.
+/// A command: what STATE is before it, its words, the files that it reads, and how many bytes the
+/// texts of the states in its memory have.
 struct Job<'a> {
     name: &'static str,
     before: Option<&'a str>,
@@ -169,8 +170,8 @@ fn busiest(extract: &str) -> Result<(String, String)> {
     Ok((place, format!("20{}-{}-{}", &date[4..6], &date[2..4], &date[..2])))
 }
 
-/// Runs both programs in turn. They have to print the same and leave the same STATE. This process holds no state in memory, because a process that it
-/// starts begins with its peak.
+/// Runs both programs in turn. They have to print the same and leave the same STATE. This process
+/// holds no state in memory, because a process that it starts begins with its peak.
 fn measure(job: &mut Job, programs: [&[&str]; 2], own: &str) -> Result<()> {
     let mut counting = 0.0;
     for path in &job.reads {

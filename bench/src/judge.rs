@@ -1,5 +1,6 @@
-//! A plain reader of the grammar of CIF files. It keeps no line. It counts records and changes, or names the first record at
-//! fault and its cause. It shares no code with the program, so that the two can be compared.
+//! A plain reader of the grammar of CIF files. It keeps no line. It counts records and changes, or
+//! names the first record at fault and its cause. It shares no code with the program, so that the
+//! two can be compared.
 
 use std::fmt;
 use std::io::{Read, Result as Done};
@@ -46,7 +47,8 @@ impl fmt::Display for Cause {
     }
 }
 
-/// The line that the program prints for an answer: on standard output if the file is accepted, else on standard error.
+/// The line that the program prints for an answer: on standard output if the file is accepted, else
+/// on standard error.
 pub fn line_of(answer: &Answer) -> String {
     match answer {
         Ok(counts) => format!("accepted: {} records, {} changes\n", counts.records, counts.changes),
@@ -118,9 +120,9 @@ pub struct Judge {
     limit: u64,
     counts: Counts,
     place: Place,
-    /// The schedule may stand without a journey.
+    /// The schedule may be without a journey.
     journey_optional: bool,
-    /// The schedule is a deletion: of its lines after BS only kind and place are checked.
+    /// The schedule is a deletion: only the kind and the place of its lines after BS are checked.
     deletion: bool,
     /// The half minutes of the journey's last event, and how often the times fell so far.
     last_event: Option<u16>,
@@ -238,7 +240,8 @@ impl Judge {
         }
     }
 
-    /// Follows the events of a journey. Returns whether the times fall for the third time in this record.
+    /// Follows the events of a journey. Returns whether the times fall for the third time in this
+    /// record.
     fn falls_thrice(&mut self, kind: Kind, line: &Line) -> bool {
         let columns: &[usize] = match kind {
             Kind::Basic => {
@@ -279,7 +282,8 @@ impl ScheduleJudge {
         ScheduleJudge(judge)
     }
 
-    /// Whether the schedule can go on with this line. The first line is a basic schedule, and no other is.
+    /// Whether the schedule can go on with this line. The first line is a basic schedule, and no
+    /// other is.
     pub fn line(&mut self, line: &[u8]) -> bool {
         let judge = &mut self.0;
         let first = judge.counts.records == 0;
@@ -376,7 +380,8 @@ fn two(digits: &[u8]) -> Option<u16> {
     (tens < 10 && ones < 10).then(|| u16::from(tens) * 10 + u16::from(ones))
 }
 
-/// Whether this is a day of the calendar. The years are 1960 to 2059, and every fourth is a leap year.
+/// Whether this is a day of the calendar. The years are 1960 to 2059, and every fourth is a leap
+/// year.
 fn is_date(year: &[u8], month: &[u8], day: &[u8]) -> bool {
     let (Some(year), Some(month), Some(day)) = (two(year), two(month), two(day)) else {
         return false;

@@ -1,4 +1,5 @@
-//! Makes extracts, judges them with a plain reader, flips their bytes, and measures the program on them.
+//! Makes extracts, judges them with a plain reader, flips their bytes, and measures the program on
+//! them.
 
 mod commands;
 mod flip;

@@ -374,7 +374,8 @@ impl Extract {
         Ok(())
     }
 
-    /// A schedule of the full extract: mostly new, some revised, and some deleted and then new again.
+    /// A schedule of the full extract: mostly new, some revised, and some deleted and then new
+    /// again.
     fn schedule_of_full(&mut self, number: usize, at: usize, schedule: &Schedule) -> Result<()> {
         let mut random = self.plans.random(number, 900 + at as u64);
         if random.chance(0.5) {

@@ -39,11 +39,13 @@ extern "C" {
     fn wait4(process: c_int, status: *mut c_int, options: c_int, usage: *mut Usage) -> c_int;
 }
 
-/// Waits until a program ends, and returns its exit status, its seconds on a processor and its peak memory.
+/// Waits until a program ends, and returns its exit status, its seconds on a processor and its peak
+/// memory.
 fn wait(child: &Child) -> Result<(i32, f64, u64)> {
     let mut usage = Usage { times: [0; 4], peak_resident: 0, others: [0; 13] };
     let mut status = 0;
-    // SAFETY: the child is this process's and wasn't waited for yet, and both pointers are valid during the call.
+    // SAFETY: the child is this process's and wasn't waited for yet, and both pointers are valid
+    // during the call.
     let process = unsafe { wait4(child.id() as c_int, &mut status, 0, &mut usage) };
     if process < 0 {
         return Err(Error::last_os_error());
@@ -109,7 +111,8 @@ struct Row<'a> {
     memory: u64,
 }
 
-/// What is compared from file to file: the bytes, and for `check` of a file and of a pipe the seconds and the memory.
+/// What is compared from file to file: the bytes, and for `check` of a file and of a pipe the
+/// seconds and the memory.
 struct Growth {
     bytes: f64,
     checks: Vec<(f64, f64)>,

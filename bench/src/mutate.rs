@@ -1,4 +1,5 @@
-//! Mutates files and states, and compares the program's answers with the plain program's, to the letter.
+//! Mutates files and states, and compares the program's answers with the plain program's, to the
+//! letter.
 
 use crate::measure::{run, Input, Spent};
 use crate::plain::{answer, Answer};
@@ -109,7 +110,8 @@ fn repeat(text: &mut Vec<u8>, subject: Subject, random: &mut Random) -> &'static
     "records repeated or dropped"
 }
 
-/// Changes the number of items or of entries, which has eight bytes, or the number of lines, the four bytes before a basic schedule.
+/// Changes the number of items or of entries, which has eight bytes, or the number of lines, the
+/// four bytes before a basic schedule.
 fn change_count(text: &mut [u8], random: &mut Random) -> &'static str {
     let mut last_bytes: Vec<usize> = vec![11, 13];
     last_bytes.extend((4..text.len().saturating_sub(3)).filter(|&at| &text[at..at + 3] == b"BSN").map(|at| at - 1));
@@ -179,8 +181,9 @@ struct Bench<'a> {
     states: Vec<Vec<u8>>,
 }
 
-/// Compares this many mutations, half of them of these files and half of their states. Returns whether all answers are the same. Each mutation depends
-/// only on the seed and its own number, so it is the same on any number of processors.
+/// Compares this many mutations, half of them of these files and half of their states. Returns
+/// whether all answers are the same. Each mutation depends only on the seed and its own number, so
+/// it is the same on any number of processors.
 pub fn compare(program: &str, folder: &str, seed: u64, count: usize, paths: &[&str]) -> Result<bool> {
     let files = paths.iter().map(fs::read).collect::<Result<Vec<_>>>()?;
     let states = states_of(&files).ok_or_else(|| Error::other("a file is refused as it is"))?;

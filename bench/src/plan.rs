@@ -1,5 +1,5 @@
-//! What is planned under each UID. A plan depends only on the seed and the UID's number, so an update is made without the full
-//! extract before it.
+//! What is planned under each UID. A plan depends only on the seed and the UID's number, so an
+//! update is made without the full extract before it.
 
 use crate::network::Network;
 use crate::random::Random;

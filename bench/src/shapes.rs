@@ -1,4 +1,5 @@
-//! Memory by the shape of a file: extracts with only one kind of change, beside one of national shape.
+//! Memory by the shape of a file: extracts with only one kind of change, beside one of national
+//! shape.
 
 use crate::make;
 use crate::measure::{machine, run, Input, Spent};
@@ -87,7 +88,8 @@ fn done(words: &[&str]) -> Result<Spent> {
     }
 }
 
-/// Prints a table of the memory that `check` and `take` need for a file of each shape, with this many records.
+/// Prints a table of the memory that `check` and `take` need for a file of each shape, with this
+/// many records.
 pub fn table(program: &str, records: usize, seed: u64, folder: &str) -> Result<()> {
     let plain = std::env::current_exe()?;
     let plain = plain.to_str().ok_or_else(|| Error::other("this program's path isn't text"))?;

@@ -29,7 +29,8 @@ fn stage(name: &'static str, said: &'static str, of_text: bool) -> Stage {
     Stage { name, said, of_text, best: f64::INFINITY }
 }
 
-/// Prints the table of an extract and an update of it. The texts of their states are left in the folder.
+/// Prints the table of an extract and an update of it. The texts of their states are left in the
+/// folder.
 pub fn table(program: &str, extract: &str, update: &str, folder: &str) -> Result<()> {
     let (text, other) = (format!("{folder}/full.state"), format!("{folder}/update.state"));
     said_by(&run(&[program, "make", update, &other], Input::None)?)?;
@@ -155,8 +156,8 @@ fn said_by(spent: &Spent) -> Result<&str> {
     }
 }
 
-/// The seconds that the program printed for a stage. The first line of its name counts, because a join reads two texts. For a walk, which is made often, the
-/// least counts.
+/// The seconds that the program printed for a stage. The first line of its name counts, because a
+/// join reads two texts. For a walk, which is made often, the least counts.
 fn seconds(said: &str, stage: &str) -> Option<f64> {
     let mut told = said.lines().filter_map(|line| line.strip_prefix(stage)?.strip_prefix(": "));
     let first = told.next()?;

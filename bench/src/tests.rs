@@ -151,7 +151,8 @@ fn midnights() {
     accepted(&journey("0006"), 1);
     accepted(&journey("0005"), 1);
     accepted(&journey("0005H"), 1);
-    // The order is arrival, pass, departure, whatever the columns: the times fall twice in one record.
+    // The order is arrival, pass, departure, whatever the columns: the times fall twice in one
+    // record.
     let twice = call("2300", "0001", "0100");
     accepted(&[header("U"), permanent(), origin("2200"), twice.clone(), terminus("0930"), trailer()], 1);
     refused(&[header("U"), permanent(), origin("2350"), twice.clone(), terminus("0930"), trailer()], 4, Cause::Midnights);
@@ -389,7 +390,8 @@ fn dockers_of_a_morning() {
 
 // ---------------------------------------------------------------- hostile shapes
 
-/// How many lines the docker of a shape with this many rows has, without its heading and its last line.
+/// How many lines the docker of a shape with this many rows has, without its heading and its last
+/// line.
 fn lines_of(shape: &str, rows: usize) -> usize {
     match shape {
         // One of them runs.

@@ -26,7 +26,8 @@ import sys
 import threading
 from typing import NamedTuple, Optional
 
-# One to seven bytes from 0x21 to 0x7E, as docker reads a TIPLOC; but a word that begins with a hyphen is none.
+# One to seven bytes from 0x21 to 0x7E, as docker reads a TIPLOC; but a word that begins with a
+# hyphen is no TIPLOC.
 TIPLOC = re.compile(r"[!-,.-~][!-~]{0,6}")
 # How many bytes of answers are kept between commands.
 KEPT = 64 << 20
@@ -138,7 +139,8 @@ class Commands(Reader):
                 self.seen = now
             if request not in self.kept:
                 answer = self.run(request)
-                # An answer that may be of a file that came meanwhile isn't kept; nor is one that another try may better.
+                # An answer isn't kept if it may be of a file that came meanwhile, or if another try
+                # may give a better one.
                 if now is None or identity(self.state) != now or answer.status > 1:
                     return answer
                 self.kept[request] = answer
@@ -159,7 +161,8 @@ class Commands(Reader):
             return Answer(4, b"docker: no answer\n")
         if ended.returncode == 0:
             return Answer(0, ended.stdout)
-        # A process that a signal ended says nothing: most often the system ended it, because it was out of memory.
+        # A process that a signal ended says nothing: most often the system ended it, because it was
+        # out of memory.
         return Answer(ended.returncode, ended.stderr) if 1 <= ended.returncode <= 4 else Answer(3, b"docker: ended by the system\n")
 
 

@@ -1,11 +1,13 @@
-// Preloaded under the program. The calls of the system that are wrapped here are counted from 1; if CALL names one of them, only those of that name.
+// Preloaded under the program. The system calls that are wrapped here are counted from 1. If CALL
+// names one of them, only the calls of that name are counted.
 //   END_AT=N     the program is ended at the N-th of them, at a write in its middle
 //   FAIL_AT=N    the N-th of them fails, with EIO or the error that ERROR names
 //   INTERRUPT=1  each read and each write is interrupted once before it moves a byte
 //   UNLOCKED=1   each lock is granted, and holds nothing
-// The first time that one of these happens, the file that TOLD names is made, and has the call's name.
-// The file that WRONG names is made, and has the call's name, if a file is opened under the number of a standard stream, is read again after its end,
-// is written nothing, or is renamed before all that was written is flushed.
+// The first time that one of these happens, the file that TOLD names is made, and has the call's
+// name. The file that WRONG names is made, and has the call's name, if a file is opened under the
+// number of a standard stream, is read again after its end, is written nothing, or is renamed
+// before all that was written is flushed.
 #define _GNU_SOURCE
 #include <dlfcn.h>
 #include <errno.h>
@@ -21,13 +23,13 @@
 
 #define NEXT(name) ((__typeof__(&name))dlsym(RTLD_NEXT, #name))
 
-// The files whose writes are followed are those of the least numbers.
+// Writes are followed for the files with the least numbers.
 enum { FOLLOWED = 64 };
 
 static long calls;
 static char is_unflushed[FOLLOWED], is_at_end[FOLLOWED];
 
-// Makes the file that a variable names, with a text. Not by a call that is wrapped here.
+// Makes the file that a variable names, with a text, and by no call that is wrapped here.
 static void make(const char *variable, const char *text) {
   const char *name = getenv(variable);
   if (!name) return;
@@ -58,7 +60,7 @@ static int wanted_error(void) {
 // What happens at a call.
 enum fate { PASSES, FAILS, ENDS };
 
-// The fate of a call, which is counted here if those of its name count.
+// The fate of a call, which is counted here if calls of its name count.
 static enum fate fate_of(const char *call) {
   const char *name = getenv("CALL");
   if (name && strcmp(name, call)) return PASSES;
@@ -68,7 +70,7 @@ static enum fate fate_of(const char *call) {
   return fate;
 }
 
-// Ends the program, or answers whether the call fails.
+// Ends the program, or returns whether the call fails.
 static int meets(enum fate fate) {
   if (fate == ENDS) end();
   if (fate == FAILS) errno = wanted_error();

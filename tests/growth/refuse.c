@@ -1,6 +1,7 @@
-// Preloaded under a program: the growth whose number is in GROWTH is refused, and no other. Each is counted from 1, and the one that was refused
-// leaves the file that REFUSED names. Where CALL is set, those alone count that stand between the first write to standard output and the next. At its
-// end the program leaves how many there were in the file that COUNTED names.
+// Preloaded under a program. The growth whose number is in GROWTH is refused, and no other. Growths
+// are counted from 1. The one that is refused leaves the file that REFUSED names. If CALL is set,
+// only the growths between the first write to standard output and the next count. At its end the
+// program leaves how many there were in the file that COUNTED names.
 #define _GNU_SOURCE
 #include <dlfcn.h>
 #include <errno.h>

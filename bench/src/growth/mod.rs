@@ -1,4 +1,5 @@
-//! How the time of each command grows with hostile shapes. If twice the rows take far more than twice the time, the work grows with the square.
+//! How the time of each command grows with hostile shapes. If twice the rows take far more than
+//! twice the time, the work grows with the square.
 
 pub mod shapes;
 
@@ -12,11 +13,13 @@ use std::io::{Error, Result};
 /// The greatest ratio that passes.
 const RATIO: f64 = 2.6;
 
-/// Seconds on a processor: what the smaller number of rows should take, and below what no ratio is printed.
+/// Seconds on a processor that the smaller number of rows should take. Below this no ratio is
+/// printed.
 const WANTED: f64 = 0.03;
 const FLOOR: f64 = 0.02;
 
-/// How often each is measured, and how often at most if the ratio is too great, because whatever else the machine does can double a time.
+/// How often each is measured; and how often at most if the ratio is too great, because other work
+/// on the machine can double a time.
 const ROUNDS: usize = 2;
 const MOST_ROUNDS: usize = 6;
 
@@ -155,8 +158,8 @@ impl Folder<'_> {
 /// The text of the state of an office that knows nothing.
 const EMPTY: &[u8] = b"DKS2\0\0\0\0\0\0\0\0\0\0\0\0\0\0\0\0\0\0";
 
-/// Prints a table for each shape whose name contains one of these words, or for all shapes if there are no words. Returns whether no command's time grows
-/// too fast.
+/// Prints a table for each shape whose name contains one of these words, or for all shapes if there
+/// are no words. Returns whether no command's time grows too fast.
 pub fn tables(program: &str, path: &str, words: &[&str]) -> Result<bool> {
     let plain = std::env::current_exe()?;
     let plain = plain.to_str().ok_or_else(|| Error::other("this program's path isn't text"))?;
@@ -189,7 +192,8 @@ fn row(folder: &mut Folder, programs: [&[&str]; 2], command: &Command) -> Result
         rows *= 2;
         own = folder.growth(programs[0], command, rows)?;
     }
-    // A busy spell, or a step as when an allocator begins to ask the system for each block, doesn't show again with twice the rows.
+    // A busy spell, or a step as when an allocator begins to ask the system for each block, doesn't
+    // show again with twice the rows.
     if own[1] > RATIO * own[0] {
         rows *= 2;
         own = folder.growth(programs[0], command, rows)?;

@@ -1,4 +1,5 @@
-//! Files and states of hostile shapes. The program accepts them all, and they would take it long if its work grew with the square.
+//! Files and states of hostile shapes. The program accepts them all, and they would take it long if
+//! its work grew with the square.
 
 use crate::plan::EXTRACT;
 use crate::records::{Out, Record};
@@ -11,7 +12,8 @@ pub const DATE: &str = "2059-12-30";
 pub const HORIZON: &str = "2059-12-31";
 const DAY: i32 = 36_523;
 
-/// How many first days a key may have. All are before the docker's day, so each schedule runs on it.
+/// How many first days a key may have. All are before the docker's day, so each schedule runs on
+/// it.
 const FIRSTS: usize = 36_000;
 const STPS: &[u8; 3] = b"PNO";
 
@@ -82,7 +84,8 @@ fn uid(kind: u8, number: usize) -> [u8; 6] {
     [kind, a, b, c, d, e]
 }
 
-/// A basic schedule from a first day on. Some end on the docker's day, so that they lapse under a horizon.
+/// A basic schedule from a first day on. Some end on the docker's day, so that they lapse under a
+/// horizon.
 fn basic(uid: &[u8; 6], first: usize, stp: u8) -> Record {
     let mut record = Record::new(b"BS");
     record.at(3, b"N").at(4, uid).yymmdd(10, first as i32).at(16, b"999999").days(22, 0x7F).at(33, b"1A00").at(80, &[stp]);
@@ -112,8 +115,8 @@ fn leaves(out: &mut Out, uid: &[u8; 6], first: usize, stp: u8) -> Result<()> {
     out.put(&end(b"LT", b"BEYOND", 1300))
 }
 
-/// The first day and the STP indicator of the key with this number in one UID or group. If that is full, the next is begun: the last number says how many
-/// are full.
+/// The first day and the STP indicator of the key with this number in one UID or group. If that is
+/// full, the next is begun: the last number says how many are full.
 fn of_one(number: usize) -> (usize, u8, usize) {
     (number / 3 % FIRSTS, STPS[number % 3], number / 3 / FIRSTS)
 }
@@ -199,7 +202,8 @@ fn many_places(out: &mut Out, rows: usize, _: bool) -> Result<()> {
     calls(out, rows, letters::<7>)
 }
 
-/// Places that share one slot of the memo in which `cif_places` keeps where it last found a place. The slot is the highest sixteen bits of a product.
+/// Places that share one slot of the memo in which `cif_places` keeps where it last found a place.
+/// The slot is the highest sixteen bits of a product.
 fn one_slot(out: &mut Out, rows: usize, _: bool) -> Result<()> {
     let slot = |code: &[u8; 7]| {
         let [a, b, c, d, e, f, g] = *code;
@@ -283,7 +287,8 @@ fn base_of_schedules(out: &mut Out, rows: usize, newer: bool) -> Result<()> {
 
 // ---------------------------------------------------------------- ledgers
 
-/// The text of a state of this many files, each of which deleted a TIPLOC; or of as many files between those.
+/// The text of a state of this many files, each of which deleted a TIPLOC; or of as many files
+/// between those.
 pub fn ledger(files: usize, between: bool) -> Vec<u8> {
     let count = (files as u64).to_be_bytes();
     // Two files a minute, from 1984 on.

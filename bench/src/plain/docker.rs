@@ -79,8 +79,8 @@ fn kind_rank(kind: u8) -> usize {
     b"APJVND".iter().position(|&letter| letter == kind).unwrap_or(6)
 }
 
-/// The row that counts on the day with this index. Of the rows that run then it is the one with the least STP indicator and, among equals, the latest first
-/// day. None if that is a cancellation.
+/// The row that counts on the day with this index. Of the rows that run then it is the one with the
+/// least STP indicator and, among equals, the latest first day. None if that is a cancellation.
 fn chosen<T>(rows: &[T], index: usize, choice: impl Fn(&T) -> (u8, u8, u16)) -> Option<&T> {
     let running = rows.iter().filter(|row| choice(row).0 >> index & 1 == 1);
     let best = running.min_by_key(|row| {

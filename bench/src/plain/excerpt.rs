@@ -6,14 +6,16 @@ use super::key::{Key, Stamp, ASSOCIATION, SCHEDULE, TIPLOC};
 use crate::judge::judged_time;
 use std::collections::HashSet;
 
-/// How many days count: from three days before the docker's day to the day after it. Trains of a docker start on that day or on the two days before, and an
-/// associated train up to a day before or after its base.
+/// How many days count: from three days before the docker's day to the day after it. Trains of a
+/// docker start on that day or on the two days before, and an associated train up to a day before
+/// or after its base.
 pub const DAYS: usize = 5;
 
 /// The index of the docker's day among them.
 pub const TODAY: usize = 3;
 
-/// An event at the place: its record, its kind and time, the train's identity there, and how often the times fell before it.
+/// An event at the place: its record, its kind and time, the train's identity there, and how often
+/// the times fell before it.
 pub struct Event {
     pub number: u64,
     pub kind: u8,
@@ -57,7 +59,8 @@ pub struct Excerpt {
     pub description: Option<[u8; 26]>,
     pub links: Vec<Link>,
     pub trains: Vec<Train>,
-    /// For a state, whose keys come in order: the UIDs that associations name. They come before the schedules.
+    /// For a state, whose keys come in order: the UIDs that associations name. They come before the
+    /// schedules.
     partners: Option<HashSet<[u8; 6]>>,
     /// The walk over the schedule whose lines are coming.
     walk: Option<Walk>,
@@ -135,7 +138,8 @@ impl Excerpt {
         self.trains.push(train);
     }
 
-    /// If keys come in order, drops the trains of the UID before as soon as another UID comes, unless the docker needs them.
+    /// If keys come in order, drops the trains of the UID before as soon as another UID comes,
+    /// unless the docker needs them.
     fn forget_before(&mut self, uid: &[u8; 6]) {
         let (Some(partners), Some(last)) = (&self.partners, self.trains.last()) else { return };
         if last.uid == *uid || partners.contains(&last.uid) {

@@ -59,7 +59,8 @@ impl<K: Keeper> Changes<'_, K> {
         }
     }
 
-    /// What a line does that has its end date at this index. It is kept with the transaction of a new record.
+    /// What a line does that has its end date at this index. It is kept with the transaction of a
+    /// new record.
     fn change_or_delete(&mut self, key: &Key, line: &[u8], end_at: usize) {
         if line[2] == b'D' {
             return self.change(key, Act::Delete);

@@ -24,7 +24,8 @@ fn two(digits: &[u8]) -> u16 {
 
 const BEFORE_MONTH: [u16; 12] = [0, 31, 59, 90, 120, 151, 181, 212, 243, 273, 304, 334];
 
-/// The day number of a year of two digits, a month and a day, which are a date. Every fourth year is a leap year; 1960 is the first.
+/// The day number of a year of two digits, a month and a day, which are a date. Every fourth year
+/// is a leap year; 1960 is the first.
 fn number(year: &[u8], month: &[u8], day: &[u8]) -> u16 {
     let years = (two(year) + 40) % 100;
     let month = usize::from(two(month)) - 1;

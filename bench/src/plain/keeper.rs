@@ -11,7 +11,8 @@ pub enum Act<'a> {
     Put(u16, &'a [u8]),
 }
 
-/// Is given the changes of a file or the entries of a state as they are read, and keeps what it needs of them.
+/// Is given the changes of a file or the entries of a state as they are read, and keeps what it
+/// needs of them.
 pub trait Keeper {
     fn change(&mut self, key: &Key, stamp: &Stamp, act: Act);
 

@@ -1,4 +1,5 @@
-//! Keys, stamps and ledger items as the bytes of a state's text. These have the same order as what they mean.
+//! Keys, stamps and ledger items as the bytes of a state's text. These have the same order as what
+//! they mean.
 
 use super::fields::{day, day_first};
 
@@ -40,7 +41,8 @@ pub fn tiploc(code: &[u8]) -> Key {
     joined(&[&[TIPLOC], code])
 }
 
-/// The key of an association's line: base and associated UID, first day, location, base suffix and STP indicator.
+/// The key of an association's line: base and associated UID, first day, location, base suffix and
+/// STP indicator.
 pub fn association(line: &[u8]) -> Key {
     let first = day(&line[15..]).to_be_bytes();
     joined(&[&[ASSOCIATION], &line[3..15], &first, &line[37..45], &line[79..80]])

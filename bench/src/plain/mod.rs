@@ -1,6 +1,7 @@
-//! The program written plainly, without proofs: for the same words it gives the same bytes. It reads each source once. It keeps nothing of it, or an excerpt, if
-//! that is enough; otherwise it keeps the entries in one arena. Its answers and its times are compared with the program's. It doesn't check words, and it
-//! doesn't read standard input.
+//! The program written plainly, without proofs: for the same words it gives the same bytes. It
+//! reads each source once. It keeps nothing of it, or an excerpt, if that is enough; otherwise it
+//! keeps the entries in one arena. Its answers and its times are compared with the program's. It
+//! doesn't check words, and it doesn't read standard input.
 
 mod docker;
 mod excerpt;
@@ -20,7 +21,8 @@ use std::fs::{self, File};
 use std::io::{self, BufWriter, Read};
 use text::{Format, StateFault};
 
-/// What a command answers: its status, its standard output, its standard error, and what STATE becomes.
+/// What a command answers: its status, its standard output, its standard error, and what STATE
+/// becomes.
 #[derive(Debug, Default, PartialEq, Eq)]
 pub struct Answer {
     pub status: u8,

@@ -5,7 +5,8 @@ use std::io::{Read, Result};
 
 const ROOM: usize = 1 << 18;
 
-/// How many bytes of a line are looked at, at most. No record has more than 80 and a carriage return.
+/// How many bytes of a line are looked at, at most. No record has more than 80 and a carriage
+/// return.
 const LONGEST: usize = 82;
 
 pub struct Source<R> {
@@ -54,7 +55,8 @@ impl<R: Read> Source<R> {
         &self.buffer[begin..begin + length]
     }
 
-    /// The next line without its line feed. A line that is too long for a record is cut, but not so short that it could be one.
+    /// The next line without its line feed. A line that is too long for a record is cut, but not so
+    /// short that it could be one.
     pub fn line(&mut self) -> Result<Option<&[u8]>> {
         self.has(LONGEST)?;
         let ahead = &self.buffer[self.begin..self.end.min(self.begin + LONGEST)];

@@ -1,4 +1,5 @@
-//! What an office knows, from the newest full extract on: a ledger item for each file, and the greatest entry for each key.
+//! What an office knows, from the newest full extract on: a ledger item for each file, and the
+//! greatest entry for each key.
 
 use super::keeper::{Act, Keeper};
 use super::key::{is_full, width, Item, Key, Stamp, FILE_STAMP, SCHEDULE};
@@ -107,7 +108,8 @@ pub struct State {
 }
 
 impl State {
-    /// Joins this state with another one. `read` reads its entries into the same arena, and returns its horizon and its ledger.
+    /// Joins this state with another one. `read` reads its entries into the same arena, and returns
+    /// its horizon and its ledger.
     pub fn join<E>(
         &mut self,
         read: impl FnOnce(&mut Table) -> std::result::Result<(u16, Vec<Item>), E>,

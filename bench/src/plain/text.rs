@@ -49,7 +49,8 @@ struct Reader<R> {
     item: u64,
 }
 
-/// Reads a text to its end or its fault, gives its entries to a keeper, and returns its horizon and its ledger.
+/// Reads a text to its end or its fault, gives its entries to a keeper, and returns its horizon and
+/// its ledger.
 pub fn read(from: impl Read, format: Format, keeper: &mut impl Keeper) -> Result<(u16, Vec<Item>), Stop> {
     let mut reader = Reader { source: Source::new(from), format, horizon: 0, ledger: Vec::new(), item: 0 };
     reader.front()?;

@@ -1,5 +1,6 @@
-//! The worked rows of the schedule that is chosen for a UID on a day: a base schedule, its overlay, its cancellation and a new one, none, deletions, revisions, horizons,
-//! a sink that is full, and UIDs in words. There is no code here, only tests.
+//! Worked rows for the schedule that is chosen for a UID on a day: a base schedule, its overlay,
+//! its cancellation and a new one, no schedule, deletions, revisions, horizons, a full sink, and
+//! UIDs given as words. This crate holds only tests.
 #![tactic(auto)]
 
 #[cfg(test)]

@@ -13,7 +13,8 @@ use std::alloc::Global;
 use std::fmt::Debug;
 use std::process::Abort;
 
-// A test's values are compared by calls of this, which end the test where they differ: an assertion in a function of its own is proved once for all rows.
+// Tests compare values with this function, which ends the test if they differ. An assertion in its
+// own function is proved once for all rows.
 
 fn same<T: PartialEq + Debug + Drop>(rt: &impl Abort, got: T, wanted: T) {
     assert_eq!(rt; got, wanted);
@@ -27,7 +28,7 @@ fn uid(rt: &impl Abort, word: &str) -> Uid {
     uid_of_word(word).expect(rt, "a UID")
 }
 
-/// The text of some lines.
+/// The text of these lines.
 fn text(alloc: Global, lines: &[&[u8]]) -> Option<Vec<u8>> {
     let mut text = Vec::new(alloc);
     for line in lines {
@@ -37,14 +38,14 @@ fn text(alloc: Global, lines: &[&[u8]]) -> Option<Vec<u8>> {
     Some(text)
 }
 
-/// The state of a file of some records, if there is memory for it.
+/// The state of a file of these records, if there is memory for it.
 fn state_of(alloc: Global, records: &[&[u8]]) -> Option<State> {
     let text = text(alloc, records)?;
     let file = read_pieces(alloc, &[text.as_slice()], 1000).ok()?;
     State::of_file(alloc, file).ok()
 }
 
-/// The state of some files, joined in this order.
+/// The state of these files, joined in this order.
 fn joined(rt: &impl Abort, alloc: Global, files: &[&[&[u8]]]) -> State {
     let mut joined = State::empty(alloc);
     for records in files {
@@ -54,7 +55,7 @@ fn joined(rt: &impl Abort, alloc: Global, files: &[&[&[u8]]]) -> State {
     joined
 }
 
-/// What a sink takes of what a state says of a UID on a day.
+/// What a sink receives when a state answers for a UID on a day.
 fn printed(rt: &impl Abort, alloc: Global, state: &State, word: &str, on: &str) -> Kept {
     let train = find_train(state, &uid(rt, word), day(rt, on)).expect(rt, "an answer");
     let mut kept = Kept::new(alloc, 10_000).expect(rt, "room");
@@ -62,7 +63,7 @@ fn printed(rt: &impl Abort, alloc: Global, state: &State, word: &str, on: &str) 
     kept
 }
 
-/// That a state says just these lines of a UID on a day.
+/// Asserts that a state answers with these lines, and no others, for a UID on a day.
 fn says(rt: &impl Abort, alloc: Global, state: &State, word: &str, on: &str, wanted: &[&[u8]]) {
     let kept = printed(rt, alloc, state, word, on);
     let wanted = text(alloc, wanted).expect(rt, "a text");

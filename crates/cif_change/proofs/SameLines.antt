@@ -1,4 +1,4 @@
--- Lines whose blocks of sixteen bytes are the same.
+-- Lines whose blocks of sixteen bytes are equal are equal.
 use Rattle.std.proofs.Common.{◌≡◌, ℕ, ◌+◌, ◌*◌, ◌%◌, ◌^◌, ◌≤◌, nat_eq, Bool, true, false, cond, not, ◌&&◌, List, [], ◌∷◌, ◌++◌, map, length, take, drop, w8, refl, sym, ap, subst, ◌∙◌, arith}
 use Rattle.std.specs.Prelude.{◌↔◌, IsTrue}
 use Rattle.std.proofs.lemmas.Bool.{eqb-true}
@@ -7,23 +7,23 @@ use Rattle.std.proofs.lemmas.List.{drop_all}
 use Rattle.std.proofs.lemmas.Simd.{mask_l-mod, chunk-drop, tops_compared, length-zip2}
 use lib.Lanes.{mask_l, top, zip2}
 
--- whether two bytes aren't the same
+-- whether two bytes differ
 abbrev differ : ℕ → ℕ → Bool
 differ a b = not (nat_eq a b)
 
--- the lane of two bytes
+-- the lane of two bytes: 255 if they differ, and otherwise 0
 abbrev pub lane : ℕ → ℕ → ℕ
 lane a b = cond (differ a b) 255 0
 
--- with its lowest bit set a number is not 0
+-- a number whose lowest bit is set is not 0
 one_set : (m : ℕ) → nat_eq (1 + 2 * m) 0 ≡ false
 one_set m = grind (arith, nat_tests)
 
--- and twice a number is 0 where it is
+-- twice a number is 0 if the number is
 twice : (m : ℕ) → nat_eq (0 + 2 * m) 0 ≡ nat_eq m 0
 twice m = grind (arith, nat_tests)
 
--- bytes are the same where the mask of those that aren't is 0
+-- bytes are equal if the mask of those that differ is 0
 none_differs : (xs ys : List ℕ) → length xs ≡ length ys → nat_eq (mask_l (zip2 differ xs ys)) 0 ≡ true → xs ≡ ys
 none_differs [] [] even none = refl
 none_differs [] (y ∷ ys) even none = absurd (omega arith)
@@ -35,7 +35,7 @@ none_differs (x ∷ xs) (y ∷ ys) even none = by (nat_eq x y) refl none (none_d
     by true one told rest = let same = eqb-true x y one in let others = rest (sym (twice (mask_l (zip2 differ xs ys))) ∙ told) in λ i. same i ∷ others i
     by false two told rest = absurd (let bad : false ≡ true = sym (one_set (mask_l (zip2 differ xs ys))) ∙ told in cc)
 
--- and of bytes that are the same the mask is 0
+-- the mask of equal bytes is 0
 none_of_same : (xs : List ℕ) → nat_eq (mask_l (zip2 differ xs xs)) 0 ≡ true
 none_of_same [] = refl
 none_of_same (x ∷ xs) = by (nat_eq x x) (grind (arith, nat_tests)) (none_of_same xs)
@@ -44,33 +44,33 @@ none_of_same (x ∷ xs) = by (nat_eq x x) (grind (arith, nat_tests)) (none_of_sa
     by true one rest = twice (mask_l (zip2 differ xs xs)) ∙ rest
     by false two rest = absurd (let bad : false ≡ true = two in cc)
 
--- the mask of lanes is that of the bytes that aren't the same
+-- the mask of lanes is the mask of the bytes that differ
 mask_of_lanes : (xs ys : List ℕ) → length xs ≡ length ys → length xs ≤ 64
     → mask_l (map (top 7) (zip2 lane xs ys)) % 2 ^ 64 ≡ mask_l (zip2 differ xs ys)
 mask_of_lanes xs ys even few =
     ap (λ l. mask_l l % 2 ^ 64) (tops_compared w8 differ xs ys) ∙ mask_l-mod (zip2 differ xs ys) 64 (omega (arith, length-zip2 differ xs ys even))
 
--- bytes are the same where no lane of theirs is set
+-- bytes are equal if none of their lanes is set
 pub no_lane_differs : (xs ys : List ℕ) → length xs ≡ length ys → length xs ≤ 64
     → nat_eq (mask_l (map (top 7) (zip2 lane xs ys)) % 2 ^ 64) 0 ≡ true → xs ≡ ys
 no_lane_differs xs ys even few none =
     none_differs xs ys even (ap (λ m. nat_eq m 0) (sym (mask_of_lanes xs ys even few)) ∙ none)
 
--- and of bytes that are the same none is
+-- equal bytes have no lane that is set
 pub no_lane_of_same : (xs ys : List ℕ) → length xs ≤ 64 → xs ≡ ys → nat_eq (mask_l (map (top 7) (zip2 lane xs ys)) % 2 ^ 64) 0 ≡ true
 no_lane_of_same xs ys few same =
     subst (λ (other : List ℕ). nat_eq (mask_l (map (top 7) (zip2 lane xs other)) % 2 ^ 64) 0 ≡ true) same
     (ap (λ m. nat_eq m 0) (mask_of_lanes xs xs refl few) ∙ none_of_same xs)
 
--- what is left from a place on is the same where its first block and the rest are
+-- what is left from a place on is equal if its first block and the rest are
 same_rest : (xs ys : List ℕ) (at : ℕ) → take 16 (drop at xs) ≡ take 16 (drop at ys) → drop (at + 16) xs ≡ drop (at + 16) ys → drop at xs ≡ drop at ys
 same_rest xs ys at block rest = chunk-drop at 16 xs ∙ (λ i. block i ++ rest i) ∙ sym (chunk-drop at 16 ys)
 
--- behind the last column nothing is left
+-- after the last column nothing is left
 nothing_left : (bytes : List ℕ) → length bytes ≡ 80 → drop 80 bytes ≡ []
 nothing_left bytes size = drop_all 80 bytes (let long : length bytes ≤ 80 = omega arith in long)
 
--- a line is another where each block is
+-- two lines are equal if each block is
 same_line : (xs ys : List ℕ) → length xs ≡ 80 → length ys ≡ 80
     → take 16 (drop 0 xs) ≡ take 16 (drop 0 ys) → take 16 (drop 16 xs) ≡ take 16 (drop 16 ys) → take 16 (drop 32 xs) ≡ take 16 (drop 32 ys)
     → take 16 (drop 48 xs) ≡ take 16 (drop 48 ys) → take 16 (drop 64 xs) ≡ take 16 (drop 64 ys) → xs ≡ ys
@@ -79,7 +79,7 @@ same_line xs ys left right first second third fourth fifth =
     (same_rest xs ys 16 second
     (same_rest xs ys 32 third (same_rest xs ys 48 fourth (same_rest xs ys 64 fifth (nothing_left xs left ∙ sym (nothing_left ys right))))))
 
--- five that hold together hold each
+-- if all five tests pass together, each passes
 all_five : (a b c d e : Bool) → ((((a && b) && c) && d) && e) ≡ true → (a ≡ true) × (b ≡ true) × (c ≡ true) × (d ≡ true) × (e ≡ true)
 all_five true true true true true told = (refl, refl, refl, refl, refl)
 all_five true true true true false told = absurd (let bad : false ≡ true = told in cc)
@@ -88,11 +88,11 @@ all_five true true false d e told = absurd (let bad : false ≡ true = told in c
 all_five true false c d e told = absurd (let bad : false ≡ true = told in cc)
 all_five false b c d e told = absurd (let bad : false ≡ true = told in cc)
 
--- the block of two lines from a place on is the same
+-- two lines have the same block from a place on
 abbrev pub IsSameBlock : List ℕ → List ℕ → ℕ → Type 0
 IsSameBlock xs ys at = take 16 (drop at xs) ≡ take 16 (drop at ys)
 
--- of five tests, each of a block, all hold where the lines are the same
+-- five tests, one for each block, all pass if and only if the lines are equal
 pub line_told : (xs ys : List ℕ) → length xs ≡ 80 → length ys ≡ 80 → (a b c d e : Bool)
     → (IsTrue a ↔ IsSameBlock xs ys 0) → (IsTrue b ↔ IsSameBlock xs ys 16) → (IsTrue c ↔ IsSameBlock xs ys 32)
     → (IsTrue d ↔ IsSameBlock xs ys 48) → (IsTrue e ↔ IsSameBlock xs ys 64)

@@ -1,4 +1,4 @@
--- What keys, bodies, acts and changes of the code mean, as the definitions name them.
+-- What keys, bodies, acts and changes of the code mean, by the names of the definitions.
 use Rattle.docker_model.specs.file.Change.{tiploc_key, association_key, schedule_key, tiploc_body, association_body, schedule_body, delete, put}
 use Rattle.docker_model.specs.file.Change as model
 use Rattle.cif_line.specs.Letter.{stp_letter}

@@ -18,19 +18,21 @@ use crate::same::{are_same_lines, compare_lines, is_same_line};
 use cif_line::{Line, NO_END, Until};
 use std::cmp::Ordering;
 
-/// What a key is put with. Of two bodies that which ends earlier is the lesser; then the bytes decide, the lines joined, and then the tag of the key.
+/// What is put at a key. A body that ends earlier is less. If both end together, the bytes of the
+/// joined lines decide, and then the tag of the key.
 #[derive(Debug, Drop)]
 pub enum Body {
     /// Columns 10 to 72 of the record of a TIPLOC.
     Tiploc([u8; 63]),
-    /// The record of an association, its transaction `N`.
+    /// The record of an association, with transaction `N`.
     Assoc(Line),
-    /// The records of a schedule, the transaction of the first `N`.
+    /// The records of a schedule, with transaction `N` in the first.
     Schedule(Lines),
 }
 
 impl Body {
-    /// The number of the last day of the body, from 0 for 1960-01-01. 65535 where its end date means no end or cannot be read, and for a TIPLOC.
+    /// The number of the body's last day, counted from 0 for 1960-01-01. It is 65535 if the end
+    /// date means no end or cannot be read, and for a TIPLOC.
     pub fn end_number(&self) -> u16
         ensures { result ≡ body_end (body_meant self.now) }
     {
@@ -44,7 +46,8 @@ impl Body {
         }
     }
 
-    /// The tag of the keys that have such a body: 1 of a TIPLOC, 2 of an association, 3 of a schedule.
+    /// The tag of the keys that have such a body: 1 for a TIPLOC, 2 for an association, 3 for a
+    /// schedule.
     fn tag(&self) -> u8
         ensures { result ≡ body_tag (body_meant self.now) }
     {
@@ -55,7 +58,7 @@ impl Body {
         }
     }
 
-    /// Its bytes, the lines joined.
+    /// Its bytes; lines are joined.
     fn bytes(&self) -> Joined<'_>
         ensures { joined_bytes result ≡ body_bytes (body_meant self.now) }
     {
@@ -66,7 +69,7 @@ impl Body {
         }
     }
 
-    /// How its bytes and those of another body compare.
+    /// How its bytes compare with the bytes of another body.
     fn cmp_bytes(&self, other: &Body) -> Ordering
         ensures { result ≡
             bytes_cmp (body_bytes (body_meant self.now)) (body_bytes (body_meant other.now)) }
@@ -79,7 +82,7 @@ impl Body {
         }
     }
 
-    /// Whether it is the other body: of its kind, with its bytes.
+    /// Whether the two bodies are equal: of one kind and with the same bytes.
     fn is_same(&self, other: &Body) -> bool
         ensures { IsTrue result ↔ (body_meant self.now ≡ body_meant other.now) }
     {
@@ -94,7 +97,7 @@ impl Body {
     }
 }
 
-/// The six columns of a line from one on.
+/// Six columns of a line, from the given column on.
 fn six_from(line: &Line, first: usize) -> &[u8; 6]
     requires from { 0 < first }
     requires within { first + 5 ≤ 80 }
@@ -106,7 +109,7 @@ fn six_from(line: &Line, first: usize) -> &[u8; 6]
     }
 }
 
-/// The end number of an end date.
+/// The end number that a field with an end date gives.
 fn end_in(field: &[u8; 6]) -> u16
     ensures { result ≡ readable_end field.now }
 {
@@ -150,7 +153,7 @@ impl Ord for Body {
     ghost matches_eq = { λ a b. refl };
 
     fn cmp(&self, other: &Body) -> Ordering {
-        // Most bodies that are compared are the same, and their end dates needn't be read.
+        // Most bodies that are compared are equal; their end dates needn't be read.
         if self.is_same(other) {
             return Ordering::Equal;
         }
@@ -161,12 +164,12 @@ impl Ord for Body {
     }
 }
 
-/// What a change does to its key. A deletion is below each put.
+/// What a change does to its key. A deletion is less than each put.
 #[derive(Debug, Drop)]
 pub enum Act {
-    /// The key goes.
+    /// The key is deleted.
     Delete,
-    /// The key comes, or has this body from now on.
+    /// The key is added, or has this body from now on.
     Put(Body),
 }
 

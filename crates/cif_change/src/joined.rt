@@ -1,4 +1,4 @@
-//! The bytes of lines, joined.
+//! The bytes of joined lines.
 ghost use Rattle.std.specs.Prelude.{◌≡◌, ◌++◌};
 ghost use Rattle.std.specs.List.{concat};
 ghost use Rattle.docker_model.specs.state.Order.{bytes_cmp};
@@ -6,7 +6,7 @@ ghost use Rattle.docker_model.specs.state.Order.{bytes_cmp};
 use cif_line::Line;
 use std::cmp::Ordering;
 
-/// The bytes of a front, and after them those of some lines, joined.
+/// The bytes of a front, followed by the joined bytes of some lines.
 #[derive(Drop)]
 pub(crate) struct Joined<'a> {
     front: &'a [u8],

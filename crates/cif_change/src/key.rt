@@ -1,4 +1,4 @@
-//! What changes are known by, and the order of keys.
+//! The keys that changes name, and the order of keys.
 ghost use Rattle.std.specs.Prelude.{◌≡◌};
 ghost use Rattle.std.specs.Ordering.{on, as_partial_cmp, eq_by_cmp};
 ghost use Rattle.std.specs.Cmp.{partial_equiv_from_equiv, on_equiv, on_total, eq_by_cmp_equiv, partial_order_from_total};
@@ -10,7 +10,8 @@ ghost use Rattle.cif_change.specs.Meaning.{key_meant};
 use cif_line::{Day, Stp, Tiploc, Uid};
 use std::cmp::Ordering;
 
-/// A key that a change puts or deletes. Keys of TIPLOCs come first, then those of associations, then those of schedules.
+/// A key that a change puts or deletes. Keys of TIPLOCs come first, then keys of associations, then
+/// keys of schedules.
 #[derive(Clone, Copy, Debug)]
 pub enum Key {
     /// The code of a timing point.
@@ -21,7 +22,7 @@ pub enum Key {
     Schedule(ScheduleKey),
 }
 
-/// What an association is known by.
+/// The key of an association.
 #[derive(Clone, Copy, PartialEq, Eq, PartialOrd, Ord, Debug)]
 pub struct AssocKey {
     /// The UID of the train that the other one is associated with.
@@ -32,13 +33,13 @@ pub struct AssocKey {
     pub start: Day,
     /// Where the trains meet.
     pub location: Tiploc,
-    /// The suffix that tells apart several calls of the base train there.
+    /// The suffix that distinguishes several calls of the base train there.
     pub suffix: u8,
     /// The STP indicator.
     pub stp: Stp,
 }
 
-/// What a schedule is known by.
+/// The key of a schedule.
 #[derive(Clone, Copy, PartialEq, Eq, PartialOrd, Ord, Debug)]
 pub struct ScheduleKey {
     /// The UID of the train.
@@ -50,7 +51,7 @@ pub struct ScheduleKey {
 }
 
 impl Key {
-    /// The tag of the key: 1 of a TIPLOC, 2 of an association, 3 of a schedule.
+    /// The tag of the key: 1 for a TIPLOC, 2 for an association, 3 for a schedule.
     fn tag(&self) -> u8
         ensures { result ≡ key_tag (key_meant self.now) }
     {

@@ -1,4 +1,4 @@
-//! What a file changes: keys, what they are put with, and the orders of both.
+//! What a file changes: keys, what is put at them, and the orders of both.
 #![tactic(auto)]
 
 mod change;

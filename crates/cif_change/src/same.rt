@@ -1,4 +1,4 @@
-//! Lines compared sixteen bytes at a time: most that are compared are the same.
+//! Compares lines sixteen bytes at a time, because most of the lines that are compared are equal.
 ghost use Rattle.std.specs.Prelude.{◌≡◌, ◌↔◌, ◌+◌, ◌≤◌, length, take, drop, IsTrue};
 ghost use Rattle.std.specs.List.{concat};
 ghost use Rattle.docker_model.specs.state.Order.{bytes_cmp};
@@ -11,7 +11,7 @@ use std::simd::prelude::*;
 /// How many bytes are compared at once.
 const BLOCK: usize = 16;
 
-/// Whether lines are the same as others.
+/// Whether two lists of lines are equal.
 pub(crate) fn are_same_lines(mut own: &[Line], mut other: &[Line]) -> bool
     ensures { IsTrue result ↔ (own.entry.now ≡ other.entry.now) }
 {
@@ -25,7 +25,8 @@ pub(crate) fn are_same_lines(mut own: &[Line], mut other: &[Line]) -> bool
     own.is_empty() && other.is_empty()
 }
 
-/// How the bytes of lines and of others compare. Lines at the front that are the same in both are passed over.
+/// How the bytes of two lists of lines compare. Skips the lines at the front that are equal in
+/// both.
 pub(crate) fn compare_lines(mut own: &[Line], mut other: &[Line]) -> Ordering
     ensures { result ≡ bytes_cmp (concat own.entry.now) (concat other.entry.now) }
 {
@@ -39,7 +40,7 @@ pub(crate) fn compare_lines(mut own: &[Line], mut other: &[Line]) -> Ordering
     Joined::new(&[], own).compare(Joined::new(&[], other))
 }
 
-/// Whether a line is the same as another. No byte has a branch of its own.
+/// Whether two lines are equal. No byte has a branch of its own.
 pub(crate) fn is_same_line(own: &Line, other: &Line) -> bool
     ensures { IsTrue result ↔ (own.now ≡ other.now) }
 {
@@ -51,7 +52,7 @@ pub(crate) fn is_same_line(own: &Line, other: &Line) -> bool
         & is_same_block(one, two, 4 * BLOCK)
 }
 
-/// Whether the sixteen bytes from a place on, counted from 0, are those of another line there.
+/// Whether two lines have the same sixteen bytes from a place on. The place counts from 0.
 #[inline(always)]
 fn is_same_block(one: &[u8], two: &[u8], at: usize) -> bool
     requires one { at + BLOCK ≤ length one.now }

@@ -25,7 +25,7 @@ Takes-take old middle new piece done n first second =
 pub take-drop_all : (n : ℕ) (xs : List ℕ) → take (length xs - n) (drop n xs) ≡ drop n xs
 take-drop_all n xs = grind (arith, common_steps)
 
--- a text so many times over, and then so many more times
+-- a text m times over, and then n more times
 concat-replicate_add : (m n : ℕ) (text : List ℕ) →
     concat (replicate (m + n) text) ≡ concat (replicate m text) ++ concat (replicate n text)
 concat-replicate_add m n text =

@@ -1,8 +1,8 @@
 -- Feeding a taker from a source: what was taken is what the source lost.
 use Rattle.std.proofs.Common.{◌≡◌, ℕ, ◌+◌, ◌<◌, ◌≤◌, List, [], ◌∷◌, ◌++◌, length, take, drop, Some, None, refl, sym, ◌∙◌, ap, subst, arith, append_assoc, append-nil, length-append, ◌^◌, Err, Result, Fits, w64, Ok}
-use Rattle.std.specs.Prelude.{Option, option_map}
+use Rattle.std.specs.Prelude.{Option, option_map, Bool, true, false}
 use Rattle.std.proofs.lemmas.List.{length-take-le, take-append-le, take-take}
-use Rattle.cif_device.specs.Device.{Reads, IsEnd}
+use Rattle.cif_device.specs.Device.{Reads, IsEnd, Ends}
 use Rattle.cif_device.specs.declared.feed.FeedFault.{FeedFault}
 use Rattle.cif_device.specs.declared.feed.FeedFault.TheVariants as feed
 use Rattle.cif_device.specs.Taken.{Taking, Refusing, HasFed, HasRefused, LosesOnePieceMore}
@@ -12,7 +12,7 @@ pub lost_nothing : (left : Option (List ℕ)) → Reads left [] left
 lost_nothing None = refl
 lost_nothing (Some bytes) = refl
 
--- what is read behind what was read
+-- what is read after what was read
 pub lost_more : (initial now next : Option (List ℕ)) (text piece : List ℕ) → Reads initial text now → Reads now piece next → Reads initial (text ++ piece) next
 lost_more initial now None text piece first more = first ∙ ap (option_map (λ rest. text ++ rest)) more
 lost_more initial now (Some rest) text piece first more =
@@ -81,7 +81,7 @@ unfolding one_more
 refused_behind takes refuses fed terms text initial now next before after piece fault at more few refused =
     record { more = one_more takes fed terms text initial now next before piece at more few; refused = refused }
 
--- a fault is told as itself
+-- a fault that is returned is the one that the taker gave
 pub refused_as : {T Terms Fault : Type 0} (takes : Taking T Terms) (refuses : Refusing T Terms Fault) (terms : Terms) (text : List ℕ)
     (initial next : Option (List ℕ)) (taker : T) (fault told : Fault)
     → ◌≡◌ {A = Result ℕ (FeedFault Fault)} (Err (feed.Refused fault)) (Err (feed.Refused told))
@@ -89,7 +89,7 @@ pub refused_as : {T Terms Fault : Type 0} (takes : Taking T Terms) (refuses : Re
 refused_as takes refuses terms text initial next taker fault told is has =
     let same : fault ≡ told = cc in subst (HasRefused takes refuses 65536 terms text initial next taker) same has
 
--- how many bytes were fed is told in 64 bits
+-- the number of bytes that were fed fits in 64 bits
 pub fits_still : (fed n : ℕ) (text bytes piece : List ℕ) → length bytes ≡ fed → length piece ≡ n → length ((text ++ bytes) ++ piece) < 2 ^ 64
     → Fits w64 (fed + n)
 fits_still fed n text bytes piece size long below =
@@ -101,12 +101,33 @@ fits_still fed n text bytes piece size long below =
 pub at_once : (n len : ℕ) (into : List ℕ) → length into ≡ len → len ≡ 65536 → n ≤ length into → length (take n into) ≤ 65536
 at_once n len into long room within = let size = length-take-le n into within in omega arith
 
--- behind the end nothing is left
+-- nothing is left after the end
 pub end_stays : (now next : Option (List ℕ)) (piece : List ℕ) → Reads now piece next → IsEnd now → IsEnd next
 end_stays now None piece more end = tt
 end_stays None (Some rest) piece more end = cc
 end_stays (Some left) (Some rest) [] more end = cc
 end_stays (Some left) (Some rest) (byte ∷ piece) more end = let none : ⊥ = cc in absurd none
+
+-- a read of no byte into some room reported the end
+pub ended_by : (n room : ℕ) (ended now_ended passed now_passed : Bool) → Ends n room ended now_ended passed now_passed → n ≡ 0 → 0 < room → now_ended ≡ true
+ended_by n room ended now_ended passed now_passed (reports, _, _, _) none some = reports none some
+
+-- a read of some bytes didn't
+pub going_on : (n room : ℕ) (ended now_ended passed now_passed : Bool) → Ends n room ended now_ended passed now_passed → ¬ (n ≡ 0) → ended ≡ false
+    → now_ended ≡ false
+going_on n room ended now_ended passed now_passed (_, going, _, _) some was = going (omega (arith, some)) ∙ was
+
+-- a read passes no end that wasn't reported
+pub not_passed_by : (n room : ℕ) (ended now_ended passed now_passed : Bool) → Ends n room ended now_ended passed now_passed → ended ≡ false
+    → now_passed ≡ passed
+not_passed_by n room ended now_ended passed now_passed (_, _, _, stays) was = stays was
+
+-- a read that failed changes neither
+pub still_going : (ended now_ended passed now_passed : Bool) → (now_ended ≡ ended) × (now_passed ≡ passed) → now_ended ≡ ended
+still_going ended now_ended passed now_passed (same, _) = same
+
+pub still_not_passed : (ended now_ended passed now_passed : Bool) → (now_ended ≡ ended) × (now_passed ≡ passed) → now_passed ≡ passed
+still_not_passed ended now_ended passed now_passed (_, same) = same
 
 -- the bytes of a buffer that were read
 pub same_front : (n len : ℕ) (piece into items : List ℕ) → piece ≡ take len (into ++ drop (length into) items) → length into ≡ len → n ≤ length into
@@ -114,7 +135,7 @@ pub same_front : (n len : ℕ) (piece into items : List ℕ) → piece ≡ take 
 same_front n len piece into items is whole within =
     ap (take n) (is ∙ take-append-le len into (drop (length into) items) (omega arith)) ∙ take-take n len into (omega arith)
 
--- where the end is told, or a piece was refused, no source failed
+-- if the end was reported or a piece was refused, the source didn't fail
 pub none_failed : {Fault : Type 0} (result : Result ℕ (FeedFault Fault)) (before now after : ℕ) → ¬ (result ≡ Err feed.Source) → after ≡ now → now ≡ before
     → (result ≡ Err feed.Source → after ≡ before + 1) × (after ≡ before + 1 → result ≡ Err feed.Source)
 none_failed result before now after other same kept = (λ is. absurd (other is), λ more. let none : ⊥ = omega (arith, same, kept, more) in absurd none)

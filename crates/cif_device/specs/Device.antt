@@ -1,6 +1,6 @@
 -- What a read takes from the bytes that a source has left, and a write adds to those a sink took.
 -- A device that can't name its bytes has None in their place.
-use Rattle.std.specs.Prelude.{◌≡◌, ℕ, ◌-◌, ◌<◌, min, List, [], ◌++◌, length, take, replicate, ⊤, Option, None, Some, option_map}
+use Rattle.std.specs.Prelude.{◌≡◌, ℕ, ◌-◌, ◌<◌, min, Bool, true, false, List, [], ◌++◌, length, take, replicate, ⊤, Option, None, Some, option_map}
 use Rattle.std.specs.List.{concat}
 
 -- what was left is these bytes and then what is left now
@@ -12,6 +12,15 @@ abbrev pub IsEnd : Option (List ℕ) → Type 0
 IsEnd None = ⊤
 IsEnd (Some left) = left ≡ []
 
+-- A read of n bytes into this much room: whether the source had reported its end before, and has
+-- now; and whether it had been read after its end before, and has now. A read of no byte into some
+-- room reports the end, a read of some bytes doesn't, and any read after a reported end passes it.
+abbrev pub Ends : ℕ → ℕ → Bool → Bool → Bool → Bool → Type 0
+Ends n room ended now_ended passed now_passed = (n ≡ 0 → 0 < room → now_ended ≡ true)
+    × (0 < n → now_ended ≡ ended)
+    × (ended ≡ true → now_passed ≡ true)
+    × (ended ≡ false → now_passed ≡ passed)
+
 -- what is taken now is what was taken and then these bytes
 abbrev pub Takes : Option (List ℕ) → List ℕ → Option (List ℕ) → Type 0
 Takes old bytes new = new ≡ option_map (λ taken. taken ++ bytes) old
@@ -20,10 +29,13 @@ Takes old bytes new = new ≡ option_map (λ taken. taken ++ bytes) old
 abbrev pub TakesPart : Option (List ℕ) → List ℕ → Option (List ℕ) → Type 0
 TakesPart old piece new = (n : ℕ) × (n < length piece) × Takes old (take n piece) new
 
--- a source over a slice: the bytes that are left, and the most that one read gives
+-- a source over a slice: the bytes that are left, the most that one read gives, whether it has
+-- reported its end, and whether it was read after that
 pub record Feed : Type 0 where
   pub left : List ℕ
   pub step : ℕ
+  pub ended : Bool
+  pub passed : Bool
 
 -- how many bytes a read into a buffer of this length gives
 abbrev pub read_count : Feed → ℕ → ℕ
@@ -39,13 +51,15 @@ pub record Store : Type 0 where
 abbrev pub room_left : Store → ℕ
 room_left store = store.room - length store.taken
 
--- a device that fails at one call: the device within, how many calls are left up to that one, 0 after it, and how often it failed
+-- a device that fails at one call: the device within, how many calls are left up to that one, 0
+-- after it, and how often it failed
 pub record Fused (D : Type 0) : Type 0 where
   pub device : D
   pub calls : ℕ
   pub failures : ℕ
 
--- a source that never ends: what is left of the text that it gives, the text that follows again and again, and the most that one read gives
+-- a source that never ends: what is left of the text that it gives, the text that follows again and
+-- again, and the most that one read gives
 pub record Round : Type 0 where
   pub left : List ℕ
   pub again : List ℕ

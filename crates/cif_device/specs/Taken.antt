@@ -1,5 +1,5 @@
--- What takes a text piece by piece, and what it and the source that it is fed from become. The terms of a taker are what stays as it is while it takes: as a
--- limit on the text.
+-- What takes a text piece by piece, and what it and the source that it is fed from become. The terms
+-- of a taker are what stays as it is while it takes, such as a limit on the text.
 use Rattle.std.specs.Prelude.{◌≡◌, ℕ, ◌≤◌, List, ◌++◌, length, Option}
 use Rattle.cif_device.specs.Device.{Reads}
 

@@ -1,6 +1,6 @@
 //! What a source and a sink of bytes promise, and the writing of a whole piece.
-ghost use Rattle.std.specs.Prelude.{◌≡◌, ℕ, ◌+◌, ◌-◌, ◌^◌, ◌<◌, ◌≤◌, List, Option, length, take, IfOk, OnOk, OnErr};
-ghost use Rattle.cif_device.specs.Device.{Reads, IsEnd, Takes, TakesPart};
+ghost use Rattle.std.specs.Prelude.{◌≡◌, ℕ, ◌+◌, ◌-◌, ◌^◌, ◌<◌, ◌≤◌, Bool, List, Option, length, take, IfOk, OnOk, OnErr};
+ghost use Rattle.cif_device.specs.Device.{Reads, IsEnd, Ends, Takes, TakesPart};
 
 use std::alloc::{AllocError, AllocFailed};
 use thiserror::Error;
@@ -35,6 +35,12 @@ pub trait Source {
     // How often it has failed so far.
     ghost failures: { Self → ℕ };
 
+    // Whether it has reported its end.
+    ghost ended: { Self → Bool };
+
+    // Whether it was read after it had reported its end.
+    ghost passed: { Self → Bool };
+
     /// Reads the next bytes into the front of the buffer and answers how many they are; into a
     /// buffer with room, 0 is the end. The buffer past them holds anything.
     fn read(&mut self, into: &mut [u8]) -> Result<usize, Failed>
@@ -45,7 +51,11 @@ pub trait Source {
         ensures end { IfOk result (λ n. n ≡ 0 → 0 < length into.new → IsEnd (left self.old)) }
         ensures no_failure { OnOk result (failures self.new ≡ failures self.old) }
         ensures counted { OnErr result (failures self.new ≡ failures self.old + 1) }
-        ensures unmoved { OnErr result (left self.new ≡ left self.old) };
+        ensures unmoved { OnErr result (left self.new ≡ left self.old) }
+        ensures ending { IfOk result (λ n. Ends n (length into.new)
+            (ended self.old) (ended self.new) (passed self.old) (passed self.new)) }
+        ensures still { OnErr result
+            ((ended self.new ≡ ended self.old) × (passed self.new ≡ passed self.old)) };
 
     /// How often it has failed so far.
     fn failures(&self) -> u64
@@ -60,14 +70,15 @@ pub trait Sink {
     // How often it has failed so far.
     ghost failures: { Self → ℕ };
 
-    /// Writes the first bytes of the piece and answers how many they are, at least one if the
-    /// piece has any.
+    /// Writes the first bytes of the piece, at least one, and returns their number. No write of
+    /// an empty piece is asked of a device.
     fn write(&mut self, piece: &[u8]) -> Result<usize, Failed>
-        requires { failures self.old < 2 ^ 64 - 1 }
+        requires failures { failures self.old < 2 ^ 64 - 1 }
+        requires piece { 0 < length piece.now }
         ensures within { IfOk result (λ n. n ≤ length piece.now) }
         ensures moved { IfOk result (λ n.
             Takes (taken self.old) (take n piece.now) (taken self.new)) }
-        ensures progress { IfOk result (λ n. 0 < length piece.now → 0 < n) }
+        ensures progress { IfOk result (λ n. 0 < n) }
         ensures no_failure { OnOk result (failures self.new ≡ failures self.old) }
         ensures counted { OnErr result (failures self.new ≡ failures self.old + 1) }
         ensures unmoved { OnErr result (taken self.new ≡ taken self.old) };

@@ -1,11 +1,12 @@
 //! A source in memory that never ends.
-ghost use Rattle.std.specs.Prelude.{◌≡◌, ◌<◌, ◌≤◌, min, [], ◌∷◌, length, take, None, Ok, IfOk};
-ghost use Rattle.cif_device.specs.Device.{Goes};
+ghost use Rattle.std.specs.Prelude.{◌≡◌, ◌<◌, ◌≤◌, min, [], ◌∷◌, length, take, false, None, Ok, IfOk};
+ghost use Rattle.cif_device.specs.Device.{Ends, Goes};
 
 use crate::device::{Failed, Source};
 use std::marker::Model;
 
-/// A source that gives one text, and then another again and again. It never ends and never fails, so it can't name its bytes.
+/// A source that gives one text, and then another again and again. It never ends and never fails,
+/// so it can't name its bytes.
 #[derive(Clone, Debug, Drop)]
 pub struct Endless<'a> {
     rest: &'a [u8],
@@ -29,7 +30,8 @@ impl<'a> Model for Endless<'a> {
 }
 
 impl<'a> Endless<'a> {
-    /// A source of the first text and then of the other, again and again, with at most `step` bytes a read.
+    /// A source of the first text and then of the other, again and again, with at most `step`
+    /// bytes per read.
     pub fn new(first: &'a [u8], again: &'a [u8], step: usize) -> Self
         requires again { 0 < length again.now }
         requires step { 0 < step }
@@ -62,8 +64,13 @@ impl Source for Endless<'_> {
 
     ghost failures = { λ _. 0 };
 
+    ghost ended = { λ _. false };
+
+    ghost passed = { λ _. false };
+
     fn read(&mut self, into: &mut [u8]) -> Result<usize, Failed>
         ensures within { IfOk result (λ n. n ≤ length into.new) }
+        ensures ending { IfOk result (λ n. Ends n (length into.new) false false false false) }
 
         // What a source promises is above, and what this one adds below.
         ensures count { result ≡ Ok (min self.old.step (length into.old)) }

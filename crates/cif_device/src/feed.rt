@@ -1,5 +1,5 @@
 //! What takes a text in pieces, and the feeding of it from a source.
-ghost use Rattle.std.specs.Prelude.{◌≡◌, ◌≢◌, ℕ, ◌+◌, ◌-◌, ◌^◌, ◌<◌, ◌↔◌, ◌++◌, List, length, IsOk, IfOk, IfErr, OnOk, Err};
+ghost use Rattle.std.specs.Prelude.{◌≡◌, ◌≢◌, ℕ, ◌+◌, ◌-◌, ◌^◌, ◌<◌, ◌↔◌, ◌++◌, true, false, List, length, IsOk, IfOk, IfErr, OnOk, OnErr, Err};
 ghost use Rattle.cif_device.specs.Device.{IsEnd};
 ghost use Rattle.cif_device.specs.Taken.{BehindEach, HasFed, HasRefused, IsTaking, LosesOnePieceMore};
 
@@ -41,13 +41,15 @@ pub trait Taker {
         ensures refused { IfErr result (λ fault. BehindEach takes self.old (λ terms text.
             refuses self.new terms text piece.now fault)) };
 
-    // Each text that it may have taken is shorter than this, so that a source without end is refused.
+    // Each text that it may have taken is shorter than this, so a source without end is refused.
     ghost bounded: { (taker : Self) (terms : Terms) (text : List ℕ) → takes taker terms text
         → length text < 2 ^ 64 };
 }
 
-/// Feeds a taker all that a source has left, in pieces of at most 65,536 bytes, and returns their number. Nothing is read after the piece that the
-/// taker refuses. It terminates for every source: what a taker accepts has a bound, so some piece of an endless source is refused.
+/// Feeds a taker all that a source has left, in pieces of at most 65,536 bytes, and returns the
+/// number of bytes. Nothing is read after the source reports its end, or after the piece that the
+/// taker refuses. It terminates for every source: what a taker accepts has a bound, so some piece of
+/// an endless source is refused.
 pub fn feed_all<S: Source, T: Taker>(
     alloc: Global,
     source: &mut S,
@@ -72,6 +74,10 @@ pub fn feed_all<S: Source, T: Taker>(
         (S.failures source.new ≡ S.failures source.old + 1) }
     ensures no_failure { result ≢ Err FeedFault.Source →
         S.failures source.new ≡ S.failures source.old }
+    ensures ended { OnOk result (S.ended source.new ≡ true) }
+    ensures not_ended { S.ended source.old ≡ false → OnErr result (S.ended source.new ≡ false) }
+    ensures not_passed { S.ended source.old ≡ false →
+        S.passed source.new ≡ S.passed source.old }
 {
     let Ok(mut piece) = vec![in alloc; 0u8; PIECE] else {
         return Err(FeedFault::Memory);

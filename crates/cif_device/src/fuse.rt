@@ -1,6 +1,6 @@
 //! A device in memory that fails at one call.
 ghost use Rattle.std.specs.Prelude.{◌≡◌, ◌⊎◌, ◌+◌, ◌-◌, ◌^◌, ◌<◌, ◌≤◌, ◌↔◌, min, [], ◌++◌, length, take, Some, IsTrue, IfOk, IsErr, OnOk, OnErr};
-ghost use Rattle.cif_device.specs.Device.{room_left};
+ghost use Rattle.cif_device.specs.Device.{Ends, room_left};
 
 use crate::device::{Failed, Sink, Source};
 use crate::memory::{Bytes, Kept};
@@ -27,7 +27,8 @@ impl<D> Model for Fuse<D> {
 }
 
 impl<D> Fuse<D> {
-    /// Passes the bytes of this device, one a call, and fails only at the call with this number, counted from 1.
+    /// Passes the bytes of this device, one per call, and fails only at the call with this number,
+    /// counted from 1.
     pub fn new(device: D, call: u64) -> Self
         requires { 0 < call }
         ensures device { result.device ≡ device }
@@ -64,6 +65,10 @@ impl Source for Fuse<Bytes<'_>> {
 
     ghost failures = { λ fuse. fuse.failures };
 
+    ghost ended = { λ fuse. fuse.device.ended };
+
+    ghost passed = { λ fuse. fuse.device.passed };
+
     fn read(&mut self, into: &mut [u8]) -> Result<usize, Failed>
         requires { self.old.failures < 2 ^ 64 - 1 }
         ensures within { IfOk result (λ n. n ≤ length into.new) }
@@ -73,6 +78,11 @@ impl Source for Fuse<Bytes<'_>> {
         ensures no_failure { OnOk result (self.new.failures ≡ self.old.failures) }
         ensures counted { OnErr result (self.new.failures ≡ self.old.failures + 1) }
         ensures unmoved { OnErr result (self.new.device.left ≡ self.old.device.left) }
+        ensures ending { IfOk result (λ n. Ends n (length into.new)
+            self.old.device.ended self.new.device.ended
+            self.old.device.passed self.new.device.passed) }
+        ensures still { OnErr result ((self.new.device.ended ≡ self.old.device.ended)
+            × (self.new.device.passed ≡ self.old.device.passed)) }
 
         // What a source promises is above, and what this one adds below.
         ensures count { IfOk result (λ n.
@@ -99,19 +109,19 @@ impl Sink for Fuse<Kept> {
     ghost failures = { λ fuse. fuse.failures };
 
     fn write(&mut self, piece: &[u8]) -> Result<usize, Failed>
-        requires { self.old.failures < 2 ^ 64 - 1 }
+        requires failures { self.old.failures < 2 ^ 64 - 1 }
+        requires piece { 0 < length piece.now }
         ensures within { IfOk result (λ n. n ≤ length piece.now) }
         ensures moved { IfOk result (λ n.
             self.new.device.taken ≡ self.old.device.taken ++ take n piece.now) }
-        ensures progress { IfOk result (λ n. 0 < length piece.now → 0 < n) }
+        ensures progress { IfOk result (λ n. 0 < n) }
         ensures no_failure { OnOk result (self.new.failures ≡ self.old.failures) }
         ensures counted { OnErr result (self.new.failures ≡ self.old.failures + 1) }
         ensures unmoved { OnErr result (self.new.device.taken ≡ self.old.device.taken) }
 
         // What a sink promises is above, and what this one adds below.
-        ensures count { IfOk result (λ n. n ≡ min 1 (length piece.now)) }
-        ensures fails { IsErr result ↔ ((self.old.calls ≡ 1)
-            ⊎ ((0 < length piece.now) × (room_left self.old.device ≡ 0))) }
+        ensures count { IfOk result (λ n. n ≡ 1) }
+        ensures fails { IsErr result ↔ ((self.old.calls ≡ 1) ⊎ (room_left self.old.device ≡ 0)) }
         ensures calls { self.new.calls ≡ self.old.calls - 1 }
         ensures room { self.new.device.room ≡ self.old.device.room }
     {
@@ -119,14 +129,11 @@ impl Sink for Fuse<Kept> {
             self.failures += 1;
             return Err(Failed);
         }
-        let Some(byte) = piece.first() else {
-            return Ok(0);
-        };
         if self.device.is_full() {
             self.failures += 1;
             return Err(Failed);
         }
-        self.device.push(*byte);
+        self.device.push(piece[0]);
         Ok(1)
     }
 

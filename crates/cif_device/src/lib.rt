@@ -1,4 +1,5 @@
-//! The devices that bytes come from and go to: what a source and a sink promise, the writing of a whole piece, the feeding of what takes a text, and both in memory.
+//! The devices that bytes come from and go to: what a source and a sink promise, how a whole piece
+//! is written, how a text is fed to what takes it, and a source and a sink in memory.
 #![tactic(auto)]
 
 mod device;

@@ -1,6 +1,6 @@
 //! A source and a sink in memory.
-ghost use Rattle.std.specs.Prelude.{◌≡◌, ◌+◌, ◌-◌, ◌^◌, ◌<◌, ◌≤◌, ◌↔◌, min, [], ◌∷◌, ◌++◌, length, take, Some, Ok, IsTrue, IfOk, IsOk, IsErr, OnOk, OnErr};
-ghost use Rattle.cif_device.specs.Device.{read_count, room_left};
+ghost use Rattle.std.specs.Prelude.{◌≡◌, ◌+◌, ◌-◌, ◌^◌, ◌<◌, ◌≤◌, ◌↔◌, min, [], ◌∷◌, ◌++◌, length, take, false, Some, Ok, IsTrue, IfOk, IsOk, IsErr, OnOk, OnErr};
+ghost use Rattle.cif_device.specs.Device.{Ends, read_count, room_left};
 
 use crate::device::{Failed, Memory, Sink, Source};
 use std::alloc::Global;
@@ -11,6 +11,8 @@ use std::marker::Model;
 pub struct Bytes<'a> {
     rest: &'a [u8],
     step: usize,
+    ended: bool,
+    passed: bool,
 }
 
 impl<'a> Model for Bytes<'a> {
@@ -19,7 +21,12 @@ impl<'a> Model for Bytes<'a> {
 
     ghost Value = { Feed };
 
-    ghost view = { λ bytes. record { left = bytes.rest.now; step = bytes.step } };
+    ghost view = { λ bytes. record {
+      left = bytes.rest.now;
+      step = bytes.step;
+      ended = bytes.ended;
+      passed = bytes.passed;
+    } };
 
     ghost invariant = { λ bytes. 0 < bytes.step };
 }
@@ -30,8 +37,15 @@ impl<'a> Bytes<'a> {
         requires { 0 < step }
         ensures left { result.left ≡ bytes.now }
         ensures step { result.step ≡ step }
+        ensures ended { result.ended ≡ false }
+        ensures passed { result.passed ≡ false }
     {
-        Bytes { rest: bytes, step }
+        Bytes {
+            rest: bytes,
+            step,
+            ended: false,
+            passed: false,
+        }
     }
 
     /// The bytes that are left.
@@ -47,10 +61,16 @@ impl Source for Bytes<'_> {
 
     ghost failures = { λ _. 0 };
 
+    ghost ended = { λ bytes. bytes.ended };
+
+    ghost passed = { λ bytes. bytes.passed };
+
     fn read(&mut self, into: &mut [u8]) -> Result<usize, Failed>
         ensures within { IfOk result (λ n. n ≤ length into.new) }
         ensures moved { IfOk result (λ n. self.old.left ≡ take n into.new ++ self.new.left) }
         ensures end { IfOk result (λ n. n ≡ 0 → 0 < length into.new → self.old.left ≡ []) }
+        ensures ending { IfOk result (λ n. Ends n (length into.new)
+            self.old.ended self.new.ended self.old.passed self.new.passed) }
 
         // What a source promises is above, and what this one adds below.
         ensures count { result ≡ Ok (read_count self.old (length into.old)) }
@@ -59,6 +79,8 @@ impl Source for Bytes<'_> {
         let n = self.step.min(into.len()).min(self.rest.len());
         into[..n].copy_from_slice(&self.rest[..n]);
         self.rest = &self.rest[n..];
+        self.passed = self.passed || self.ended;
+        self.ended = self.ended || n == 0 && !into.is_empty();
         Ok(n)
     }
 
@@ -137,21 +159,22 @@ impl Sink for Kept {
     ghost failures = { λ kept. kept.failures };
 
     fn write(&mut self, piece: &[u8]) -> Result<usize, Failed>
-        requires { self.old.failures < 2 ^ 64 - 1 }
+        requires failures { self.old.failures < 2 ^ 64 - 1 }
+        requires piece { 0 < length piece.now }
         ensures within { IfOk result (λ n. n ≤ length piece.now) }
         ensures moved { IfOk result (λ n. self.new.taken ≡ self.old.taken ++ take n piece.now) }
-        ensures progress { IfOk result (λ n. 0 < length piece.now → 0 < n) }
+        ensures progress { IfOk result (λ n. 0 < n) }
         ensures no_failure { OnOk result (self.new.failures ≡ self.old.failures) }
         ensures counted { OnErr result (self.new.failures ≡ self.old.failures + 1) }
         ensures unmoved { OnErr result (self.new.taken ≡ self.old.taken) }
 
         // What a sink promises is above, and what this one adds below.
         ensures count { IfOk result (λ n. n ≡ min (length piece.now) (room_left self.old)) }
-        ensures full { IsErr result ↔ ((0 < length piece.now) × (room_left self.old ≡ 0)) }
+        ensures full { IsErr result ↔ (room_left self.old ≡ 0) }
         ensures room { self.new.room ≡ self.old.room }
     {
         let n = piece.len().min(self.room - self.bytes.len());
-        if n == 0 && !piece.is_empty() {
+        if n == 0 {
             self.failures += 1;
             return Err(Failed);
         }

@@ -33,18 +33,18 @@ start_of_2060 : day_count (pos 2060) 1 1 ≡ 4_404_825
 unfolding day_count days_of_years days_of_months
 start_of_2060 = refl
 
--- its number is its day number
+-- the day number of such a day is its number
 pub number_is : (number year month day : ℕ) → IsDayOf number year month day → day_number year month day ≡ number
 number_is number year month day h =
     let there = day_number-day_count year month day h.low (omega (arith, h.high)) h.is_civil.1.0 h.is_civil.2.0 in
     omega (arith, h.count)
 
--- it is printed as itself
+-- the text of its number is the date
 pub text_is : (number year month day : ℕ) → IsDayOf number year month day → day_text number ≡ date_text year month day
 text_is number year month day h =
     subst (λ n. day_text n ≡ date_text year month day) (number_is number year month day h) (day_text-day_number year month day h.low h.high h.is_civil)
 
--- a date from the first day to the last is of these years
+-- a date from the first day to the last is in these years
 years_between : (year : ℤ) (month day : ℕ) → IsCivilDate year month day → 4_368_300 ≤ day_count year month day → day_count year month day ≤ 4_404_824
     → IsBetween (pos 1960) (pos 2059) year
 years_between year month day is_civil low high =
@@ -54,13 +54,13 @@ years_between year month day is_civil low high =
     let last : (pos 2059 <ℤ year) → ⊥ = λ lt. absurd (omega (arith, end_of_2059, day_count-lt_year (pos 2059) 12 31 year month day last_is is_civil.2.0 lt)) in
     (by_lt_z year (pos 1960) (λ lt. absurd (first lt)) (λ ge. ge), by_lt_z (pos 2059) year (λ lt. absurd (last lt)) (λ ge. ge))
 
--- the day count of a date, from the days since -9999-01-01
+-- the day count of a date, computed from its days since -9999-01-01
 count_of : (date : Date) (days : ℕ) → epoch_day date +ℤ pos 4_371_587 ≡ pos days → day_count date.year date.month date.day ≡ days + 366
 count_of date days since =
     let count = days_from_civil-day_count date.year date.month date.day in
     omega (arith, signed_arith)
 
--- a date of these years is a day of them
+-- a date in these years is a day
 pub day_of_date : (date : Date) (number : ℕ) → number ≤ last_day → epoch_day date +ℤ pos 4_371_587 ≡ pos (4_367_934 + number)
     → IsBetween (pos 1960) (pos 2059) date.year × IsDayOf number (unsigned_abs date.year) date.month date.day
 day_of_date date number low since =
@@ -130,7 +130,7 @@ module _ (number year month day : ℕ) (low : suc number ≤ last_day) (h : IsDa
             count = omega arith;
           }
 
--- each number up to the last is the number of one
+-- each number up to the last is the number of a day
 pub day_at : (number : ℕ) → number ≤ last_day → (year : ℕ) × (month : ℕ) × (day : ℕ) × IsDayOf number year month day
 day_at zero low = (
   1960,

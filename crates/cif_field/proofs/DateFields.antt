@@ -11,11 +11,11 @@ use Rattle.docker_model.specs.records.PrintedTime.{two_digit_text, day_text}
 use Rattle.cif_laws.proofs.records.Dates.{is_calendar_day-IsDate}
 use Rattle.cif_field.proofs.CivilDays.{IsDayOf, number_is, text_is, day_at}
 
--- a number below 10, written as a digit, is one
+-- 48 and a number below 10 make an ASCII digit
 is_digit : (n : ℕ) → n < 10 → is_ascii_digit (48 + n) ≡ true
 is_digit n low = grind (arith, nat_tests)
 
--- and six of them
+-- six such digits
 are_digits : (a b c d e f : ℕ) → a < 10 → b < 10 → c < 10 → d < 10 → e < 10 → f < 10
     → list_all is_ascii_digit ((48 + a) ∷ (48 + b) ∷ (48 + c) ∷ (48 + d) ∷ (48 + e) ∷ (48 + f) ∷ []) ≡ true
 are_digits a b c d e f ha hb hc hd he hf =
@@ -33,7 +33,7 @@ digits_are n = omega arith
 abbrev pub six_digits : ℕ → ℕ → ℕ → List ℕ
 six_digits year month day = two_digit_text (year % 100) ++ two_digit_text month ++ two_digit_text day
 
--- they are a date, and its number is the day's
+-- six digits of a day are a date, whose number is the day's
 module _ (number year month day : ℕ) (h : IsDayOf number year month day) where
   on_calendar : is_calendar_day year month day ≡ true
   on_calendar =
@@ -55,15 +55,15 @@ module _ (number year month day : ℕ) (h : IsDayOf number year month day) where
       (omega (arith, h.is_civil.1.1)) (omega arith) (omega (arith, h.is_civil.2.1, days_in_month_bounds (pos year) month)) (omega arith) in
       (λ i. digits i && is_calendar_day (year_read i) (digits_are month i) (digits_are day i)) ∙ on_calendar
 
-  -- and its number is the day's
+  -- the number of that date is the day's
   pub six_digits-date_number : date_number (six_digits year month day) ≡ number
   six_digits-date_number = (λ i. day_number (year_read i) (digits_are month i) (digits_are day i)) ∙ number_is number year month day h
 
--- the digits in a text, but those of the century
+-- the digits of a text, without the century
 abbrev pub digits_in : List ℕ → List ℕ
 digits_in text = slice_index text 2 ∷ slice_index text 3 ∷ slice_index text 5 ∷ slice_index text 6 ∷ slice_index text 8 ∷ slice_index text 9 ∷ []
 
--- in a day's text they are a date, and its number is the day
+-- the digits of a day's text are a date, whose number is the day
 pub digits_in-day_text : (number : ℕ) → number ≤ last_day → (text : List ℕ) → text ≡ day_text number
     → (is_date (digits_in text) ≡ true) × (date_number (digits_in text) ≡ number)
 digits_in-day_text number low text same = let at = day_at number low in by at.0 at.1 at.2 at.3

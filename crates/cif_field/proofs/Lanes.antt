@@ -8,15 +8,15 @@ use Rattle.std.proofs.lemmas.List.{length-map, drop_all}
 use Rattle.std.proofs.lemmas.List.Folds.{list_all-append}
 use lib.Lanes.{Each1, mask_l, top, zip2}
 
--- with its lowest bit set a number is not 0
+-- a number whose lowest bit is set is not 0
 one_set : (m : ℕ) → nat_eq (1 + 2 * m) 0 ≡ false
 one_set m = grind (arith, nat_tests)
 
--- and twice a number is 0 where it is
+-- twice a number is 0 if and only if the number is
 twice : (m : ℕ) → nat_eq (0 + 2 * m) 0 ≡ nat_eq m 0
 twice m = grind (arith, nat_tests)
 
--- the mask is 0 exactly where no lane is set
+-- the mask is 0 if and only if no lane is set
 mask_zero : (p : ℕ → Bool) (xs : List ℕ) → nat_eq (mask_l (map p xs)) 0 ≡ list_all (λ x. not (p x)) xs
 mask_zero p [] = refl
 mask_zero p (x ∷ xs) = by (p x) (mask_zero p xs)
@@ -31,8 +31,8 @@ agree_all : (f g : ℕ → Bool) → agree_below f g 256 ≡ true → (xs : List
 agree_all f g agree [] fits = refl
 agree_all f g agree (x ∷ xs) fits = λ i. agree_below_at f g 256 x agree fits.0.fits i && agree_all f g agree xs fits.1 i
 
--- no lane of these is set exactly where each byte passes, if a byte's lane is clear exactly where it does.
--- Each lane is made of a byte by two operations with splats
+-- No lane is set if and only if each byte passes the test, provided that a byte's lane is clear if
+-- and only if the byte passes. Each lane is made from a byte by two operations with splats
 pub no_lane_set : (q : ℕ → Bool) (bytes : List ℕ) (n : ℕ) (f g : ℕ → ℕ → ℕ) (a b : ℕ) → length bytes ≡ n → n ≤ 64 → Each1 (Fits w8) bytes
     → agree_below (λ x. not (top 7 (f a (g x b)))) q 256 ≡ true
     → nat_eq (mask_l (map (top 7) (zip2 f (replicate n a) (zip2 g bytes (replicate n b)))) % 2 ^ 64) 0 ≡ list_all q bytes
@@ -60,15 +60,15 @@ five false b c d e = refl
 abbrev pub block_passes : (ℕ → Bool) → List ℕ → ℕ → Bool
 block_passes q bytes at = list_all q (take 16 (drop at bytes))
 
--- what is left from a place on passes where its first block and the rest do
+-- the bytes from a place on pass if and only if the first block and the rest do
 block_and_rest : (q : ℕ → Bool) (bytes : List ℕ) (at : ℕ) → list_all q (drop at bytes) ≡ (block_passes q bytes at && list_all q (drop (at + 16) bytes))
 block_and_rest q bytes at = ap (list_all q) (chunk-drop at 16 bytes) ∙ list_all-append q (take 16 (drop at bytes)) (drop (at + 16) bytes)
 
--- behind the last column nothing is left
+-- after the last column nothing is left
 nothing_left : (q : ℕ → Bool) (bytes : List ℕ) → length bytes ≡ 80 → list_all q (drop 80 bytes) ≡ true
 nothing_left q bytes size = ap (list_all q) (drop_all 80 bytes (let long : length bytes ≤ 80 = omega arith in long))
 
--- each block passes exactly where the line does
+-- all five blocks pass if and only if the line does
 pub five_blocks : (q : ℕ → Bool) (bytes : List ℕ) → length bytes ≡ 80 →
     ((((block_passes q bytes 0 && block_passes q bytes 16) && block_passes q bytes 32) && block_passes q bytes 48) && block_passes q bytes 64)
     ≡ list_all q bytes

@@ -29,7 +29,7 @@ four_digits (a ∷ b ∷ c ∷ d ∷ field) long = regroup (is_ascii_digit a) (i
     regroup true false c d = refl
     regroup false b c d = refl
 
--- a field of four bytes is blank where it is four spaces
+-- a field of four bytes is blank if and only if it is four spaces
 pub four_spaces : (field : List ℕ) → length field ≡ 4 → bytes_eq field (codes "    ") ≡ is_blank field
 four_spaces [] size = absurd (omega arith)
 four_spaces (a ∷ []) size = absurd (omega arith)
@@ -38,7 +38,7 @@ four_spaces (a ∷ b ∷ c ∷ []) size = absurd (omega arith)
 four_spaces (a ∷ b ∷ c ∷ d ∷ []) size = refl
 four_spaces (a ∷ b ∷ c ∷ d ∷ e ∷ field) size = absurd (omega arith)
 
--- a field of five bytes is blank where it is five spaces
+-- a field of five bytes is blank if and only if it is five spaces
 pub five_spaces : (field : List ℕ) → length field ≡ 5 → bytes_eq field (codes "     ") ≡ is_blank field
 five_spaces [] size = absurd (omega arith)
 five_spaces (a ∷ []) size = absurd (omega arith)
@@ -48,14 +48,14 @@ five_spaces (a ∷ b ∷ c ∷ d ∷ []) size = absurd (omega arith)
 five_spaces (a ∷ b ∷ c ∷ d ∷ e ∷ []) size = refl
 five_spaces (a ∷ b ∷ c ∷ d ∷ e ∷ f ∷ field) size = absurd (omega arith)
 
--- a field that begins HHMM tells an hour of a day
+-- a field that begins HHMM gives an hour of a day
 pub hour_bound : (field : List ℕ) → is_clock field ≡ true → two_digits field 0 < 24
 hour_bound field clock =
     ltb-true (two_digits field 0) 24
     (both (list_all is_ascii_digit (take 4 field)) (nat_lt (two_digits field 0) 24)
     (both (list_all is_ascii_digit (take 4 field) && nat_lt (two_digits field 0) 24) (nat_lt (two_digits field 2) 60) clock).0).1
 
--- and a minute of an hour
+-- a field that begins HHMM gives a minute of an hour
 pub minute_bound : (field : List ℕ) → is_clock field ≡ true → two_digits field 2 < 60
 minute_bound field clock =
     ltb-true (two_digits field 2) 60
@@ -65,15 +65,15 @@ minute_bound field clock =
 pub clock_of_present : (field : List ℕ) → is_present_time field ≡ true → is_clock field ≡ true
 clock_of_present field there = (both (is_clock field) ((slice_index field 4 == 72) || (slice_index field 4 == 32)) there).0
 
--- the bounds of what a field tells that begins HHMM
+-- the bounds of the hour and the minute in a field that begins HHMM
 pub ruleset clock_bounds = (hour_bound, minute_bound, clock_of_present)
 
--- four noughts are a public time
+-- four zeros are a public time
 pub four_noughts : (field : List ℕ) → bytes_eq field (codes "0000") ≡ true → is_public_time field ≡ true
 four_noughts field same = subst (λ f. is_public_time f ≡ true) (sym ((bytes_eq-Decides field (codes "0000")).0 same)) refl
 
--- what tells a public time by its noughts
+-- a public time, recognised by its zeros
 pub ruleset noughts = (four_noughts)
 
--- what tells a scheduled time that is there from a blank one
+-- a scheduled time that is present is distinguished from a blank one
 pub ruleset scheduled_times = (present_not_blank)

@@ -13,7 +13,7 @@ use jiff_core::civil;
 use std::marker::Model;
 use std::{fmt, str};
 
-/// How many days after -9999-01-01, where the calendar begins, 1960-01-01 is.
+/// The number of days from -9999-01-01, where the calendar begins, to 1960-01-01.
 const FIRST: u32 = 4_367_934;
 
 /// The number of 2059-12-31.
@@ -36,8 +36,9 @@ impl Model for Day {
 }
 
 impl Day {
-    /// The day of six digits YYMMDD, as in a basic schedule (BS): the years 60 to 99 are 1960 to 1999, and 00 to 59 are 2000 to 2059.
-    /// None if a byte is no digit or the calendar has no such day.
+    /// The day of six digits YYMMDD, as in a basic schedule (BS): the years 60 to 99 are 1960 to
+    /// 1999, and 00 to 59 are 2000 to 2059. None if a byte is no digit or the calendar has no such
+    /// day.
     pub fn from_yymmdd(field: &[u8; 6]) -> Option<Day>
         ensures some { IsSome result ↔ IsTrue (is_date field.now) }
         ensures value { IfSome result (λ day. day ≡ date_number field.now) }
@@ -49,8 +50,8 @@ impl Day {
         day_of(year, two_digits(field, 2), two_digits(field, 4))
     }
 
-    /// The day of six digits DDMMYY, as a header (HD) has its date of extract, with the same years.
-    /// None if a byte is no digit or the calendar has no such day.
+    /// The day of six digits DDMMYY, as a header (HD) gives its date of extract, with the same
+    /// years. None if a byte is no digit or the calendar has no such day.
     pub fn from_ddmmyy(field: &[u8; 6]) -> Option<Day>
         ensures some { IsSome result ↔ IsTrue (is_date_day_first field.now) }
         ensures value { IfSome result (λ day. day ≡ date_number_day_first field.now) }
@@ -62,7 +63,7 @@ impl Day {
         day_of(year, two_digits(field, 2), two_digits(field, 0))
     }
 
-    /// The day that `iso` writes so, as YYYY-MM-DD. None for any other text.
+    /// The day of a text YYYY-MM-DD, the form that `iso` writes. None for any other text.
     pub fn from_iso(text: &str) -> Option<Day>
         ensures value { IfSome result (λ day. text.now ≡ day_text day) }
         ensures read { (day : ℕ) → day ≤ last_day → text.now ≡ day_text day → result ≡ Some day }
@@ -127,7 +128,8 @@ impl Day {
         ((self.number + 4) % 7) as u8
     }
 
-    /// The day this many days later, or earlier if `days` is negative. None before 1960-01-01 and after 2059-12-31.
+    /// The day this many days later, or earlier if `days` is negative. None before 1960-01-01 and
+    /// after 2059-12-31.
     pub fn plus(&self, days: i32) -> Option<Day>
         ensures some { IsSome result ↔ IsBetween (pos 0) (pos last_day) (pos self.now +ℤ days) }
         ensures value { IfSome result (λ day. pos day ≡ pos self.now +ℤ days) }
@@ -139,7 +141,7 @@ impl Day {
         Some(Day { number: sum as u16 })
     }
 
-    /// The same day of the library's calendar.
+    /// This day as a date of the library's calendar.
     fn date(&self) -> civil::Date
         ensures years { IsBetween (pos 1960) (pos 2059) result.year }
         ensures months { result.month ≤ 12 }
@@ -178,7 +180,7 @@ fn day_of(year: u16, month: u16, day: u16) -> Option<Day>
     }
 }
 
-/// The year that a year of two digits means.
+/// The year that two digits of a year mean.
 fn full_year(year: u16) -> u16
     requires { year < 100 }
     ensures value { result ≡ full_year_of year }

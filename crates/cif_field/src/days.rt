@@ -4,7 +4,8 @@ ghost use Rattle.docker_model.specs.records.Date.{is_days, runs_on_weekday};
 
 use std::marker::Model;
 
-/// On which weekdays something runs: seven marks, Monday's first, `1` where it does and `0` where not.
+/// The weekdays on which something runs: seven marks, Monday's first, `1` if it runs on that day
+/// and `0` if not.
 #[derive(Clone, Copy, PartialEq, Eq, Debug)]
 pub struct Days {
     marks: [u8; 7],
@@ -45,7 +46,7 @@ impl Days {
     }
 }
 
-/// Each byte is `0` or `1`.
+/// Whether each byte is `0` or `1`.
 fn are_marks(field: &[u8; 7]) -> bool
     ensures { result ≡ is_days field.now }
 {

@@ -4,14 +4,15 @@ ghost use Rattle.std.specs.List.{list_all};
 ghost use Rattle.std.specs.Char.{is_ascii_digit};
 ghost use Rattle.docker_model.specs.records.Date.{two_digits};
 
-/// The field is all digits.
+/// Whether the field is all digits.
 pub(crate) fn are_digits(field: &[u8]) -> bool
     ensures { result ≡ list_all is_ascii_digit field.now }
 {
     field.iter().all(|byte| byte.is_ascii_digit())
 }
 
-/// The number that two digits of a field spell, from a place on, counted from 0: below 100 where they are digits.
+/// The number that two digits of a field spell, from a place on, counted from 0. It is below 100 if
+/// they are digits.
 pub(crate) fn two_digits(field: &[u8], at: usize) -> u16
     requires { at + 1 < length field.now }
     ensures value { result ≡ two_digits field.now at }

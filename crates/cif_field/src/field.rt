@@ -1,4 +1,5 @@
-//! Fields that records of several kinds have, each read in one place: of a line in whose columns they are good.
+//! Fields that several kinds of record share, each read in one place, from a line whose field in
+//! these columns is good.
 ghost use Rattle.std.specs.Prelude.{◌≡◌, ◌<◌, ◌≤◌, [], ◌∷◌, true, false};
 ghost use Rattle.docker_model.specs.records.Record.{column};
 ghost use Rattle.docker_model.specs.records.Date.{is_date, date_number, is_end_date, end_number, is_days};
@@ -51,7 +52,8 @@ impl Line {
         Time::from_scheduled(self.field(first))
     }
 
-    /// The public time in the four columns from one on, a whole minute, none if they are blank or `0000`.
+    /// The public time in the four columns from one on, a whole minute, none if they are blank or
+    /// `0000`.
     pub fn public_time(&self, first: usize) -> Option<Time>
         requires from { 0 < first }
         requires within { first ≤ 77 }
@@ -114,7 +116,7 @@ impl Line {
         Days::from_field(self.field(first))
     }
 
-    /// The transaction is a deletion: column 3 is `D`.
+    /// Whether the transaction is a deletion: column 3 is `D`.
     pub fn is_deletion(&self) -> bool
         ensures { result ≡ is_deletion self.now }
     {

@@ -4,7 +4,7 @@ ghost use Rattle.docker_model.specs.records.Field.{is_update_indicator, is_trans
 ghost use Rattle.cif_field.specs.Letter.{extract_letter, transaction_letter, stp_letter};
 
 /// The update indicator of a header (HD): what an extract holds.
-#[derive(Clone, Copy, PartialEq, Eq, PartialOrd, Ord, Debug)]
+#[derive(Clone, Copy, PartialEq, Eq, Debug)]
 pub enum Extract {
     /// F, a full extract.
     Full,
@@ -36,7 +36,8 @@ impl Extract {
     }
 }
 
-/// The transaction type of a basic schedule (BS) or an association (AA): what the record does with its key.
+/// The transaction type of a basic schedule (BS) or an association (AA): what the record does with
+/// its key.
 #[derive(Clone, Copy, PartialEq, Eq, Debug)]
 pub enum Transaction {
     /// N, new.
@@ -73,8 +74,8 @@ impl Transaction {
     }
 }
 
-/// The STP (short term planning) indicator of a basic schedule (BS) or an association (AA), in the order of its letters:
-/// of several that run on a day the least is chosen.
+/// The STP (short term planning) indicator of a basic schedule (BS) or an association (AA), in the
+/// order of its letters. If several run on a day, the least is chosen.
 #[derive(Clone, Copy, PartialEq, Eq, PartialOrd, Ord, Debug)]
 pub enum Stp {
     /// C, a cancellation.

@@ -1,4 +1,5 @@
-//! The line of a CIF extract and the fields in its columns, as the CIF End User Specification lays them out: days, times, codes and letters.
+//! The line of a CIF extract and the fields in its columns, as the CIF End User Specification lays
+//! them out: days, times, codes and letters.
 #![tactic(auto)]
 
 mod day;

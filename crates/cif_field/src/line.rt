@@ -28,19 +28,20 @@ impl Model for Line {
     ghost inverse = { λ bytes. record { bytes = bytes } };
 }
 
-/// Why bytes are no line. The length is judged before any byte.
+/// Why bytes are not a line. The length is judged before any byte.
 #[derive(Clone, Copy, PartialEq, Eq, Debug, Error)]
 pub enum LineFault {
     /// There are not 80 bytes.
     #[error("Length")]
     Length,
-    /// A byte is not printable: the leftmost such column, from 1.
+    /// A byte is not printable: the column, from 1, of the leftmost such byte.
     #[error("Byte {0}")]
     Byte(u8),
 }
 
 impl Line {
-    /// A line of these bytes. `Length` where they are not 80, and otherwise `Byte` with the leftmost column whose byte is not printable.
+    /// A line of these bytes. `Length` if they are not 80, and otherwise `Byte` with the leftmost
+    /// column whose byte is not printable.
     pub fn new(bytes: &[u8]) -> Result<Line, LineFault>
         ensures ok { IsOk result ↔ IsRecord bytes.now }
         ensures value { IfOk result (λ line. line ≡ bytes.now) }
@@ -80,7 +81,8 @@ impl Line {
         self.bytes[n - 1]
     }
 
-    /// The line with its transaction, column 3, set to `N`: of a basic schedule (BS) or an association (AA).
+    /// The line with its transaction, column 3, set to `N`: for a basic schedule (BS) or an
+    /// association (AA).
     pub fn as_new(mut self) -> Line
         ensures { result ≡ as_new self }
     {
@@ -113,7 +115,8 @@ fn first_bad_index(bytes: &[u8]) -> Option<usize>
     bytes.iter().position(|byte| !is_printable(*byte))
 }
 
-/// The leftmost column, from 1, whose byte is not printable, looked for only once it is known that there is one.
+/// The leftmost column, from 1, whose byte is not printable. It is searched for only once it is
+/// known to exist.
 #[tactic(auto, using(cif_laws::proofs::records::RecordTests::no_bad_byte))]
 fn bad_column(bytes: &[u8; 80]) -> Option<u8>
     ensures value { result ≡ leftmost_bad_byte bytes.now }
@@ -125,7 +128,7 @@ fn bad_column(bytes: &[u8; 80]) -> Option<u8>
     first_bad_column(bytes)
 }
 
-/// The leftmost column, from 1, whose byte is not printable, looked for byte by byte.
+/// The leftmost column, from 1, whose byte is not printable, found byte by byte.
 fn first_bad_column(bytes: &[u8; 80]) -> Option<u8>
     ensures value { result ≡ leftmost_bad_byte bytes.now }
     ensures none { IsNone result ↔ AllPass is_printable bytes.now }
@@ -134,7 +137,7 @@ fn first_bad_column(bytes: &[u8; 80]) -> Option<u8>
     Some(index as u8 + 1)
 }
 
-/// Each byte is one that a line may hold.
+/// Whether each byte is one that a line may hold.
 pub(crate) fn are_printable(bytes: &[u8]) -> bool
     ensures { IsTrue result ↔ AllPass is_printable bytes.now }
 {

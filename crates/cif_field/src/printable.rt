@@ -8,7 +8,7 @@ use std::simd::prelude::*;
 /// How many bytes are judged at once.
 const BLOCK: usize = 16;
 
-/// Each of the sixteen bytes from a place on, counted from 0, is one that a line may hold.
+/// Whether each of the sixteen bytes from a place on, counted from 0, is one that a line may hold.
 #[inline(always)]
 fn is_printable_block(bytes: &[u8], at: usize) -> bool
     requires { at + BLOCK ≤ length bytes.now }
@@ -18,7 +18,7 @@ fn is_printable_block(bytes: &[u8], at: usize) -> bool
     above_space.simd_gt(u8x16::splat(b'~' - b' ')).to_bitmask() == 0
 }
 
-/// Each of the 80 bytes is one that a line may hold. No byte has a branch of its own.
+/// Whether each of the 80 bytes is one that a line may hold. No byte has a branch of its own.
 pub(crate) fn is_printable_line(bytes: &[u8; 80]) -> bool
     ensures { IsTrue result ↔ AllPass is_printable bytes.now }
 {

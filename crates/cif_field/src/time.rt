@@ -29,7 +29,8 @@ impl Model for Time {
 }
 
 impl Time {
-    /// The scheduled time of a field HHMM, from `0000` to `2359`, followed by `H` for half a minute or a space. None for any other field, a blank one too.
+    /// The scheduled time of a field HHMM, from `0000` to `2359`, followed by `H` for half a minute
+    /// or a space. None for any other field, including a blank one.
     pub fn from_field(field: &[u8; 5]) -> Option<Time>
         ensures some { IsSome result ↔ IsTrue (is_present_time field.now) }
         ensures value { IfSome result (λ time. time ≡ half_minutes field.now) }
@@ -46,7 +47,8 @@ impl Time {
         }
     }
 
-    /// The scheduled time of a field: `Some(None)` if it is blank, None if it is neither.
+    /// The scheduled time of a field: `Some(None)` if it is blank, None if it is neither blank nor
+    /// a time.
     #[tactic(auto, using(crate::proofs::Times::scheduled_times))]
     pub fn scheduled(field: &[u8; 5]) -> Option<Option<Time>>
         ensures some { is_some result ≡ is_scheduled_time field.now }
@@ -85,7 +87,8 @@ impl Time {
         }
     }
 
-    /// The public time of a field HHMM, which is a whole minute; none if the field is blank or `0000`.
+    /// The public time of a field HHMM, which is a whole minute; none if the field is blank or
+    /// `0000`.
     pub(crate) fn from_public(field: &[u8; 4]) -> Option<Time>
         requires good { is_public_time field.now ≡ true }
         ensures value { result ≡ public_half_minutes field.now }
@@ -108,7 +111,7 @@ impl Time {
         self.half_minutes
     }
 
-    /// The time as HHMM, and then `H` for half a minute or a space.
+    /// The time as HHMM, then `H` for half a minute or a space.
     pub fn text(&self) -> [u8; 5]
         ensures { result ≡ time_text self.now }
     {
@@ -130,7 +133,8 @@ impl Time {
     }
 }
 
-/// The minute of the day, 0 to 1439, in a field that begins HHMM. None if its first four bytes are no time from `0000` to `2359`.
+/// The minute of the day, 0 to 1439, in a field that begins HHMM. None if its first four bytes are
+/// no time from `0000` to `2359`.
 pub fn clock(field: &[u8]) -> Option<u16>
     requires { 4 ≤ length field.now }
     ensures some { IsSome result ↔ IsTrue (is_clock field.now) }
@@ -146,7 +150,7 @@ pub fn clock(field: &[u8]) -> Option<u16>
     }
 }
 
-/// The minute of the day, of a field that is known to begin HHMM.
+/// The minute of the day, from a field that is known to begin HHMM.
 #[tactic(auto, using(crate::proofs::Times::clock_bounds))]
 fn minute_in(field: &[u8; 5]) -> u16
     requires good { is_clock field.now ≡ true }
@@ -156,7 +160,7 @@ fn minute_in(field: &[u8; 5]) -> u16
     60 * two_digits(field, 0) + two_digits(field, 2)
 }
 
-/// The first four bytes of the field are digits. No byte has a branch of its own.
+/// Whether the first four bytes of the field are digits. No byte has a branch of its own.
 #[tactic(auto, using(crate::proofs::Times::four_digits))]
 fn are_four_digits(field: &[u8]) -> bool
     requires { 4 ≤ length field.now }
@@ -175,7 +179,8 @@ pub fn is_clock(field: &[u8; 4]) -> bool
     clock(field).is_some()
 }
 
-/// Whether a field is a public time: HHMM, or blank. Where a train passes it is `0000`, which is found at once.
+/// Whether a field is a public time: HHMM, or blank. It is `0000` if the train passes, and that is
+/// checked first.
 #[tactic(auto, using(crate::proofs::Times::noughts))]
 pub fn is_public_time(field: &[u8; 4]) -> bool
     ensures { result ≡ is_public_time field.now }
@@ -186,7 +191,7 @@ pub fn is_public_time(field: &[u8; 4]) -> bool
     is_blank_public_time(field) || is_clock(field)
 }
 
-/// The field of a public time is all spaces.
+/// Whether the field of a public time is all spaces.
 #[tactic(auto, using(crate::proofs::Times::four_spaces))]
 fn is_blank_public_time(field: &[u8; 4]) -> bool
     ensures { result ≡ is_blank field.now }
@@ -194,7 +199,7 @@ fn is_blank_public_time(field: &[u8; 4]) -> bool
     field == b"    "
 }
 
-/// The field of a scheduled time is all spaces.
+/// Whether the field of a scheduled time is all spaces.
 #[tactic(auto, using(crate::proofs::Times::five_spaces))]
 fn is_blank_time(field: &[u8; 5]) -> bool
     ensures { result ≡ is_blank field.now }

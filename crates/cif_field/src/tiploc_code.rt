@@ -1,4 +1,5 @@
-//! Codes of timing points, as the TIPLOC records (TI, TA and TD) and the location records have them.
+//! Codes of timing points, as the TIPLOC records (TI, TA and TD) and the location records have
+//! them.
 ghost use Rattle.std.specs.Prelude.{◌≡◌, ◌↔◌, ◌-◌, ◌++◌, length, IsSome, IfSome};
 ghost use Rattle.docker_model.specs.records.Field.{IsTiploc};
 ghost use Rattle.docker_model.specs.records.PrintedTime.{spaces};
@@ -7,7 +8,8 @@ ghost use Rattle.cif_field.specs.Tiploc.{IsTiplocText};
 use crate::line::are_printable;
 use std::marker::Model;
 
-/// A TIPLOC: the code of a timing point, padded with spaces to seven bytes. Its first is not a space.
+/// A TIPLOC: the code of a timing point, padded with spaces to seven bytes. Its first byte is not a
+/// space.
 #[derive(Clone, Copy, PartialEq, Eq, PartialOrd, Ord, Debug)]
 pub struct Tiploc {
     bytes: [u8; 7],
@@ -27,7 +29,8 @@ impl Model for Tiploc {
 }
 
 impl Tiploc {
-    /// The TIPLOC of a text of one to seven bytes, each printable and no space, padded with spaces to seven. None for any other text.
+    /// The TIPLOC of a text of one to seven bytes, each printable and not a space, padded with
+    /// spaces to seven. None for any other text.
     pub fn from_text(text: &str) -> Option<Tiploc>
         ensures some { IsSome result ↔ IsTiplocText text.now }
         ensures value { IfSome result (λ tiploc.

@@ -1,4 +1,4 @@
--- What is told of a file that was read: its changes, or how many there are.
+-- What is returned for a file that was read: its changes, or how many there are.
 use Rattle.std.proofs.Common.{◌≡◌, ℕ, ◌+◌, ◌*◌, ◌≤◌, Bool, true, false, List, [], ◌∷◌, length, Some, None, refl, sym, subst, arith, length-append}
 use Rattle.std.proofs.lemmas.List.{length-map}
 use Rattle.std.specs.Prelude.{Option}
@@ -35,7 +35,7 @@ few_acts _ line following = omega arith
 as_change : ℕ → Key × Act → Change
 as_change n act = record { number = n; key = act.0; act = act.1 }
 
--- a record makes two at most
+-- a record makes at most two
 few_changes : (n : ℕ) (records : List (List ℕ)) → length (changes_from n records) ≤ 2 * length records
 unfolding as_change
 few_changes n [] = omega arith
@@ -55,7 +55,7 @@ of_file limit text ended is = record {
   of_records = record { header_is = is.of_records.header_is; count_is = is.of_records.count_is; changes_are = is.of_records.kept.1.changes_are };
 }
 
--- it is read
+-- the returned file is made of records
 is_read : (limit : ℕ) (text : List ℕ) (ended : Ended Kept) → limit ≤ most_records → IsEndedText KeepsAll limit text ended → IsRead (file_ended ended)
 unfolding of_file
 is_read limit text ended few is =
@@ -63,7 +63,7 @@ is_read limit text ended few is =
     let within = is.is_text.within in
     record { records = is.records; of_records = file.of_records; is_file = is.is_text.is; few = omega arith }
 
--- and the places that its changes name are noted
+-- its parts belong to it, and the places that its changes name are noted
 are_parts : (limit : ℕ) (text : List ℕ) (ended : Ended Kept) → limit ≤ most_records → IsEndedText KeepsAll limit text ended
     → ArePartsOfFile (parts_ended ended)
 are_parts limit text ended few is = record {
@@ -71,18 +71,18 @@ are_parts limit text ended few is = record {
   noted = subst (λ (all : List Change). HasNoted (items_put all) ended.keeper.made.notes) (sym is.of_records.kept.1.changes_are) is.of_records.kept.1.noted;
 }
 
--- no limit is more than what records can be numbered with
+-- the limit of a reading is at most `most_records`
 limit_at : (reading : Reading Kept) (limit : ℕ) (text : List ℕ) → IsReading KeepsAll reading limit text → limit ≤ most_records
 limit_at reading limit text at = let room = reading.records.room in let same = at.counted.limit_is in omega arith
 
--- and so it is by what a parser was fed, which told no fault
+-- like `are_parts`, for a parser that was fed a text and returned no fault
 pub are_parts_some : (parser : ParserState) (ended : Ended Kept) → WasFed parser → parser.fault ≡ None → EndsBy KeepsAll parser.reading ended
     → ArePartsOfFile (parts_ended ended)
 are_parts_some parser ended fed none ends =
     let at = reading_at_none parser fed.limit fed.text none fed.read in
     are_parts fed.limit fed.text ended (limit_at parser.reading fed.limit fed.text at) (ends fed.limit fed.text at)
 
--- from a source
+-- like `of_file`, for a text that a source held
 pub reads_text : (limit : ℕ) (left : Option (List ℕ)) (ended : Ended Kept) → ReadsEnded KeepsAll limit left ended → ReadsText limit left (file_ended ended)
 reads_text limit left ended reads = record { text = reads.text; held = reads.held; of_text = of_file limit reads.text ended reads.of_text }
 

@@ -52,7 +52,8 @@ numbered : (n : ℕ) (line : List ℕ) (following others : Lines) → schedule_r
     → changes_of_record n line following ≡ changes_of_record n line others
 numbered n line following others same = ap (map (as_change n)) (acts_alike (kind_of line) line following others same)
 
--- what begins anew ends the lines of a schedule before it
+-- whether a line follows a basic schedule; one that doesn't ends the lines of the schedule before
+-- it
 abbrev follows : List ℕ → Bool
 follows line = follows_basic (kind_of line)
 
@@ -74,7 +75,7 @@ changes_append n (record_first ∷ records) line more stops =
     ∙ sym (append_assoc (changes_of_record n record_first records) (changes_from (n + 1) records) (changes_from (n + 1 + length records) (line ∷ more)))
     ∙ ap (λ k. (changes_of_record n record_first records ++ changes_from (n + 1) records) ++ changes_from k (line ∷ more)) (omega arith)
 
--- one more record that begins anew
+-- the changes with one more record, which begins a unit
 pub changes_anew : (records : Lines) (line : List ℕ) → follows_basic (kind_of line) ≡ false
     → changes (records ++ line ∷ []) ≡ changes records ++ changes_of_record (length records + 1) line []
 changes_anew records line stops =
@@ -84,7 +85,7 @@ changes_anew records line stops =
 
 -- ---- lists
 
--- the first of records that are some
+-- if there are records, more after them leave the first as it is
 header_stays : (records more : Lines) → 0 < length records → header_of (records ++ more) ≡ header_of records
 header_stays [] more some = absurd (omega arith)
 header_stays (first ∷ records) more some = refl
@@ -103,7 +104,7 @@ some_lines (basic ∷ others) stage at = omega arith
 
 -- ---- a schedule that is whole
 
--- lines that have a stage are a schedule exactly where it may end there
+-- lines that have a stage are a schedule if and only if it may end at that stage
 whole_iff : (lines : Lines) (stage : Stage) → stage_of lines ≡ Some stage → IsSchedule lines ↔ (may_end stage lines ≡ true)
 whole_iff lines stage at = (
   λ is.
@@ -118,7 +119,7 @@ same_change : (n m : ℕ) (k l : Key) (b c : Bool) (body : Body) → n ≡ m →
     → ◌≡◌ {A = Change} (record { number = n; key = k; act = cond b delete (put body) }) (record { number = m; key = l; act = cond c delete (put body) })
 same_change n m k l b c body numbers keys tests = λ i. record { number = numbers i; key = keys i; act = cond (tests i) delete (put body) }
 
--- it makes its change
+-- a whole schedule makes its change
 pub changes_closed : (opened : Opened) (lines before : Lines) → HasLines (progress_meant opened.progress) lines → opened.number ≡ length before + 1
     → key_meant (key.Schedule opened.key) ≡ schedule_named (first_record lines) → IsSchedule lines
     → changes (before ++ lines) ≡ changes before ++ change_opened opened (with_new_first lines) ∷ []
@@ -140,15 +141,15 @@ changes_closed opened (basic ∷ others) before has number named is =
 
 -- ---- what is kept
 
--- where the keeper and the changes stay, they are still kept
+-- if the keeper and the changes stay the same, they are still kept
 same_keeper : {K : Type 0} (keeps : Keeps K) (old new : K) (lines : Lines) (made more : List Change) → new ≡ old → made ≡ more → keeps old lines made
     → keeps new lines more
 same_keeper keeps old new lines made more same equal kept =
     subst (λ k. keeps k lines more) (sym same) (subst (keeps old lines) equal kept)
 
--- ---- records that begin anew
+-- ---- records that begin a unit
 
--- a record that begins a unit follows no basic schedule
+-- a record that begins a unit isn't one that follows a basic schedule
 pub anew_by_unit : (line : List ℕ) → is_some (unit_by_kind (kind_of line) line) ≡ true → follows_basic (kind_of line) ≡ false
 anew_by_unit line begins = by (follows_basic (kind_of line)) refl
   where
@@ -156,7 +157,7 @@ anew_by_unit line begins = by (follows_basic (kind_of line)) refl
     by false h = h
     by true h = let bad : false ≡ true = (λ i. is_some (sym (no_unit_by_kind (kind_of line) line h) i)) ∙ begins in cc
 
--- they lead from whole units to their place
+-- after whole units, it leads to its own place
 pub place_over : {K : Type 0} (keeps : Keeps K) (front : Front K) (records : Lines) (line : List ℕ) (next : Place) → (over : IsOver keeps front records)
     → IsRecord line → HasGoodFields line
     → unit_by_kind (kind_of line) line ≡ Some next
@@ -168,7 +169,7 @@ place_over keeps front records line next over is fields begins =
 
 -- ---- one more unit
 
--- the trailer
+-- the trailer is taken
 pub trailer_added : {K : Type 0} (keeps : Keeps K) (old new : Front K) (records : Lines) (line : List ℕ) → IsOver keeps old records → IsRecord line
     → HasKind trailer line → HasGoodFields line
     → new.header ≡ old.header → new.stage ≡ AfterEnd → new.keeper ≡ old.keeper → HasRecords keeps new (records ++ line ∷ [])
@@ -185,7 +186,7 @@ trailer_added keeps old new records line over is kind fields same_header place m
   );
 }
 
--- a single record
+-- a single record is taken
 pub single_added : {K : Type 0} (keeps : Keeps K) (old new : Front K) (records : Lines) (line : List ℕ) (number : ℕ) → IsOver keeps old records
     → IsRecord line → HasGoodFields line
     → unit_by_kind (kind_of line) line ≡ Some between_units
@@ -203,7 +204,7 @@ single_added keeps old new records line number over is fields begins counted sam
   );
 }
 
--- a basic schedule
+-- a basic schedule is taken
 pub basic_added : {K : Type 0} (keeps : Keeps K) (old new : Front K) (opened : Opened) (records : Lines) (line : List ℕ) → IsOver keeps old records
     → IsRecord line → HasKind basic_schedule line
     → HasGoodFields line
@@ -250,13 +251,13 @@ over_of_between keeps front records has place =
       anew = λ line _. ap (λ p. next_place p line) told.0;
     }
 
--- what is kept of a schedule being read
+-- what is kept of the schedule that is being read
 pub opened_of : {K : Type 0} (keeps : Keeps K) (front : Front K) (opened : Opened) (records : Lines) (has : HasRecords keeps front records)
     → front.stage ≡ InSchedule opened
     → IsOpen keeps opened front.keeper has.place records
 opened_of keeps front opened records has place = subst (λ p. IsKept keeps p front.keeper has.place records) place has.kept_are
 
--- behind a whole schedule all units are whole once its change is made
+-- after a whole schedule all units are whole, once its change is made
 pub over_of_closed : {K : Type 0} (keeps : Keeps K) (old new : Front K) (opened : Opened) (records : Lines) → HasRecords keeps old records
     → old.stage ≡ InSchedule opened → IsWholeBy opened
     → new.header ≡ old.header
@@ -282,7 +283,7 @@ over_of_closed keeps old new opened records has place whole same_header closed =
 
 -- ---- one more line of a schedule
 
--- the schedule that is being read, with a line behind those that it had
+-- the schedule that is being read, with one more line after its earlier ones
 pub record IsFollowed (opened : Opened) (line : List ℕ) (stage : FileStage) : Type 0 where
   pub later : Opened
   pub place : stage ≡ InSchedule later
@@ -296,7 +297,7 @@ followed opened line BetweenUnits gone = absurd gone
 followed opened line (InSchedule later) gone = record { later = later; place = refl; number = gone.0; named = gone.1; read = gone.2 }
 followed opened line AfterEnd gone = absurd gone
 
--- a line that goes on with the schedule that is being read
+-- a line that continues the schedule that is being read
 pub stands_before : {K : Type 0} (keeps : Keeps K) (front new : Front K) (opened : Opened) (records : Lines) (line : List ℕ) → HasRecords keeps front records
     → front.stage ≡ InSchedule opened → new.header ≡ front.header → new.keeper ≡ front.keeper → IsRecord line
     → follows_basic (kind_of line) ≡ true → (after : IsFollowed opened line new.stage)
@@ -325,7 +326,7 @@ stage_begun : (lines : Lines) (line : List ℕ) → BeginsSchedule (lines ++ lin
 stage_begun [] line begins = (begins_iff_stage line []).0 begins
 stage_begun (basic ∷ others) line begins = (begins_iff_stage basic (others ++ line ∷ [])).0 begins
 
--- the place with the line is that of the schedule's next stage
+-- with the line, the place is the place of the schedule's next stage
 place_followed : {K : Type 0} (keeps : Keeps K) (front : Front K) (opened : Opened) (line : List ℕ) (records : Lines)
     (before : StandsBefore keeps front opened line records) (next : Stage)
     → stage_of (before.lines ++ line ∷ []) ≡ Some next → IsPlaceOf (records ++ line ∷ []) (place_in next (before.lines ++ line ∷ []))
@@ -413,7 +414,7 @@ line_closed keeps old new opened line records before outside same_header place c
       );
     }
 
--- ---- a line that goes on
+-- ---- a line that can follow
 
 next_of_unit : (line : List ℕ) → is_some (unit_by_kind (kind_of line) line) ≡ true → (next : Place) × (unit_by_kind (kind_of line) line ≡ Some next)
 next_of_unit line begins = by (unit_by_kind (kind_of line) line) refl
@@ -422,7 +423,7 @@ next_of_unit line begins = by (unit_by_kind (kind_of line) line) refl
     by None h = absurd (let bad : false ≡ true = (λ i. is_some (sym h i)) ∙ begins in cc)
     by (Some next) h = (next, h)
 
--- behind whole units
+-- after whole units
 pub unit_goes_on : {K : Type 0} (keeps : Keeps K) (front : Front K) (records : Lines) (line : List ℕ) → HasRecords keeps front records
     → front.stage ≡ BetweenUnits → IsRecord line
     → HasGoodFields line
@@ -431,7 +432,7 @@ unit_goes_on keeps front records line has place is fields begins =
     let next = next_of_unit line begins in
     (next.0, place_over keeps front records line next.0 (over_of_between keeps front records has place) is fields next.1)
 
--- behind a whole schedule
+-- after a whole schedule
 pub anew_goes_on : {K : Type 0} (keeps : Keeps K) (front : Front K) (opened : Opened) (records : Lines) (line : List ℕ) → HasRecords keeps front records
     → front.stage ≡ InSchedule opened
     → IsWholeBy opened → IsRecord line → HasGoodFields line
@@ -460,7 +461,7 @@ end_by_test : (place : Place) → is_after_end place ≡ true → place ≡ afte
 end_by_test after_end h = refl
 end_by_test _ h = absurd cc
 
--- records are a file exactly where the reader stands behind the trailer
+-- records are a file if and only if the reader is after the trailer
 pub ended_iff : {K : Type 0} (keeps : Keeps K) (front : Front K) (records : Lines) (ended : Bool) → HasRecords keeps front records
     → ((place : Place) → IsKept keeps front.stage front.keeper place records → is_after_end place ≡ ended)
     → IsTrue ended ↔ IsFile records
@@ -470,37 +471,37 @@ ended_iff keeps front records ended has tells = (
       one_place records after_end has.place ((file_iff_place records).0 file) has.at in sym (tells has.place has.kept_are) ∙ ap is_after_end (sym same),
 )
 
--- it stands elsewhere before the header
+-- before the header it isn't there
 pub tells_before : {K : Type 0} (keeps : Keeps K) (front : Front K) (records : Lines) (place : Place) → front.stage ≡ BeforeHeader
     → IsKept keeps front.stage front.keeper place records → is_after_end place ≡ false
 tells_before keeps front records place at told =
     ap is_after_end (subst (λ p. IsKept keeps p front.keeper place records) at told).0
 
--- between units
+-- between units it isn't there
 pub tells_between : {K : Type 0} (keeps : Keeps K) (front : Front K) (records : Lines) (place : Place) → front.stage ≡ BetweenUnits
     → IsKept keeps front.stage front.keeper place records → is_after_end place ≡ false
 tells_between keeps front records place at told =
     ap is_after_end (subst (λ p. IsKept keeps p front.keeper place records) at told).0
 
--- and in a schedule
+-- in a schedule it isn't there
 pub tells_inside : {K : Type 0} (keeps : Keeps K) (front : Front K) (opened : Opened) (records : Lines) (place : Place) → front.stage ≡ InSchedule opened
     → IsKept keeps front.stage front.keeper place records → is_after_end place ≡ false
 tells_inside keeps front opened records place at told =
     ap is_after_end (subst (λ p. IsKept keeps p front.keeper place records) at told).place_is
 
--- it stands there behind the trailer
+-- after the trailer it is there
 pub tells_ended : {K : Type 0} (keeps : Keeps K) (front : Front K) (records : Lines) (place : Place) → front.stage ≡ AfterEnd
     → IsKept keeps front.stage front.keeper place records → is_after_end place ≡ true
 tells_ended keeps front records place at told =
     ap is_after_end (subst (λ p. IsKept keeps p front.keeper place records) at told).0
 
--- ---- why a record does not go on
+-- ---- why a record can't follow
 
 none_of : (b : Bool) (o : Option Place) → o ≡ None → cond b o None ≡ None
 none_of true o h = h
 none_of false o h = refl
 
--- its cause, where its kind is known and the file is not at its end
+-- the cause of a record, if the file isn't at its end: the cause by its kind
 told_cause : (records : Lines) (line : List ℕ) (place : Place) (cause : fault.FileCause) → IsRecord line → is_after_end place ≡ false
     → kind_cause place line ≡ cause
     → (limit : ℕ) → length records < limit → cause_of limit (length records) place line ≡ cause
@@ -514,7 +515,7 @@ no_place (in_schedule stage lines) line =
     ∙ none_of (may_end stage lines) None refl
 no_place after_end line = refl
 
--- a record of no kind does not go on
+-- a record of no kind can't follow
 pub no_kind : {K : Type 0} (keeps : Keeps K) (front : Front K) (records : Lines) (line : List ℕ) → HasRecords keeps front records → ¬ IsFile records
     → IsRecord line → kind_of line ≡ None
     → IsNoNext records line bad_kind
@@ -531,7 +532,7 @@ no_kind keeps front records line has unended is none = record {
     by false h = h
     by true h = absurd (unended ((file_iff_place records).1 (has.at ∙ ap Some (end_by_test has.place h))))
 
--- before the header
+-- before the header, a record of another kind can't follow
 pub no_header : {K : Type 0} (keeps : Keeps K) (front : Front K) (records : Lines) (line : List ℕ) (kind : Kind) → HasRecords keeps front records
     → front.stage ≡ BeforeHeader → IsRecord line
     → HasKind kind line → is_header_kind (Some kind) ≡ false
@@ -556,7 +557,7 @@ both_false : (b c : Bool) → c ≡ false → (b && c) ≡ false
 both_false true c h = h
 both_false false c h = refl
 
--- nor a header with a bad field
+-- nor can a header with a bad field
 pub bad_header : {K : Type 0} (keeps : Keeps K) (front : Front K) (records : Lines) (line : List ℕ) (column : ℕ) → HasRecords keeps front records
     → front.stage ≡ BeforeHeader → IsRecord line
     → HasKind header line → leftmost_bad_field line ≡ Some column
@@ -601,7 +602,7 @@ header_added keeps old new records line has at is kind fields same_header place 
       );
     }
 
--- a record that begins no unit, or whose fields are not good
+-- a record that begins no unit, or has a bad field, leads nowhere from between units
 pub no_unit : (line : List ℕ) → ¬ ((is_some (unit_by_kind (kind_of line) line) ≡ true) × HasGoodFields line) → next_place between_units line ≡ None
 no_unit line bad = by (next_place between_units line) refl
   where
@@ -614,7 +615,7 @@ no_unit line bad = by (next_place between_units line) refl
 cause_between : (line : List ℕ) (kind : Kind) → HasKind kind line → kind_cause between_units line ≡ place_cause between_units line
 cause_between line kind known = λ i. cond (is_none (known i)) bad_kind (place_cause between_units line)
 
--- a record that begins no unit, or whose fields are not good, does not go on between units
+-- a record that begins no unit, or has a bad field, can't follow between units
 pub bad_between : {K : Type 0} (keeps : Keeps K) (front : Front K) (records : Lines) (line : List ℕ) (kind : Kind) → HasRecords keeps front records
     → front.stage ≡ BetweenUnits → IsRecord line
     → HasKind kind line
@@ -628,7 +629,7 @@ bad_between keeps front records line kind has at is known bad =
       is = told_cause records line between_units (place_cause between_units line) is refl (cause_between line kind known);
     }
 
--- nor behind a whole schedule
+-- nor can it follow after a whole schedule
 pub bad_behind : {K : Type 0} (keeps : Keeps K) (front : Front K) (opened : Opened) (records : Lines) (line : List ℕ) (kind : Kind)
     → HasRecords keeps front records
     → front.stage ≡ InSchedule opened → IsWholeBy opened → IsRecord line → HasKind kind line
@@ -653,7 +654,7 @@ not_may stage lines bad = by (may_end stage lines) refl
     by false h = h
     by true h = absurd (bad h)
 
--- nor does what begins anew, behind a schedule that is not whole
+-- a record that begins a unit can't follow a schedule that isn't whole
 pub not_whole : {K : Type 0} (keeps : Keeps K) (front : Front K) (opened : Opened) (records : Lines) (line : List ℕ) (kind : Kind)
     → HasRecords keeps front records → front.stage ≡ InSchedule opened
     → ((lines : Lines) → HasLines (progress_meant opened.progress) lines → ¬ IsSchedule lines) → IsRecord line → HasKind kind line
@@ -678,7 +679,7 @@ not_whole keeps front opened records line kind has at open_end is known stops =
     none_stage true o h = h
     none_stage false o h = refl
 
--- a line that a schedule does not go on with
+-- a line that can't continue the schedule
 pub bad_line : {K : Type 0} (keeps : Keeps K) (wants : Type 0) (front : Front K) (opened : Opened) (records : Lines) (line : List ℕ)
     (cause : Option fault.FileCause) → HasRecords keeps front records
     → front.stage ≡ InSchedule opened → IsRecord line
@@ -698,33 +699,33 @@ bad_line keeps wants front opened records line (Some cause) has at is follow tol
       is = λ limit under. (fault_of_schedule limit records here.stage here.lines line cause found under is of (told here.lines here.progress_is)).1;
     }
 
--- ---- answers
+-- ---- results
 
--- what follows of two facts that an Ok answer tells
+-- what follows from two facts about an Ok result
 pub on_ok : {A E P Q R : Type 0} (answer : Result A E) → OnOk answer P → OnOk answer Q → (P → Q → R) → OnOk answer R
 on_ok (Ok value) p q both = both p q
 on_ok (Err error) p q both = p
 
--- what follows of a fact that an Ok answer tells
+-- what follows from a fact about an Ok result
 pub on_ok_one : {A E P R : Type 0} (answer : Result A E) → OnOk answer P → (P → R) → OnOk answer R
 on_ok_one (Ok value) p one = one p
 on_ok_one (Err error) p one = p
 
 -- ---- kinds of the code
 
--- a kind that is no header's
+-- a kind other than the header's
 pub other_kind : (kind : code.Kind) → ¬ (kind ≡ Header) → is_header_kind (Some (meaning kind)) ≡ false
 other_kind Header bad = absurd (bad refl)
 other_kind _ bad = refl
 
--- no file goes on behind its trailer
+-- after the trailer, the records are a file
 pub file_at_end : {K : Type 0} (keeps : Keeps K) (front : Front K) (records : Lines) → HasRecords keeps front records → front.stage ≡ AfterEnd → IsFile records
 file_at_end keeps front records has at =
     (file_iff_place records).1 (has.at ∙ ap Some (subst (λ p. IsKept keeps p front.keeper has.place records) at has.kept_are).0)
 
 -- ---- the file
 
--- what is told of the records, behind the trailer
+-- what is returned for the records, after the trailer
 pub file_ended : {K : Type 0} (keeps : Keeps K) (front : Front K) (records : Lines) (ended : Ended K) → HasRecords keeps front records
     → front.stage ≡ AfterEnd → front.header ≡ Some ended.header → ended.records ≡ length records → ended.keeper ≡ front.keeper
     → IsFile records × IsEnded keeps records ended

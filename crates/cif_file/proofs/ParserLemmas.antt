@@ -1,4 +1,4 @@
--- The lines that a parser has taken, and the faults that it tells.
+-- The lines that a parser has taken, and the faults that it returns.
 use Rattle.std.proofs.Common.{◌≡◌, ℕ, ◌+◌, ◌-◌, ◌≤◌, ◌<◌, inl, inr, Bool, true, false, cond, List, [], ◌∷◌, ◌++◌, length, subst, refl, ap, sym, ◌∙◌, Some, None, arith, append_assoc, length-append, eqb-true, take, drop, get_or, suc, drop-cons}
 use Rattle.std.specs.Prelude.{⊤, Option, ◌↔◌, ◌==◌, ◌&&◌, nat_le}
 use Rattle.std.specs.Str.Lines.{strip_carriage_return}
@@ -54,9 +54,9 @@ above most n many = by (nat_le n most) refl
     by true h = absurd (many (leb-true n most h))
     by false h = let over = leb-false n most h in omega arith
 
--- ---- want of memory
+-- ---- out of memory
 
--- at a line that goes on with a file behind these
+-- memory may run out at a line if some file begins with the records and the line
 memory_told : (limit : ℕ) (records : Lines) (line : List ℕ) (number : ℕ) (all : Lines) → length records < limit → GoesOnWith records line
     → number ≡ length records + 1 → all ≡ records ++ line ∷ []
     → WantsMemoryAt limit all number
@@ -69,7 +69,7 @@ memory_told limit records line number all under goes_on counted whole =
       sound = subst BeginsFile (sym (take_all number all (omega arith))) (subst BeginsFile (sym whole) ((begins_iff_place (records ++ line ∷ [])).1 goes_on));
     }
 
--- more records change nothing
+-- more records after them change nothing
 memory_more : (limit : ℕ) (records others : Lines) (number : ℕ) → WantsMemoryAt limit records number → WantsMemoryAt limit (records ++ others) number
 memory_more limit records others number told = record {
   some = told.some;
@@ -84,7 +84,7 @@ end_by_test _ h = absurd cc
 
 -- ---- the next record
 
--- behind the trailer
+-- a record after the trailer
 pub after_cause : {K : Type 0} (keeps : Keeps K) (limit : ℕ) (front : Front K) (records : Lines) (line : List ℕ) → HasRecords keeps front records
     → IsFile records → length records < limit
     → IsCauseNext limit records line after_trailer
@@ -137,7 +137,7 @@ front_cause wants limit records line cause under told = by (cause_meant cause) t
 
 -- ---- a line that ends
 
--- the line is taken with the bytes of it that came before
+-- the line was taken, with its bytes that came before
 pub ended_read : {K : Type 0} (keeps : Keeps K) (old new : Reading K) (limit : ℕ) (text front : List ℕ) → IsReading keeps old limit text → HasNoFeed front
     → HasCounted keeps new.records limit (told_lines text ++ strip_carriage_return (open_line text ++ front) ∷ []) → new.partial.items ≡ []
     → IsReading keeps new limit (text ++ (front ++ 10 ∷ []))
@@ -147,7 +147,7 @@ ended_read keeps old new limit text front reading plain counted none = record {
   short = let size = ap (λ (l : List ℕ). length l) (open_line_ended text front plain) in omega arith;
 }
 
--- and so is its fault told
+-- its fault is returned
 pub ended_fault : {K : Type 0} (keeps : Keeps K) (wants : Type 0) (old : Reading K) (limit : ℕ) (text front : List ℕ) (fault : FileFault)
     → IsReading keeps old limit text → HasNoFeed front
     → IsFaultNext wants limit (told_lines text) (strip_carriage_return (open_line text ++ front)) fault → IsFaultTold limit (text ++ (front ++ 10 ∷ [])) fault
@@ -162,7 +162,7 @@ ended_fault keeps wants old limit text front fault reading plain next = by (caus
         subst (λ f. IsFaultSoFar limit (text ++ (front ++ 10 ∷ [])) f) (λ i. record { number = sym next.number i; cause = told.is i })
         (fault_at_feed limit text front [] told.place plain told.at reading.counted.within told.here)
 
--- or it is too long
+-- or the line is too long
 pub ended_long : {K : Type 0} (keeps : Keeps K) (old : Reading K) (limit : ℕ) (text front : List ℕ) (fault : FileFault) → IsReading keeps old limit text
     → HasNoFeed front
     → 82 ≤ length (open_line text ++ front)
@@ -194,7 +194,7 @@ kept_read keeps old new limit text more reading plain few records kept = record 
       let same = ap (λ (l : List ℕ). length l) reading.partial_is in omega arith;
 }
 
--- or it is too long
+-- or the line is too long
 pub kept_long : {K : Type 0} (keeps : Keeps K) (old : Reading K) (limit : ℕ) (text more : List ℕ) (fault : FileFault) → IsReading keeps old limit text
     → HasNoFeed more
     → ¬ (length old.partial.items + length more ≤ 81)
@@ -214,9 +214,9 @@ kept_long keeps old limit text more fault reading plain many next =
     (fault_at_long limit (text ++ more) next.place (ap place_at told ∙ next.at) (omega arith)
     (above 81 (length (open_line (text ++ more))) (λ few. many (omega arith)))))
 
--- ---- what is told stays told
+-- ---- a fault that was returned stays
 
--- a fault that a text tells it tells with more behind it
+-- a fault of a text is a fault of each longer text
 pub told_stays : (limit : ℕ) (text more : List ℕ) (fault : FileFault) → IsFaultTold limit text fault → IsFaultTold limit (text ++ more) fault
 told_stays limit text more fault told = by (cause_meant fault.cause) told
   where
@@ -232,7 +232,7 @@ counted_open : {K : Type 0} (keeps : Keeps K) (records : Records K) (limit : ℕ
     → HasCounted keeps records limit (told_lines text ++ strip_carriage_return (open_line text) ∷ []) → HasCounted keeps records limit (lines_of text)
 counted_open keeps records limit text some counted = subst (HasCounted keeps records limit) (sym (lines_of_open text some)) counted
 
--- where no line is open, all lines are told
+-- if no line is open, all lines are complete
 pub counted_ended : {K : Type 0} (keeps : Keeps K) (reading : Reading K) (limit : ℕ) (text : List ℕ) → IsReading keeps reading limit text
     → reading.partial.items ≡ []
     → HasCounted keeps reading.records limit (lines_of text)
@@ -254,14 +254,14 @@ end_fault keeps wants reading limit text fault is some next = by (cause_meant fa
         subst (λ f. IsFileFault limit text f) (λ i. record { number = sym next.number i; cause = told.is i })
         (fault_at_end limit text told.place told.at is.counted.within some told.here)
 
--- what is told of the text, whose lines were counted
+-- what is returned for a text whose lines were counted
 pub file_at_end : {K : Type 0} (keeps : Keeps K) (records : Records K) (limit : ℕ) (text : List ℕ) (ended : Ended K)
     → HasCounted keeps records limit (lines_of text) → EndsCounted keeps records ended → IsEndedText keeps limit text ended
 file_at_end keeps records limit text ended counted told =
     let is = told limit (lines_of text) counted in
     record { records = lines_of text; is_text = record { lines = refl; is = is.0; within = counted.within }; of_records = is.1 }
 
--- the fault behind the last record of a text with no end is the text's
+-- if the records are no file, the fault after the last record is the text's
 pub no_end_at_end : {K : Type 0} (keeps : Keeps K) (records : Records K) (limit : ℕ) (text : List ℕ) (fault : FileFault)
     → HasCounted keeps records limit (lines_of text) → EndsUnended keeps records fault
     → IsRefused limit text fault
@@ -274,13 +274,13 @@ no_end_at_end keeps records limit text fault counted ends =
       cause = refl;
     }))
 
--- no record that is told is at fault
+-- no complete record is at fault
 pub reading_tells_none : {K : Type 0} (keeps : Keeps K) (reading : Reading K) (limit : ℕ) (text : List ℕ) → IsReading keeps reading limit text
     → (fault : model.FileFault)
     → ¬ IsFaultSoFar limit text fault
 reading_tells_none keeps reading limit text is = no_fault_told limit text is.counted.has.place is.counted.has.at is.counted.within is.short
 
--- a fault that is told is the text's in the end
+-- a fault that was returned is the text's fault in the end
 pub told_refused : (limit : ℕ) (text : List ℕ) (fault : FileFault) → IsFaultTold limit text fault → IsRefused limit text fault
 told_refused limit text fault told = by (cause_meant fault.cause) told
   where
@@ -292,7 +292,7 @@ told_refused limit text fault told = by (cause_meant fault.cause) told
 
 -- ---- a line that is too long
 
--- a record that is too long, above the limit
+-- a line that is too long, above the limit
 pub long_over : {K : Type 0} (keeps : Keeps K) (records : Records K) (limit : ℕ) (taken : Lines) (fault : FileFault) → HasCounted keeps records limit taken
     → fault.number ≡ records.next
     → records.limit < records.next → cause_meant fault.cause ≡ Some too_many
@@ -306,7 +306,7 @@ long_over keeps records limit taken fault counted number over told = record {
       λ i. Some (cond (sym (le-leb limit (length taken) most) i) too_many (cond (is_after_end counted.has.place) after_trailer bad_length)));
 }
 
--- and within it
+-- a line that is too long, within the limit
 pub long_within : {K : Type 0} (keeps : Keeps K) (records : Records K) (limit : ℕ) (taken : Lines) (fault : FileFault) (ended : Bool)
     → HasCounted keeps records limit taken
     → fault.number ≡ records.next → records.next ≤ records.limit
@@ -336,7 +336,7 @@ long_within keeps records limit taken fault ended counted number within iff told
 
 -- ---- a line that ends, by what was taken of it
 
--- bytes that do not fit are more than 81 with those that came before
+-- if bytes don't fit, they are more than 81 with the bytes that came before
 pub ended_many : {K : Type 0} (keeps : Keeps K) (old : Reading K) (limit : ℕ) (text front : List ℕ) → IsReading keeps old limit text
     → ¬ (length old.partial.items + length front ≤ 81)
     → 82 ≤ length (open_line text ++ front)
@@ -345,14 +345,14 @@ ended_many keeps old limit text front reading many =
     let size = length-append (open_line text) front in
     above 81 (length (open_line text ++ front)) (λ few. many (omega arith))
 
--- the line that was taken is that of the text
+-- the line that was taken is the line of the text
 pub taken_is : {K : Type 0} (keeps : Keeps K) (old : Reading K) (limit : ℕ) (text front raw line : List ℕ) → IsReading keeps old limit text
     → raw ≡ old.partial.items ++ front
     → line ≡ strip_carriage_return raw
     → line ≡ strip_carriage_return (open_line text ++ front)
 taken_is keeps old limit text front raw line reading whole strip = strip ∙ ap strip_carriage_return (whole ∙ ap (λ l. l ++ front) reading.partial_is)
 
--- the line that was taken is that which ended
+-- the line that was taken is the line that ended
 pub ended_ok : {K : Type 0} (keeps : Keeps K) (old new : Reading K) (limit : ℕ) (text front line : List ℕ) → IsReading keeps old limit text → HasNoFeed front
     → line ≡ strip_carriage_return (open_line text ++ front)
     → HasCounted keeps new.records limit (told_lines text ++ line ∷ []) → new.partial.items ≡ [] → IsReading keeps new limit (text ++ (front ++ 10 ∷ []))
@@ -376,7 +376,7 @@ empty_is old none = by old.partial.items (eqb-true (length old.partial.items) 0 
     by [] h = refl
     by (byte ∷ bytes) h = absurd (omega arith)
 
--- where bytes are kept a line is open
+-- if bytes are kept, a line is open
 pub some_is_open : {K : Type 0} (keeps : Keeps K) (old : Reading K) (limit : ℕ) (text : List ℕ) → IsReading keeps old limit text
     → false ≡ (length old.partial.items == 0)
     → 0 < length (open_line text)
@@ -433,7 +433,7 @@ no_feed_by text none = λ k d below.
 abbrev pub before_rest : List ℕ → List ℕ → List ℕ
 before_rest piece rest = take (length piece - length rest) piece
 
--- what stands before the rest, with the line that ended
+-- what comes before the rest, with the line that ended
 pub cut_more : (piece rest front behind : List ℕ) → before_rest piece rest ++ rest ≡ piece → IsCut rest front behind
     → (before_rest piece behind ≡ before_rest piece rest ++ (front ++ 10 ∷ [])) × (before_rest piece behind ++ behind ≡ piece)
 cut_more piece rest front behind whole cut =
@@ -446,7 +446,7 @@ cut_more piece rest front behind whole cut =
     let same : before_rest piece behind ≡ done = (λ i. take (count i) (sym all i)) ∙ take-append_seam done behind in
     (same, ap (λ l. l ++ behind) same ∙ all)
 
--- at first nothing stands before the rest
+-- at first nothing comes before the rest
 pub cut_first : (piece : List ℕ) → (before_rest piece piece ≡ []) × (before_rest piece piece ++ piece ≡ piece)
 cut_first piece =
     let none : length piece - length piece ≡ 0 = omega arith in
@@ -457,7 +457,7 @@ cut_first piece =
     take_none [] = refl
     take_none (b ∷ l) = refl
 
--- what was told of a piece's front is told of the piece
+-- a fault of the beginning of a piece is a fault of the piece
 pub told_of_piece : (limit : ℕ) (text piece rest front behind : List ℕ) (fault : FileFault) → before_rest piece rest ++ rest ≡ piece → IsCut rest front behind
     → IsFaultTold limit ((text ++ before_rest piece rest) ++ (front ++ 10 ∷ [])) fault → IsFaultTold limit (text ++ piece) fault
 told_of_piece limit text piece rest front behind fault whole cut told =
@@ -467,7 +467,7 @@ told_of_piece limit text piece rest front behind fault whole cut told =
     subst (λ t. IsFaultTold limit t fault) all (told_stays limit (text ++ before_rest piece behind) behind fault
     (subst (λ t. IsFaultTold limit t fault) here told))
 
--- a line more was read
+-- one more line was read
 pub read_on : {K : Type 0} (keeps : Keeps K) (reading : Reading K) (limit : ℕ) (text piece rest front behind : List ℕ)
     → before_rest piece rest ++ rest ≡ piece → IsCut rest front behind
     → IsReading keeps reading limit ((text ++ before_rest piece rest) ++ (front ++ 10 ∷ [])) → IsReading keeps reading limit (text ++ before_rest piece behind)
@@ -475,83 +475,83 @@ read_on keeps reading limit text piece rest front behind whole cut is =
     let more = cut_more piece rest front behind whole cut in
     subst (IsReading keeps reading limit) (append_assoc text (before_rest piece rest) (front ++ 10 ∷ []) ∙ ap (λ l. text ++ l) (sym more.0)) is
 
--- with the rest the whole piece was read
+-- with the rest, the whole piece was read
 pub whole_read : (text piece rest : List ℕ) → before_rest piece rest ++ rest ≡ piece → (text ++ before_rest piece rest) ++ rest ≡ text ++ piece
 whole_read text piece rest whole = append_assoc text (before_rest piece rest) rest ∙ ap (λ l. text ++ l) whole
 
 -- ---- a parser with a fault, and without one
 
--- a parser that told a fault was fed a text that tells it
+-- a parser that returned a fault was fed a text that has the fault
 pub read_at_fault : (parser : ParserState) (limit : ℕ) (text : List ℕ) (fault : FileFault) → parser.fault ≡ Some fault → IsFaultTold limit text fault
     → HasRead parser limit text
 read_at_fault parser limit text fault at told = subst (IsReadingOrFault parser.reading limit text) (sym at) told
 
--- and each text that it was fed tells it
+-- each text that it was fed has the fault
 pub fault_at_read : (parser : ParserState) (limit : ℕ) (text : List ℕ) (fault : FileFault) → parser.fault ≡ Some fault → HasRead parser limit text
     → IsFaultTold limit text fault
 fault_at_read parser limit text fault at has = subst (IsReadingOrFault parser.reading limit text) at has
 
--- what a parser without a fault was fed, its reading has read
+-- the reading of a parser without a fault has read what the parser was fed
 pub reading_at_none : (parser : ParserState) (limit : ℕ) (text : List ℕ) → parser.fault ≡ None → HasRead parser limit text
     → IsReading KeepsAll parser.reading limit text
 reading_at_none parser limit text at has = subst (IsReadingOrFault parser.reading limit text) at has
 
--- and the other way round
+-- what the reading has read, the parser was fed
 pub none_at_reading : (parser : ParserState) (limit : ℕ) (text : List ℕ) → parser.fault ≡ None → IsReading KeepsAll parser.reading limit text
     → HasRead parser limit text
 none_at_reading parser limit text at is = subst (IsReadingOrFault parser.reading limit text) (sym at) is
 
--- what a parser that told no fault was fed, its reading has read
+-- the reading of a parser that returned no fault has read what the parser was fed
 pub reading_of : (parser : ParserState) (reading : Reading Kept) (limit : ℕ) (text : List ℕ) → parser.fault ≡ None → parser.reading ≡ reading
     → HasRead parser limit text → IsReading KeepsAll reading limit text
 reading_of parser reading limit text none same has = subst (λ r. IsReading KeepsAll r limit text) same (reading_at_none parser limit text none has)
 
--- a parser that told a fault is none that told no fault
+-- a parser that returned a fault isn't one that returned no fault
 pub had_failed : (parser : ParserState) (fault : FileFault) → parser.fault ≡ Some fault → ¬ HasNotFailed parser
 had_failed parser fault at none = none fault at
 
--- ---- a fault of a record that wasn't told before
+-- ---- a fault of a record that wasn't complete before
 
 later_than : {K : Type 0} (keeps : Keeps K) (reading : Reading K) (limit : ℕ) (text : List ℕ) (fault : FileFault) → IsReading keeps reading limit text
     → fault.number ≡ length (told_lines text) + 1
     → lines_told text < fault.number
 later_than keeps reading limit text fault is number = let same = lines_told_short text is.short in omega arith
 
--- memory was wanting only where it may be
+-- memory ran out only if it may
 wants_of : (wants : Type 0) (limit : ℕ) (records : Lines) (line : List ℕ) (fault : FileFault) → IsFaultNext wants limit records line fault
     → fault.cause ≡ Memory → wants
 wants_of wants limit records line fault next memory = (subst (λ cause. IsCauseBehind wants limit records line (cause_meant cause)) memory next.cause).0
 
--- and not where another cause is told
+-- it didn't run out if there is another cause
 no_want : (wants : Type 0) (fault : FileFault) (cause : model.FileCause) → cause_meant fault.cause ≡ Some cause → fault.cause ≡ Memory → wants
 no_want wants fault cause told memory = let bad : ◌≡◌ {A = Option model.FileCause} None (Some cause) = sym (ap cause_meant memory) ∙ told in absurd cc
 
--- that of a line behind the text
+-- the fault of a line after the text is later
 pub later_next : {K : Type 0} (keeps : Keeps K) (wants : Type 0) (reading : Reading K) (line : List ℕ) (fault : FileFault)
     → FaultsNext keeps wants reading.records line fault → IsLater keeps wants reading fault
 later_next keeps wants reading line fault told = λ limit text is.
     let next = told limit (told_lines text) is.counted in
     (later_than keeps reading limit text fault is next.number, wants_of wants limit (told_lines text) line fault next)
 
--- that of a line that is too long
+-- the fault of a line that is too long is later
 pub later_long : {K : Type 0} (keeps : Keeps K) (wants : Type 0) (reading : Reading K) (fault : FileFault)
     → ((limit : ℕ) (text : List ℕ) → IsReading keeps reading limit text → IsLongNext limit (told_lines text) fault) → IsLater keeps wants reading fault
 later_long keeps wants reading fault told = λ limit text is.
     let next = told limit text is in
     (later_than keeps reading limit text fault is next.number, no_want wants fault (cause_of_long limit (length (told_lines text)) next.place) next.cause)
 
--- what a longer text doesn't tell, its front doesn't
+-- a fault after a longer text is also a fault after its beginning
 later_front : (text more : List ℕ) (fault : FileFault) → lines_told (text ++ more) < fault.number → lines_told text < fault.number
 later_front text more fault later = let grown = lines_told_grow text more in omega arith
 
--- what is behind a front that was read is behind what was read before it
+-- a fault after more was read is a fault after what was read before
 pub later_piece : {K : Type 0} (keeps : Keeps K) (wants : Type 0) (old new : Reading K) (front : List ℕ) (fault : FileFault)
     → GoesOn (IsReading keeps old) front (IsReading keeps new) → IsLater keeps wants new fault
     → IsLater keeps wants old fault
 later_piece keeps wants old new front fault read later = λ limit text is.
     let behind = later limit (text ++ front) (read limit text is) in (later_front text front fault behind.0, behind.1)
 
--- such a fault is behind what the text tells
+-- the fault that a text has no end comes after all complete lines
 pub later_end : {K : Type 0} (keeps : Keeps K) (wants : Type 0) (reading : Reading K) (fault : FileFault)
     → ((limit : ℕ) (text : List ℕ) → IsReading keeps reading limit text → IsNoEndOf (lines_of text) fault)
     → IsLater keeps wants reading fault
@@ -561,27 +561,27 @@ later_end keeps wants reading fault told = λ limit text is.
     let number = (told limit text is).0 in
     (omega arith, no_want wants fault no_end (told limit text is).1)
 
--- and is no want of memory
+-- it isn't out of memory
 pub last_end : {K : Type 0} (keeps : Keeps K) (reading : Reading K) (fault : FileFault)
     → ((limit : ℕ) (text : List ℕ) → IsReading keeps reading limit text → IsNoEndOf (lines_of text) fault)
     → IsLast keeps reading fault
 last_end keeps reading fault told = λ memory limit text is.
     let bad : ◌≡◌ {A = Option model.FileCause} None (Some no_end) = sym (ap cause_meant memory) ∙ (told limit text is).1 in absurd cc
 
--- the open line is the last
+-- the open line is the last one
 pub last_open : {K : Type 0} (keeps : Keeps K) (wants : Type 0) (reading : Reading K) (line : List ℕ) (fault : FileFault)
     → false ≡ (length reading.partial.items == 0) → FaultsNext keeps wants reading.records line fault
     → IsLast keeps reading fault
 last_open keeps wants reading line fault some told =
     λ _ limit text is. (told limit (told_lines text) is.counted).number ∙ sym (length_at_end text (some_is_open keeps reading limit text is some))
 
--- what is later than what was read is later than what a parser was fed that told no fault
+-- if the fault is later than what was read, it is later than what a parser without a fault was fed
 pub names_later : (parser : ParserState) (reading : Reading Kept) (fault : FileFault) → parser.fault ≡ None → parser.reading ≡ reading
     → IsLater KeepsAll ⊤ reading fault
     → NamesLater parser fault
 names_later parser reading fault none same told = λ _ limit text has. (told limit text (reading_of parser reading limit text none same has)).0
 
--- and of the last record
+-- and if it is at the last record of the one, it is at the last record of the other
 pub names_last : (parser : ParserState) (reading : Reading Kept) (fault : FileFault) → parser.fault ≡ None → parser.reading ≡ reading
     → IsLast KeepsAll reading fault
     → NamesLast parser fault

@@ -23,7 +23,7 @@ use Rattle.cif_file.specs.SourceRead.{Held, IsFaultOf, ReadsEnded, RefusesText, 
 
 -- ---- pieces
 
--- a text of no bytes has no fault
+-- an empty text has no fault
 sound_at_start : (limit : ℕ) (fault : model.FileFault) → ¬ IsFaultSoFar limit [] fault
 sound_at_start limit fault told = let number = told.is.number in let none : fault.number ≤ 0 = told.told in absurd (omega (arith, number, none))
 
@@ -41,7 +41,7 @@ takes_more keeps before after piece (Ok done) read = λ limit text has.
     record { read = more; few = has.few; sound = reading_tells_none keeps after limit (text ++ piece) more }
 takes_more keeps before after piece (Err fault) read = tt
 
--- and a fault that was told refuses it
+-- a fault that was returned refuses the piece
 pub refuses_more : {K : Type 0} (keeps : Keeps K) (wants : Type 0) (before : Reading K) (piece : List ℕ) {A : Type 0} (result : Result A FileFault)
     → IfErr result (TellsFault (IsReading keeps before) piece) → IfErr result (IsLater keeps wants before)
     → IfErr result (λ fault. BehindEach (TakesFile keeps) before (λ limit text. RefusesPiece wants limit text piece fault))
@@ -52,7 +52,7 @@ refuses_more keeps wants before piece (Err fault) told later = λ limit text has
 
 -- ---- how far a source is read
 
--- it loses no more than one piece behind a text without a fault
+-- the source loses at most one piece after a text without a fault
 pub no_further : {K : Type 0} (keeps : Keeps K) (limit : ℕ) (initial next : Option (List ℕ)) → LosesOnePieceMore (TakesFile keeps) 65536 limit [] initial next
     → ReadsNoFurther 65536 limit initial next
 no_further keeps limit initial next more =
@@ -66,7 +66,7 @@ held_all (Some told) (Some rest) text lost end =
     let same : told ≡ text ++ rest = cc in
     same ∙ ap (λ r. text ++ r) end ∙ append-nil text
 
--- what is told of the text that was read to the end
+-- what is returned for the text that was read to the end
 pub file_read : {K : Type 0} (keeps : Keeps K) (limit count : ℕ) (initial now : Option (List ℕ)) (reading : Reading K) (result : Result (Ended K) ReadFault)
     → HasFed (TakesFile keeps) count limit [] initial now reading → IsEnd now → IfOk result (EndsBy keeps reading)
     → IfOk result (ReadsEnded keeps limit initial)
@@ -76,7 +76,7 @@ file_read keeps limit count initial now reading (Err fault) at end of = tt
 
 -- ---- causes
 
--- only want of memory is none of a text's
+-- out of memory is the only cause that isn't the cause of a text
 memory_meant : (cause : FileCause) → cause_meant cause ≡ None → cause ≡ Memory
 memory_meant Length none = cc
 memory_meant (Byte at) none = cc
@@ -89,7 +89,8 @@ memory_meant After none = cc
 memory_meant TooMany none = cc
 memory_meant Memory none = refl
 
--- a fault that was told before the end is that of each longer text, and no want of memory
+-- a fault that was returned before the end is the fault of each longer text, if it isn't out of
+-- memory
 told_of : (limit : ℕ) (text more : List ℕ) (fault : FileFault) → IsFaultTold limit text fault → fault.cause ≢ Memory → IsFaultOf limit (text ++ more) fault
 told_of limit text more fault told other = by (cause_meant fault.cause) refl told
   where
@@ -105,7 +106,7 @@ refused_of limit text fault refused other = by (cause_meant fault.cause) refl re
     by None h of = absurd (other (memory_meant fault.cause h))
     by (Some cause) h of = record { cause = cause; cause_is = h; is = of }
 
--- a fault that is told as a file's is the reading's, and no want of memory
+-- a fault that is returned as a file's is the fault of the reading, and isn't out of memory
 told_as_file : {A : Type 0} (fault told : FileFault) (result : ReadFault) → (fault.cause ≡ Memory → result ≡ read.Memory)
     → (fault.cause ≢ Memory → result ≡ read.File fault)
     → ◌≡◌ {A = Result A ReadFault} (Err result) (Err (read.File told)) → (fault ≡ told) × (fault.cause ≢ Memory)
@@ -126,7 +127,7 @@ memory_or_not After = inr (λ same. cc)
 memory_or_not TooMany = inr (λ same. cc)
 memory_or_not Memory = inl refl
 
--- want of memory is told where the reading told it
+-- out of memory is returned only if the reading returned it
 told_as_memory : {A : Type 0} (fault : FileFault) (result : ReadFault) → (fault.cause ≢ Memory → result ≡ read.File fault)
     → ◌≡◌ {A = Result A ReadFault} (Err result) (Err read.Memory) → fault.cause ≡ Memory
 told_as_memory fault result file is = by (memory_or_not fault.cause)
@@ -145,7 +146,7 @@ fault_at_end limit text fault told result refused memory file is =
     let as_file = told_as_file fault told result memory file is in
     subst (IsFaultOf limit text) as_file.0 (refused_of limit text fault refused as_file.1)
 
--- want of memory at the end is at the last record
+-- if memory ran out at the end, it ran out at the last record
 pub memory_at_end : {K : Type 0} (keeps : Keeps K) (wants : Type 0) {A : Type 0} (limit : ℕ) (text : List ℕ) (reading : Reading K) (fault : FileFault)
     (result : ReadFault) → IsReading keeps reading limit text
     → IsRefused limit text fault → IsLater keeps wants reading fault → IsLast keeps reading fault → (fault.cause ≢ Memory → result ≡ read.File fault)
@@ -158,13 +159,13 @@ memory_at_end keeps wants limit text reading fault result has refused later last
           (subst (λ cause. IsCauseOf limit text fault.number (cause_meant cause)) wanting refused),
     )
 
--- it is that of what the source held
+-- it is the fault of what the source held
 pub refused_at_end : {K : Type 0} (keeps : Keeps K) (limit count : ℕ) (initial now : Option (List ℕ)) (reading : Reading K) (fault : FileFault)
     → (at : HasFed (TakesFile keeps) count limit [] initial now reading) → IsEnd now → IsFaultOf limit at.bytes fault → RefusesText limit initial fault
 refused_at_end keeps limit count initial now reading fault at end is =
     record { text = at.bytes; held = held_all initial now at.bytes at.lost end; is = is }
 
--- and so is want of memory at the end
+-- if memory ran out at the end, it ran out for a text that the source held
 pub wants_at_end : {K : Type 0} (keeps : Keeps K) (wants : Type 0) (limit count : ℕ) (initial now : Option (List ℕ)) (reading : Reading K)
     → (at : HasFed (TakesFile keeps) count limit [] initial now reading) → IsEnd now
     → wants × WantsMemoryAt limit (lines_of at.bytes) (length (lines_of at.bytes)) → WantsMemoryBy wants 65536 limit initial now
@@ -176,7 +177,7 @@ abbrev HasRefusedFile : {K : Type 0} → Keeps K → Type 0 → ℕ → Option (
 HasRefusedFile keeps wants limit initial next reading fault =
     HasRefused (TakesFile keeps) (λ _ n text piece told. RefusesPiece wants n text piece told) 65536 limit [] initial next reading fault
 
--- the fault of a piece is that of what the source held
+-- the fault of a piece is the fault of what the source held
 pub refused_before : {K : Type 0} (keeps : Keeps K) (wants : Type 0) {A : Type 0} (limit : ℕ) (initial next : Option (List ℕ)) (reading : Reading K)
     (fault told : FileFault) (result : ReadFault) → HasRefusedFile keeps wants limit initial next reading fault
     → (fault.cause ≡ Memory → result ≡ read.Memory) → (fault.cause ≢ Memory → result ≡ read.File fault)
@@ -197,7 +198,7 @@ refused_before keeps wants limit initial next reading fault told result has memo
     by (Some bytes) None lost = cc
     by (Some bytes) (Some rest) lost = record { text = text ++ rest; held = cc; is = of rest }
 
--- want of memory before the end is at a record that the piece is the first to tell
+-- if memory ran out before the end, it ran out at a record that the piece is the first to complete
 pub wants_before : {K : Type 0} (keeps : Keeps K) (wants : Type 0) {A : Type 0} (limit : ℕ) (initial next : Option (List ℕ)) (reading : Reading K)
     (fault : FileFault) (result : ReadFault) → HasRefusedFile keeps wants limit initial next reading fault
     → (fault.cause ≢ Memory → result ≡ read.File fault) → ◌≡◌ {A = Result A ReadFault} (Err result) (Err read.Memory)
@@ -219,13 +220,13 @@ wants_before keeps wants limit initial next reading fault result has file is =
       }),
     )
 
--- ---- want of memory
+-- ---- out of memory
 
--- a fault that is told is told as itself
+-- a fault that is returned is the same one as a result of another type
 same_fault : {A B : Type 0} (fault told : ReadFault) → ◌≡◌ {A = Result A ReadFault} (Err fault) (Err told) → ◌≡◌ {A = Result B ReadFault} (Err fault) (Err told)
 same_fault fault told is = let same : fault ≡ told = cc in ap Err same
 
--- where it may be wanting
+-- if memory may run out for a record
 pub wants_any : {A B : Type 0} (wants : Type 0) (limit : ℕ) (old new : Option (List ℕ)) (fault : ReadFault)
     → (◌≡◌ {A = Result A ReadFault} (Err fault) (Err read.Memory) → WantsMemoryBy wants 65536 limit old new)
     → ◌≡◌ {A = Result B ReadFault} (Err fault) (Err read.Memory) → WantsMemory 65536 limit old new
@@ -235,7 +236,7 @@ wants_any wants limit old new fault told is = by (told (same_fault fault read.Me
     by (inl unread_yet) = inl unread_yet
     by (inr wanting) = inr wanting.1
 
--- and where it may not
+-- if it may not
 pub wants_none : {A B : Type 0} (limit : ℕ) (old new : Option (List ℕ)) (fault : ReadFault)
     → (◌≡◌ {A = Result A ReadFault} (Err fault) (Err read.Memory) → WantsMemoryBy ⊥ 65536 limit old new)
     → ◌≡◌ {A = Result B ReadFault} (Err fault) (Err read.Memory) → Reads old [] new

@@ -22,7 +22,7 @@ second_holds : (a b : Bool) → (a && b) ≡ true → b ≡ true
 second_holds true b both = both
 second_holds false b both = absurd cc
 
--- bytes that are printable come before the first line feed
+-- printable bytes come before the first line feed
 place_behind : (front rest : List ℕ) → list_all is_printable front ≡ true
     → position_or_len is_feed (front ++ rest) ≡ length front + position_or_len is_feed rest
 place_behind [] rest plain = omega arith
@@ -58,7 +58,7 @@ told_behind front rest plain =
         (Some (length front + position_or_len is_feed rest)) None)
         ∙ (λ i. option_map (λ at. length front + at) (cond (sym h i) (Some (position_or_len is_feed rest)) None))
 
--- behind a record the first line feed is that of the rest
+-- after a record, the first line feed is the first line feed of the rest
 pub feed_behind : (text : List ℕ) (n : ℕ) → n ≤ length text → IsRecord (take n text)
     → position is_feed text ≡ option_map (λ at. n + at) (position is_feed (drop n text))
 feed_behind text n within is =

@@ -1,4 +1,4 @@
--- Records that begin anew, by their kinds.
+-- Records that begin a unit, by their kinds.
 use Rattle.std.proofs.Common.{◌≡◌, List, ℕ, true, Some, ap, subst, sym}
 use Rattle.std.specs.Prelude.{is_some}
 use Rattle.docker_model.specs.records.Record.{HasKind, kind_of}
@@ -18,13 +18,13 @@ single_leads line (TiplocAmend view) kind = ap (λ k. unit_by_kind k line) kind
 single_leads line (TiplocDelete view) kind = ap (λ k. unit_by_kind k line) kind
 single_leads line (Association view) kind = ap (λ k. unit_by_kind k line) kind
 
--- what begins anew leads to some place
+-- a record that begins a unit leads to some place
 pub unit_begins : (line : List ℕ) (it : Unit) → IsUnitOf line it → is_some (unit_by_kind (kind_of line) line) ≡ true
 unit_begins line (unit.Single single) is = ap (λ place. is_some place) (single_leads line single is.by_kind.1)
 unit_begins line (unit.Schedule view) is = ap (λ k. is_some (unit_by_kind k line)) is.by_kind.1
 unit_begins line unit.Trailer is = ap (λ k. is_some (unit_by_kind k line)) is.by_kind
 
--- a unit by itself has its kind
+-- a record that is a unit by itself has its kind
 pub single_has_kind : (it : Unit) (single : Single) → IsOfSome it → it ≡ unit.Single single → HasKind (kind_of_single single) (line_of_single single)
 single_has_kind it single some same =
     let told = subst (IsUnitByKind some.line) same some.of.by_kind in subst (HasKind (kind_of_single single)) (sym told.0) told.1
@@ -35,6 +35,6 @@ schedule_is it view some same =
     let told = subst (IsUnitByKind some.line) same some.of.by_kind in
     subst (λ line. IsUnitOf line (unit.Schedule view)) (sym told.0) (record { is = some.of.is; good_fields = some.of.good_fields; by_kind = told })
 
--- and is a first line
+-- and it is a first line
 pub schedule_is_first : (view : List ℕ) → IsUnitOf view (unit.Schedule view) → is_first_line view ≡ true
 schedule_is_first view is = first_line_is view is.is is.by_kind.1 is.good_fields

@@ -2,7 +2,7 @@
 use Rattle.std.specs.Prelude.{◌≡◌, ℕ, List, ◌∷◌, ◌++◌}
 use Rattle.cif_laws.specs.LinesTold.{HasNoFeed}
 
--- the front has no line feed, and after it come one and the rest
+-- the text is the front, which has no line feed, then a line feed, then the rest
 pub record IsCut (text front rest : List ℕ) : Type 0 where
   pub whole : text ≡ front ++ 10 ∷ rest
   pub plain : HasNoFeed front

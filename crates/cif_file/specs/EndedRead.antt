@@ -1,4 +1,4 @@
--- What a reader returns of a file whose trailer was read.
+-- What a reader returns for a file whose trailer was read.
 use Rattle.std.specs.Prelude.{◌≡◌, ℕ, List, [], length, slice_index_or}
 use Rattle.docker_model.specs.file.Change.{changes}
 use Rattle.cif_file.specs.declared.ended.Ended.{Ended}
@@ -15,7 +15,7 @@ pub record IsEnded {K : Type 0} (keeps : Keeps K) (records : List (List ℕ)) (e
   pub count_is : ended.records ≡ length records
   pub kept : keeps ended.keeper [] (changes records)
 
--- the parts of the file, where the changes themselves were kept
+-- the parts of the file, if the changes themselves were kept
 abbrev pub parts_ended : Ended Kept → FileParts
 parts_ended ended = record {
   header = ended.header;
@@ -28,6 +28,6 @@ parts_ended ended = record {
 abbrev pub file_ended : Ended Kept → FileRead
 file_ended ended = file_of_parts (parts_ended ended)
 
--- the counts of the file, where the changes were counted
+-- the counts of the file, if the changes were counted
 abbrev pub count_ended : Ended Tally → FileCounted
 count_ended ended = record { header_line = ended.header; record_count = ended.records; change_count = ended.keeper.changes }

@@ -1,4 +1,4 @@
--- What a reading of a file has taken of it, and what its fault says of a piece.
+-- What a reading has taken of a file, and what its fault says about a piece.
 use Rattle.std.specs.Prelude.{◌≡◌, ℕ, ◌^◌, ◌<◌, ◌≤◌, List, ◌++◌, length}
 use Rattle.std.proofs.Common.{arith}
 use Rattle.docker_model.specs.file.File.{most_records}
@@ -17,7 +17,8 @@ pub record TakesFile {K : Type 0} (keeps : Keeps K) (reading : Reading K) (limit
   pub few : limit ≤ most_records
   pub sound : (fault : model.FileFault) → ¬ IsFaultSoFar limit text fault
 
--- a text that a reading has taken is bounded: it has at most 82 bytes for each record of the limit, and 81 after them
+-- a text that a reading has taken is bounded: at most 82 bytes for each record of the limit, and 81
+-- more
 pub taken_is_bounded : {K : Type 0} (keeps : Keeps K) (reading : Reading K) (limit : ℕ) (text : List ℕ) → TakesFile keeps reading limit text
     → length text < 2 ^ 64
 taken_is_bounded keeps reading limit text has =
@@ -25,7 +26,8 @@ taken_is_bounded keeps reading limit text has =
     let few = has.few in
     omega (arith, most, few)
 
--- the fault is of a text and the piece after it, at a record that the text by itself doesn't complete; memory ran out only if it may
+-- the fault belongs to the text with the piece after it, at a record that the text by itself
+-- doesn't complete; memory ran out only if it may
 pub record RefusesPiece (wants : Type 0) (limit : ℕ) (text piece : List ℕ) (fault : FileFault) : Type 0 where
   pub told : IsFaultTold limit (text ++ piece) fault
   pub later : lines_told text < fault.number

@@ -12,7 +12,7 @@ use Rattle.cif_change.specs.Meaning.{key_meant}
 abbrev Lines : Type 0
 Lines = List (List ℕ)
 
--- what says that such lines of the schedule that is being read, and such changes, are kept
+-- a relation: the keeper keeps these lines of the schedule that is being read, and these changes
 abbrev pub Keeps : Type 0 → Type 1
 Keeps K = K → Lines → List Change → Type 0
 
@@ -28,7 +28,7 @@ change_opened opened lines = record {
 abbrev pub AddsLine : {K : Type 0} → Keeps K → K → List ℕ → K → Type 0
 AddsLine keeps old line new = (lines : Lines) (made : List Change) → keeps old lines made → keeps new (lines ++ line ∷ []) made
 
--- the change of the schedule was made, of the lines that were kept
+-- the change of the schedule was made from the lines that were kept
 abbrev pub Closes : {K : Type 0} → Keeps K → K → Opened → K → Type 0
 Closes keeps old opened new =
     (lines : Lines) (made : List Change) → keeps old lines made → keeps new [] (made ++ change_opened opened lines ∷ [])
@@ -38,10 +38,10 @@ abbrev pub AddsSingle : {K : Type 0} → Keeps K → K → ℕ → List ℕ → 
 AddsSingle keeps old number line new =
     (lines : Lines) (made : List Change) → keeps old lines made → keeps new lines (made ++ changes_of_record number line [])
 
--- the lines and the changes themselves are kept, and the places that these name are noted
+-- the lines and the changes themselves are kept, and the places that the changes name are noted
 abbrev pub KeepsAll : Kept → Lines → List Change → Type 0
 KeepsAll kept lines changes = (kept.lines.items ≡ lines) × HasMade kept.made changes
 
--- the changes are counted, as far as they can be
+-- the changes are counted, if their number fits in 64 bits
 abbrev pub CountsChanges : Tally → Lines → List Change → Type 0
 CountsChanges tally lines made = length made < 18_446_744_073_709_551_616 → tally.changes ≡ length made

@@ -12,11 +12,11 @@ pub record HasMade (made : Made) (changes : List Change) : Type 0 where
   pub changes_are : map change_meant made.changes.items ≡ changes
   pub noted : HasNoted (items_put changes) made.notes
 
--- these changes were made after those that were
+-- these changes were made after the earlier ones
 abbrev pub Makes : Made → List Change → Made → Type 0
 Makes old more new = (before : List Change) → HasMade old before → HasMade new (before ++ more)
 
--- the file that was taken apart
+-- the file that these parts make up
 abbrev pub file_of_parts : FileParts → FileRead
 file_of_parts parts = record {
   header_line = parts.header;

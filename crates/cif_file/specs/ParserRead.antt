@@ -33,52 +33,53 @@ pub record HasCounted {K : Type 0} (keeps : Keeps K) (state : Records K) (limit 
   pub within : length records ≤ limit
   pub has : HasRecords keeps state.front records
 
--- a record is at fault after these, for this cause
+-- the line after these records is at fault, for this cause
 pub record IsCauseNext (limit : ℕ) (records : Lines) (line : List ℕ) (cause : model.FileCause) : Type 0 where
   pub place : law.Place
   pub at : IsPlaceOf records place
   pub here : (limit ≤ length records) ⊎ (next_place place line ≡ None)
   pub is : cause_of limit (length records) place line ≡ cause
 
--- a cause that was answered for a record; memory ran out only if it may, within the limit, and for a record that goes on
+-- a cause that was returned for a line; memory ran out only if it may, within the limit, and for a
+-- line that can follow
 abbrev pub IsCauseBehind : Type 0 → ℕ → Lines → List ℕ → Option model.FileCause → Type 0
 IsCauseBehind wants limit records line None = wants × (length records < limit) × GoesOnWith records line
 IsCauseBehind wants limit records line (Some cause) = IsCauseNext limit records line cause
 
--- a fault that was answered for the record after these
+-- a fault that was returned for the line after these records
 pub record IsFaultNext (wants : Type 0) (limit : ℕ) (records : Lines) (line : List ℕ) (fault : FileFault) : Type 0 where
   pub number : fault.number ≡ length records + 1
   pub cause : IsCauseBehind wants limit records line (cause_meant fault.cause)
 
--- a fault that was answered for a record of more than 81 bytes after these
+-- a fault that was returned for a line of more than 81 bytes after these records
 pub record IsLongNext (limit : ℕ) (records : Lines) (fault : FileFault) : Type 0 where
   pub number : fault.number ≡ length records + 1
   pub place : law.Place
   pub at : IsPlaceOf records place
   pub cause : cause_meant fault.cause ≡ Some (cause_of_long limit (length records) place)
 
--- after these records, which are no file, the text ended
+-- the text ended after these records, which are no file
 abbrev pub IsNoEndOf : Lines → FileFault → Type 0
 IsNoEndOf records fault = (fault.number ≡ length records + 1) × (cause_meant fault.cause ≡ Some no_end) × (¬ IsFile records)
 
--- a cause that was answered for a line, within the limit
+-- a cause that was returned for a line, within the limit
 abbrev pub RefusesWithin : {K : Type 0} → Keeps K → Type 0 → Front K → List ℕ → FileCause → Type 0
 RefusesWithin keeps wants front line cause =
     (limit : ℕ) (records : Lines) → HasRecords keeps front records → length records < limit → IsCauseBehind wants limit records line (cause_meant cause)
 
--- the line was taken, and counted
+-- the line was taken and counted
 abbrev pub CountsNext : {K : Type 0} → Keeps K → Records K → List ℕ → Records K → Type 0
 CountsNext keeps old line new = (limit : ℕ) (records : Lines) → HasCounted keeps old limit records → HasCounted keeps new limit (records ++ line ∷ [])
 
--- a fault that was answered for the line
+-- a fault that was returned for the line
 abbrev pub FaultsNext : {K : Type 0} → Keeps K → Type 0 → Records K → List ℕ → FileFault → Type 0
 FaultsNext keeps wants state line fault = (limit : ℕ) (records : Lines) → HasCounted keeps state limit records → IsFaultNext wants limit records line fault
 
--- the records that were counted are a file, which this is
+-- the records that were counted are a file, and this is returned for it
 abbrev pub EndsCounted : {K : Type 0} → Keeps K → Records K → Ended K → Type 0
 EndsCounted keeps state ended = (limit : ℕ) (records : Lines) → HasCounted keeps state limit records → IsFile records × IsEnded keeps records ended
 
--- they are none, which is answered after them
+-- the records that were counted are no file, and this fault is returned after them
 abbrev pub EndsUnended : {K : Type 0} → Keeps K → Records K → FileFault → Type 0
 EndsUnended keeps state fault = (limit : ℕ) (records : Lines) → HasCounted keeps state limit records → IsNoEndOf records fault
 
@@ -88,25 +89,26 @@ pub record IsReading {K : Type 0} (keeps : Keeps K) (reading : Reading K) (limit
   pub partial_is : reading.partial.items ≡ open_line text
   pub short : length (open_line text) ≤ 81
 
--- the text is one of a file of at most this many records, and this is returned of it
+-- the text is the text of a file of at most this many records, and this is returned for it
 pub record IsEndedText {K : Type 0} (keeps : Keeps K) (limit : ℕ) (text : List ℕ) (ended : Ended K) : Type 0 where
   pub records : Lines
   pub is_text : IsFileText limit text records
   pub of_records : IsEnded keeps records ended
 
--- what was read is the text of a file, and this is returned of it
+-- what was read is the text of a file, and this is returned for it
 abbrev pub EndsBy : {K : Type 0} → Keeps K → Reading K → Ended K → Type 0
 EndsBy keeps reading ended = (limit : ℕ) (text : List ℕ) → IsReading keeps reading limit text → IsEndedText keeps limit text ended
 
--- memory was wanting at the record of this number: one of these, within the limit, and some file begins with those up to it
+-- memory ran out at the record of this number: one of these, within the limit, and some file begins
+-- with the records up to it
 pub record WantsMemoryAt (limit : ℕ) (records : Lines) (number : ℕ) : Type 0 where
   pub some : 0 < number
   pub one : number ≤ length records
   pub within : number ≤ limit
   pub sound : BeginsFile (take number records)
 
--- the fault's cause is the cause of the first complete record at fault; or memory ran out at a record whose line feed came, and none up to it
--- is at fault
+-- the fault's cause is the cause of the first complete record at fault; or memory ran out at a
+-- record whose line feed came, and no record up to it is at fault
 abbrev pub IsToldSoFar : ℕ → List ℕ → ℕ → Option model.FileCause → Type 0
 IsToldSoFar limit text number None = WantsMemoryAt limit (told_lines text) number
 IsToldSoFar limit text number (Some cause) = IsFaultSoFar limit text (record { number = number; cause = cause })
@@ -114,7 +116,8 @@ IsToldSoFar limit text number (Some cause) = IsFaultSoFar limit text (record { n
 abbrev pub IsFaultTold : ℕ → List ℕ → FileFault → Type 0
 IsFaultTold limit text fault = IsToldSoFar limit text fault.number (cause_meant fault.cause)
 
--- the fault is the text's; or memory was wanting at one of its records, and none up to it is at fault
+-- the fault is the text's; or memory ran out at one of its records, and no record up to it is at
+-- fault
 abbrev pub IsCauseOf : ℕ → List ℕ → ℕ → Option model.FileCause → Type 0
 IsCauseOf limit text number None = WantsMemoryAt limit (lines_of text) number
 IsCauseOf limit text number (Some cause) = IsFileFault limit text (record { number = number; cause = cause })
@@ -141,55 +144,58 @@ pub record WasFed (parser : ParserState) : Type 0 where
   pub text : List ℕ
   pub read : HasRead parser limit text
 
--- the text is one of a file of at most this many records, and what was read is made of those
+-- the text is the text of a file of at most this many records, and what was read is made of these
+-- records
 pub record IsOfFileText (file : FileRead) (limit : ℕ) (text : List ℕ) : Type 0 where
   pub records : List (List ℕ)
   pub is_text : IsFileText limit text records
   pub of_records : IsOfRecords file records
 
--- the text is one of a file of at most this many records, and the counts are the file's
+-- the text is the text of a file of at most this many records, and the counts are the counts of the
+-- file
 pub record IsCountOfFileText (count : FileCounted) (limit : ℕ) (text : List ℕ) : Type 0 where
   pub records : List (List ℕ)
   pub is_text : IsFileText limit text records
   pub of_records : IsCountOfRecords count records
 
--- the parser answered this fault
+-- the parser returned this fault
 abbrev pub HasFailed : ParserState → FileFault → Type 0
 HasFailed parser fault = parser.fault ≡ Some fault
 
--- the parser answered no fault
+-- the parser returned no fault
 abbrev pub HasNotFailed : ParserState → Type 0
 HasNotFailed parser = (fault : FileFault) → ¬ HasFailed parser fault
 
--- no text that was read before completes the record of the fault; and it is out of memory only if memory may run out
+-- no text that was read before completes the record of the fault; and memory ran out only if it may
 abbrev pub IsLater : {K : Type 0} → Keeps K → Type 0 → Reading K → FileFault → Type 0
 IsLater keeps wants reading fault =
     (limit : ℕ) (text : List ℕ) → IsReading keeps reading limit text → (lines_told text < fault.number) × (fault.cause ≡ Memory → wants)
 
--- and so for a parser that answered no fault: no text before this call completes the record
+-- like `IsLater`, for a parser that returned no fault: no text before this call completes the
+-- record
 abbrev pub NamesLater : ParserState → FileFault → Type 0
 NamesLater parser fault = HasNotFailed parser → (limit : ℕ) (text : List ℕ) → HasRead parser limit text → lines_told text < fault.number
 
--- where memory was wanting, it was at the last record of the text that was read
+-- if memory ran out, it ran out at the last record of the text that was read
 abbrev pub IsLast : {K : Type 0} → Keeps K → Reading K → FileFault → Type 0
 IsLast keeps reading fault = fault.cause ≡ Memory → (limit : ℕ) (text : List ℕ) → IsReading keeps reading limit text → fault.number ≡ length (lines_of text)
 
--- and so for a parser that answered no fault
+-- like `IsLast`, for a parser that returned no fault
 abbrev pub NamesLast : ParserState → FileFault → Type 0
 NamesLast parser fault =
     HasNotFailed parser → fault.cause ≡ Memory → (limit : ℕ) (text : List ℕ) → HasRead parser limit text → fault.number ≡ length (lines_of text)
 
--- ---- of each limit on records and each text that may have been read under it
+-- ---- for each limit on records and each text that may have been read under it
 
--- what was read before, and then these bytes, is what was read after them
+-- what was read before, followed by these bytes, is what was read after them
 abbrev pub GoesOn : (ℕ → List ℕ → Type 0) → List ℕ → (ℕ → List ℕ → Type 0) → Type 0
 GoesOn before bytes after = (limit : ℕ) (text : List ℕ) → before limit text → after limit (text ++ bytes)
 
--- with these bytes after it the text has this fault
+-- with these bytes after it, the text has this fault
 abbrev pub TellsFault : (ℕ → List ℕ → Type 0) → List ℕ → FileFault → Type 0
 TellsFault before bytes fault = (limit : ℕ) (text : List ℕ) → before limit text → IsFaultTold limit (text ++ bytes) fault
 
--- it has none
+-- with these bytes after it, the text has no fault
 abbrev pub TellsNoFault : (ℕ → List ℕ → Type 0) → List ℕ → Type 0
 TellsNoFault before bytes =
     (limit : ℕ) (text : List ℕ) → before limit text → (fault : model.FileFault) → ¬ IsFaultSoFar limit (text ++ bytes) fault

@@ -33,7 +33,8 @@ abbrev pub header_of : Lines → Option (List ℕ)
 header_of [] = None
 header_of (first ∷ records) = Some first
 
--- a schedule is being read: its lines, which are kept with the first as new, and what stands before them, whose changes were made
+-- a schedule is being read; its lines are kept, with the first as new, and the changes of the
+-- records before it were made
 pub record IsOpen {K : Type 0} (keeps : Keeps K) (opened : Opened) (keeper : K) (place : law.Place) (records : Lines) : Type 0 where
   pub stage : Stage
   pub lines : Lines
@@ -46,21 +47,21 @@ pub record IsOpen {K : Type 0} (keeps : Keeps K) (opened : Opened) (keeper : K) 
   pub progress_is : HasLines (progress_meant opened.progress) lines
   pub kept : keeps keeper (with_new_first lines) (changes before)
 
--- the place that the code has is the records' place, and the changes were made
+-- the stage of the code is the place of the records, and their changes were made
 abbrev pub IsKept : {K : Type 0} → Keeps K → FileStage → K → law.Place → Lines → Type 0
 IsKept keeps BeforeHeader keeper place records = (place ≡ before_header) × keeps keeper [] (changes records)
 IsKept keeps BetweenUnits keeper place records = (place ≡ between_units) × keeps keeper [] (changes records)
 IsKept keeps (InSchedule opened) keeper place records = IsOpen keeps opened keeper place records
 IsKept keeps AfterEnd keeper place records = (place ≡ after_end) × keeps keeper [] (changes records)
 
--- the reader has taken these records, with which some file begins
+-- the reader has taken these records, and some file begins with them
 pub record HasRecords {K : Type 0} (keeps : Keeps K) (front : Front K) (records : Lines) : Type 0 where
   pub place : law.Place
   pub at : IsPlaceOf records place
   pub header_is : front.header ≡ header_of records
   pub kept_are : IsKept keeps front.stage front.keeper place records
 
--- all units of the records are whole, and their changes were made: what begins anew may follow
+-- all units of the records are whole, and their changes were made: a new unit may follow
 pub record IsOver {K : Type 0} (keeps : Keeps K) (front : Front K) (records : Lines) : Type 0 where
   pub place : law.Place
   pub at : IsPlaceOf records place
@@ -69,27 +70,29 @@ pub record IsOver {K : Type 0} (keeps : Keeps K) (front : Front K) (records : Li
   pub kept : keeps front.keeper [] (changes records)
   pub anew : (line : List ℕ) → follows_basic (kind_of line) ≡ false → next_place place line ≡ next_place between_units line
 
--- a line does not go on with a file that begins with the records, for this cause
+-- no file begins with the records and then this line, for this cause
 pub record IsNoNext (records : Lines) (line : List ℕ) (cause : fault.FileCause) : Type 0 where
   pub place : law.Place
   pub at : IsPlaceOf records place
   pub nowhere : next_place place line ≡ None
   pub is : (limit : ℕ) → length records < limit → cause_of limit (length records) place line ≡ cause
 
--- a line goes on with some file that begins with the records
+-- some file begins with the records and then this line
 abbrev pub GoesOnWith : Lines → List ℕ → Type 0
 GoesOnWith records line = (next : law.Place) × IsPlaceOf (records ++ line ∷ []) next
 
--- a cause that was answered; memory ran out only if it may, and for a line that goes on
+-- a cause that was returned for a line; memory ran out only if it may, and for a line that can
+-- follow
 abbrev pub IsNoNextCause : Type 0 → Lines → List ℕ → Option fault.FileCause → Type 0
 IsNoNextCause wants records line None = wants × GoesOnWith records line
 IsNoNextCause wants records line (Some cause) = IsNoNext records line cause
 
--- the lines are a whole schedule, as its progress says
+-- the lines are a whole schedule, by its progress
 abbrev pub IsWholeBy : Opened → Type 0
 IsWholeBy opened = (lines : Lines) → HasLines (progress_meant opened.progress) lines → IsSchedule lines
 
--- the records end in lines of a schedule that goes on with this one, and then stands so
+-- the records end in lines of a schedule, and the schedule goes on with this line; `opened` is the
+-- schedule with it
 pub record StandsBefore {K : Type 0} (keeps : Keeps K) (front : Front K) (opened : Opened) (line : List ℕ) (records : Lines) : Type 0 where
   pub is : IsRecord line
   pub follows : follows_basic (kind_of line) ≡ true
@@ -106,7 +109,7 @@ pub record StandsBefore {K : Type 0} (keeps : Keeps K) (front : Front K) (opened
   pub goes_on : BeginsSchedule (lines ++ line ∷ [])
   pub kept : keeps front.keeper (with_new_first lines) (changes before)
 
--- a schedule that is being read has the line after those that it had
+-- the schedule that is being read has the line after its earlier ones
 abbrev pub GoesOnTo : Opened → List ℕ → FileStage → Type 0
 GoesOnTo old line BeforeHeader = ⊥
 GoesOnTo old line BetweenUnits = ⊥
@@ -115,25 +118,25 @@ GoesOnTo old line AfterEnd = ⊥
 
 -- ---- what the reader does with a line
 
--- it has the line after the records that it had
+-- the reader has the line after its earlier records
 abbrev pub TakesLine : {K : Type 0} → Keeps K → Front K → List ℕ → Front K → Type 0
 TakesLine keeps old line new = (records : Lines) → HasRecords keeps old records → HasRecords keeps new (records ++ line ∷ [])
 
--- and so for a line whose number counts those records and it
+-- like `TakesLine`, if the line's number is one more than the number of the earlier records
 abbrev pub TakesNext : {K : Type 0} → Keeps K → Front K → ℕ → List ℕ → Front K → Type 0
 TakesNext keeps old number line new =
     (records : Lines) → HasRecords keeps old records → number ≡ length records + 1 → HasRecords keeps new (records ++ line ∷ [])
 
--- and so for a line that begins a unit after whole units
+-- like `TakesNext`, for a line that begins a unit after whole units
 abbrev pub BeginsAnew : {K : Type 0} → Keeps K → Front K → ℕ → List ℕ → Front K → Type 0
 BeginsAnew keeps old number line new =
     (records : Lines) → IsOver keeps old records → number ≡ length records + 1 → HasRecords keeps new (records ++ line ∷ [])
 
--- it answered this cause for a line, which is why the line does not go on with the records that it has
+-- the reader returned this cause for a line: it is why the line can't follow the records so far
 abbrev pub RefusesLine : {K : Type 0} → Keeps K → Type 0 → Front K → List ℕ → FileCause → Type 0
 RefusesLine keeps wants front line cause = (records : Lines) → HasRecords keeps front records → IsNoNextCause wants records line (cause_meant cause)
 
--- the same where those records are no file
+-- like `RefusesLine`, if the records so far are no file
 abbrev pub RefusesUnended : {K : Type 0} → Keeps K → Type 0 → Front K → List ℕ → FileCause → Type 0
 RefusesUnended keeps wants front line cause =
     (records : Lines) → HasRecords keeps front records → ¬ IsFile records → IsNoNextCause wants records line (cause_meant cause)

@@ -13,42 +13,43 @@ use Rattle.cif_file.specs.FileRead.{FileRead, FileCounted}
 use Rattle.cif_file.specs.KeeperRead.{Keeps}
 use Rattle.cif_file.specs.ParserRead.{IsOfFileText, IsCountOfFileText, IsEndedText, WantsMemoryAt}
 
--- a source that can name its bytes held this text
+-- the source held this text, if it can name its bytes
 abbrev pub Held : Option (List ℕ) → List ℕ → Type 0
 Held None text = ⊤
 Held (Some left) text = left ≡ text
 
--- the file is of a text that the source held, within the limit on records
+-- the source held the text of this file, which is within the limit on records
 pub record ReadsText (limit : ℕ) (left : Option (List ℕ)) (file : FileRead) : Type 0 where
   pub text : List ℕ
   pub held : Held left text
   pub of_text : IsOfFileText file limit text
 
--- the counts are right for a file whose text the source held, within the limit on records
+-- the source held the text of a file within the limit on records, and these are its counts
 pub record CountsText (limit : ℕ) (left : Option (List ℕ)) (count : FileCounted) : Type 0 where
   pub text : List ℕ
   pub held : Held left text
   pub of_text : IsCountOfFileText count limit text
 
--- and so is what a reader returns of a file
+-- the source held the text of a file within the limit on records, and a reader returns this for it
 pub record ReadsEnded {K : Type 0} (keeps : Keeps K) (limit : ℕ) (left : Option (List ℕ)) (ended : Ended K) : Type 0 where
   pub text : List ℕ
   pub held : Held left text
   pub of_text : IsEndedText keeps limit text ended
 
--- the fault is this text's, and isn't out of memory
+-- the fault is this text's, and its cause isn't out of memory
 pub record IsFaultOf (limit : ℕ) (text : List ℕ) (fault : FileFault) : Type 0 where
   pub cause : FileCause
   pub cause_is : cause_meant fault.cause ≡ Some cause
   pub is : IsFileFault limit text (record { number = fault.number; cause = cause })
 
--- the fault is one of a text that the source held
+-- the fault belongs to a text that the source held
 pub record RefusesText (limit : ℕ) (left : Option (List ℕ)) (fault : FileFault) : Type 0 where
   pub text : List ℕ
   pub held : Held left text
   pub is : IsFaultOf limit text fault
 
--- what was read has no record at fault so far before its last piece, which has at most this many bytes
+-- what was read before its last piece has no record at fault so far, and that piece has at most
+-- this many bytes
 pub record ReadsNoFurther (most limit : ℕ) (old new : Option (List ℕ)) : Type 0 where
   pub before : List ℕ
   pub piece : List ℕ
@@ -56,7 +57,8 @@ pub record ReadsNoFurther (most limit : ℕ) (old new : Option (List ℕ)) : Typ
   pub at_once : length piece ≤ most
   pub read : Reads old (before ++ piece) new
 
--- memory ran out at a record that only the last piece, of at most this many bytes, completes, and no record up to it is at fault
+-- memory ran out at a record that only the last piece completes, no record up to it is at fault,
+-- and the piece has at most this many bytes
 pub record WantsRecord (most limit : ℕ) (old new : Option (List ℕ)) : Type 0 where
   pub before : List ℕ
   pub piece : List ℕ
@@ -66,17 +68,19 @@ pub record WantsRecord (most limit : ℕ) (old new : Option (List ℕ)) : Type 0
   pub first : lines_told before < number
   pub wanting : WantsMemoryAt limit (told_lines (before ++ piece)) number
 
--- memory was wanting for the last record of a text that the source held, and no record of it is at fault
+-- memory ran out for the last record of a text that the source held, and no record of the text is
+-- at fault
 pub record WantsLast (limit : ℕ) (left : Option (List ℕ)) : Type 0 where
   pub text : List ℕ
   pub held : Held left text
   pub wanting : WantsMemoryAt limit (lines_of text) (length (lines_of text))
 
--- memory was wanting: before a byte was read; or, where memory may be wanting for a record, for one up to which none is at fault, or for the last one of such
--- a text
+-- memory ran out before a byte was read; or, if it may run out for a record: for one up to which
+-- none is at fault, or for the last one of such a text
 abbrev pub WantsMemoryBy : Type 0 → ℕ → ℕ → Option (List ℕ) → Option (List ℕ) → Type 0
 WantsMemoryBy wants most limit old new = Reads old [] new ⊎ (wants × (WantsRecord most limit old new ⊎ WantsLast limit old))
 
--- memory was wanting: before a byte was read, for a record up to which none is at fault, or for the last one of such a text
+-- memory ran out: before a byte was read, for a record up to which none is at fault, or for the
+-- last one of such a text
 abbrev pub WantsMemory : ℕ → ℕ → Option (List ℕ) → Option (List ℕ) → Type 0
 WantsMemory most limit old new = Reads old [] new ⊎ WantsRecord most limit old new ⊎ WantsLast limit old

@@ -1,4 +1,5 @@
--- Records that begin a unit, after the header or a whole unit, and the changes of those that are units by themselves.
+-- Records that begin a unit, after the header or after a whole unit, and the changes of the ones
+-- that are units by themselves.
 use Rattle.std.specs.Prelude.{◌≡◌, ℕ, List}
 use Rattle.docker_model.specs.records.Record.{Kind, HasKind, IsRecord, tiploc_insert, tiploc_amend, tiploc_delete, association, basic_schedule, trailer}
 use Rattle.docker_model.specs.records.Field.{HasGoodFields}
@@ -21,19 +22,19 @@ line_of_single (TiplocAmend line) = line
 line_of_single (TiplocDelete line) = line
 line_of_single (Association line) = line
 
--- what begins anew is this line, by its kind
+-- this line begins this unit, by its kind
 abbrev pub IsUnitByKind : List ℕ → Unit → Type 0
 IsUnitByKind line (unit.Single single) = (line_of_single single ≡ line) × HasKind (kind_of_single single) line
 IsUnitByKind line (unit.Schedule view) = (view ≡ line) × HasKind basic_schedule line
 IsUnitByKind line unit.Trailer = HasKind trailer line
 
--- what begins anew is this line, a record whose checked fields are good
+-- this line begins this unit, and is a record whose checked fields are good
 pub record IsUnitOf (line : List ℕ) (unit : Unit) : Type 0 where
   pub is : IsRecord line
   pub good_fields : HasGoodFields line
   pub by_kind : IsUnitByKind line unit
 
--- what begins anew is some such line
+-- some such line begins this unit
 pub record IsOfSome (unit : Unit) : Type 0 where
   pub line : List ℕ
   pub of : IsUnitOf line unit

@@ -1,4 +1,4 @@
-//! A file that was judged, and not kept.
+//! A file that was judged but not kept.
 ghost use Rattle.std.specs.Prelude.{◌≡◌};
 ghost use Rattle.cif_file.specs.FileRead.{IsCounted};
 
@@ -6,7 +6,7 @@ use crate::header_line::HeaderLine;
 use cif_line::Header;
 use std::marker::Model;
 
-/// What a CIF file has: its header, and how many records and changes.
+/// What a CIF file has: its header, and how many records and changes there are.
 #[derive(Debug, Drop)]
 pub struct FileCount {
     header: HeaderLine,
@@ -60,7 +60,7 @@ impl FileCount {
         self.header.view()
     }
 
-    /// How many records the file has, the header and the trailer among them.
+    /// How many records the file has, including the header and the trailer.
     pub fn records(&self) -> u32
         ensures count { result ≡ self.now.record_count }
         ensures counted { IsCounted self.now }

@@ -11,7 +11,7 @@ use crate::made::Made;
 use crate::parts::FileParts;
 use crate::tally::Tally;
 
-/// A file whose trailer was read: its header, how many records there are, and what was kept of them.
+/// A file whose trailer was read: its header, the number of its records, and what was kept of them.
 #[derive(Debug, Drop)]
 pub(crate) struct Ended<K> {
     pub(crate) header: HeaderLine,

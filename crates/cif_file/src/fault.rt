@@ -1,4 +1,4 @@
-//! Why a text is no file, and why none was read.
+//! Why a text isn't a file, and why no file was read from a source.
 ghost use Rattle.std.specs.Prelude.{◌≡◌, Some};
 ghost use Rattle.cif_file.specs.FaultText.{fault_text, read_fault_text};
 
@@ -6,7 +6,7 @@ use cif_journey::FileCause;
 use std::error::Error;
 use std::fmt;
 
-/// A record at which a text is found to be no file, or at which memory was wanting.
+/// The record at which a text is found not to be a file, or at which memory ran out.
 #[derive(Clone, Copy, PartialEq, Eq, Debug)]
 pub struct FileFault {
     /// The number of the record, from 1.
@@ -30,9 +30,9 @@ impl Error for FileFault {}
 pub enum ReadFault {
     /// The source failed.
     Source,
-    /// What the source holds is no text of a file. The cause is never `Memory`.
+    /// What the source holds isn't the text of a file. The cause is never `Memory`.
     File(FileFault),
-    /// A growth was refused: out of memory. No record that was judged before is at fault.
+    /// A growth was refused: out of memory. No record that was judged before that is at fault.
     Memory,
 }
 

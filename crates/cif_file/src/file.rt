@@ -34,7 +34,7 @@ impl CifFile {
         self.parts.header.view()
     }
 
-    /// How many records the file has, the header and the trailer among them.
+    /// How many records the file has, including the header and the trailer.
     pub fn records(&self) -> u32
         ensures count { result ≡ self.now.record_count }
         ensures read { IsRead self.now }
@@ -58,7 +58,7 @@ impl CifFile {
         changes
     }
 
-    /// The file, taken apart.
+    /// Takes the file apart.
     pub fn into_parts(self) -> FileParts
         ensures file { file_of_parts result ≡ self }
         ensures parts { ArePartsOfFile result }
@@ -69,7 +69,7 @@ impl CifFile {
 }
 
 impl FileParts {
-    /// The file again.
+    /// The file that these parts make up.
     pub fn into_file(self) -> CifFile
         requires { ArePartsOfFile self }
         ensures { result ≡ file_of_parts self }

@@ -27,14 +27,14 @@ pub(crate) enum FileStage {
     BeforeHeader,
     /// After its header, or after a whole unit.
     BetweenUnits,
-    /// Behind these lines of a schedule.
+    /// After these lines of a schedule.
     InSchedule(Opened),
-    /// Behind its trailer.
+    /// After its trailer.
     AfterEnd,
 }
 
 impl FileStage {
-    /// Goes on with one more line of the schedule that is being read.
+    /// Advances past one more line of the schedule that is being read.
     fn advance(&mut self, kind: Kind, line: &Line) -> Result<(), FileCause>
         requires record { IsRecord line.now }
         requires kind { HasKind (meaning kind) line.now }
@@ -51,7 +51,8 @@ impl FileStage {
         }
     }
 
-    /// The schedule that is being read, if its journey is whole, so that no schedule goes on after its lines.
+    /// The schedule that is being read, if its journey is whole: no schedule has more lines after
+    /// these.
     fn over(&self) -> Option<Opened>
         ensures { (opened : Opened) → self.now ≡ FileStage.InSchedule opened →
             MatchOption result (is_over_by (progress_meant opened.progress).stage ≡ false)
@@ -113,7 +114,8 @@ impl<K: Keeper> Front<K> {
         }
     }
 
-    /// The file that the records are, if the trailer was read; `count` is how many there are.
+    /// The file that the records make up, if the trailer was read. `count` is the number of
+    /// records.
     pub(crate) fn into_ended(self, count: u32) -> Option<Ended<K>>
         ensures { (records : List (List ℕ)) → HasRecords K.keeps self records →
             count ≡ length records → MatchOption result (¬ IsFile records)
@@ -139,7 +141,7 @@ impl<K: Keeper> Front<K> {
         }
     }
 
-    /// Takes the next record, which has this number.
+    /// Takes the next record, whose number is `number`.
     pub(crate) fn take(&mut self, number: u32, line: &Line) -> Result<(), FileCause>
         ensures read { OnOk result (TakesNext K.keeps self.old number line.now self.new) }
         ensures err { IfErr result (RefusesUnended K.keeps K.wants self.old line.now) }
@@ -211,7 +213,7 @@ impl<K: Keeper> Front<K> {
         Ok(())
     }
 
-    /// Takes a line that may go on with the schedule.
+    /// Takes a line that may continue the schedule.
     fn follow(&mut self, kind: Kind, line: &Line) -> Result<(), FileCause>
         requires record { IsRecord line.now }
         requires kind { HasKind (meaning kind) line.now }
@@ -230,7 +232,7 @@ impl<K: Keeper> Front<K> {
         }
     }
 
-    /// Adds a line of the schedule, which comes next.
+    /// Adds the next line of the schedule.
     fn add_line(&mut self, line: &Line) -> Result<(), AllocError>
         ensures read { (opened : Opened) → self.old.stage ≡ FileStage.InSchedule opened →
             (records : List (List ℕ)) →

@@ -11,8 +11,9 @@ use crate::tally::Tally;
 use cif_line::Source;
 use std::alloc::Global;
 
-/// Reads a source to its end as [`read_file`](crate::read_file) does, and answers how many records and changes the file has whose text it held. It keeps none
-/// of them, so that memory is wanting before it reads, or never.
+/// Reads a source to its end, as [`read_file`](crate::read_file) does. Returns how many records and
+/// changes the file has whose text the source held. It keeps none of them, so it can run out of
+/// memory only before it reads.
 pub fn judge_file<S: Source>(
     alloc: Global,
     source: &mut S,

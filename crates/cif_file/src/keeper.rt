@@ -10,13 +10,13 @@ use crate::single::Single;
 use cif_line::Line;
 use std::alloc::AllocError;
 
-/// What a reader keeps of a file's records, beside the header and their number. It is given the records that make
-/// changes, in their order.
+/// What a reader keeps of a file's records, besides the header and their number. It receives the
+/// records that make changes, in their order.
 pub(crate) trait Keeper: Drop + Sized {
     // it keeps these lines of the schedule that is being read, and these changes
     ghost keeps: { Self → List (List ℕ) → List Change → Type 0 };
 
-    // it may want memory
+    // it may run out of memory
     ghost wants: { Type 0 };
 
     /// Adds a line of the schedule that is being read.

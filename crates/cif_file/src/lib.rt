@@ -1,5 +1,5 @@
-//! The reader of CIF files: the whole grammar, in any pieces, with the exact fault of every other text.
-//! Changes and the reader of a schedule's lines are handed on from the crates below.
+//! The reader of CIF files. It reads the whole grammar, in any pieces, and finds the exact fault of
+//! every other text. Re-exports changes and the reader of a schedule's lines from the crates below.
 #![tactic(auto)]
 
 mod count;

@@ -7,7 +7,7 @@ use cif_change::Change;
 use cif_places::Notes;
 use std::alloc::{AllocError, Global};
 
-/// The changes that were made, and what was noted of the places that they name.
+/// The changes that were made, and the notes of the places that they name.
 #[derive(Debug, Drop)]
 pub(crate) struct Made {
     pub(crate) changes: Vec<Change>,
@@ -25,7 +25,7 @@ impl Made {
         }
     }
 
-    /// Appends a change, whose places are noted while its lines are at hand.
+    /// Appends a change, and notes its places while its lines are at hand.
     pub(crate) fn push(&mut self, change: Change) -> Result<(), AllocError>
         ensures { OnOk result (Makes self.old (change_meant change ∷ []) self.new) }
     {

@@ -12,7 +12,7 @@ use crate::keeper::Keeper;
 use cif_journey::FileCause;
 use cif_line::{Line, LineFault};
 
-/// The line that bytes are.
+/// The bytes as a line.
 fn line_of(bytes: &[u8]) -> Result<Line, FileCause>
     ensures ok { IfOk result (λ line. (line ≡ bytes.now) × IsRecord bytes.now) }
     ensures err { (place : Place) →
@@ -26,7 +26,7 @@ fn line_of(bytes: &[u8]) -> Result<Line, FileCause>
     }
 }
 
-/// Takes the next record, which has this number within the limit.
+/// Takes the next record. Its number is `number`, which is within the limit.
 pub(crate) fn take_within<K: Keeper>(
     front: &mut Front<K>,
     number: u32,

@@ -12,7 +12,8 @@ use cif_journey::{FileCause, Progress, behind_basic};
 use cif_line::{Basic, Kind, Line};
 use std::alloc::{AllocError, Global};
 
-/// A schedule whose lines are being read: the number of its basic schedule, its key, and how far it has come.
+/// A schedule whose lines are being read: the number of its basic schedule, its key, and how far it
+/// was read.
 #[derive(Clone, Copy, PartialEq, Eq, Debug)]
 pub(crate) struct Opened {
     pub number: u32,
@@ -21,7 +22,7 @@ pub(crate) struct Opened {
 }
 
 impl Opened {
-    /// Goes on with one more line. A refused line changes nothing.
+    /// Advances past one more line. A refused line changes nothing.
     pub(crate) fn advance(&mut self, kind: Kind, line: &Line) -> Result<(), FileCause>
         requires record { IsRecord line.now }
         requires kind { HasKind (meaning kind) line.now }
@@ -48,7 +49,7 @@ impl Opened {
         }
     }
 
-    /// The change that the schedule makes, of these lines.
+    /// The change that the schedule makes with these lines.
     pub(crate) fn change(self, alloc: Global, lines: &[Line]) -> Result<Change, AllocError>
         ensures { IfOk result (λ change. change_meant change ≡ record {
           number = self.number;
@@ -69,7 +70,7 @@ impl Opened {
     }
 }
 
-/// The lines, in memory of just their size.
+/// A copy of the lines, in memory of just their size.
 fn body_of(alloc: Global, lines: &[Line]) -> Result<Lines, AllocError>
     ensures { IfOk result (λ body. body ≡ lines.now) }
 {
@@ -78,7 +79,7 @@ fn body_of(alloc: Global, lines: &[Line]) -> Result<Lines, AllocError>
     Ok(Lines::of(body))
 }
 
-/// The schedule that a basic schedule begins, which has this number.
+/// The schedule that this basic schedule begins. `number` is the number of its record.
 pub(crate) fn opened_schedule(number: u32, view: &Basic<'_>) -> Opened
     requires { is_first_line view.now ≡ true }
     ensures number { result.number ≡ number }
@@ -92,7 +93,7 @@ pub(crate) fn opened_schedule(number: u32, view: &Basic<'_>) -> Opened
     }
 }
 
-/// What the schedule of a basic schedule is known by.
+/// The key of the schedule that this basic schedule begins.
 fn schedule_key(view: &Basic<'_>) -> ScheduleKey
     ensures { key_meant (Key.Schedule result) ≡ schedule_named view.now }
 {

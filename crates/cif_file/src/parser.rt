@@ -17,14 +17,14 @@ use std::marker::Model;
 /// The most bytes of an unfinished line that are kept: a record and a carriage return.
 const MOST_PARTIAL: usize = 81;
 
-/// The records of a file so far, and the bytes of a line whose end didn't come yet.
+/// The records of a file so far, and the bytes of a line whose end hasn't come yet.
 #[derive(Debug, Drop)]
 pub(crate) struct Reading<K> {
     records: Records<K>,
     partial: ArrayVec<u8, MOST_PARTIAL>,
 }
 
-/// Appends bytes to an open line, if it stays within what is kept.
+/// Appends bytes to an open line, if the line then has no more bytes than are kept.
 fn extend(partial: &mut ArrayVec<u8, MOST_PARTIAL>, more: &[u8]) -> bool
     ensures fits { IsTrue result ↔ (length partial.old.items + length more.now ≤ 81) }
     ensures items { IsTrue result → partial.new.items ≡ partial.old.items ++ more.now }
@@ -95,7 +95,7 @@ impl<K: Keeper> Reading<K> {
         self.keep(rest)
     }
 
-    /// The file that the bytes are.
+    /// The file that the bytes make up.
     pub(crate) fn end(self) -> Result<Ended<K>, FileFault>
         ensures ok { IfOk result (EndsBy K.keeps self) }
         ensures err { IfErr result (EndsInFault (IsReading K.keeps self)) }
@@ -116,7 +116,8 @@ impl<K: Keeper> Reading<K> {
     }
 }
 
-/// A parser of one file, which comes in pieces of any length. It keeps the changes of the records so far, and a line whose end didn't come yet.
+/// A parser of one file, which comes in pieces of any length. It keeps the changes of the records
+/// so far, and the bytes of a line whose end hasn't come yet.
 #[derive(Debug, Drop)]
 pub struct FileParser {
     reading: Reading<Kept>,
@@ -135,7 +136,7 @@ impl Model for FileParser {
 }
 
 impl FileParser {
-    /// A parser of a file of at most `limit` records, which is no more than [`MOST_RECORDS`].
+    /// A parser of a file of at most `limit` records. The limit is at most [`MOST_RECORDS`].
     pub fn new(alloc: Global, limit: u32) -> FileParser
         requires { limit ≤ MOST_RECORDS }
         ensures { HasRead result limit [] }
@@ -146,9 +147,10 @@ impl FileParser {
         }
     }
 
-    /// Takes the next bytes of the file. Fails as soon as a bad record's line feed or 82nd byte has arrived, with that record's fault; or if
-    /// memory runs out, at the record that needed it, and then no record up to it is at fault. No earlier call could have reported that record. Each later call
-    /// answers the same fault and takes nothing.
+    /// Takes the next bytes of the file. Fails as soon as a bad record's line feed or 82nd byte has
+    /// arrived, with that record's fault. Also fails if memory runs out, at the record that needed
+    /// it, and then no record up to it is at fault. No earlier call could have reported that
+    /// record. Each later call returns the same fault and takes nothing.
     pub fn feed(&mut self, piece: &[u8]) -> Result<(), FileFault>
         ensures read { GoesOn (HasRead self.old) piece.now (HasRead self.new) }
         ensures ok { OnOk result (TellsNoFault (HasRead self.old) piece.now) }
@@ -171,7 +173,8 @@ impl FileParser {
         }
     }
 
-    /// The file that the bytes are, or their fault; or out of memory, at the last record, if none is at fault. After a fault of `feed` it is that fault.
+    /// The file that the bytes make up, or their fault. Or out of memory, at the last record, if no
+    /// record is at fault. After a fault of `feed`, returns that fault.
     pub fn finish(self) -> Result<CifFile, FileFault>
         ensures ok { IfOk result (EndsAs (HasRead self)) }
         ensures err { IfErr result (EndsInFault (HasRead self)) }

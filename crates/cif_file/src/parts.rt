@@ -10,6 +10,6 @@ pub struct FileParts {
     pub(crate) records: u32,
     /// The changes that its records make, in their order.
     pub changes: Vec<Change>,
-    /// The places that the changes name, which were noted as the records were read.
+    /// The places that the changes name. They were noted as the records were read.
     pub notes: Notes,
 }

@@ -9,7 +9,7 @@ use crate::parser::FileParser;
 use crate::records::MOST_RECORDS;
 use std::alloc::Global;
 
-/// The file of at most `limit` records that the pieces are, joined.
+/// The file, of at most `limit` records, that the joined pieces make up.
 pub fn read_pieces(alloc: Global, pieces: &[&[u8]], limit: u32) -> Result<CifFile, FileFault>
     requires { limit ≤ MOST_RECORDS }
     ensures ok { IfOk result (λ file.

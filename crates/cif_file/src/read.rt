@@ -16,8 +16,9 @@ use cif_journey::FileCause;
 use cif_line::{FeedFault, Source, Taker, feed_all};
 use std::alloc::Global;
 
-/// Reads a source to its end, and answers the file whose text it held, of at most `limit` records. It is read no further than to the piece, of at most 65,536
-/// bytes, that has the first fault: an endless source is read at most to the piece with the record above the limit.
+/// Reads a source to its end, and returns the file whose text it held, of at most `limit` records.
+/// Reading stops after the piece that has the first fault. A piece has at most 65,536 bytes, so an
+/// endless source is read at most to the piece with the record above the limit.
 pub fn read_file<S: Source>(alloc: Global, source: &mut S, limit: u32) -> Result<CifFile, ReadFault>
     requires failures { S.failures source.old < 2 ^ 64 - 1 }
     requires limit { limit ≤ MOST_RECORDS }
@@ -58,7 +59,8 @@ impl<K: Keeper> Taker for Reading<K> {
     ghost bounded = { taken_is_bounded K.keeps };
 }
 
-/// Reads a source to its end, or to the piece that has the first fault, and returns what was kept of the file whose text it held.
+/// Reads a source to its end, or to the piece that has the first fault. Returns what was kept of
+/// the file whose text the source held.
 pub(crate) fn read_source<S: Source, K: Keeper>(
     alloc: Global,
     source: &mut S,
@@ -105,7 +107,7 @@ fn ended_of<K: Keeper>(reading: Reading<K>) -> Result<Ended<K>, ReadFault>
     }
 }
 
-/// Want of memory is a fault of its own, and each other cause is the file's.
+/// Out of memory is a fault of its own. Every other cause is a fault of the file.
 fn fault_of(fault: FileFault) -> ReadFault
     ensures memory { fault.cause ≡ FileCause.Memory → result ≡ ReadFault.Memory }
     ensures file { fault.cause ≢ FileCause.Memory → result ≡ ReadFault.File fault }

@@ -28,7 +28,7 @@ impl<K: Keeper> Records<K> {
     ghost use Rattle.cif_journey.specs.Cause.{cause_meant};
     ghost use Rattle.cif_file.specs.ParserRead.{HasCounted, CountsNext, FaultsNext, IsLongNext, EndsCounted, EndsUnended};
 
-    /// Before the first record, of `limit` at most.
+    /// Before the first record. There may be at most `limit` records.
     pub(crate) fn new(keeper: K, limit: u32) -> Records<K>
         requires limit { limit ≤ MOST_RECORDS }
         requires none { K.keeps keeper [] [] }
@@ -41,7 +41,7 @@ impl<K: Keeper> Records<K> {
         }
     }
 
-    /// Takes the next record, a line without its line end.
+    /// Takes the next record: a line without its line end.
     pub(crate) fn take(&mut self, bytes: &[u8]) -> Result<(), FileFault>
         ensures read { OnOk result (CountsNext K.keeps self.old bytes.now self.new) }
         ensures err { IfErr result (FaultsNext K.keeps K.wants self.old bytes.now) }
@@ -62,7 +62,7 @@ impl<K: Keeper> Records<K> {
         }
     }
 
-    /// The fault of a next record of more than 81 bytes.
+    /// The fault of a next record that has more than 81 bytes.
     pub(crate) fn too_long(&self) -> FileFault
         ensures { (limit : ℕ) (records : List (List ℕ)) →
             HasCounted K.keeps self.now limit records →
@@ -81,7 +81,7 @@ impl<K: Keeper> Records<K> {
         }
     }
 
-    /// The file that the records are, if they end in a trailer.
+    /// The file that the records make up, if they end in a trailer.
     pub(crate) fn finish(self) -> Result<Ended<K>, FileFault>
         ensures ok { IfOk result (EndsCounted K.keeps self) }
         ensures err { IfErr result (EndsUnended K.keeps self) }

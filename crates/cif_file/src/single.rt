@@ -12,7 +12,7 @@ use cif_change::{Act, AssocKey, Body, Change, Key};
 use cif_line::{Assoc, Tiploc, TiplocRecord, Transaction};
 use std::alloc::AllocError;
 
-/// A record that is a unit by itself, whose checked fields are good.
+/// A record that is a unit by itself. Its checked fields are good.
 #[derive(Debug, Drop)]
 pub(crate) enum Single<'a> {
     /// A TIPLOC insert (TI).
@@ -43,7 +43,8 @@ pub(crate) fn push_changes(
     }
 }
 
-/// Appends the changes that a TIPLOC amendment makes: where it changes the code, the old one is deleted.
+/// Appends the changes that a TIPLOC amendment makes. If it changes the code, the old code is
+/// deleted first.
 fn push_amended(made: &mut Made, number: u32, view: &TiplocRecord<'_>) -> Result<(), AllocError>
     requires { HasKind tiploc_amend view.now }
     ensures { OnOk result (Makes made.old
@@ -83,7 +84,7 @@ fn count_amended(view: &TiplocRecord<'_>) -> u64
     }
 }
 
-/// The code that a TIPLOC amendment changes to, if it is another one.
+/// The code that a TIPLOC amendment changes to, if it is a different one.
 fn other_code(view: &TiplocRecord<'_>) -> Option<Tiploc>
     requires { HasKind tiploc_amend view.now }
     ensures { MatchOption result (keeps_code view.now ≡ true)
@@ -144,7 +145,7 @@ fn association_change(number: u32, view: &Assoc<'_>) -> Change
     }
 }
 
-/// What an association is known by.
+/// The key of an association.
 fn association_key(view: &Assoc<'_>) -> AssocKey
     ensures { key_meant (Key.Assoc result) ≡ association_named view.now }
 {

@@ -8,7 +8,8 @@ use crate::single::{Single, count_changes};
 use cif_line::Line;
 use std::alloc::AllocError;
 
-/// How many changes a file's records have made so far. They can always be counted, because a record makes two at most.
+/// How many changes a file's records have made so far. The count never overflows, because a record
+/// makes at most two.
 #[derive(Debug, Drop)]
 pub(crate) struct Tally {
     changes: u64,

@@ -7,7 +7,7 @@ ghost use Rattle.std.specs.Str.Lines.{strip_carriage_return};
 
 use cif_line::Line;
 
-/// The bytes of a record.
+/// How many bytes a record has.
 const RECORD: usize = 80;
 
 /// The piece without the one carriage return at its end, if it has one.
@@ -20,7 +20,8 @@ pub(crate) fn without_return(piece: &[u8]) -> &[u8]
     }
 }
 
-/// Where the first line feed stands. In 80 bytes that a record may hold there is none, and they are judged sixteen at a time.
+/// Where the first line feed is. If the text begins with 80 bytes that a record may hold, those
+/// have no line feed. They are judged sixteen at a time, and the search starts after them.
 pub(crate) fn line_feed(text: &[u8]) -> Option<usize>
     ensures place { result ≡ position (λ byte. byte == 10) text.now }
 {
@@ -31,14 +32,14 @@ pub(crate) fn line_feed(text: &[u8]) -> Option<usize>
     Some(RECORD + at)
 }
 
-/// The text begins with the bytes of a record.
+/// Whether the text begins with the bytes of a record.
 fn begins_with_record(text: &[u8]) -> bool
     ensures { IsTrue result ↔ ((RECORD ≤ length text.now) × IsRecord (take RECORD text.now)) }
 {
     text.len() >= RECORD && Line::new(&text[..RECORD]).is_ok()
 }
 
-/// Where the first line feed stands, looked for byte by byte.
+/// Where the first line feed is. Searches byte by byte.
 fn first_feed(text: &[u8]) -> Option<usize>
     ensures place { result ≡ position (λ byte. byte == 10) text.now }
     ensures within { IfSome result (λ at. at < length text.now) }
@@ -46,7 +47,7 @@ fn first_feed(text: &[u8]) -> Option<usize>
     text.iter().position(|byte| *byte == b'\n')
 }
 
-/// What stands before the first line feed, and after it. None if there is no line feed.
+/// The text before the first line feed, and the text after it. None if there is no line feed.
 pub(crate) fn split_line(text: &[u8]) -> Option<(&[u8], &[u8])>
     ensures { MatchOption result (HasNoFeed text.now)
         (λ parts. IsCut text.now parts.0.now parts.1.now) }

@@ -1,4 +1,4 @@
-//! Records that begin a unit, after the header or a whole unit, read where they lie.
+//! Records that begin a unit, after the header or after a whole unit. They are read in place.
 ghost use Rattle.std.specs.Prelude.{◌≡◌, true, is_some, Some, IsErr, IfOk, IfErr};
 ghost use Rattle.docker_model.specs.records.Record.{HasKind, IsRecord, kind_of};
 ghost use Rattle.docker_model.specs.records.Field.{HasGoodFields};
@@ -12,7 +12,7 @@ use crate::single::Single;
 use cif_journey::FileCause;
 use cif_line::{Basic, Kind, Line, assoc, basic, tiploc};
 
-/// A record that begins anew, whose checked fields are good.
+/// A record that begins a unit, or the trailer. Its checked fields are good.
 #[derive(Debug, Drop)]
 pub(crate) enum Unit<'a> {
     /// A record that is a unit by itself.
@@ -23,7 +23,8 @@ pub(crate) enum Unit<'a> {
     Trailer,
 }
 
-/// The record as what begins anew; or why it can't stand there: its place, else its leftmost bad field.
+/// What the record begins. Or the cause why it can't stand there: its place, else its leftmost bad
+/// field.
 pub(crate) fn unit_of(kind: Kind, line: &Line) -> Result<Unit<'_>, FileCause>
     requires record { IsRecord line.now }
     requires kind { HasKind (meaning kind) line.now }

@@ -1,4 +1,4 @@
--- The lines that the reader of a schedule has taken, by what it keeps of them.
+-- The lines that the reader of a schedule has taken, according to what it keeps of them.
 use Rattle.std.proofs.Common.{◌≡◌, ℕ, ◌+◌, ◌≤◌, ◌<◌, Bool, true, false, cond, List, [], ◌∷◌, ◌++◌, map, subst, refl, ap, sym, ◌∙◌, Some, None, arith, append-nil, append_assoc}
 use Rattle.std.specs.Prelude.{Option, IsTrue, ◌↔◌, ◌||◌, ◌&&◌, nat_le, is_some, is_none, IsOk, OnOk, IfErr, Result, Ok, Err}
 use Rattle.std.proofs.lemmas.Bool.{false≢true, le-leb, leb-true}
@@ -30,13 +30,13 @@ Lines = List (List ℕ)
 abbrev no_stage : Option Stage
 no_stage = None
 
--- what is Some is one
+-- equal `Some` values have equal contents
 some_is : {A : Type 0} (x y : A) → Some x ≡ Some y → x ≡ y
 some_is x y same = cc
 
 -- ---- the end
 
--- lines that have a stage are a schedule exactly where it may end there
+-- lines that have a stage are a schedule if and only if a schedule may end there
 whole_iff : (lines : Lines) (stage : Stage) → stage_of lines ≡ Some stage → IsSchedule lines ↔ (may_end stage lines ≡ true)
 whole_iff lines stage at = (
   λ is.
@@ -45,7 +45,7 @@ whole_iff lines stage at = (
   λ may. (schedule_iff_stage lines).1 (stage, record { found = at; may = may }),
 )
 
--- the test by what the reader keeps
+-- the test agrees with what the reader keeps
 may_end_same : (stage : Stage) (lines : Lines) (lacking : Bool) → lacking ≡ may_lack (first_record lines)
     → may_end_by (Some stage) lacking ≡ may_end stage lines
 may_end_same after_basic lines lacking same = same
@@ -64,7 +64,7 @@ complete_iff journey lines has = by journey.stage refl
         let same = may_end_same stage lines journey.lacking has.lacking_is in
         (λ test. iff.1 (sym same ∙ test), λ is. same ∙ iff.0 is)
 
--- the lines are a schedule exactly where the reader says so
+-- the lines are a schedule if and only if the reader says so
 pub complete_by : (journey : JourneyState) (lines : Lines) (result : Bool) → result ≡ may_end_by journey.stage journey.lacking → HasLines journey lines
     → IsTrue result ↔ IsSchedule lines
 complete_by journey lines result told has =
@@ -72,12 +72,12 @@ complete_by journey lines result told has =
 
 -- ---- one more line
 
--- the stage behind one more line; a first line is a basic schedule
+-- the stage after one more line; a first line is a basic schedule
 abbrev pub next_by : Option Stage → Lines → List ℕ → Option Stage
 next_by None lines line = cond (is_first_line line) (Some after_basic) None
 next_by (Some stage) lines line = next_stage stage lines line
 
--- why there is none
+-- the cause why there is no next stage
 abbrev pub cause_by : Option Stage → List ℕ → fault.FileCause
 cause_by None line = first_line_cause line
 cause_by (Some stage) line = schedule_cause stage line
@@ -108,12 +108,12 @@ fault_by journey lines line has is nowhere = by journey.stage refl nowhere
         (subst (λ l. IsScheduleFault l line (first_line_cause line)) (sym (has.fresh h)) (first (is_first_line line) refl told))
     by (Some stage) h told = subst (λ s. IsScheduleFault lines line (cause_by s line)) (sym h) (schedule_fault lines stage line (sym has.stage_is ∙ h) is told)
 
--- a line that leads nowhere is refused for its cause
+-- a line that leads to no stage is refused for its cause
 pub refused_by : (journey : JourneyState) (lines : Lines) (line : List ℕ) (cause : fault.FileCause) → HasLines journey lines → IsRecord line
     → next_by journey.stage lines line ≡ None → cause_by journey.stage line ≡ cause → IsScheduleFault lines line cause
 refused_by journey lines line cause has is nowhere same = subst (IsScheduleFault lines line) same (fault_by journey lines line has is nowhere)
 
--- an answer that is Ok exactly where there is a next stage, and else tells the cause
+-- an answer that is `Ok` if and only if there is a next stage, and otherwise gives the cause
 pub judged_ok : {A : Type 0} (answer : Result A FileCause) (journey : JourneyState) (lines : Lines) (line : List ℕ) → HasLines journey lines → IsRecord line
     → IsOk answer ↔ (is_some (next_by journey.stage lines line) ≡ true) → IsOk answer ↔ BeginsSchedule (lines ++ line ∷ [])
 judged_ok answer journey lines line has is iff = (
@@ -130,7 +130,7 @@ judged_ok answer journey lines line has is iff = (
     from None h begins = absurd ((fault_by journey lines line has is h).here begins)
     from (Some next) h begins = iff.1 (λ i. is_some (h i))
 
--- a line that is refused is refused for the cause of its place
+-- a refused line is refused for the cause at its place
 pub judged_err : {A : Type 0} (answer : Result A FileCause) (journey : JourneyState) (lines : Lines) (line : List ℕ) (told : fault.FileCause)
     → HasLines journey lines → IsRecord line
     → IsOk answer ↔ (is_some (next_by journey.stage lines line) ≡ true) → told ≡ cause_by journey.stage line
@@ -144,7 +144,7 @@ judged_err (Err cause) journey lines line told has is iff same err =
     by None h = fault_by journey lines line has is h
     by (Some next) h = let bad = iff.1 (λ i. is_some (h i)) in absurd cc
 
--- the tests of a first line, and of a later one that stands at its place
+-- the tests of a first line, and of a later line at its place
 pub first_test : (journey : JourneyState) (lines : Lines) (line : List ℕ) → journey.stage ≡ None
     → is_some (next_by journey.stage lines line) ≡ is_first_line line
 first_test journey lines line at = (λ i. is_some (next_by (at i) lines line)) ∙ by (is_first_line line)
@@ -159,12 +159,12 @@ pub record LeadsOn (stage : Option Stage) (kind : Option Kind) (next : Stage) : 
   pub at : stage ≡ Some here
   pub after : stage_after here kind ≡ Some next
 
--- a stage behind a line of a kind comes behind a stage
+-- a stage after a line of a kind comes from an earlier stage
 pub leads_on : (stage : Option Stage) (kind : Option Kind) (next : Stage) → stage_then stage kind ≡ Some next → LeadsOn stage kind next
 leads_on None kind next led = absurd cc
 leads_on (Some here) kind next led = record { here = here; at = refl; after = led }
 
--- the test of a later line that stands at its place
+-- the test of a later line at its place
 pub next_test : (journey : JourneyState) (lines : Lines) (line : List ℕ) (next : Stage) → IsRecord line → stage_then journey.stage (kind_of line) ≡ Some next
     → is_some (next_by journey.stage lines line) ≡ is_sound_next lines line
 next_test journey lines line next is led =
@@ -177,7 +177,7 @@ next_test journey lines line next is led =
     by true = refl
     by false = refl
 
--- why a line that stands at its place is refused: its leftmost bad field, or the third midnight
+-- why a line at its place is refused: its leftmost bad field, or the third midnight
 pub next_cause : (journey : JourneyState) (line : List ℕ) (next : Stage) → stage_then journey.stage (kind_of line) ≡ Some next
     → field_cause line ≡ cause_by journey.stage line
 next_cause journey line next led =
@@ -191,11 +191,11 @@ next_cause journey line next led =
         (λ i. cond (is_none (h i)) bad_kind (cond (is_none (stage_after here (kind_of line))) bad_place (field_cause line)))
         ∙ (λ i. cond (is_none (after i)) bad_place (field_cause line))
 
--- what holds exactly where a test passes holds exactly where an equal one passes
+-- what holds if and only if a test passes holds if and only if an equal test passes
 pub iff_along : (P : Type 0) (a b : Bool) → a ≡ b → P ↔ (b ≡ true) → P ↔ (a ≡ true)
 iff_along P a b same iff = (λ p. same ∙ iff.0 p, λ test. iff.1 (sym same ∙ test))
 
--- a record of no kind, and one that has no place behind the lines so far
+-- a record of no kind, and one that can't come after the lines so far
 pub unknown_kind : (journey : JourneyState) (lines : Lines) (line : List ℕ) → HasLines journey lines → IsRecord line → kind_of line ≡ None
     → IsScheduleFault lines line fault.bad_kind
 unknown_kind journey lines line has is none = refused_by journey lines line fault.bad_kind has is (nowhere journey.stage) (cause journey.stage)
@@ -218,7 +218,7 @@ unknown_kind journey lines line has is none = refused_by journey lines line faul
     cause None = λ i. cond (is_none (none i)) bad_kind (cond (is_basic_kind (kind_of line)) (field_cause line) bad_place)
     cause (Some stage) = λ i. cond (is_none (none i)) bad_kind (cond (is_none (stage_after stage (kind_of line))) bad_place (field_cause line))
 
--- a line of a kind that has no place there
+-- a line of a kind that can't come there
 pub out_of_place : (journey : JourneyState) (lines : Lines) (line : List ℕ) (stage : Stage) (kind : Kind) → HasLines journey lines → IsRecord line
     → journey.stage ≡ Some stage → kind_of line ≡ Some kind
     → stage_after stage (Some kind) ≡ None → IsScheduleFault lines line fault.bad_place
@@ -238,7 +238,7 @@ out_of_place journey lines line stage kind has is at known none =
 
 -- ---- the times of one more line
 
--- the falls of times in turn
+-- the falls of times, one after the other
 pub falls_in_turn : (last first : Option ℕ) (rest : List ℕ) → falls_after last (time_list first ++ rest) ≡ falls_after last (time_list first) + falls_after
     (later_or first last) rest
 falls_in_turn None None rest = omega arith
@@ -246,7 +246,7 @@ falls_in_turn (Some last) None rest = omega arith
 falls_in_turn None (Some time) rest = omega arith
 falls_in_turn (Some last) (Some time) rest = omega arith
 
--- the last of the times in turn
+-- the last of the times, one after the other
 pub last_in_turn : (last first second third : Option ℕ) → later_or third (later_or second (later_or first last)) ≡ later_or
     (last_of (time_list first ++ time_list second ++ time_list third)) last
 last_in_turn last None None None = refl
@@ -263,7 +263,7 @@ one_line line = ap (map (λ (time : Occasion × ℕ). time.1)) (append-nil (time
 
 -- ---- what the reader keeps of one more line
 
--- some lines came before
+-- the first line stays, because some lines came before
 first_stays : (lines : Lines) (stage : Stage) (line : List ℕ) → stage_of lines ≡ Some stage → first_record (lines ++ line ∷ []) ≡ first_record lines
 first_stays [] stage line at = cc
 first_stays (basic ∷ rest) stage line at = refl
@@ -277,7 +277,7 @@ next_is lines line stage next at is sound after =
     ∙ (λ i. cond (sound i) (stage_after stage (kind_of line)) None)
     ∙ after
 
--- of a deletion only the stage goes on
+-- for a deletion only the stage goes on
 pub deletion_goes_on : (journey : JourneyState) (lines : Lines) (line : List ℕ) (stage next : Stage) → HasLines journey lines → IsRecord line
     → journey.stage ≡ Some stage → journey.deletion ≡ true
     → stage_after stage (kind_of line) ≡ Some next → HasLines (record journey { stage = Some next }) (lines ++ line ∷ [])
@@ -296,7 +296,7 @@ deletion_goes_on journey lines line stage next has is at deletion after =
     deletion_sound : is_deletion (first_record lines) ≡ true → is_sound_next lines line ≡ true
     deletion_sound told = λ i. told i || (has_good_fields line && nat_le (midnights (lines ++ line ∷ [])) 2)
 
--- the line is sound where the midnights with it are few
+-- the line is sound if its fields are good and the midnights with it are few
 sound_by_falls : (journey : JourneyState) (lines : Lines) (line : List ℕ) (more : ℕ) → HasLines journey lines → journey.deletion ≡ false
     → more ≡ journey.falls + falls_after journey.last (times_along (line ∷ [])) → is_sound_next lines line ≡ (has_good_fields line && nat_le more 2)
 sound_by_falls journey lines line more has kept falls =
@@ -305,7 +305,7 @@ sound_by_falls journey lines line more has kept falls =
     (sym (has.falls_are kept) i + falls_after (sym (has.last_is kept) i) (times_along (line ∷ []))) 2))
     ∙ (λ i. has_good_fields line && nat_le (sym falls i) 2)
 
--- a sound line goes on with a schedule that is no deletion
+-- a schedule that is no deletion goes on with a sound line
 pub sound_goes_on : (journey : JourneyState) (lines : Lines) (line : List ℕ) (stage next : Stage) (more : ℕ) (later : Option ℕ) → HasLines journey lines
     → IsRecord line → journey.stage ≡ Some stage
     → journey.deletion ≡ false → stage_after stage (kind_of line) ≡ Some next → HasGoodFields line
@@ -325,7 +325,7 @@ sound_goes_on journey lines line stage next more later has is at kept after fiel
       last_is = λ _. last ∙ (λ i. later_or (last_of (times_along (line ∷ []))) (has.last_is kept i)) ∙ sym (last_time_step lines line);
     }
 
--- the falls of three times in turn
+-- the falls of three times, one after the other
 pub falls_of_three : (falls : ℕ) (last first second third : Option ℕ)
     → ((falls + falls_after last (time_list first)) + falls_after (later_or first last) (time_list second)) + falls_after
     (later_or second (later_or first last)) (time_list third)
@@ -378,7 +378,7 @@ call_times line first second third is one two three =
 pub first_line_is : (line : List ℕ) → IsRecord line → HasKind basic_schedule line → HasGoodFields line → is_first_line line ≡ true
 first_line_is line is kind fields = (first_line_iff_test line).0 (record { is = is; kind = kind; fields = fields })
 
--- what the reader keeps of it
+-- what the reader keeps of a basic schedule
 pub basic_read : (line : List ℕ) (journey : JourneyState) → is_first_line line ≡ true → journey.stage ≡ Some after_basic
     → journey.deletion ≡ is_deletion line → journey.lacking ≡ may_lack line
     → journey.falls ≡ 0 → journey.last ≡ None → HasLines journey (line ∷ [])
@@ -394,16 +394,16 @@ basic_read line journey first at deletion lacking falls last =
       last_is = λ _. last ∙ ap last_of (sym times);
     }
 
--- ---- one more line that stands at its place
+-- ---- one more line at its place
 
--- what is kept behind a line of a deletion
+-- what is kept after a line of a deletion
 pub deletion_read : (journey : JourneyState) (lines : Lines) (line : List ℕ) (next : Stage) → HasLines journey lines → IsRecord line
     → stage_then journey.stage (kind_of line) ≡ Some next
     → journey.deletion ≡ true → HasLines (record journey { stage = Some next }) (lines ++ line ∷ [])
 deletion_read journey lines line next has is led deletion =
     let on = leads_on journey.stage (kind_of line) next led in deletion_goes_on journey lines line on.here next has is on.at deletion on.after
 
--- what is told of the times of the line, and what is kept with them
+-- the times that the line gives, and what is kept after them
 pub record IsTimed (journey : JourneyState) (line : List ℕ) (first second third : Option ℕ) (more : ℕ) (later : Option ℕ) : Type 0 where
   pub times : map (λ (time : Occasion × ℕ). time.1) (times_of line) ≡ time_list first ++ time_list second ++ time_list third
   pub falls : more ≡ journey.falls + falls_after journey.last (time_list first ++ time_list second ++ time_list third)
@@ -414,7 +414,7 @@ timed_falls : (journey : JourneyState) (line : List ℕ) (first second third : O
     → more ≡ journey.falls + falls_after journey.last (times_along (line ∷ []))
 timed_falls journey line first second third more later told = told.falls ∙ (λ i. journey.falls + falls_after journey.last (sym (one_line line ∙ told.times) i))
 
--- a line is sound exactly where the midnights stay at two
+-- a line is sound if and only if there are still at most two midnights
 pub sound_test : (journey : JourneyState) (lines : Lines) (line : List ℕ) (first second third : Option ℕ) (more : ℕ) (later : Option ℕ)
     → HasLines journey lines → journey.deletion ≡ false
     → HasGoodFields line → IsTimed journey line first second third more later → is_sound_next lines line ≡ nat_le more 2
@@ -429,14 +429,14 @@ pub sound_by_few : (journey : JourneyState) (lines : Lines) (line : List ℕ) (f
 sound_by_few journey lines line first second third more later has kept fields told few =
     sound_test journey lines line first second third more later has kept fields told ∙ le-leb more 2 few
 
--- a line with a third midnight is not
+-- a line with a third midnight is not sound
 pub unsound_by_many : (journey : JourneyState) (lines : Lines) (line : List ℕ) (first second third : Option ℕ) (more : ℕ) (later : Option ℕ)
     → HasLines journey lines → journey.deletion ≡ false
     → HasGoodFields line → IsTimed journey line first second third more later → 2 < more → ¬ (is_sound_next lines line ≡ true)
 unsound_by_many journey lines line first second third more later has kept fields told many sound =
     let few = leb-true more 2 (sym (sound_test journey lines line first second third more later has kept fields told) ∙ sound) in omega arith
 
--- what is kept behind a sound line
+-- what is kept after a sound line
 pub sound_read : (journey : JourneyState) (lines : Lines) (line : List ℕ) (next : Stage) (first second third : Option ℕ) (more : ℕ) (later : Option ℕ)
     → HasLines journey lines → IsRecord line
     → stage_then journey.stage (kind_of line) ≡ Some next → journey.deletion ≡ false → HasGoodFields line
@@ -449,12 +449,12 @@ sound_read journey lines line next first second third more later has is led kept
 
 -- ---- answers on a line
 
--- what holds of a value holds where there is one
+-- what holds for a value holds if there is one
 pub of_ok : {A E P : Type 0} (answer : Result A E) → OnOk answer P → IsOk answer → P
 of_ok (Ok value) holds is = holds
 of_ok (Err cause) holds is = absurd (false≢true is)
 
--- a cause is told of a line if it is behind all lines that the reader may have
+-- a cause is the line's if it is the cause after all lines that the reader may have
 pub faults_line : {A : Type 0} (answer : Result A FileCause) (journey : JourneyState) (line : List ℕ)
     → ((lines : Lines) → HasLines journey lines → IfErr answer (λ cause. IsScheduleCause lines line (cause_meant cause)))
     → IfErr answer (FaultsLine journey line)

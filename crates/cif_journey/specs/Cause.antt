@@ -1,11 +1,11 @@
--- What the causes of faults mean, as the definitions name them, and their texts.
+-- What the causes of faults mean, by the names of the definitions, and their texts.
 use Rattle.std.specs.Prelude.{ℕ, List, ◌++◌, codes, decimal, Option, Some, None}
 use Rattle.docker_model.specs.file.FileFault.{too_many, after_trailer, bad_length, bad_byte, bad_kind, bad_place, bad_field, third_midnight, no_end}
 use Rattle.docker_model.specs.file.FileFault as fault
 use Rattle.cif_journey.specs.declared.cause.FileCause.{FileCause}
 use Rattle.cif_journey.specs.declared.cause.FileCause.TheVariants as cause
 
--- a cause. Want of memory is none of a text's
+-- a cause. Out of memory is no fault of a text
 abbrev pub cause_meant : FileCause → Option fault.FileCause
 cause_meant cause.Length = Some bad_length
 cause_meant (cause.Byte at) = Some (bad_byte at)
@@ -18,7 +18,7 @@ cause_meant cause.After = Some after_trailer
 cause_meant cause.TooMany = Some too_many
 cause_meant cause.Memory = None
 
--- a cause by its name, and the column
+-- a cause as its name and the column
 abbrev pub cause_text : FileCause → List ℕ
 cause_text cause.Length = codes "Length"
 cause_text (cause.Byte column) = codes "Byte " ++ decimal column

@@ -23,8 +23,8 @@ stage_meant AfterDetails = after_details
 stage_meant InJourney = in_journey
 stage_meant AfterJourney = after_journey
 
--- what the reader keeps of the lines: how far the schedule has come, whether it is a deletion, whether it may lack its journey, how often it has passed
--- midnight, and its last time
+-- what the reader keeps of the lines: how far the schedule has come, whether it is a deletion,
+-- whether it may lack its journey, how often it has passed midnight, and its last time
 pub record JourneyState : Type 0 where
   pub stage : Option place.Stage
   pub deletion : Bool
@@ -32,7 +32,8 @@ pub record JourneyState : Type 0 where
   pub falls : ℕ
   pub last : Option ℕ
 
--- the reader has taken these lines, with which some schedule begins. Of a deletion no times are kept
+-- the reader has taken these lines, with which some schedule begins. For a deletion no times are
+-- kept
 pub record HasLines (journey : JourneyState) (lines : List (List ℕ)) : Type 0 where
   pub stage_is : journey.stage ≡ stage_of lines
   pub fresh : journey.stage ≡ None → lines ≡ []
@@ -41,7 +42,7 @@ pub record HasLines (journey : JourneyState) (lines : List (List ℕ)) : Type 0 
   pub falls_are : journey.deletion ≡ false → journey.falls ≡ midnights lines
   pub last_is : journey.deletion ≡ false → journey.last ≡ last_of (times_along lines)
 
--- the cause is why the line does not go on with a schedule
+-- the cause is why no schedule goes on with this line after the earlier lines
 abbrev pub IsScheduleCause : List (List ℕ) → List ℕ → Option fault.FileCause → Type 0
 IsScheduleCause earlier line None = ⊥
 IsScheduleCause earlier line (Some cause) = IsScheduleFault earlier line cause
@@ -51,7 +52,7 @@ abbrev pub time_list : Option ℕ → List ℕ
 time_list None = []
 time_list (Some time) = time ∷ []
 
--- the times of a line of the code, those that are there
+-- the times of a line of the code, each if given
 abbrev pub times_list : Times → List ℕ
 times_list times = time_list times.first ++ time_list times.second ++ time_list times.third
 
@@ -59,12 +60,13 @@ times_list times = time_list times.first ++ time_list times.second ++ time_list 
 abbrev pub AreTimesOf : List ℕ → Times → Type 0
 AreTimesOf line times = map (λ time. time.1) (times_of line) ≡ times_list times
 
--- the stage after one more line of a kind; before the first line there is none
+-- the stage after one more line of a kind; before the first line there is no stage
 abbrev pub stage_then : Option place.Stage → Option Kind → Option place.Stage
 stage_then None kind = None
 stage_then (Some stage) kind = stage_after stage kind
 
--- the schedule may end at a stage, where it may lack its journey or not; before its first line it may not
+-- a schedule may end at a stage; `lacking` says whether it may lack its journey. Before its first
+-- line it may not end
 abbrev pub may_end_by : Option place.Stage → Bool → Bool
 may_end_by (Some after_journey) lacking = true
 may_end_by (Some in_journey) lacking = false
@@ -81,26 +83,26 @@ progress_meant progress = record {
   last = progress.clock.last;
 }
 
--- the journey is whole
+-- the journey is complete
 abbrev pub is_over_by : Option place.Stage → Bool
 is_over_by (Some after_journey) = true
 is_over_by _ = false
 
 -- ---- what the reader does with a line
 
--- its progress has the line after those that it had
+-- the new progress has the lines of the old and this line
 abbrev pub Advances : Progress → List ℕ → Progress → Type 0
 Advances old line new =
     (lines : List (List ℕ)) → HasLines (progress_meant old) lines → HasLines (progress_meant new) (lines ++ line ∷ [])
 
--- this holds exactly where some schedule begins with the lines that it has and this one
+-- this holds if and only if some schedule begins with the reader's lines and this one
 abbrev pub JudgesLine : JourneyState → List ℕ → Type 0 → Type 0
 JudgesLine journey line holds = (lines : List (List ℕ)) → HasLines journey lines → holds ↔ BeginsSchedule (lines ++ line ∷ [])
 
--- it answered this cause, which is why the line does not go on with a schedule after those that it has
+-- the reader's cause is why no schedule goes on with this line after the reader's lines
 abbrev pub FaultsLine : JourneyState → List ℕ → FileCause → Type 0
 FaultsLine journey line cause = (lines : List (List ℕ)) → HasLines journey lines → IsScheduleCause lines line (cause_meant cause)
 
--- this holds exactly where the lines that it has are a schedule
+-- this holds if and only if the reader's lines are a schedule
 abbrev pub JudgesWhole : JourneyState → Type 0 → Type 0
 JudgesWhole journey holds = (lines : List (List ℕ)) → HasLines journey lines → holds ↔ IsSchedule lines

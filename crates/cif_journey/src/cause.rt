@@ -11,15 +11,16 @@ use std::fmt;
 /// The cause of a fault.
 #[derive(Clone, Copy, PartialEq, Eq, Debug)]
 pub enum FileCause {
-    /// The line has not 80 bytes.
+    /// The line does not have 80 bytes.
     Length,
-    /// A byte of the line is not printable: the leftmost such column, from 1.
+    /// A byte of the line is not printable. Holds the leftmost such column, from 1.
     Byte(u8),
-    /// The line begins with the identity of no kind of record.
+    /// The line does not begin with the identity of a kind of record.
     Kind,
     /// No file that begins with the earlier records has a record of this kind next.
     Place,
-    /// A checked field of the record is not good: the first column of the leftmost such field, from 1.
+    /// A checked field of the record is not good. Holds the first column of the leftmost such
+    /// field, from 1.
     Field(u8),
     /// The record's schedule passes midnight a third time there.
     Midnights,
@@ -29,7 +30,7 @@ pub enum FileCause {
     After,
     /// There are more records than the limit allows.
     TooMany,
-    /// A growth was refused: out of memory.
+    /// The allocator refused to grow: out of memory.
     Memory,
 }
 

@@ -8,8 +8,9 @@ use crate::progress::Progress;
 use cif_line::Line;
 use std::marker::Model;
 
-/// A reader of the lines of one schedule: a basic schedule (BS), at most one record of extra details (BX), and a journey from an origin (LO) over
-/// intermediate locations (LI) and changes en route (CR) to a terminating location (LT).
+/// A reader of the lines of one schedule: a basic schedule (BS), at most one record of extra
+/// details (BX), and a journey. The journey goes from an origin (LO) over intermediate locations
+/// (LI) and changes en route (CR) to a terminating location (LT).
 #[derive(Debug, Drop)]
 pub struct Journey {
     progress: Progress,
@@ -33,9 +34,11 @@ impl Journey {
         }
     }
 
-    /// Takes the next line. It is refused where no schedule begins with the lines so far and this one, for the first of these causes that holds: `Kind`, an
-    /// identity of no kind of record; `Place`, a kind that doesn't stand there; `Field`, the leftmost bad field; `Midnights`, the third midnight. The last two
-    /// are no cause in the journey of a deletion. A refused line changes nothing.
+    /// Takes the next line. It is refused if no schedule begins with the lines so far and this one.
+    /// The cause is the first of these that holds. `Kind`: its identity is of no kind of record.
+    /// `Place`: a record of its kind can't come next. `Field`: its leftmost bad field. `Midnights`:
+    /// the third midnight. The last two don't apply to the journey of a deletion. A refused line
+    /// changes nothing.
     pub fn line(&mut self, line: &Line) -> Result<(), FileCause>
         ensures ok { JudgesLine self.old line.now (IsOk result) }
         ensures read { (lines : List (List ℕ)) → HasLines self.old lines → IsOk result →

@@ -1,4 +1,4 @@
-//! The times of a journey's lines, and its midnights.
+//! The times of a journey's lines, and how often it passes midnight.
 ghost use Rattle.std.specs.Prelude.{◌≡◌, ℕ, ◌+◌, ◌≤◌, ◌<◌, ◌↔◌, IsOk, IfOk, IfErr, Some, None, true};
 ghost use Rattle.docker_model.specs.records.Record.{HasKind, origin_location, intermediate_location, terminating_location};
 ghost use Rattle.docker_model.specs.records.Field.{HasGoodFields, leftmost_bad_field};
@@ -16,7 +16,7 @@ pub(crate) struct Clock {
     pub last: Option<Time>,
 }
 
-/// The times of a line, in their order; a line has three at most.
+/// The times of a line in their order. A line has at most three.
 #[derive(Clone, Copy, PartialEq, Eq, Debug)]
 pub(crate) struct Times {
     first: Option<Time>,
@@ -25,7 +25,7 @@ pub(crate) struct Times {
 }
 
 impl Clock {
-    /// Before the first time.
+    /// The clock before the first time.
     pub(crate) fn new() -> Clock
         ensures { result ≡ record { falls = 0; last = None } }
     {
@@ -35,7 +35,7 @@ impl Clock {
         }
     }
 
-    /// With one more time, if there is one: a time that is below the last one is past midnight.
+    /// The clock after one more time, if there is one. A time below the last one is past midnight.
     fn then(self, time: Option<Time>) -> Clock
         requires { self.falls < 255 }
         ensures falls { result.falls ≡ self.falls + falls_after self.last (time_list time) }
@@ -55,7 +55,7 @@ impl Clock {
         }
     }
 
-    /// With the times of one more line.
+    /// The clock after the times of one more line.
     pub(crate) fn past(self, times: Times) -> Clock
         requires { self.falls < 250 }
         ensures falls { result.falls ≡ self.falls + falls_after self.last (times_list times) }
@@ -101,7 +101,7 @@ fn origin_times(line: &Line) -> Result<Times, FieldFault>
     })
 }
 
-/// The arrival, the pass and the departure at an intermediate location, those that are there.
+/// The arrival, the pass and the departure at an intermediate location, each if given.
 fn call_times(line: &Line) -> Result<Times, FieldFault>
     requires kind { HasKind intermediate_location line.now }
     ensures ok { IsOk result ↔ HasGoodFields line.now }

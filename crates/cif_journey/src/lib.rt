@@ -1,4 +1,4 @@
-//! The reader of a schedule's lines, and the causes for which records are refused.
+//! The reader of a schedule's lines, and the causes for refusing a record.
 #![tactic(auto)]
 
 mod cause;

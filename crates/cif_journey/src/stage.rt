@@ -7,16 +7,16 @@ ghost use Rattle.cif_journey.specs.JourneyRead.{stage_meant, may_end_by, is_over
 
 use cif_line::Kind;
 
-/// How far a schedule has come, by its lines so far.
+/// How far a schedule has come, according to its lines so far.
 #[derive(Clone, Copy, PartialEq, Eq, Debug)]
 pub(crate) enum ScheduleStage {
-    /// Behind its basic schedule.
+    /// After its basic schedule.
     AfterBasic,
-    /// Behind its extra details.
+    /// After its extra details.
     AfterDetails,
-    /// Behind its origin, or a line of its journey.
+    /// After its origin or a later line of its journey.
     InJourney,
-    /// Behind its terminating location.
+    /// After its terminating location.
     AfterJourney,
 }
 
@@ -42,7 +42,7 @@ impl ScheduleStage {
         }
     }
 
-    /// Whether a schedule may end here, where it may lack its journey or not.
+    /// Whether a schedule may end here. `lacking` says whether it may lack its journey.
     pub(crate) fn may_end(self, lacking: bool) -> bool
         ensures { result ≡ may_end_by (Some (stage_meant self)) lacking }
     {
@@ -54,7 +54,7 @@ impl ScheduleStage {
         }
     }
 
-    /// Whether the journey is whole.
+    /// Whether the journey is complete.
     pub(crate) fn is_over(self) -> bool
         ensures { result ≡ is_over_by (Some (stage_meant self)) }
     {

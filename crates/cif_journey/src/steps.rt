@@ -19,7 +19,7 @@ use cif_line::{Basic, Kind, Line, Stp, Transaction, basic, kind};
 const MOST_MIDNIGHTS: u8 = 2;
 
 impl Progress {
-    /// Before the first line.
+    /// The progress before the first line.
     pub(crate) fn new() -> Progress
         ensures { HasLines (progress_meant result) [] }
     {
@@ -48,7 +48,7 @@ impl Progress {
         self.deletion
     }
 
-    /// Whether its journey is whole, so that no schedule goes on after its lines.
+    /// Whether its journey is complete, so that no schedule goes on after its lines.
     pub fn is_over(self) -> bool
         ensures { result ≡ is_over_by (progress_meant self).stage }
     {
@@ -58,7 +58,8 @@ impl Progress {
         }
     }
 
-    /// Takes one more line, or returns why the schedule doesn't go on with it. A refused line changes nothing.
+    /// Takes one more line, or returns why no schedule goes on with it. A refused line changes
+    /// nothing.
     pub(crate) fn take(&mut self, line: &Line) -> Result<(), FileCause>
         ensures ok { JudgesLine (progress_meant self.old) line.now (IsOk result) }
         ensures read { OnOk result (Advances self.old line.now self.new) }
@@ -72,7 +73,8 @@ impl Progress {
         }
     }
 
-    /// Takes one more record of this kind, or returns why the schedule doesn't go on with it. A refused one changes nothing.
+    /// Takes one more record of this kind, or returns why no schedule goes on with it. A refused
+    /// record changes nothing.
     pub fn advance(&mut self, kind: Kind, line: &Line) -> Result<(), FileCause>
         requires record { IsRecord line.now }
         requires kind { HasKind (meaning kind) line.now }
@@ -108,7 +110,7 @@ impl Progress {
         }
     }
 
-    /// Takes one more line that stands at its place.
+    /// Takes one more line, which is at its place.
     fn advance_to(&mut self, next: ScheduleStage, kind: Kind, line: &Line) -> Result<(), FileCause>
         requires record { IsRecord line.now }
         requires kind { HasKind (meaning kind) line.now }
@@ -145,7 +147,7 @@ impl Progress {
     }
 }
 
-/// Behind the first line, if it is a good basic schedule.
+/// The progress after the first line, if that is a good basic schedule.
 fn behind_first(kind: Kind, line: &Line) -> Result<Progress, FileCause>
     requires record { IsRecord line.now }
     requires kind { HasKind (meaning kind) line.now }
@@ -159,7 +161,7 @@ fn behind_first(kind: Kind, line: &Line) -> Result<Progress, FileCause>
     }
 }
 
-/// Behind a basic schedule, if its fields are good.
+/// The progress after a basic schedule, if its fields are good.
 fn behind_first_basic(line: &Line) -> Result<Progress, FileCause>
     requires record { IsRecord line.now }
     requires kind { HasKind basic_schedule line.now }
@@ -171,7 +173,7 @@ fn behind_first_basic(line: &Line) -> Result<Progress, FileCause>
     Ok(behind_basic(&view))
 }
 
-/// Behind a basic schedule.
+/// The progress after a basic schedule.
 pub fn behind_basic(view: &Basic<'_>) -> Progress
     requires { is_first_line view.now ≡ true }
     ensures { HasLines (progress_meant result) (view.now ∷ []) }
@@ -186,7 +188,7 @@ pub fn behind_basic(view: &Basic<'_>) -> Progress
     }
 }
 
-/// Whether a schedule is deleted.
+/// Whether the schedule is a deletion.
 fn is_deletion(view: &Basic<'_>) -> bool
     ensures { result ≡ is_deletion view.now }
 {
@@ -197,7 +199,7 @@ fn is_deletion(view: &Basic<'_>) -> bool
     }
 }
 
-/// Whether a schedule cancels a train on its days.
+/// Whether the schedule cancels a train on its days.
 fn is_cancellation(view: &Basic<'_>) -> bool
     ensures { result ≡ (column 80 view.now == 67) }
 {

@@ -1,11 +1,13 @@
--- Where a file is after its records so far: which record may come next, and when the records are a file.
+-- Where a file is after its records so far: which record may come next, and when the records are a
+-- file.
 use Rattle.std.specs.Prelude.{ℕ, List, [], ◌∷◌, Some, None, Bool, true, false, ◌++◌, ◌≡◌, Option, is_some, ◌&&◌, option_and_then}
 use Rattle.std.proofs.Common.{cond}
 use Rattle.docker_model.specs.records.Record.{Lines, Kind, tiploc_insert, tiploc_amend, tiploc_delete, association, basic_schedule, trailer, header, kind_of}
 use Rattle.cif_laws.specs.RecordTest.{has_good_fields, is_record}
 use Rattle.cif_laws.specs.ScheduleStage.{Stage, after_basic, after_journey, stage_after, may_end, is_sound_next}
 
--- before the header, after it or a whole unit, after these lines of a schedule, after the trailer
+-- before the header; after it or after a whole unit; after these lines of a schedule; after the
+-- trailer
 pub data Place : Type 0 where
   before_header : Place
   between_units : Place
@@ -22,12 +24,13 @@ unit_by_kind (Some basic_schedule) line = Some (in_schedule after_basic (line �
 unit_by_kind (Some trailer) line = Some after_end
 unit_by_kind _ line = None
 
--- the place after these lines of a schedule, which is between units once its journey is whole
+-- the place after these lines of a schedule; it is between units once the schedule's journey is
+-- whole
 abbrev pub place_in : Stage → Lines → Place
 place_in after_journey lines = between_units
 place_in stage lines = in_schedule stage lines
 
--- the place with the schedule's next stage, or another place where it has none
+-- the place with the schedule's next stage, or another place if there is no next stage
 abbrev pub in_stage_or : Lines → Option Stage → Option Place → Option Place
 in_stage_or lines (Some stage) other = Some (place_in stage lines)
 in_stage_or lines None other = other
@@ -45,12 +48,13 @@ place_by_kind (in_schedule stage lines) kind line =
     in_stage_or (lines ++ line ∷ []) (stage_after stage kind) (cond (may_end stage lines) (unit_by_kind kind line) None)
 place_by_kind after_end kind line = None
 
--- one more record here has good fields and, in a journey, no third fall; a deletion's may have any
+-- one more record here has good fields and, in a journey, makes no third fall; a deletion's line
+-- may have any
 abbrev pub is_sound_at : Place → List ℕ → Bool
 is_sound_at (in_schedule stage lines) line = cond (is_some (stage_after stage (kind_of line))) (is_sound_next lines line) (has_good_fields line)
 is_sound_at _ line = has_good_fields line
 
--- the place after one more record, if a file goes on with it
+-- the place after one more record, if a file continues with it
 abbrev pub next_place : Place → List ℕ → Option Place
 next_place place line = cond (is_record line && is_sound_at place line) (place_by_kind place (kind_of line) line) None
 

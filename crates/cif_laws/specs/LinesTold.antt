@@ -1,4 +1,5 @@
--- A text as it comes in: the complete lines, whose line feed came, and the unfinished line after the last one.
+-- A text as it comes in: the complete lines, whose line feed came, and the unfinished line after
+-- the last one.
 use Rattle.std.specs.Prelude.{◌≡◌, ℕ, List, false, All, [], ◌∷◌, map, ◌==◌, count_by}
 use Rattle.std.specs.List.{slice_split}
 use Rattle.std.specs.Str.Lines.{strip_carriage_return}
@@ -10,7 +11,7 @@ use Rattle.docker_model.specs.file.FaultSoFar.{last_of}
 abbrev pub HasNoFeed : List ℕ → Type 0
 HasNoFeed bytes = All (λ b. (b == 10) ≡ false) bytes
 
--- how many line feeds came
+-- how many line feeds have come
 abbrev pub feeds : List ℕ → ℕ
 feeds text = count_by (λ b. b == 10) text
 
@@ -18,7 +19,7 @@ feeds text = count_by (λ b. b == 10) text
 abbrev pub pieces_of : List ℕ → Lines
 pieces_of text = slice_split (λ b. b == 10) text
 
--- the pieces but the last
+-- the pieces without the last
 abbrev pub but_last : Lines → Lines
 but_last [] = []
 but_last (piece ∷ []) = []

@@ -1,4 +1,5 @@
--- Where a schedule is after its lines so far: which line may come next, and when the lines are a schedule.
+-- Where a schedule is after its lines so far: which line may come next, and when the lines are a
+-- schedule.
 use Rattle.std.specs.Prelude.{Some, None, ℕ, List, Bool, true, false, [], ◌∷◌, ◌++◌, Option, ◌==◌, ◌||◌, ◌&&◌, nat_le, option_and_then}
 use Rattle.std.proofs.Common.{cond}
 use Rattle.docker_model.specs.records.Record.{Kind, extra_details, origin_location, intermediate_location, terminating_location, change_en_route, column, Lines, kind_of, basic_schedule}
@@ -7,14 +8,15 @@ use Rattle.docker_model.specs.file.Journey.{midnights}
 use Rattle.docker_model.specs.file.File.{first_record}
 use Rattle.cif_laws.specs.RecordTest.{has_good_fields, is_record}
 
--- after the basic schedule, after its extra details, inside its journey, after its journey
+-- after the basic schedule; after its extra details; inside its journey; after its journey
 pub data Stage : Type 0 where
   after_basic : Stage
   after_details : Stage
   in_journey : Stage
   after_journey : Stage
 
--- the stage after one more record, by its kind only: none if it doesn't go on with the schedule
+-- the stage after one more record, by its kind only: none if the record doesn't continue the
+-- schedule
 abbrev pub stage_after : Stage → Option Kind → Option Stage
 stage_after after_basic (Some extra_details) = Some after_details
 stage_after after_basic (Some origin_location) = Some in_journey
@@ -34,11 +36,11 @@ may_end after_journey lines = true
 may_end in_journey lines = false
 may_end _ lines = may_lack (first_record lines)
 
--- one more line of the schedule is a deletion's, or has good fields and no third fall
+-- one more line of the schedule is a deletion's, or it has good fields and makes no third fall
 abbrev pub is_sound_next : Lines → List ℕ → Bool
 is_sound_next lines line = is_deletion (first_record lines) || (has_good_fields line && nat_le (midnights (lines ++ line ∷ [])) 2)
 
--- the stage after one more line, if a schedule goes on with it
+-- the stage after one more line, if a schedule continues with it
 abbrev pub next_stage : Stage → Lines → List ℕ → Option Stage
 next_stage stage lines line = cond (is_record line && is_sound_next lines line) (stage_after stage (kind_of line)) None
 
@@ -56,7 +58,7 @@ abbrev pub stage_from : Stage → Lines → Lines → Option Stage
 stage_from stage done [] = Some stage
 stage_from stage done (line ∷ rest) = option_and_then (λ next. stage_from next (done ++ line ∷ []) rest) (next_stage stage done line)
 
--- the stage after some lines, if a schedule begins with them; no lines have none
+-- the stage after some lines, if a schedule begins with them; without lines there is none
 abbrev pub stage_of : Lines → Option Stage
 stage_of [] = None
 stage_of (basic ∷ rest) = cond (is_first_line basic) (stage_from after_basic (basic ∷ []) rest) None

@@ -1,4 +1,5 @@
-//! Laws of files, their texts, their faults and their changes. Each is the contract of a function with no body: it holds of all that it names.
+//! Laws of files, their texts, their faults and their changes. Each law is the contract of a
+//! function without a body, and holds for everything that it names.
 ghost use Rattle.std.specs.Prelude.{◌≡◌, ℕ, ◌+◌, ◌*◌, List, [], ◌∷◌, ◌++◌, ◌↔◌, ◌≤◌, ◌⊎◌, All, Contains, length};
 ghost use Rattle.std.specs.List.{AllPairs};
 ghost use Rattle.docker_model.specs.records.Record.{IsRecord};
@@ -12,13 +13,14 @@ ghost use Rattle.docker_model.specs.state.State.{IsBodyOf};
 ghost use Rattle.docker_model.specs.file.File.{IsFile, IsSchedule, BeginsFile, BeginsSchedule, most_records};
 ghost use Rattle.cif_laws.specs.LawTerms.{BeginsWithin};
 
-/// For records, being a text of them and being split into them is one thing.
+/// For records, being a text of them is the same as being split into them.
 pub fn text_of_records()
     ensures { (records : List (List ℕ)) (text : List ℕ) → All IsRecord records
         → IsTextOf records text ↔ (lines_of text ≡ records) }
 {}
 
-/// A text has at most one fault under a limit, and none where it is the text of a file within it.
+/// A text has at most one fault under a limit, and none if it is the text of a file within the
+/// limit.
 pub fn one_file_fault()
     ensures one { (limit : ℕ) (text : List ℕ) (first second : FileFault)
         → IsFileFault limit text first → IsFileFault limit text second → first ≡ second }
@@ -26,7 +28,7 @@ pub fn one_file_fault()
         → IsFileText limit text file → ¬ IsFileFault limit text fault }
 {}
 
-/// Every text is the text of a file within the limit, or it has a fault under it.
+/// Every text is the text of a file within the limit, or it has a fault under the limit.
 pub fn file_or_fault()
     ensures { (limit : ℕ) (text : List ℕ) → ((file : List (List ℕ)) × IsFileText limit text file)
         ⊎ ((fault : FileFault) × IsFileFault limit text fault) }
@@ -42,7 +44,8 @@ pub fn schedule_body_is_schedule()
         → change.act ≡ put body → IsBodyOf change.key body }
 {}
 
-/// The changes of a file are those of its units in order, numbered by records from 2, and a schedule makes one change, with all its lines.
+/// The changes of a file are the changes of its units in order. They are numbered by records, from
+/// 2. A schedule makes one change, with all its lines.
 pub fn changes_by_units()
     ensures units { (file : List (List ℕ)) (is : IsFile file)
         → changes file ≡ changes_of_units 2 is.units }
@@ -51,7 +54,8 @@ pub fn changes_by_units()
         → changes_of_unit number (basic ∷ others) ≡ change_of_schedule number basic others ∷ [] }
 {}
 
-/// Two changes of one record have different keys: of a record by itself, whatever follows it, and in a file.
+/// Two changes of one record have different keys. This holds for a record by itself, whatever
+/// follows it, and for a record in a file.
 pub fn keys_of_record_differ()
     ensures record { (number : ℕ) (line : List ℕ) (following : List (List ℕ))
         → AllPairs (λ (first second : Change). ¬ (first.key ≡ second.key))
@@ -61,7 +65,8 @@ pub fn keys_of_record_differ()
         → ¬ (first.key ≡ second.key)) (changes file) }
 {}
 
-/// Whether some file begins with some records is decided, and likewise whether some schedule begins with some lines, and whether they are one.
+/// It is decided whether some file begins with some records, and whether some schedule begins with
+/// some lines. It is also decided whether the records are a file, and the lines a schedule.
 pub fn begins_or_not()
     ensures file { (records : List (List ℕ)) → BeginsFile records ⊎ ¬ BeginsFile records }
     ensures schedule { (lines : List (List ℕ)) → BeginsSchedule lines ⊎ ¬ BeginsSchedule lines }
@@ -69,7 +74,8 @@ pub fn begins_or_not()
     ensures whole_schedule { (lines : List (List ℕ)) → IsSchedule lines ⊎ ¬ IsSchedule lines }
 {}
 
-/// Behind lines with which a schedule begins, a record goes on with some schedule, or it is at fault: for one cause, and not both.
+/// After lines with which a schedule begins, a record continues some schedule, or it is at fault,
+/// but not both. A record at fault has one cause.
 pub fn schedule_goes_on_or_fault()
     ensures either { (earlier : List (List ℕ)) (line : List ℕ)
         → BeginsSchedule earlier → IsRecord line → BeginsSchedule (earlier ++ line ∷ [])
@@ -81,7 +87,8 @@ pub fn schedule_goes_on_or_fault()
         → BeginsSchedule (earlier ++ line ∷ []) → ¬ IsScheduleFault earlier line cause }
 {}
 
-/// A fault that a text shows before its end stays the fault of every longer text. A text shows one at most.
+/// A fault that a text shows before its end stays the fault of every longer text. A text shows at
+/// most one fault.
 pub fn told_fault_stays()
     ensures so_far { (limit : ℕ) (text more : List ℕ) (fault : FileFault)
         → IsFaultSoFar limit text fault → IsFaultSoFar limit (text ++ more) fault }
@@ -91,7 +98,9 @@ pub fn told_fault_stays()
         → IsFaultSoFar limit text first → IsFaultSoFar limit text second → first ≡ second }
 {}
 
-/// Every text shows a fault, or some file begins with its complete lines, they are within the limit, and at most 81 bytes follow the last line feed; and not both.
+/// Every text either shows a fault or passes so far, and never both. It passes if some file begins
+/// with its complete lines, they are within the limit, and at most 81 bytes follow the last line
+/// feed.
 pub fn no_fault_among_told()
     ensures either { (limit : ℕ) (text : List ℕ)
         → ((fault : FileFault) × IsFaultSoFar limit text fault) ⊎ BeginsWithin limit text }
@@ -99,7 +108,8 @@ pub fn no_fault_among_told()
         → BeginsWithin limit text → ¬ IsFaultSoFar limit text fault }
 {}
 
-/// A text that shows no fault is short: it has at most 82 bytes for each record of the limit, and 81 more.
+/// A text that shows no fault is short: it has at most 82 bytes for each record that the limit
+/// allows, and 81 more.
 pub fn text_without_fault_is_bounded()
     ensures { (limit : ℕ) (text : List ℕ) → ((fault : FileFault) → ¬ IsFaultSoFar limit text fault)
         → length text ≤ 82 * limit + 81 }

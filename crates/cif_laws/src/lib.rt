@@ -1,4 +1,5 @@
-//! Laws of the definitions in `docker_model` that speak of records and files. Each is the contract of a function with no body: it holds of all that it names.
+//! Laws of the definitions in `docker_model` about records and files. Each law is the contract of a
+//! function without a body, and holds for everything that it names.
 #![tactic(auto)]
 
 pub mod file;

@@ -8,7 +8,7 @@ use Rattle.docker_model.specs.records.Field.{CheckedField, checked, checked_fiel
 use Rattle.cif_laws.proofs.records.Columns.{good_fields, IsGoodIn, one_column}
 use Rattle.cif_line.specs.View.{IsGood, IsGoodTiploc, IsTiplocRecord, new_code_of}
 
--- each checked field of a good record
+-- each checked field of a record with good fields is good
 each_good : (kind : Kind) (line : List ℕ) → IsGood kind line → AllByRecursion (IsGoodIn line) (checked_fields kind line)
 each_good kind line good = good_fields kind line good.has_kind good.good_fields
 
@@ -27,7 +27,7 @@ header_extract line good = subst (λ b. is_update_indicator (b ∷ []) ≡ true)
 -- the checked fields of a header
 pub ruleset header_fields = (header_day, header_minute, header_extract)
 
--- the TIPLOC, columns 3 to 9, is one
+-- the TIPLOC, columns 3 to 9, is a TIPLOC
 pub origin_tiploc : (line : List ℕ) → IsGood origin_location line → is_tiploc (columns 3 9 line) ≡ true
 origin_tiploc line good = (each_good origin_location line good).0
 
@@ -38,7 +38,7 @@ origin_public line good = (each_good origin_location line good).1.1.0
 -- the checked fields of an origin location
 pub ruleset origin_fields = (origin_tiploc, origin_public)
 
--- the TIPLOC, columns 3 to 9, is one
+-- the TIPLOC, columns 3 to 9, is a TIPLOC
 pub terminus_tiploc : (line : List ℕ) → IsGood terminating_location line → is_tiploc (columns 3 9 line) ≡ true
 terminus_tiploc line good = (each_good terminating_location line good).0
 
@@ -57,22 +57,22 @@ basic_transaction line good = subst (λ b. is_transaction (b ∷ []) ≡ true) (
 pub basic_runs_from : (line : List ℕ) → IsGood basic_schedule line → is_date (columns 10 15 line) ≡ true
 basic_runs_from line good = (each_good basic_schedule line good).1.0
 
--- the fields of a basic schedule behind its first date
+-- the fields of a basic schedule after its first date
 later_fields : Bool → List CheckedField
 later_fields deletion = cond deletion [] (checked 16 21 is_end_date ∷ checked 22 28 is_days ∷ []) ++ checked 80 80 is_stp_indicator ∷ []
 
--- they are good in a good basic schedule
+-- these fields are good in a good basic schedule
 later_good : (line : List ℕ) → IsGood basic_schedule line → (deletion : Bool) → is_deletion line ≡ deletion
     → AllByRecursion (IsGoodIn line) (later_fields deletion)
 unfolding later_fields
 later_good line good deletion is = subst (λ b. AllByRecursion (IsGoodIn line) (later_fields b)) is (each_good basic_schedule line good).1.1
 
--- the end date, columns 16 to 21, is one where the schedule is no deletion
+-- the end date, columns 16 to 21, is an end date unless the schedule is a deletion
 pub basic_runs_to : (line : List ℕ) → IsGood basic_schedule line → is_deletion line ≡ false → is_end_date (columns 16 21 line) ≡ true
 unfolding later_fields
 basic_runs_to line good kept = (later_good line good false kept).0
 
--- the days run, columns 22 to 28, are marks where the schedule is no deletion
+-- the days run, columns 22 to 28, are marks unless the schedule is a deletion
 pub basic_days : (line : List ℕ) → IsGood basic_schedule line → is_deletion line ≡ false → is_days (columns 22 28 line) ≡ true
 unfolding later_fields
 basic_days line good kept = (later_good line good false kept).1.0
@@ -97,28 +97,28 @@ assoc_transaction line good = subst (λ b. is_transaction (b ∷ []) ≡ true) (
 pub assoc_start : (line : List ℕ) → IsGood association line → is_date (columns 16 21 line) ≡ true
 assoc_start line good = (each_good association line good).1.0
 
--- the fields of an association behind its first date
+-- the fields of an association after its first date
 assoc_fields_behind : Bool → List CheckedField
 assoc_fields_behind deletion =
     cond deletion [] (checked 22 27 is_end_date ∷ checked 28 34 is_days ∷ []) ++ checked 38 44 is_tiploc ∷ checked 80 80 is_stp_indicator ∷ []
 
--- they are good in a good association
+-- these fields are good in a good association
 assoc_behind_good : (line : List ℕ) → IsGood association line → (deletion : Bool) → is_deletion line ≡ deletion
     → AllByRecursion (IsGoodIn line) (assoc_fields_behind deletion)
 unfolding assoc_fields_behind
 assoc_behind_good line good deletion is = subst (λ b. AllByRecursion (IsGoodIn line) (assoc_fields_behind b)) is (each_good association line good).1.1
 
--- the end date, columns 22 to 27, is one where the association is no deletion
+-- the end date, columns 22 to 27, is an end date unless the association is a deletion
 pub assoc_end : (line : List ℕ) → IsGood association line → is_deletion line ≡ false → is_end_date (columns 22 27 line) ≡ true
 unfolding assoc_fields_behind
 assoc_end line good kept = (assoc_behind_good line good false kept).0
 
--- the days run, columns 28 to 34, are marks where the association is no deletion
+-- the days run, columns 28 to 34, are marks unless the association is a deletion
 pub assoc_days : (line : List ℕ) → IsGood association line → is_deletion line ≡ false → is_days (columns 28 34 line) ≡ true
 unfolding assoc_fields_behind
 assoc_days line good kept = (assoc_behind_good line good false kept).1.0
 
--- the two fields that count of a deletion too
+-- the two fields that count in a deletion too
 assoc_last : (line : List ℕ) → IsGood association line → (is_tiploc (columns 38 44 line) ≡ true) × (is_stp_indicator (columns 80 80 line) ≡ true)
 unfolding assoc_fields_behind
 assoc_last line good = by (is_deletion line) (assoc_behind_good line good)
@@ -128,7 +128,7 @@ assoc_last line good = by (is_deletion line) (assoc_behind_good line good)
     by true all = ((all true refl).0, (all true refl).1.0)
     by false all = ((all false refl).1.1.0, (all false refl).1.1.1.0)
 
--- the TIPLOC, columns 38 to 44, is one
+-- the TIPLOC, columns 38 to 44, is a TIPLOC
 pub assoc_location : (line : List ℕ) → IsGood association line → is_tiploc (columns 38 44 line) ≡ true
 assoc_location line good = (assoc_last line good).0
 
@@ -139,7 +139,7 @@ assoc_stp line good = subst (λ b. is_stp_letter b ≡ true) (one_column line 80
 -- the checked fields of an association
 pub ruleset assoc_fields = (assoc_transaction, assoc_start, assoc_end, assoc_days, assoc_location, assoc_stp)
 
--- the TIPLOC, columns 3 to 9, is one
+-- the TIPLOC, columns 3 to 9, is a TIPLOC
 pub call_tiploc : (line : List ℕ) → IsGood intermediate_location line → is_tiploc (columns 3 9 line) ≡ true
 call_tiploc line good = (each_good intermediate_location line good).0
 
@@ -162,7 +162,7 @@ tiploc_code line good = good.code
 pub tiploc_new_code : (line : List ℕ) → IsGoodTiploc line → HasKind tiploc_amend line → is_new_tiploc (columns 73 79 line) ≡ true
 tiploc_new_code line good amends = good.new_code amends
 
--- what is no amendment has no new code
+-- a record that isn't an amendment has no new code
 pub no_new_code : (line : List ℕ) → ¬ HasKind tiploc_amend line → new_code_of (kind_of line) line ≡ None
 no_new_code line never = by (kind_of line) never
   where
@@ -199,5 +199,5 @@ is_good_tiploc line (inr (inr deletes)) good = record {
   new_code = λ amends. let both : Some tiploc_delete ≡ Some tiploc_amend = sym deletes ∙ amends in cc;
 }
 
--- what a view of a TIPLOC record is made by
+-- what a view of a TIPLOC record needs
 pub ruleset tiploc_views = (is_good_tiploc)

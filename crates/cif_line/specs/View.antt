@@ -4,7 +4,7 @@ use Rattle.docker_model.specs.records.Record.{Kind, tiploc_insert, tiploc_amend,
 use Rattle.docker_model.specs.records.Clock.{is_blank}
 use Rattle.docker_model.specs.records.Field.{CheckedField, checked_fields, HasGoodFields, is_tiploc, is_new_tiploc}
 
--- the line is a record of the kind, and each checked field of it is good
+-- the line is a record of the kind, and each of its checked fields is good
 pub record IsGood (kind : Kind) (line : List ℕ) : Type 0 where
   pub has_kind : HasKind kind line
   pub good_fields : HasGoodFields line
@@ -19,12 +19,12 @@ bad_field_of kind line =
 abbrev pub IsTiplocRecord : List ℕ → Type 0
 IsTiplocRecord line = HasKind tiploc_insert line ⊎ HasKind tiploc_amend line ⊎ HasKind tiploc_delete line
 
--- the checked fields of a TIPLOC record are good: its code, and the new one of an amendment
+-- the checked fields of a TIPLOC record are good: its code, and an amendment's new code
 pub record IsGoodTiploc (line : List ℕ) : Type 0 where
   pub code : is_tiploc (columns 3 9 line) ≡ true
   pub new_code : HasKind tiploc_amend line → is_new_tiploc (columns 73 79 line) ≡ true
 
--- the new code of a TIPLOC record of a kind: only an amendment has one, where it is not blank
+-- the new code of a TIPLOC record of a kind: only an amendment has one, if it isn't blank
 abbrev pub new_code_of : Option Kind → List ℕ → Option (List ℕ)
 new_code_of (Some tiploc_amend) line = if is_blank (columns 73 79 line) then None else Some (columns 73 79 line)
 new_code_of _ line = None

@@ -9,7 +9,8 @@ ghost use Rattle.cif_field.specs.Letter.{transaction_letter, stp_letter};
 use cif_field::{Day, Days, Line, Stp, Tiploc, Transaction, Uid, Until};
 use std::marker::Model;
 
-/// A view of an association (AA) whose checked fields are good. Of a deletion the end date and the days are not checked.
+/// A view of an association (AA) whose checked fields are good. A deletion's end date and days are
+/// not checked.
 #[derive(Debug, Drop)]
 pub struct Assoc<'a> {
     line: &'a Line,
@@ -66,21 +67,23 @@ impl<'a> Assoc<'a> {
         self.line.uid(10)
     }
 
-    /// The first start day of the base train for which it holds: columns 16 to 21.
+    /// The first of the base train's start days for which it holds: columns 16 to 21.
     pub fn start(&self) -> Day
         ensures { result ≡ date_number (columns 16 21 self.now) }
     {
         self.line.day(16)
     }
 
-    /// The last start day of the base train for which it holds, none on a deletion: columns 22 to 27.
+    /// The last of the base train's start days for which it holds, none in a deletion: columns 22
+    /// to 27.
     pub fn end(&self) -> Option<Until>
         ensures { result ≡ unless_deleted self.now (end_number (columns 22 27 self.now)) }
     {
         self.line.end_unless_deleted(22)
     }
 
-    /// The weekdays of the base train's start for which it holds, none on a deletion: columns 28 to 34.
+    /// The weekdays of the base train's start days for which it holds, none in a deletion: columns
+    /// 28 to 34.
     pub fn days(&self) -> Option<Days>
         ensures { result ≡ unless_deleted self.now (columns 28 34 self.now) }
     {
@@ -102,7 +105,7 @@ impl<'a> Assoc<'a> {
         self.line.column(37)
     }
 
-    /// The TIPLOC of the timing point at which it is: columns 38 to 44.
+    /// The TIPLOC of the timing point at which the trains are associated: columns 38 to 44.
     pub fn location(&self) -> Tiploc
         ensures { result ≡ columns 38 44 self.now }
     {

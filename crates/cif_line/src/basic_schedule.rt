@@ -9,7 +9,8 @@ ghost use Rattle.cif_field.specs.Letter.{transaction_letter, stp_letter};
 use cif_field::{Day, Days, Line, Stp, Transaction, Uid, Until};
 use std::marker::Model;
 
-/// A view of a basic schedule (BS) whose checked fields are good. Of a deletion the end date and the days are not checked.
+/// A view of a basic schedule (BS) whose checked fields are good. A deletion's end date and days
+/// are not checked.
 #[derive(Debug, Drop)]
 pub struct Basic<'a> {
     line: &'a Line,
@@ -66,14 +67,14 @@ impl<'a> Basic<'a> {
         self.line.day(10)
     }
 
-    /// The last day on which it runs, none on a deletion: columns 16 to 21.
+    /// The last day on which it runs, none in a deletion: columns 16 to 21.
     pub fn runs_to(&self) -> Option<Until>
         ensures { result ≡ unless_deleted self.now (end_number (columns 16 21 self.now)) }
     {
         self.line.end_unless_deleted(16)
     }
 
-    /// The weekdays on which it runs, none on a deletion: columns 22 to 28.
+    /// The weekdays on which it runs, none in a deletion: columns 22 to 28.
     pub fn days(&self) -> Option<Days>
         ensures { result ≡ unless_deleted self.now (columns 22 28 self.now) }
     {

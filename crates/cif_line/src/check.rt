@@ -1,4 +1,5 @@
-//! Tests of the checked fields, beside those of times, and the fault of the leftmost that fails.
+//! Tests of the checked fields, except the tests of times, and the fault of the leftmost field that
+//! fails.
 ghost use Rattle.std.specs.Prelude.{◌≡◌};
 ghost use Rattle.docker_model.specs.records.Date.{is_date, is_date_day_first, is_end_date, is_days};
 ghost use Rattle.docker_model.specs.records.Clock.{is_blank};
@@ -7,7 +8,8 @@ ghost use Rattle.docker_model.specs.records.Field.{is_tiploc, is_new_tiploc, is_
 use cif_field::{Day, Days, Extract, Stp, Transaction, Until};
 use thiserror::Error;
 
-/// A checked field of a record is not good: the first column of the leftmost such field, from 1.
+/// A record has a checked field that is not good: the first column of the leftmost such field, from
+/// 1.
 #[derive(Clone, Copy, PartialEq, Eq, Debug, Error)]
 #[error("Field {0}")]
 pub struct FieldFault(pub u8);

@@ -6,12 +6,13 @@ ghost use Rattle.cif_line.specs.Kind.{meaning};
 use crate::kind_of_record::Kind;
 use cif_field::Line;
 
-/// The kind of a record, by its identity in columns 1 and 2. None if no kind has it, as `LN`.
+/// The kind of a record, by its identity in columns 1 and 2. None if no kind has this identity, for
+/// example `LN`.
 pub fn kind(line: &Line) -> Option<Kind>
     ensures { option_map meaning result ≡ kind_of line.now }
 {
     match line.field(1) {
-        // By how often an extract has them: most records are intermediate locations.
+        // In the order of how often an extract has them: most records are intermediate locations.
         b"LI" => Some(Kind::IntermediateLocation),
         b"LO" => Some(Kind::OriginLocation),
         b"LT" => Some(Kind::TerminatingLocation),
@@ -28,7 +29,7 @@ pub fn kind(line: &Line) -> Option<Kind>
     }
 }
 
-/// The record is a TIPLOC amendment (TA).
+/// Whether the record is a TIPLOC amendment (TA).
 pub(crate) fn is_amendment(line: &Line) -> bool
     ensures { IsTrue result ↔ HasKind tiploc_amend line.now }
 {

@@ -9,7 +9,7 @@ ghost use Rattle.cif_line.specs.View.{IsGood};
 use cif_field::{Line, Time, Tiploc};
 use std::marker::Model;
 
-/// The scheduled times of an intermediate location, each none where it is blank.
+/// The scheduled times of an intermediate location. A time is none if its field is blank.
 #[derive(Clone, Copy, PartialEq, Eq, Debug)]
 pub(crate) struct CallTimes {
     pub arrival: Option<Time>,
@@ -17,7 +17,8 @@ pub(crate) struct CallTimes {
     pub pass: Option<Time>,
 }
 
-/// A view of an intermediate location (LI) whose checked fields are good. Its scheduled times are read where they are judged.
+/// A view of an intermediate location (LI) whose checked fields are good. Its scheduled times are
+/// read when they are checked.
 #[derive(Debug, Drop)]
 pub struct Call<'a> {
     line: &'a Line,
@@ -42,7 +43,7 @@ impl<'a> Model for Call<'a> {
 impl<'a> Call<'a> {
     ghost use Rattle.cif_line.specs.CallRead.{AreTimesOf};
 
-    /// A view of a line whose fields were checked, and whose scheduled times are these.
+    /// A view of a line whose fields were checked, with these scheduled times.
     pub(crate) fn of(line: &'a Line, times: CallTimes) -> Call<'a>
         requires good { IsGood intermediate_location line.now }
         requires times { AreTimesOf line.now times }

@@ -1,5 +1,6 @@
-//! Views of the records of a CIF extract, as the CIF End User Specification lays them out.
-//! The line and its fields, and the devices that bytes come from and go to, are handed on from the crates below.
+//! Views of the records of a CIF extract, as the CIF End User Specification lays them out. The
+//! crate re-exports the line and its fields, and the devices that bytes come from and go to, from
+//! the crates below.
 #![tactic(auto)]
 
 mod association;

@@ -1,4 +1,5 @@
-//! Readers of records: each makes a view of a line whose checked fields are good, and otherwise names the leftmost that isn't.
+//! Readers of records. Each makes a view of a line whose checked fields are good, and otherwise
+//! names the leftmost field that isn't.
 ghost use Rattle.std.specs.Prelude.{◌≡◌, IsOk, IfOk, IfErr, Some, None};
 ghost use Rattle.docker_model.specs.records.Clock.{half_minutes};
 ghost use Rattle.docker_model.specs.records.Record.{HasKind, columns, header, association, basic_schedule, origin_location, intermediate_location, terminating_location, change_en_route};
@@ -22,7 +23,8 @@ use crate::terminating_location::Terminus;
 use crate::tiploc_record::TiplocRecord;
 use cif_field::{Line, Time, is_clock, is_public_time};
 
-/// A view of a header (HD), or the first column of its leftmost bad field: 23 for the date of extract, 29 for its time, 47 for the update indicator.
+/// A view of a header (HD), or the first column of its leftmost bad field: 23 for the date of
+/// extract, 29 for its time, and 47 for the update indicator.
 pub fn header(line: &Line) -> Result<Header<'_>, FieldFault>
     requires kind { HasKind header line.now }
     ensures { ReadsAs line.now result }
@@ -50,8 +52,8 @@ fn header_fault(line: &Line) -> Option<u8>
     None
 }
 
-/// A view of a TIPLOC insert (TI), amend (TA) or delete (TD), or the first column of its leftmost bad field: 3 for the code, and of an amendment 73 for the
-/// new code, which may be blank.
+/// A view of a TIPLOC insert (TI), amend (TA) or delete (TD), or the first column of its leftmost
+/// bad field: 3 for the code, and in an amendment 73 for the new code, which may be blank.
 #[tactic(auto, using(crate::proofs::GoodFields::tiploc_views))]
 pub fn tiploc(line: &Line) -> Result<TiplocRecord<'_>, FieldFault>
     requires kind { IsTiplocRecord line.now }
@@ -77,8 +79,9 @@ fn tiploc_fault(line: &Line) -> Option<u8>
     None
 }
 
-/// A view of an association (AA), or the first column of its leftmost bad field: 3 for the transaction, 16 for the first day, 22 for the end date and
-/// 28 for the weekdays where it is no deletion, 38 for the TIPLOC, 80 for the STP indicator.
+/// A view of an association (AA), or the first column of its leftmost bad field. It is 3 for the
+/// transaction, 16 for the first day, 38 for the TIPLOC and 80 for the STP indicator. Unless the
+/// record is a deletion, it may also be 22 for the end date or 28 for the weekdays.
 pub fn assoc(line: &Line) -> Result<Assoc<'_>, FieldFault>
     requires kind { HasKind association line.now }
     ensures { ReadsAs line.now result }
@@ -89,7 +92,8 @@ pub fn assoc(line: &Line) -> Result<Assoc<'_>, FieldFault>
     }
 }
 
-/// The first column of an association's leftmost bad field, none if all are good. Of a deletion the end date and the days do not count.
+/// The first column of an association's leftmost bad field, none if all are good. A deletion's end
+/// date and days don't count.
 fn assoc_fault(line: &Line) -> Option<u8>
     requires kind { HasKind association line.now }
     ensures { result ≡ leftmost_bad_field line.now }
@@ -117,8 +121,9 @@ fn assoc_fault(line: &Line) -> Option<u8>
     None
 }
 
-/// A view of a basic schedule (BS), or the first column of its leftmost bad field: 3 for the transaction, 10 for the first day, 16 for the end date and
-/// 22 for the weekdays where it is no deletion, 80 for the STP indicator.
+/// A view of a basic schedule (BS), or the first column of its leftmost bad field. It is 3 for the
+/// transaction, 10 for the first day and 80 for the STP indicator. Unless the record is a deletion,
+/// it may also be 16 for the end date or 22 for the weekdays.
 pub fn basic(line: &Line) -> Result<Basic<'_>, FieldFault>
     requires kind { HasKind basic_schedule line.now }
     ensures { ReadsAs line.now result }
@@ -129,7 +134,8 @@ pub fn basic(line: &Line) -> Result<Basic<'_>, FieldFault>
     }
 }
 
-/// The first column of a basic schedule's leftmost bad field, none if all are good. Of a deletion the end date and the days do not count.
+/// The first column of a basic schedule's leftmost bad field, none if all are good. A deletion's
+/// end date and days don't count.
 fn basic_fault(line: &Line) -> Option<u8>
     requires kind { HasKind basic_schedule line.now }
     ensures { result ≡ leftmost_bad_field line.now }
@@ -154,8 +160,9 @@ fn basic_fault(line: &Line) -> Option<u8>
     None
 }
 
-/// A view of an origin location (LO), or the first column of its leftmost bad field: 3 for the TIPLOC, 11 for the departure, which may not be blank,
-/// 16 for the public departure, which may.
+/// A view of an origin location (LO), or the first column of its leftmost bad field. It is 3 for
+/// the TIPLOC, 11 for the departure, which may not be blank, and 16 for the public departure, which
+/// may.
 pub fn origin(line: &Line) -> Result<Origin<'_>, FieldFault>
     requires kind { HasKind origin_location line.now }
     ensures { ReadsAs line.now result }
@@ -166,8 +173,9 @@ pub fn origin(line: &Line) -> Result<Origin<'_>, FieldFault>
     }
 }
 
-/// A view of a terminating location (LT), or the first column of its leftmost bad field: 3 for the TIPLOC, 11 for the arrival, which may not be blank,
-/// 16 for the public arrival, which may.
+/// A view of a terminating location (LT), or the first column of its leftmost bad field. It is 3
+/// for the TIPLOC, 11 for the arrival, which may not be blank, and 16 for the public arrival, which
+/// may.
 pub fn terminus(line: &Line) -> Result<Terminus<'_>, FieldFault>
     requires kind { HasKind terminating_location line.now }
     ensures { ReadsAs line.now result }
@@ -178,7 +186,8 @@ pub fn terminus(line: &Line) -> Result<Terminus<'_>, FieldFault>
     }
 }
 
-/// The scheduled time of an origin location, and of a terminating location, whose checked fields stand alike; or the first column of its leftmost bad field.
+/// The scheduled time of an origin or a terminating location, or the first column of its leftmost
+/// bad field. Both kinds have their checked fields in the same columns.
 fn end_time(line: &Line) -> Result<Time, u8>
     ensures origin { IfOk result (λ time. bad_field_of origin_location line.now ≡ None) }
     ensures terminus { IfOk result (λ time. bad_field_of terminating_location line.now ≡ None) }
@@ -200,8 +209,9 @@ fn end_time(line: &Line) -> Result<Time, u8>
     Ok(time)
 }
 
-/// A view of an intermediate location (LI), or the first column of its leftmost bad field: 3 for the TIPLOC, 11 for the arrival, 16 for the departure,
-/// 21 for the pass, 26 for the public arrival, 30 for the public departure. Each of the times may be blank.
+/// A view of an intermediate location (LI), or the first column of its leftmost bad field. It is 3
+/// for the TIPLOC, 11 for the arrival, 16 for the departure, 21 for the pass, 26 for the public
+/// arrival and 30 for the public departure. Each of the times may be blank.
 pub fn call(line: &Line) -> Result<Call<'_>, FieldFault>
     requires kind { HasKind intermediate_location line.now }
     ensures { ReadsAs line.now result }
@@ -244,7 +254,7 @@ fn call_times(line: &Line) -> Result<CallTimes, u8>
     })
 }
 
-/// A view of a change en route (CR), which has no checked field, so there is always one.
+/// A view of a change en route (CR). It has no checked field, so there is always a view.
 pub fn change(line: &Line) -> Result<ChangeEnRoute<'_>, FieldFault>
     requires kind { HasKind change_en_route line.now }
     ensures always { IsOk result }

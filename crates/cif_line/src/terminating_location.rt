@@ -9,7 +9,8 @@ ghost use Rattle.cif_line.specs.View.{IsGood};
 use cif_field::{Line, Time, Tiploc};
 use std::marker::Model;
 
-/// A view of a terminating location (LT) whose checked fields are good. Its scheduled time is read where it is judged.
+/// A view of a terminating location (LT) whose checked fields are good. Its scheduled time is read
+/// when it is checked.
 #[derive(Debug, Drop)]
 pub struct Terminus<'a> {
     line: &'a Line,
@@ -33,7 +34,7 @@ impl<'a> Model for Terminus<'a> {
 
 #[tactic(auto, using(crate::proofs::GoodFields::terminus_fields))]
 impl<'a> Terminus<'a> {
-    /// A view of a line whose fields were checked, and whose scheduled time is this.
+    /// A view of a line whose fields were checked, with this scheduled time.
     pub(crate) fn of(line: &'a Line, arrival: Time) -> Terminus<'a>
         requires good { IsGood terminating_location line.now }
         requires time { arrival ≡ half_minutes (columns 11 15 line.now) }

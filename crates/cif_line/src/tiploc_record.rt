@@ -41,7 +41,7 @@ impl<'a> TiplocRecord<'a> {
         self.line.tiploc(3)
     }
 
-    /// What the record says of the timing point: columns 10 to 72.
+    /// What the record says about the timing point: columns 10 to 72.
     pub fn details(&self) -> &'a [u8; 63]
         ensures value { result.now ≡ columns 10 72 self.now }
         ensures text { IsTextOfLength 63 result.now }
@@ -57,7 +57,8 @@ impl<'a> TiplocRecord<'a> {
         self.line.field(19)
     }
 
-    /// The new code of an amendment (TA), none if it is blank, and none of another record: columns 73 to 79.
+    /// The new code of an amendment (TA), none if it is blank, and none in any other record:
+    /// columns 73 to 79.
     pub fn new_code(&self) -> Option<Tiploc>
         ensures { result ≡ new_code_of (kind_of self.now) self.now }
     {

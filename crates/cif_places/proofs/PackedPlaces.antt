@@ -1,10 +1,11 @@
--- A place of seven bytes and its number, of which the bytes are the digits: one tells the other.
+-- A place of seven bytes and its number. The bytes are the number's digits, so each determines the
+-- other.
 use Rattle.std.proofs.Common.{◌≡◌, ◌<◌, ◌+◌, ◌++◌, [], ◌∷◌, ℕ, List, suc, zero, length, get_or, subst, sym, refl, ap, ◌∙◌}
 use Rattle.std.specs.Int.{from_le_bytes, to_le_bytes, w64}
 use Rattle.std.proofs.lemmas.Nat.{le_bytes_8}
 use Rattle.std.proofs.lemmas.List.{append_cancel_right, length-append}
 
--- An element behind the last reads as none.
+-- Appending 0 changes no element: past the last one, 0 is read.
 last_zero : (xs : List ℕ) (i : ℕ) → get_or (xs ++ 0 ∷ []) i 0 ≡ get_or xs i 0
 last_zero [] zero = refl
 last_zero [] (suc i) = refl
@@ -17,7 +18,7 @@ digits : (xs : List ℕ) → length xs ≡ 7 → ((i : ℕ) → get_or xs i 0 < 
 digits xs len fits = le_bytes_8 (xs ++ 0 ∷ []) _ (length-append xs (0 ∷ []) ∙ ap (λ n. n + 1) len)
     (λ i. subst (λ n. n < 256) (sym (last_zero xs i)) (fits i)) refl
 
--- Places of one number are one.
+-- Places with the same number are equal.
 pub one_place : (xs ys : List ℕ) → length xs ≡ 7 → length ys ≡ 7
     → ((i : ℕ) → get_or xs i 0 < 256) → ((i : ℕ) → get_or ys i 0 < 256)
     → from_le_bytes w64 (xs ++ 0 ∷ []) ≡ from_le_bytes w64 (ys ++ 0 ∷ []) → xs ≡ ys

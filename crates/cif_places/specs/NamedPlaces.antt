@@ -8,7 +8,7 @@ use Rattle.docker_model.specs.state.Op.{Op, put_with}
 abbrev pub location_lines : List (List ℕ) → List (List ℕ)
 location_lines lines = filter (λ line. is_location (kind_of line)) lines
 
--- the TIPLOCs at which a live schedule calls, each as often as a location record names it
+-- the TIPLOCs at which a live schedule calls, one for each location record that names it
 abbrev pub call_places : Key → Op → List (List ℕ)
 call_places (schedule_key key) (put_with (schedule_body lines)) = map (columns 3 9) (location_lines lines)
 call_places _ _ = []
@@ -18,6 +18,6 @@ abbrev pub link_places : Key → Op → List (List ℕ)
 link_places (association_key key) (put_with (association_body line)) = key.location ∷ []
 link_places _ _ = []
 
--- the indexes of the names among others
+-- the names are at these indexes of the others
 abbrev pub AreRanks : List (List ℕ) → List (List ℕ) → List ℕ → Type 0
 AreRanks others names ranks = map (slice_get others) ranks ≡ map Some names

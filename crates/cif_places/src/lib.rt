@@ -1,4 +1,5 @@
-//! The places that changes and rows name, noted as they come: of each which places a schedule calls at, or where an association is.
+//! The places that changes and rows name, noted as the rows come: for each row, where its schedule
+//! calls or where its association is.
 #![tactic(auto)]
 
 mod memo;

@@ -1,4 +1,4 @@
-//! The places that rows name, by provisional numbers.
+//! The places that rows name, with provisional numbers.
 ghost use Rattle.std.specs.Prelude.{◌≡◌, ◌++◌, [], ◌∷◌, IfOk, IsTrue, Some, slice_get};
 ghost use Rattle.std.specs.Int.{from_le_bytes, w64};
 ghost use Rattle.cif_places.specs.Noted.{Keeps};
@@ -7,7 +7,8 @@ use crate::memo::Memo;
 use cif_line::Memory;
 use std::alloc::Global;
 
-/// Places in the order in which they came, each once or more often: the number of a place is an index of it.
+/// Places in the order in which they came. A place may occur more than once. Its number is one of
+/// its indexes.
 #[derive(Debug, Drop)]
 pub struct Names {
     /// The places.
@@ -26,7 +27,8 @@ impl Names {
         }
     }
 
-    /// The number of a place, which gets the next one where the memo doesn't know it. `Memory` if the allocator refuses it.
+    /// The number of a place. If the memo doesn't know the place, it gets the next number. `Memory`
+    /// if the allocator refuses to grow.
     pub(crate) fn number_of(&mut self, place: &[u8; 7]) -> Result<u32, Memory>
         ensures kept { Keeps self.old.list.items self.new.list.items }
         ensures number { IfOk result (λ number.
@@ -45,7 +47,7 @@ impl Names {
     }
 }
 
-/// Whether a place stands at an index of a list.
+/// Whether a place is at an index of a list.
 pub(crate) fn is_at(places: &[[u8; 7]], index: u32, place: &[u8; 7]) -> bool
     ensures { IsTrue result → slice_get places.now index ≡ Some place.now }
 {
@@ -55,14 +57,15 @@ pub(crate) fn is_at(places: &[[u8; 7]], index: u32, place: &[u8; 7]) -> bool
     }
 }
 
-/// Whether two places are one.
+/// Whether two places are equal.
 fn is_same(one: &[u8; 7], other: &[u8; 7]) -> bool
     ensures { IsTrue result → one.now ≡ other.now }
 {
     packed(one) == packed(other)
 }
 
-/// A place as one number, its first byte the lowest: two places are compared at once so, not byte by byte.
+/// A place as one number, with the first byte lowest. So two places are compared at once, not byte
+/// by byte.
 pub(crate) fn packed(place: &[u8; 7]) -> u64
     ensures { result ≡ from_le_bytes w64 (place.now ++ 0 ∷ []) }
 {

@@ -1,4 +1,4 @@
-//! The places that rows and changes name, noted as they come.
+//! The places that rows and changes name, noted as the rows come.
 ghost use Rattle.std.specs.Prelude.{◌≡◌, ◌≤◌, ◌++◌, [], ◌∷◌, List, length, map, get_or, vec_len, vec_capacity, IsOk, IsErr, None};
 ghost use Rattle.docker_model.specs.file.Change as model;
 ghost use Rattle.docker_model.specs.state.Op as ops;
@@ -13,14 +13,15 @@ use cif_change::{Act, Body, Change, Key};
 use cif_line::Memory;
 use std::alloc::Global;
 
-/// What rows name: their places by provisional numbers, in the order in which they came, and for each row which of the numbers are its own.
+/// What rows name: their places by provisional numbers, in the order in which they came, and for
+/// each row the numbers that belong to it.
 #[derive(Debug, Drop)]
 pub struct Notes {
     /// The places that have numbers.
     pub names: Names,
     /// The numbers of the places that the rows name, row by row.
     pub numbers: Vec<u32>,
-    /// For each row which of the numbers are its own.
+    /// For each row, the numbers that belong to it.
     pub pieces: Vec<Piece>,
 }
 
@@ -36,7 +37,8 @@ impl Notes {
         }
     }
 
-    /// What the rows with these numbers name, in this order: the number of a row is how many were noted before it. In an empty vector that has room for them.
+    /// What the rows with these numbers name, in this order. The number of a row is the count of
+    /// rows noted before it. The pieces go into an empty vector with room for them.
     pub fn picked(self, order: &[u32], mut pieces: Vec<Piece>) -> Notes
         requires none { pieces.items ≡ [] }
         requires empty { vec_len pieces ≡ 0 }
@@ -59,7 +61,7 @@ impl Notes {
         }
     }
 
-    /// Notes the next row, a key that is put with a body. Want of memory leaves out the row.
+    /// Notes the next row, a key that is put with a body. If memory runs out, the row is left out.
     pub fn note_put(&mut self, key: &Key, body: &Body) -> Result<(), Memory>
         ensures ok { IsOk result → (items : List Item) → HasNoted items self.old
             → HasNoted (items ++ (key_meant key.now, put_with (body_meant body.now)) ∷ [])
@@ -73,7 +75,8 @@ impl Notes {
         Ok(())
     }
 
-    /// Notes the next row, a key that is not put, so that it names no place. Want of memory leaves out the row.
+    /// Notes the next row, a key that is not put and so names no place. If memory runs out, the row
+    /// is left out.
     pub fn note_none(&mut self) -> Result<(), Memory>
         ensures ok { IsOk result → (items : List Item) (key : model.Key) (op : ops.Op)
             → body_of op ≡ None → HasNoted items self.old
@@ -86,7 +89,7 @@ impl Notes {
         Ok(())
     }
 
-    /// Notes what the next change puts. Want of memory leaves out the change.
+    /// Notes what the next change puts. If memory runs out, the change is left out.
     pub fn note_change(&mut self, change: &Change) -> Result<(), Memory>
         ensures ok { IsOk result → (made : List model.Change)
             → HasNoted (items_put made) self.old

@@ -12,7 +12,7 @@ use crate::places::{is_location, tiploc_in};
 use cif_change::{Body, Key};
 use cif_line::{Line, Memory};
 
-/// Notes the places of what is put under a key. Which of the numbers are its own.
+/// Notes the places of what is put at a key. Returns which of the numbers are its own.
 pub(crate) fn piece_of(
     names: &mut Names,
     numbers: &mut Vec<u32>,
@@ -48,7 +48,7 @@ pub(crate) fn piece_of(
     }
 }
 
-/// How many numbers there are. `Memory` if they are too many.
+/// The count of the numbers. `Memory` if it doesn't fit.
 fn count_of(numbers: &Vec<u32>) -> Result<u32, Memory>
     ensures { IfOk result (λ count. count ≡ length numbers.now.items) }
 {

@@ -1,20 +1,21 @@
-//! Which of the noted numbers are a row's.
+//! Which of the noted numbers belong to a row.
 ghost use Rattle.std.specs.Prelude.{◌≡◌, false, drop, take};
 ghost use Rattle.cif_places.specs.Noted.{numbers_of};
 
-/// The numbers that a row has among all that were noted: of the places where a schedule calls, or of the one where an association is.
+/// The numbers that belong to a row, among all that were noted: for the places where a schedule
+/// calls, or for the one where an association is.
 #[derive(Clone, Copy, Debug, PartialEq, Eq, PartialOrd, Ord)]
 pub struct Piece {
     /// Whether the numbers belong to an association.
     pub is_link: bool,
-    /// Where the numbers begin.
+    /// The index of the first number.
     pub from: u32,
-    /// How many there are.
+    /// The count of the numbers.
     pub count: u32,
 }
 
 impl Piece {
-    /// The piece of a row that has no numbers.
+    /// The piece of a row without numbers.
     pub(crate) fn none() -> Piece
         ensures { result ≡ record { is_link = false; from = 0; count = 0 } }
     {
@@ -25,7 +26,7 @@ impl Piece {
         }
     }
 
-    /// The numbers of the piece, if it is one of calls, or of links, as is asked.
+    /// The numbers of the piece, if it has the kind asked for: links or calls.
     pub fn numbers<'a>(&self, numbers: &'a [u32], links: bool) -> &'a [u32]
         ensures { result.now ≡ numbers_of links numbers.entry.now self.now }
     {
@@ -45,7 +46,7 @@ fn behind(numbers: &[u32], from: usize) -> &[u32]
     rest
 }
 
-/// The first of some numbers.
+/// The first numbers, up to a count.
 fn first_of(numbers: &[u32], count: usize) -> &[u32]
     ensures { result.now ≡ take count numbers.entry.now }
 {

@@ -14,7 +14,7 @@ pub(crate) fn is_location(line: &Line) -> bool
     )
 }
 
-/// The TIPLOC that a location record has.
+/// The TIPLOC in a location record.
 pub(crate) fn tiploc_in(line: &Line) -> [u8; 7]
     ensures { result ≡ columns 3 9 line.now }
 {

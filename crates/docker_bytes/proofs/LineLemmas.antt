@@ -20,7 +20,7 @@ use Rattle.docker_parts.specs.Lines.{AreLinesUpToIn, IsUpToRefusal}
 use Rattle.docker_parts.specs.Stage.{schedule_meant, stage_meant, begins_item, LeadsTo}
 use Rattle.docker_bytes.specs.Reading.{IsLineOf}
 
--- a line, and more are to come: the next part is a line again
+-- after a line with more to come, the next part is a line again
 more_to_come : (format : Format) (count : ℕ) (state : State) (key : ScheduleKey) (stamp : Stamp) (n : ℕ) (lines : List (List ℕ)) (line : List ℕ)
     (taken : List (List ℕ)) → taken ≡ lines ++ line ∷ [] → length taken < n
     → in_entry count state (before_line key stamp n taken) ≡ advance format (in_entry count state (before_line key stamp n lines)) line
@@ -28,12 +28,12 @@ more_to_come format count state key stamp n lines line taken is below =
     ap (λ ls. in_entry count state (before_line key stamp n ls)) is
     ∙ sym (more_lines count state key stamp n (lines ++ line ∷ []) (subst (λ (ls : List (List ℕ)). length ls < n) is below))
 
--- how wide it is
+-- a line has 80 bytes
 pub line_width : (key : code.ScheduleKey) (n : ℕ) (at : Stage) → IsLineOf key n at → (state : State) (lines : List (List ℕ))
     → width (stage_meant at state lines) ≡ 80
 line_width key n at of state lines = subst (λ (p : Stage). width (stage_meant p state lines) ≡ 80) (sym of.is) refl
 
--- the stage behind the line is the same, and within the item
+-- the stage after the line is the same, and within the item
 pub line_leads : (format : Format) (at : Stage) (entries : ℕ) (key : code.ScheduleKey) (stamp : stamps.Stamp) (n : ℕ) → at ≡ stage.Line entries key stamp n
     → (state : State) (lines taken : List (List ℕ)) (line : List ℕ) → AreGood format (stage_meant at state lines) → taken ≡ lines ++ line ∷ []
     → length lines + 1 < n
@@ -53,7 +53,8 @@ line_leads format at entries key stamp n is state lines taken line good taken_is
       refl,
     )
 
--- a line that does not go on is a bad part, and one that does is none for which memory was wanting
+-- a line that doesn't continue the schedule is a bad part; one that does is a part for which memory
+-- ran out
 pub line_bad : (format : Format) (at : Stage) (entries : ℕ) (key : code.ScheduleKey) (stamp : stamps.Stamp) (n : ℕ) → at ≡ stage.Line entries key stamp n
     → (state : State) (lines : List (List ℕ)) (line : List ℕ) (cause : Option model.StateCause) → IsUpToRefusal state (schedule_meant key) n lines line cause
     → AreGood format (stage_meant at state lines) → IsBadHere format (stage_meant at state lines) line cause

@@ -54,7 +54,7 @@ memory_or_not cause.Long = inr (λ same. cc)
 memory_or_not cause.Memory = inl refl
 memory_or_not cause.Horizon = inr (λ same. cc)
 
--- a fault that is told as that of a state is the one that was found, and no want of memory
+-- a fault returned as the state's is the one that was found, and its cause isn't memory
 not_memory : {A : Type 0} (found told : StateFault) (result : ReadFault) → (found.cause ≡ cause.Memory → result ≡ fault.Memory)
     → (found.cause ≢ cause.Memory → result ≡ fault.State found)
     → ◌≡◌ {A = Result A ReadFault} (Err result) (Err (fault.State told)) → (found ≡ told) × (found.cause ≢ cause.Memory)
@@ -82,7 +82,7 @@ told_at_end format limit text at c other = by (cause_meant c) refl
     by None is told = other (none_is_memory c is)
     by (Some k) is short = inr (inr (inl short))
 
--- a fault that is told of a piece is that of all texts that begin so
+-- a fault returned for a piece is the fault of all texts that begin so
 pub told_as_state : {A : Type 0} (format : Format) (limit : ℕ) (text piece rest : List ℕ) (found told : StateFault) (result : ReadFault)
     → IsFaultTold format limit text piece found → (found.cause ≡ cause.Memory → result ≡ fault.Memory)
     → (found.cause ≢ cause.Memory → result ≡ fault.State found) → ◌≡◌ {A = Result A ReadFault} (Err result) (Err (fault.State told))
@@ -91,7 +91,7 @@ told_as_state format limit text piece rest found told result so_far memory state
     let same = not_memory found told result memory state is in
     subst (IsFaultOf format limit ((text ++ piece) ++ rest)) same.0 (told_so_far format limit text piece rest found.at found.cause same.1 so_far)
 
--- a fault that is told at the end is the text's
+-- a fault returned at the end is the text's
 pub ended_as_state : {A : Type 0} (format : Format) (limit : ℕ) (text : List ℕ) (found told : StateFault) (result : ReadFault)
     → IsUnended format limit text found → (found.cause ≡ cause.Memory → result ≡ fault.Memory)
     → (found.cause ≢ cause.Memory → result ≡ fault.State found) → ◌≡◌ {A = Result A ReadFault} (Err result) (Err (fault.State told))
@@ -100,7 +100,7 @@ ended_as_state format limit text found told result at_end memory state is =
     let same = not_memory found told result memory state is in
     subst (IsFaultOf format limit text) same.0 (told_at_end format limit text found.at found.cause same.1 at_end)
 
--- want of memory is told where it was found
+-- if out of memory is returned, that is what was found
 is_memory : {A : Type 0} (found : StateFault) (result : ReadFault) → (found.cause ≢ cause.Memory → result ≡ fault.State found)
     → ◌≡◌ {A = Result A ReadFault} (Err result) (Err fault.Memory)
     → found.cause ≡ cause.Memory
@@ -110,7 +110,7 @@ is_memory found result state is = by (memory_or_not found.cause)
     by (inl wanting) = wanting
     by (inr other) = absurd (let from = state other in cc)
 
--- want of memory that is told of a piece is of one of its parts
+-- if out of memory is returned for a piece, memory ran out for one of its parts
 pub told_as_memory : {A : Type 0} (format : Format) (limit : ℕ) (text piece : List ℕ) (found : StateFault) (result : ReadFault)
     → IsFaultTold format limit text piece found
     → (found.cause ≢ cause.Memory → result ≡ fault.State found) → ◌≡◌ {A = Result A ReadFault} (Err result) (Err fault.Memory)
@@ -118,14 +118,14 @@ pub told_as_memory : {A : Type 0} (format : Format) (limit : ℕ) (text piece : 
 told_as_memory format limit text piece found result so_far state is =
     (found.at, subst (λ c. IsToldSoFar format limit text piece found.at (cause_meant c)) (is_memory found result state is) so_far)
 
--- want of memory that is told at the end is of a whole text
+-- if out of memory is returned at the end, the text is complete
 pub ended_as_memory : {A : Type 0} (format : Format) (limit : ℕ) (text : List ℕ) (found : StateFault) (result : ReadFault) → IsUnended format limit text found
     → (found.cause ≢ cause.Memory → result ≡ fault.State found) → ◌≡◌ {A = Result A ReadFault} (Err result) (Err fault.Memory) → IsWhole format limit text
 ended_as_memory format limit text found result at_end state is =
     let wanting = subst (λ c. IsToldAtEnd format limit text found.at (cause_meant c)) (is_memory found result state is) at_end in
     wanting.0
 
--- ---- bytes behind the state
+-- ---- bytes after the state
 
 tail_of : (format : Format) (limit : ℕ) (text piece rest : List ℕ) (used : ℕ) (found : StateFault) → used < length piece
     → IsWhole format limit (text ++ take used piece) → found.at ≡ length (text ++ take used piece)
@@ -176,7 +176,7 @@ takes_more before after piece (Ok done) read = λ terms text has.
     record { read = read terms.format terms.limit text has.read refl; small = has.small }
 takes_more before after piece (Err told) read = tt
 
--- and a fault that was told refuses it
+-- a fault that was returned refuses the piece
 pub refuses_more : {K : Type 0} (before after : ParserState K) (piece : List ℕ) {A : Type 0} (result : Result A ReadFault)
     → ((format : Format) (limit : ℕ) (text : List ℕ) → HasRead before format limit text → (found : StateFault) → result ≡ Err (fault.State found)
     → (rest : List ℕ) → IsFaultOf format limit ((text ++ piece) ++ rest) found)
@@ -211,7 +211,7 @@ pub unread : {K : Type 0} (parser : ParserState K) (format : Format) (limit : �
 unread parser format limit text has =
     record { no_fault = has.no_fault; sound = has.sound; format_is = refl; limit_is = refl; text_is = has.text_is }
 
--- what holds of the parser's format and limit holds of those that it was made for
+-- what is true of the parser's format and limit is true of the ones it was made for
 pub as_asked : {K : Type 0} (parser : ParserState K) (format : Format) (limit : ℕ) (text : List ℕ) (P : Format → ℕ → Type 0) → HasRead parser format limit text
     → P (format_of parser.reading) parser.reading.limit → P format limit
 as_asked parser format limit text P has told = subst (λ n. P format n) has.limit_is (subst (λ f. P f parser.reading.limit) has.format_is told)
@@ -223,12 +223,12 @@ pub made_of_all : {K Made : Type 0} (makes : Made → State → Type 0) (format 
 made_of_all makes format limit initial parser result all of =
     IfOk-weaker result _ (ReadsMade makes format limit initial) (λ made told. record { text = all.text; held = all.held; of = told }) (of all.text all.read)
 
--- what is made of a state, where that is the state itself
+-- if what is made of a state is the state itself, it is the text's state
 pub made_itself : (format : Format) (limit : ℕ) (text : List ℕ) (made : State) → IsMadeOf (λ made state. made ≡ state) format limit text made
     → IsStateText format limit text made
 made_itself format limit text made of = subst (IsStateText format limit text) (sym of.made_of) of.is
 
--- and so of what a source held
+-- so it is for what a source held
 pub read_itself : (format : Format) (limit : ℕ) (initial : Option (List ℕ)) (result : Result State ReadFault)
     → IfOk result (ReadsMade (λ made state. made ≡ state) format limit initial) → IfOk result (ReadsState format limit initial)
 read_itself format limit initial result =
@@ -241,14 +241,14 @@ pub refused_of_all : {K : Type 0} (format : Format) (limit : ℕ) (initial : Opt
     → RefusesState format limit initial found
 refused_of_all format limit initial parser found all is = record { text = all.text; held = all.held; is = is all.text all.read }
 
--- want of memory at the end of a text
+-- memory ran out at the end of a text
 pub wants_of_all : {K : Type 0} (format : Format) (most limit : ℕ) (initial next : Option (List ℕ)) (parser : ParserState K) → ReadsAll format limit initial parser
     → ((text : List ℕ) → HasRead parser format limit text → IsWhole format limit text) → WantsMemory format most limit initial next
 wants_of_all format most limit initial next parser all is =
     let whole = is all.text all.read in
     inr (inr (whole.0, record { text = all.text; held = all.held; is = whole.1 }))
 
--- want of memory before the end of a text
+-- memory ran out before the end of a text
 pub wants_more : (format : Format) (most limit : ℕ) (initial next : Option (List ℕ)) → WantsSoFar format most limit initial next
     → WantsMemory format most limit initial next
 wants_more format most limit initial next (inl nothing) = inl nothing
@@ -262,7 +262,7 @@ joined_of_all format limit initial parser own after all is =
     let joins = is all.text all.read in
     record { received = joins.received; read = record { text = all.text; held = all.held; is = joins.is }; join = joins.join }
 
--- the fault of a piece is that of what the source held
+-- the fault of a piece is the fault of what the source held
 pub refused_within : {K : Type 0} (terms : StateTerms) (initial next : Option (List ℕ)) (parser : ParserState K) (told : ReadFault) {A : Type 0} (found : StateFault)
     → HasRefused TakesState RefusesPart 65536 terms [] initial next parser told → ◌≡◌ {A = Result A ReadFault} (Err told) (Err (fault.State found))
     → RefusesState terms.format terms.limit initial found
@@ -279,7 +279,7 @@ refused_within terms initial next parser told found has is = by initial next has
     by (Some left) None lost = cc
     by (Some left) (Some rest) lost = record { text = text ++ rest; held = cc; is = of rest }
 
--- it loses no more than one piece behind a text that is not at fault
+-- the source loses no more than one piece after a text without a fault
 pub loses_few : {K : Type 0} (terms : StateTerms) (initial next : Option (List ℕ)) → LosesOnePieceMore (TakesState {K = K}) 65536 terms [] initial next
     → ReadsOnePieceMore terms.format 65536 terms.limit initial next
 loses_few terms initial next more = record {
@@ -290,7 +290,7 @@ loses_few terms initial next more = record {
   sound = sound_text more.taker terms.format terms.limit more.bytes more.taken.read;
 }
 
--- want of memory for a part of a piece
+-- memory ran out for a part of a piece
 pub wants_part : {K : Type 0} (terms : StateTerms) (initial next : Option (List ℕ)) (parser : ParserState K) (told : ReadFault) {A : Type 0}
     → HasRefused TakesState RefusesPart 65536 terms [] initial next parser told → ◌≡◌ {A = Result A ReadFault} (Err told) (Err fault.Memory)
     → WantsSoFar terms.format 65536 terms.limit initial next

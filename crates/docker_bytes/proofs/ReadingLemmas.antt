@@ -19,11 +19,11 @@ use Rattle.docker_parts.specs.FaultMeaning.{IsBadHere}
 use Rattle.docker_parts.specs.Stage.{begins_item, LeadsTo}
 use Rattle.docker_bytes.specs.Reading.{format_of, before_of, text_of, IsReading, ReadsOn, IsToldSoFar, IsOpen}
 
--- what of a piece stands before a rest of it
+-- what of a piece comes before a rest of it
 abbrev pub before_rest : List ℕ → List ℕ → List ℕ
 before_rest piece rest = take (length piece - length rest) piece
 
--- the first part of an item stands behind whole items
+-- the first part of an item comes after complete items
 pub no_parts : (before : Before) → begins_item before ≡ true → parts_before before ≡ []
 no_parts before_mark is = refl
 no_parts before_horizon is = refl
@@ -133,7 +133,7 @@ good_next format before bytes good some wide small not_bad = by (judge format be
     by (inl bad) = absurd (not_bad bad.0 bad.1)
     by (inr fine) = fine
 
--- the reading behind a part that is not bad
+-- the reading after a part that isn't bad
 pub part_read : {K : Type 0} (old new : Reading K) (bytes : List ℕ) → IsReading old → old.partial.items ≡ [] → length bytes ≡ width (before_of old) → 0 < length bytes
     → ((i : ℕ) → get_or bytes i 0 < 256)
     → old.reached + length bytes ≤ old.limit → LeadsTo (format_of old) (before_of old) bytes new.stage new.parts new.lines → new.partial.items ≡ []
@@ -183,7 +183,7 @@ part_read old new bytes is none wide some small fits leads empty reached same ke
         ∙ ap length (sym (items_stay (format_of old) (before_of old) bytes (ap begins_item (sym leads.is) ∙ within.0))
         ∙ ap (items_before (format_of old)) (sym leads.is) ∙ ap (λ f. items_before f (before_of new)) (sym kept))
 
--- a part that is bad, or for which memory was wanting: its last bytes are these
+-- a part that is bad, or for which memory ran out; its last bytes are these
 pub part_refused : {K : Type 0} (old : Reading K) (front bytes : List ℕ) (at : ℕ) (cause : Option StateCause) → IsReading old → bytes ≡ old.partial.items ++ front
     → length bytes ≡ width (before_of old)
     → 0 < length front → old.reached + length bytes ≤ old.limit → at ≡ old.item_at → IsBadHere (format_of old) (before_of old) bytes cause
@@ -230,7 +230,7 @@ part_refused old front bytes at cause is split wide some fits same bad = by caus
 
 -- ---- a piece
 
--- a fault that a part of a piece tells is that of the piece
+-- a fault returned for part of a piece is the piece's
 pub told_stays : (format : Format) (limit : ℕ) (text read front behind : List ℕ) (at : ℕ) (cause : Option StateCause)
     → IsToldSoFar format limit (text ++ read) front at cause
     → IsToldSoFar format limit text ((read ++ front) ++ behind) at cause
@@ -260,7 +260,7 @@ told_stays format limit text read front behind at cause = by cause
         inr (subst (λ xs. IsLong format limit xs (record { at = at; cause = told })) (sym whole)
         (long_stays format limit ((text ++ read) ++ front) behind (record { at = at; cause = told }) long))
 
--- what stands before a rest grows by what is taken of it
+-- what comes before a rest grows by what is taken of the rest
 pub rest_more : (piece rest front behind : List ℕ) → before_rest piece rest ++ rest ≡ piece → rest ≡ front ++ behind
     → (before_rest piece behind ≡ before_rest piece rest ++ front) × (before_rest piece behind ++ behind ≡ piece)
 rest_more piece rest front behind whole split = (now, ap (λ xs. xs ++ behind) now ∙ all)
@@ -275,7 +275,7 @@ rest_more piece rest front behind whole split = (now, ap (λ xs. xs ++ behind) n
         ap (λ n. take n piece) count ∙ ap (take (length (before_rest piece rest ++ front))) (sym all)
         ∙ take-append_seam (before_rest piece rest ++ front) behind
 
--- nothing stands before the whole piece
+-- nothing comes before the whole piece
 pub rest_first : (piece : List ℕ) → (before_rest piece piece ≡ []) × (before_rest piece piece ++ piece ≡ piece)
 rest_first piece = (none, ap (λ xs. xs ++ piece) none)
   where
@@ -293,7 +293,7 @@ module _ {K : Type 0} (initial now : Reading K) (piece rest : List ℕ) (whole :
     pub all_text : text_of now ++ rest ≡ text_of initial ++ piece
     all_text = ap (λ xs. xs ++ rest) on.text ∙ append_assoc (text_of initial) (before_rest piece rest) rest ∙ ap (λ xs. text_of initial ++ xs) whole
 
-    -- a fault of a front of the rest is one of the piece
+    -- a fault of a front of the rest is a fault of the piece
     pub told_of_piece : (front behind : List ℕ) (at : ℕ) (cause : Option StateCause) → rest ≡ front ++ behind
         → IsToldSoFar (format_of now) now.limit (text_of now) front at cause
         → IsToldSoFar (format_of initial) initial.limit (text_of initial) piece at cause

@@ -1,10 +1,10 @@
--- The texts of why no state was read.
+-- The texts that say why no state was read.
 use Rattle.std.specs.Prelude.{ℕ, List, codes}
 use Rattle.docker_bytes.specs.declared.read.ReadFault.{ReadFault}
 use Rattle.docker_bytes.specs.declared.read.ReadFault.TheVariants.{Source, State, Memory}
 use Rattle.docker_bytes.specs.FaultText.{fault_text}
 
--- a text that is none of a state by its fault
+-- the text of a read fault; for a fault of the state's text, it is that fault's
 abbrev pub read_fault_text : ReadFault → List ℕ
 read_fault_text Source = codes "the source failed"
 read_fault_text (State fault) = fault_text fault

@@ -29,7 +29,7 @@ before_of reading = stage_meant reading.stage reading.parts reading.lines
 abbrev pub text_of : {K : Type 0} → Reading K → List ℕ
 text_of reading = text_before (format_of reading) (before_of reading) ++ reading.partial.items
 
--- all parts before are good, and of the next one a front was read, within the limit
+-- all parts before are good, and a front of the next one was read, within the limit
 pub record IsReading {K : Type 0} (reading : Reading K) : Type 0 where
   pub ready : IsReady (format_of reading) reading.stage reading.parts reading.lines
   pub short : length reading.partial.items ≤ width (before_of reading) - 1
@@ -37,18 +37,19 @@ pub record IsReading {K : Type 0} (reading : Reading K) : Type 0 where
   pub item_is : reading.item_at ≡ length (items_before (format_of reading) (before_of reading))
   pub within : reading.reached + length reading.partial.items ≤ reading.limit
 
--- the reader goes on reading with these bytes behind what it had read
+-- the reader continues with these bytes after what it had read
 pub record ReadsOn {K : Type 0} (old new : Reading K) (bytes : List ℕ) : Type 0 where
   pub reading : IsReading new
   pub text : text_of new ≡ text_of old ++ bytes
   pub limit : new.limit ≡ old.limit
   pub format : format_of new ≡ format_of old
 
--- the part that is next is bad, or memory was wanting for it; the offset is that of its item
+-- the next part is bad, or memory ran out for it; the offset is its item's
 abbrev pub IsPartRefused : {K : Type 0} → Reading K → List ℕ → StateFault → Type 0
 IsPartRefused reading bytes fault = (fault.at ≡ reading.item_at) × IsBadHere (format_of reading) (before_of reading) bytes (cause_meant fault.cause)
 
--- memory was wanting for a part whose last byte stands in a piece behind a text, and no part up to it is bad; the offset is that of its item
+-- memory ran out for a part whose last byte is in a piece after a text, and no part up to it is
+-- bad; the offset is its item's
 pub record IsWanting (format : Format) (limit : ℕ) (text piece : List ℕ) (at : ℕ) : Type 0 where
   pub before : Before
   pub good : AreGood format before
@@ -61,7 +62,8 @@ pub record IsWanting (format : Format) (limit : ℕ) (text piece : List ℕ) (at
   pub ends_in_piece : length text < length (text_before format before) + width before
   pub item_at : at ≡ length (items_before format before)
 
--- a fault that is told of a piece behind a text: a bad part, a byte that is needed at the limit; or memory was wanting
+-- a fault returned for a piece after a text: a bad part, or a byte needed at the limit; or memory
+-- ran out
 abbrev pub IsToldSoFar : Format → ℕ → List ℕ → List ℕ → ℕ → Option model.StateCause → Type 0
 IsToldSoFar format limit text piece at None = IsWanting format limit text piece at
 IsToldSoFar format limit text piece at (Some cause) =
@@ -70,15 +72,16 @@ IsToldSoFar format limit text piece at (Some cause) =
 abbrev pub IsFaultTold : Format → ℕ → List ℕ → List ℕ → StateFault → Type 0
 IsFaultTold format limit text piece fault = IsToldSoFar format limit text piece fault.at (cause_meant fault.cause)
 
--- the text is that of a valid state, within the limit
+-- the text is a valid state's, within the limit
 abbrev pub IsWhole : Format → ℕ → List ℕ → Type 0
 IsWhole format limit text = (state : State) × IsStateText format limit text state
 
--- the text ends before the state does, and is not at fault otherwise
+-- the text ends before the state does, and has no other fault
 abbrev pub IsOpen : Format → ℕ → List ℕ → Type 0
 IsOpen format limit text = (fault : model.StateFault) × IsShort format limit text fault
 
--- the fault of a text that ends before the state does; or memory was wanting at the end of a whole text, whose offset is told
+-- the fault of a text that ends before the state does; or memory ran out at the end of a complete
+-- text, and the offset is that end
 abbrev pub IsToldAtEnd : Format → ℕ → List ℕ → ℕ → Option model.StateCause → Type 0
 IsToldAtEnd format limit text at None = IsWhole format limit text × (at ≡ length text)
 IsToldAtEnd format limit text at (Some cause) = IsShort format limit text (record { at = at; cause = cause })
@@ -86,24 +89,24 @@ IsToldAtEnd format limit text at (Some cause) = IsShort format limit text (recor
 abbrev pub IsUnended : Format → ℕ → List ℕ → StateFault → Type 0
 IsUnended format limit text fault = IsToldAtEnd format limit text fault.at (cause_meant fault.cause)
 
--- what a step says of the text so far, of which so many bytes of a piece were used
+-- what a step says of the text so far, when it used `n` bytes of a piece
 abbrev pub IsStep : Format → ℕ → List ℕ → List ℕ → ℕ × Step → Type 0
 IsStep format limit text piece (n, Done) = IsWhole format limit (text ++ take n piece)
 IsStep format limit text piece (n, More) = (n ≡ length piece) × IsOpen format limit (text ++ piece)
 
--- it is made of the state of a text
+-- what was made is made of the state of a text
 pub record IsMadeOf {Made : Type 0} (makes : Made → State → Type 0) (format : Format) (limit : ℕ) (text : List ℕ) (made : Made) : Type 0 where
   pub state : State
   pub is : IsStateText format limit text state
   pub made_of : makes made state
 
--- a state was joined with that of a text
+-- a state was joined with the state of a text
 pub record JoinsText (format : Format) (limit : ℕ) (text : List ℕ) (own after : State) : Type 0 where
   pub received : State
   pub is : IsStateText format limit text received
   pub join : IsJoin own received after
 
--- the part that comes next is one of so many lines of a schedule of this key
+-- the next part is one of `count` lines of a schedule with this key
 pub record IsLineOf (key : ScheduleKey) (count : ℕ) (at : Stage) : Type 0 where
   pub entries : ℕ
   pub stamp : Stamp

@@ -10,7 +10,7 @@ use Rattle.docker_parts.specs.FaultMeaning.{cause_meant}
 use Rattle.docker_bytes.specs.Reading.{IsMadeOf, IsWhole, IsOpen, IsWanting}
 use Rattle.docker_bytes.specs.ParserRead.{ParserState, HasRead}
 
--- a source that tells its bytes held this text
+-- a source whose bytes are known held this text
 abbrev pub Held : Option (List ℕ) → List ℕ → Type 0
 Held None text = ⊤
 Held (Some left) text = left ≡ text
@@ -21,13 +21,13 @@ pub record ReadsState (format : Format) (limit : ℕ) (left : Option (List ℕ))
   pub held : Held left text
   pub is : IsStateText format limit text state
 
--- it is made of the state whose text in a format the source held, within the limit
+-- what was made is made of the state whose text in a format the source held, within the limit
 pub record ReadsMade {Made : Type 0} (makes : Made → State → Type 0) (format : Format) (limit : ℕ) (left : Option (List ℕ)) (made : Made) : Type 0 where
   pub text : List ℕ
   pub held : Held left text
   pub of : IsMadeOf makes format limit text made
 
--- the fault is the text's. Want of memory is none
+-- the fault is the text's; running out of memory isn't
 abbrev pub IsCauseOf : Format → ℕ → List ℕ → ℕ → Option model.StateCause → Type 0
 IsCauseOf format limit text at None = ⊥
 IsCauseOf format limit text at (Some cause) = IsStateFault format limit text (record { at = at; cause = cause })
@@ -41,7 +41,7 @@ pub record RefusesState (format : Format) (limit : ℕ) (left : Option (List ℕ
   pub held : Held left text
   pub is : IsFaultOf format limit text fault
 
--- behind a text that is not at fault, whole or not, a source lost one piece of at most so many bytes
+-- after a text without a fault, complete or not, a source lost one piece of at most `most` bytes
 pub record ReadsOnePieceMore (format : Format) (most limit : ℕ) (old new : Option (List ℕ)) : Type 0 where
   pub text : List ℕ
   pub piece : List ℕ
@@ -49,7 +49,8 @@ pub record ReadsOnePieceMore (format : Format) (most limit : ℕ) (old new : Opt
   pub few : length piece ≤ most
   pub sound : IsOpen format limit text ⊎ IsWhole format limit text
 
--- memory was wanting for a part that ends in the last piece of at most so many bytes that a source lost
+-- memory ran out for a part that ends in the last piece, of at most `most` bytes, that a source
+-- lost
 pub record WantsPart (format : Format) (most limit : ℕ) (old new : Option (List ℕ)) : Type 0 where
   pub text : List ℕ
   pub piece : List ℕ
@@ -58,7 +59,7 @@ pub record WantsPart (format : Format) (most limit : ℕ) (old new : Option (Lis
   pub at : ℕ
   pub wanting : IsWanting format limit text piece at
 
--- memory was wanting before a byte was read, or for a part up to which none is bad
+-- memory ran out before a byte was read, or for a part up to which none is bad
 abbrev pub WantsSoFar : Format → ℕ → ℕ → Option (List ℕ) → Option (List ℕ) → Type 0
 WantsSoFar format most limit old new = Reads old [] new ⊎ WantsPart format most limit old new
 
@@ -74,6 +75,7 @@ pub record JoinsState (format : Format) (limit : ℕ) (left : Option (List ℕ))
   pub read : ReadsState format limit left received
   pub join : IsJoin own received after
 
--- memory was wanting: before a byte was read, for a part up to which none is bad, or at the end of a state's text
+-- memory ran out: before a byte was read, for a part up to which none is bad, or at the end of a
+-- state's text
 abbrev pub WantsMemory : Format → ℕ → ℕ → Option (List ℕ) → Option (List ℕ) → Type 0
 WantsMemory format most limit old new = Reads old [] new ⊎ WantsPart format most limit old new ⊎ ((state : State) × ReadsState format limit old state)

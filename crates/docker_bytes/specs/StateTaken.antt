@@ -15,7 +15,7 @@ pub record StateTerms : Type 0 where
   pub format : Format
   pub limit : ℕ
 
--- the parser has read this text and told no fault, under a limit of 64 bits
+-- the parser has read this text and returned no fault, under a limit of 64 bits
 pub record TakesState {K : Type 0} (parser : ParserState K) (terms : StateTerms) (text : List ℕ) : Type 0 where
   pub read : HasRead parser terms.format terms.limit text
   pub small : terms.limit < 2 ^ 64
@@ -32,7 +32,8 @@ taken_is_bounded parser terms text has =
     let small = has.small in
     omega (arith, same, sum, reached, within, limit, small)
 
--- the fault is that of each text that begins with the text and the piece; or memory was wanting for a part that ends in the piece. The parser may be any
+-- each text that begins with the text and the piece has the fault; or memory ran out for a part
+-- that ends in the piece; the parser may be any
 pub record RefusesPart {K : Type 0} (parser : ParserState K) (terms : StateTerms) (text piece : List ℕ) (told : ReadFault) : Type 0 where
   pub state : (found : StateFault) → told ≡ fault.State found → (rest : List ℕ) → IsFaultOf terms.format terms.limit ((text ++ piece) ++ rest) found
   pub memory : told ≡ fault.Memory → (at : ℕ) × IsWanting terms.format terms.limit text piece at

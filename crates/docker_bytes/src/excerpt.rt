@@ -1,4 +1,5 @@
-//! What a command that writes no state reads of one: what the dockers of a place are made of, or the ledger.
+//! Reads a state for a command that writes none: what the dockers of a place are made of, or the
+//! ledger.
 ghost use Rattle.std.specs.Prelude.{◌≡◌, ◌≢◌, ◌+◌, ◌-◌, ◌^◌, ◌<◌, ◌↔◌, IfOk, Err};
 ghost use Rattle.docker_model.specs.state.StateText.{dks_2};
 ghost use Rattle.docker_bytes.specs.Excerpts.{IsExcerptAt};
@@ -11,8 +12,9 @@ use docker_parts::format::Format;
 use std::alloc::Global;
 use std::marker::Brand;
 
-/// Reads a source as `read_state` does, and answers what the dockers of a place are made of in the state whose text it held. Each part is judged, whether it is
-/// kept or not. An excerpt is no state: it is never written, joined or sent.
+/// Reads a source as `read_state` does. Returns what the dockers of a place are made of, from the
+/// state whose text the source held. Each part is judged, whether it is kept or not. An excerpt is
+/// no state: it is never written, joined or sent.
 pub fn read_excerpt<S: Source>(
     alloc: Global,
     source: &mut S,
@@ -34,7 +36,7 @@ pub fn read_excerpt<S: Source>(
     excerpt_at::<Brand, S>(alloc, source, place, limit)
 }
 
-/// The same of the place that the type names.
+/// Like `read_excerpt`, for the place that the type names.
 fn excerpt_at<P: Place, S: Source>(
     alloc: Global,
     source: &mut S,
@@ -58,8 +60,9 @@ fn excerpt_at<P: Place, S: Source>(
     read_format(alloc, Format::Dks2, keeper, source, limit)
 }
 
-/// Reads a source as `read_state` does, and answers the ledger of the state whose text it held. Each part is judged, and no entry is kept: memory is taken for
-/// the ledger and for the lines of one schedule.
+/// Reads a source as `read_state` does. Returns the ledger of the state whose text the source held.
+/// Each part is judged, and no entry is kept: memory is taken for the ledger and for the lines of
+/// one schedule.
 pub fn read_ledger<S: Source>(
     alloc: Global,
     source: &mut S,

@@ -1,4 +1,4 @@
-//! Where bytes are no text of a state, and how far a text has come.
+//! Where bytes are not the text of a state, and how far a text has come.
 ghost use Rattle.std.specs.Prelude.{Some};
 ghost use Rattle.docker_bytes.specs.FaultText.{fault_text};
 
@@ -6,10 +6,10 @@ use docker_parts::StateCause;
 use std::error::Error;
 use std::fmt;
 
-/// Where bytes are found to be no text of a state, or where memory was wanting.
+/// Where bytes were found not to be the text of a state, or where memory ran out.
 #[derive(Clone, Copy, PartialEq, Eq, Debug)]
 pub struct StateFault {
-    /// The offset, from 0: of the item that is at fault, of the first byte behind the state, or the limit.
+    /// The offset, from 0: of the item at fault, of the first byte after the state, or the limit.
     pub at: u64,
     /// What is wrong there.
     pub cause: StateCause,
@@ -25,7 +25,7 @@ impl fmt::Display for StateFault {
 
 impl Error for StateFault {}
 
-/// Whether the text of a state is whole.
+/// Whether the text of a state is complete.
 #[derive(Clone, Copy, PartialEq, Eq, Debug)]
 pub enum Step {
     /// The last byte of the state has come.

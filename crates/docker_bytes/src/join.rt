@@ -1,4 +1,4 @@
-//! A state joined with the one that a source holds.
+//! Joins a state with the one that a source holds.
 ghost use Rattle.std.specs.Prelude.{◌≡◌, ◌≢◌, ℕ, ◌+◌, ◌-◌, ◌^◌, ◌<◌, ◌↔◌, List, IsOk, IsErr, Err};
 ghost use Rattle.docker_model.specs.state.State.{IsValid};
 ghost use Rattle.docker_model.specs.state.StateText.{dks_2};
@@ -16,8 +16,10 @@ use std::alloc::Global;
 use std::marker::Brand;
 use std::mem;
 
-/// Joins a state with the one whose text of the mark `DKS2` a source holds, which is read as `read_state` reads it. Of the entries received only those are kept
-/// that the state takes over, and it takes them over once the end of the source was seen: each refusal is one of `read_state`, and leaves the state as it was.
+/// Joins a state with the one that a source holds, whose text has the mark `DKS2`. The source is
+/// read as `read_state` reads it. Of the entries received, only the ones that the state takes over
+/// are kept. It takes them over once the end of the source was seen. So each fault is one of
+/// `read_state`, and leaves the state as it was.
 pub fn join_state<S: Source>(
     alloc: Global,
     state: &mut State,
@@ -38,7 +40,7 @@ pub fn join_state<S: Source>(
     ensures no_failure { result ≢ Err ReadFault.Source →
         S.failures source.new ≡ S.failures source.old }
 {
-    // A state is valid, as its ledger tells.
+    // Called for its contract: the state is valid.
     let _ledger = state.ledger();
     let own = mem::replace(state, State::empty(alloc));
     let (after, result) = receive::<Brand, S>(alloc, own, source, limit);
@@ -46,7 +48,7 @@ pub fn join_state<S: Source>(
     result
 }
 
-/// The same of a state that is handed over, and back: the one that the receiver names.
+/// Like `join_state`, for a state that is passed in and returned: the one that the receiver names.
 fn receive<R: Receiver, S: Source>(
     alloc: Global,
     own: State,
@@ -76,7 +78,7 @@ fn receive<R: Receiver, S: Source>(
     join(parser)
 }
 
-/// The state that receives what a parser was fed, joined with it.
+/// The receiving state, joined with the state that a parser was fed.
 fn join<R: Receiver>(parser: Parser<Received<R>>) -> (State, Result<(), ReadFault>)
     ensures ok { (format : formats.Format) (limit : ℕ) (text : List ℕ) →
         HasRead parser format limit text → IsOk result.1 →

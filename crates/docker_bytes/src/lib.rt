@@ -1,5 +1,6 @@
 //! The text of a state in bytes: one text for each state, and a reader that accepts nothing else.
-//! The writing of a text, and the causes for which one is refused, are handed on from the crates below.
+//! Re-exports the writing of a text, and the causes for which a text is refused, from the crates
+//! below.
 #![tactic(auto)]
 
 mod excerpt;

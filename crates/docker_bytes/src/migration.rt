@@ -1,4 +1,4 @@
-//! The state of a text that tells no horizon.
+//! Reads the state of a text that has no horizon.
 ghost use Rattle.std.specs.Prelude.{◌≡◌, ◌≢◌, ◌+◌, ◌-◌, ◌^◌, ◌<◌, ◌↔◌, IfOk, Err};
 ghost use Rattle.docker_model.specs.state.StateText.{dks_1};
 ghost use Rattle.docker_bytes.specs.SourceRead.{ReadsState, RefusesState, ReadsOnePieceMore, WantsMemory};
@@ -9,7 +9,8 @@ use docker_parts::format::Format;
 use docker_parts::{State, Whole};
 use std::alloc::Global;
 
-/// Reads a source, as `read_state` does, whose text is of the mark `DKS1`: it tells no horizon, and the state has none. A text of the mark `DKS2` is refused at 0.
+/// Reads a source as `read_state` does, for a text with the mark `DKS1`. The text has no horizon,
+/// so the state has none. A text with the mark `DKS2` is refused at 0.
 pub fn migrate<S: Source>(alloc: Global, source: &mut S, limit: u64) -> Result<State, ReadFault>
     requires { S.failures source.old < 2 ^ 64 - 1 }
     ensures ok { IfOk result (ReadsState dks_1 limit (S.left source.old)) }

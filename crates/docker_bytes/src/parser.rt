@@ -12,7 +12,8 @@ use docker_parts::{Keeper, Maker, Received, Receiver, State, Told};
 use std::alloc::Global;
 use std::marker::Model;
 
-/// A parser of the text of one state, which comes in pieces of any length. It keeps the parts so far, and at most 80 bytes of the one that comes next.
+/// A parser of the text of one state, which comes in pieces of any length. It keeps the parts so
+/// far, and at most 80 bytes of the next part.
 #[derive(Debug, Drop)]
 pub(crate) struct Parser<K: Keeper> {
     reading: Reading<K>,
@@ -30,7 +31,7 @@ impl<K: Keeper> Model for Parser<K> {
 }
 
 impl<K: Keeper> Parser<K> {
-    /// A parser of a text of a format, whose parts are given to a keeper that was given none.
+    /// A parser of a text of a format. It gives the parts to a keeper that was given none yet.
     pub(crate) fn new(alloc: Global, format: Format, limit: u64, keeper: K) -> Parser<K>
         requires { K.given keeper ≡ record { horizon = 0; ledger = []; entries = [] } }
         ensures { HasRead result (format_meant format) limit [] }
@@ -41,9 +42,12 @@ impl<K: Keeper> Parser<K> {
         }
     }
 
-    /// Takes the next bytes of the text, and tells how many of them it used: at `More` all, and more are to come; at `Done` those up to the last byte of the
-    /// state, and from then on none. It is refused once a bad part is there, or a byte at the limit that the state needs, and it tells that fault; or where
-    /// memory is wanting for a part whose last byte it takes, at that part's item, and then no part up to it is bad. Each later call answers the same fault.
+    /// Takes the next bytes of the text, and returns how many it used. At `More` it used all, and
+    /// more are to come. At `Done` it used the bytes up to the last byte of the state, and from
+    /// then on it uses none. It fails once a bad part is there, or a byte at the limit that the
+    /// state needs, and returns that fault. It also fails if memory runs out for a part whose last
+    /// byte it takes: that fault is at the part's item, and no part up to it is bad. Each later
+    /// call returns the same fault.
     pub(crate) fn feed(&mut self, piece: &[u8]) -> Result<(usize, Step), StateFault>
         ensures within { IfOk result (λ answer. answer.0 ≤ length piece.now) }
         ensures read { (format : formats.Format) (limit : ℕ) (text : List ℕ) →
@@ -77,7 +81,7 @@ impl<K: Keeper> Parser<K> {
         }
     }
 
-    /// How many bytes were read, as long as no fault was told.
+    /// How many bytes were read, as long as no fault was returned.
     pub(crate) fn offset(&self) -> u64
         requires { self.now.fault ≡ None }
         ensures { (format : formats.Format) (limit : ℕ) (text : List ℕ) →
@@ -88,8 +92,9 @@ impl<K: Keeper> Parser<K> {
 }
 
 impl<K: Maker> Parser<K> {
-    /// What is made of the state whose text was read. `Short` where the text ends before the state does, at the item that is not whole; want of memory only of a
-    /// whole text, at its end. After a fault of `feed` it is that fault.
+    /// What is made of the state whose text was read. `Short` if the text ends before the state
+    /// does, at the item that isn't complete. `Memory` only after a complete text, at its end.
+    /// After a fault of `feed`, it returns that fault.
     pub(crate) fn finish(self) -> Result<K::Made, StateFault>
         ensures ok { (format : formats.Format) (limit : ℕ) (text : List ℕ) →
             HasRead self format limit text →
@@ -107,7 +112,9 @@ impl<K: Maker> Parser<K> {
 }
 
 impl<R: Receiver> Parser<Received<R>> {
-    /// The state that receives what was read, joined with the state whose text it is; or as it was, with the fault of `feed` or of a text that ends too early, or want of memory.
+    /// The receiving state, joined with the state whose text was read. If `feed` returned a fault,
+    /// the text ends too early or memory runs out, it returns that fault, and the state is as it
+    /// was.
     pub(crate) fn join(self) -> (State, Result<(), StateFault>)
         ensures ok { (format : formats.Format) (limit : ℕ) (text : List ℕ) →
             HasRead self format limit text → IsOk result.1 →
@@ -124,7 +131,7 @@ impl<R: Receiver> Parser<Received<R>> {
         }
     }
 
-    /// The state that receives what is read, as it was.
+    /// The receiving state, as it was.
     pub(crate) fn into_own(self) -> State
         ensures { result ≡ R.own }
     {

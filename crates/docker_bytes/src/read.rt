@@ -1,4 +1,4 @@
-//! The state that a source holds.
+//! Reads the state that a source holds.
 ghost use Rattle.std.specs.Prelude.{◌≡◌, ◌≢◌, ℕ, ◌+◌, ◌-◌, ◌^◌, ◌<◌, ◌↔◌, List, [], ◌++◌, length, IsOk, IfOk, Err, Some};
 ghost use Rattle.docker_model.specs.state.StateText.{dks_2};
 ghost use Rattle.docker_model.specs.state.StateText as formats;
@@ -22,9 +22,9 @@ use std::fmt;
 pub enum ReadFault {
     /// The source failed.
     Source,
-    /// What the source holds is no text of a state: never `Memory`.
+    /// What the source holds is not the text of a state. The cause is never `Memory`.
     State(StateFault),
-    /// A growth was refused: want of memory. No part that was judged before is bad.
+    /// Out of memory: a growth was refused. No part that was judged before is bad.
     Memory,
 }
 
@@ -42,8 +42,9 @@ impl fmt::Display for ReadFault {
 
 impl Error for ReadFault {}
 
-/// Reads a source to its end, or to the first fault, and answers the state whose text it held. Nothing is read behind the piece, of at most 65,536 bytes, that
-/// decides the answer: so a source that never ends is read to the piece with the byte at the limit at the latest.
+/// Reads a source to its end, or to the first fault, and returns the state whose text it held.
+/// Nothing is read after the piece, of at most 65,536 bytes, that decides the result. So a source
+/// that never ends is read at the latest to the piece with the byte at the limit.
 pub fn read_state<S: Source>(alloc: Global, source: &mut S, limit: u64) -> Result<State, ReadFault>
     requires { S.failures source.old < 2 ^ 64 - 1 }
     ensures ok { IfOk result (ReadsState dks_2 limit (S.left source.old)) }
@@ -60,7 +61,8 @@ pub fn read_state<S: Source>(alloc: Global, source: &mut S, limit: u64) -> Resul
     read_format(alloc, Format::Dks2, Whole::new(alloc), source, limit)
 }
 
-/// The same of a text of a format, whose parts are given to a keeper that was given none: what it makes of the state.
+/// Like `read_state`, for a text of a format. The parts are given to a keeper that was given none
+/// yet, and what it makes of the state is returned.
 pub(crate) fn read_format<S: Source, K: Maker>(
     alloc: Global,
     format: Format,
@@ -88,7 +90,8 @@ pub(crate) fn read_format<S: Source, K: Maker>(
     finish(parser)
 }
 
-/// Feeds a parser that has read nothing all that a source has, in pieces of at most 65,536 bytes, all of which have to be of the state.
+/// Feeds a parser that has read nothing all that a source has, in pieces of at most 65,536 bytes.
+/// All the bytes have to be the state's.
 pub(crate) fn read_pieces<S: Source, K: Keeper>(
     alloc: Global,
     source: &mut S,
@@ -139,7 +142,7 @@ impl<K: Keeper> Taker for Parser<K> {
     ghost bounded = { taken_is_bounded };
 }
 
-/// Feeds bytes to a parser, all of which have to be of the state.
+/// Feeds bytes to a parser. All of them have to be the state's.
 fn feed<K: Keeper>(parser: &mut Parser<K>, piece: &[u8]) -> Result<(), ReadFault>
     ensures read { (format : formats.Format) (limit : ℕ) (text : List ℕ) →
         HasRead parser.old format limit text → IsOk result →
@@ -181,7 +184,7 @@ fn finish<K: Maker>(parser: Parser<K>) -> Result<K::Made, ReadFault>
     }
 }
 
-/// The fault of a byte behind what a parser has read.
+/// The fault of a byte after what a parser has read.
 fn tail<K: Keeper>(parser: &Parser<K>) -> StateFault
     requires { parser.now.fault ≡ None }
     ensures at { (format : formats.Format) (limit : ℕ) (text : List ℕ) →
@@ -194,7 +197,7 @@ fn tail<K: Keeper>(parser: &Parser<K>) -> StateFault
     }
 }
 
-/// Want of memory is a fault of its own, and each other cause is the text's.
+/// Out of memory is a fault of its own. Each other cause is the text's.
 pub(crate) fn fault_of(fault: StateFault) -> ReadFault
     ensures memory { fault.cause ≡ StateCause.Memory → result ≡ ReadFault.Memory }
     ensures state { fault.cause ≢ StateCause.Memory → result ≡ ReadFault.State fault }

@@ -1,4 +1,4 @@
-//! The reading of a text in pieces, part by part.
+//! Reads a text in pieces, part by part.
 ghost use Rattle.std.specs.Prelude.{◌≡◌, ◌+◌, ◌-◌, ◌<◌, ◌≤◌, ◌↔◌, [], ◌++◌, length, take, IsTrue, IsOk, IsErr, IfOk, IfErr};
 ghost use Rattle.arrayvec.specs.ArrayVec.{array_vec_len};
 ghost use Rattle.docker_model.specs.state.StatePart.{width};
@@ -14,7 +14,8 @@ use docker_parts::{
 };
 use std::alloc::Global;
 
-/// A text so far: what its parts have told, the part that comes next with the bytes of it that came, and where its item began.
+/// A text so far: what its parts have said, the next part with the bytes of it that came, and where
+/// its item began.
 #[derive(Debug, Drop)]
 pub(crate) struct Reading<K: Keeper> {
     alloc: Global,
@@ -39,7 +40,7 @@ fn extend(partial: &mut ArrayVec<u8, LINE>, more: &[u8])
 }
 
 impl<K: Keeper> Reading<K> {
-    /// No byte yet, of at most `limit` of a text of the format, and no part.
+    /// No bytes and no parts yet, of a text of the format with at most `limit` bytes.
     pub(crate) fn new(alloc: Global, format: Format, limit: u64, parts: Told<K>) -> Reading<K>
         requires { parts ≡ record { horizon = 0; ledger = []; entries = [] } }
         ensures reading { IsReading result }
@@ -68,7 +69,7 @@ impl<K: Keeper> Reading<K> {
         self.reached + self.partial.len() as u64
     }
 
-    /// Whether the state is whole.
+    /// Whether the state is complete.
     pub(crate) fn is_done(&self) -> bool
         ensures { IsTrue result ↔ (width (before_of self.now) ≡ 0) }
     {
@@ -85,7 +86,7 @@ impl<K: Keeper> Reading<K> {
         }
     }
 
-    /// The fault of a bad part, told at its item.
+    /// The fault of a bad part, at the part's item.
     fn bad(&self, cause: StateCause) -> StateFault
         ensures { result ≡ record { at = self.now.item_at; cause = cause } }
     {
@@ -95,7 +96,8 @@ impl<K: Keeper> Reading<K> {
         }
     }
 
-    /// Takes a whole line of the schedule that is read, behind which more are to come: the stage stays as it is.
+    /// Takes a complete line of the schedule that is read, with more lines to come. The stage stays
+    /// as it is.
     fn take_line(&mut self, key: &ScheduleKey, count: u32, bytes: &[u8]) -> Result<(), StateFault>
         requires reading { IsReading self.old }
         requires stage { IsLineOf key.now count self.old.stage }
@@ -117,7 +119,8 @@ impl<K: Keeper> Reading<K> {
         }
     }
 
-    /// Whether so many bytes hold a whole line within the limit, behind which more of so many lines are to come.
+    /// Whether `len` bytes hold a complete line within the limit, with more of `count` lines to
+    /// come after it.
     fn has_whole_line(&self, count: u32, len: usize) -> bool
         requires { self.now.reached ≤ self.now.limit }
         ensures { IsTrue result ↔ ((LINE ≤ len) × (self.now.reached + LINE ≤ self.now.limit)
@@ -132,7 +135,8 @@ impl<K: Keeper> Reading<K> {
         self.lines.has_more(count)
     }
 
-    /// Takes the whole lines at the head of a piece behind which more lines of the same schedule are to come, and tells what stands behind them.
+    /// Takes the complete lines at the head of a piece that have more lines of the same schedule to
+    /// come. Returns the bytes after them.
     fn take_lines<'a>(&mut self, piece: &'a [u8]) -> Result<&'a [u8], StateFault>
         requires { IsReading self.old }
         ensures rest { IfOk result (λ behind.
@@ -157,7 +161,8 @@ impl<K: Keeper> Reading<K> {
         Ok(rest)
     }
 
-    /// Takes a whole part, of which nothing was kept. Behind a line with more to come the stage stays as it is.
+    /// Takes a complete part, of which nothing was kept. After a line with more to come, the stage
+    /// stays as it is.
     fn judge(&mut self, bytes: &[u8]) -> Result<(), StateFault>
         requires reading { IsReading self.old }
         requires fresh { self.old.partial.items ≡ [] }
@@ -229,7 +234,7 @@ impl<K: Keeper> Reading<K> {
         Ok(())
     }
 
-    /// Takes the next bytes, up to the end of the state, and tells how many they are.
+    /// Takes the next bytes, up to the end of the state, and returns how many they are.
     pub(crate) fn read(&mut self, piece: &[u8]) -> Result<(usize, Step), StateFault>
         requires { IsReading self.old }
         ensures within { IfOk result (λ answer. answer.0 ≤ length piece.now) }
@@ -258,7 +263,8 @@ impl<K: Keeper> Reading<K> {
 }
 
 impl<K: Maker> Reading<K> {
-    /// What is made of the state whose text was read, or the fault of a text that ends before the state does.
+    /// What is made of the state whose text was read, or the fault of a text that ends before the
+    /// state does.
     pub(crate) fn finish(self) -> Result<K::Made, StateFault>
         requires { IsReading self }
         ensures ok { IfOk result (IsMadeOf K.makes (format_of self) self.limit (text_of self)) }
@@ -293,7 +299,8 @@ impl<K: Maker> Reading<K> {
 }
 
 impl<R: Receiver> Reading<Received<R>> {
-    /// The state that receives what was read, joined with the state whose text it is, or the fault of a text that ends before the state does. A fault leaves it as it was.
+    /// The receiving state, joined with the state whose text was read, or the fault of a text that
+    /// ends before the state does. A fault leaves the receiving state as it was.
     pub(crate) fn join(self) -> (State, Result<(), StateFault>)
         requires { IsReading self }
         ensures ok { IsOk result.1
@@ -317,7 +324,7 @@ impl<R: Receiver> Reading<Received<R>> {
         }
     }
 
-    /// The state that receives what is read, as it was.
+    /// The receiving state, as it was.
     pub(crate) fn into_own(self) -> State
         ensures { result ≡ R.own }
     {

@@ -13,7 +13,8 @@ use docker_parts::{State, Whole};
 use std::alloc::Global;
 use std::marker::Model;
 
-/// A parser of the text of one state, which comes in pieces of any length. It keeps the parts so far, and at most 80 bytes of the one that comes next.
+/// A parser of the text of one state, which comes in pieces of any length. It keeps the parts so
+/// far, and at most 80 bytes of the next part.
 #[derive(Debug, Drop)]
 pub struct StateParser {
     parser: Parser<Whole>,
@@ -29,7 +30,7 @@ impl Model for StateParser {
 }
 
 impl StateParser {
-    /// A parser of a text of the mark `DKS2`, of at most `limit` bytes.
+    /// A parser of a text with the mark `DKS2`, of at most `limit` bytes.
     pub fn new(alloc: Global, limit: u64) -> StateParser
         ensures { HasRead result dks_2 limit [] }
     {
@@ -38,9 +39,12 @@ impl StateParser {
         }
     }
 
-    /// Takes the next bytes of the text, and tells how many of them it used: at `More` all, and more are to come; at `Done` those up to the last byte of the
-    /// state, and from then on none. It is refused once a bad part is there, or a byte at the limit that the state needs, and it tells that fault; or where
-    /// memory is wanting for a part whose last byte it takes, at that part's item, and then no part up to it is bad. Each later call answers the same fault.
+    /// Takes the next bytes of the text, and returns how many it used. At `More` it used all, and
+    /// more are to come. At `Done` it used the bytes up to the last byte of the state, and from
+    /// then on it uses none. It fails once a bad part is there, or a byte at the limit that the
+    /// state needs, and returns that fault. It also fails if memory runs out for a part whose last
+    /// byte it takes: that fault is at the part's item, and no part up to it is bad. Each later
+    /// call returns the same fault.
     pub fn feed(&mut self, piece: &[u8]) -> Result<(usize, Step), StateFault>
         ensures within { IfOk result (λ answer. answer.0 ≤ length piece.now) }
         ensures read { (format : formats.Format) (limit : ℕ) (text : List ℕ) →
@@ -61,8 +65,9 @@ impl StateParser {
         self.parser.feed(piece)
     }
 
-    /// The state whose text was read. `Short` where the text ends before the state does, at the item that is not whole; want of memory only of a whole text, at
-    /// its end. After a fault of `feed` it is that fault.
+    /// The state whose text was read. `Short` if the text ends before the state does, at the item
+    /// that isn't complete. `Memory` only after a complete text, at its end. After a fault of
+    /// `feed`, it returns that fault.
     pub fn finish(self) -> Result<State, StateFault>
         ensures ok { (format : formats.Format) (limit : ℕ) (text : List ℕ) →
             HasRead self format limit text →

@@ -1,4 +1,4 @@
--- The entry of a live schedule: its stamp, and what its text needs of that.
+-- The entry of a live schedule: its stamp, and what its text needs of the stamp.
 use Rattle.std.proofs.Common.{◌≡◌, ◌<◌, ap, sym, ◌∙◌, subst, Some, None}
 use Rattle.std.specs.Prelude.{option_and_then}
 use Rattle.std.proofs.lemmas.List.Elements.{All-contains}
@@ -32,7 +32,7 @@ pub entry_there : (state : State) (train : Train) → IsLiveTrain (live_table st
 entry_there state train live at =
     none_some (schedule_body train.lines) (ap (option_and_then (λ (e : Entry). body_of e.op)) at ∙ live)
 
--- an entry's stamp has a minute of the day
+-- the stamp of an entry has a minute of the day
 pub minute_of_day : (state : State) (key : Key) (entry : Entry) → IsValid state → entry_at state key ≡ Some entry → entry.stamp.file.moment.minute < 1440
 minute_of_day state key entry valid at =
     let among = (entry_at_iff state valid.entries.1 key entry).0 at in

@@ -6,7 +6,7 @@ use Rattle.docker_model.specs.state.State.{State}
 use Rattle.docker_chosen.specs.TrainText.{IsTrainText, Stamped, found_text, heading, heading_with, train_text}
 use Rattle.docker_chosen.specs.Answer.{Answer, IsAnswerOf, text_of}
 
--- of an answer of a state, a UID and a day
+-- for an answer of a state, a UID and a day
 pub printed : (state : State) (uid : List ℕ) (day : ℕ) (answer : Answer) → IsAnswerOf state uid day answer → IsTrainText state uid day (text_of answer)
 printed state uid day answer is = (answer.found, is.is_found, λ i. train_text (is.uid_is i) (is.day_is i) answer.found)
 

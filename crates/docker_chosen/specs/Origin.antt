@@ -1,4 +1,4 @@
--- Where a schedule came from, and why a train stands on a docker.
+-- Where a schedule came from, and why a train is on a docker.
 use Rattle.std.specs.Prelude.{◌≡◌, ◌≤◌, ℕ, List, Some, Contains}
 use Rattle.docker_model.specs.file.Change.{Change, changes, schedule_key, schedule_body, put}
 use Rattle.docker_model.specs.state.Stamp.{Stamp, file_stamp_of}
@@ -7,7 +7,7 @@ use Rattle.docker_model.specs.docker.Choice.{IsCancellation}
 use Rattle.docker_model.specs.docker.LiveRows.{Train}
 use Rattle.docker_chosen.specs.TrainText.{Stamped, IsFoundFor}
 
--- the change that put a schedule: its number is the stamp's
+-- the change that put a schedule, with the stamp's number
 abbrev pub change_of : Stamped → Change
 change_of found = record {
   number = found.stamp.number;

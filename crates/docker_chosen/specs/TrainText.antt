@@ -1,4 +1,5 @@
--- Which schedule is chosen for a UID on a day, where it came from, and the text that says so. Days are those from 0 to 36524.
+-- Which schedule is chosen for a UID on a day, where it came from, and the text that says so. Days
+-- are from 0 to 36524.
 use Rattle.std.specs.Prelude.{◌≡◌, ℕ, ◌-◌, ◌==◌, if◌then◌else◌, List, [], ◌∷◌, ◌++◌, length, codes, decimal, Option, Some, None}
 use Rattle.std.specs.List.{flat_map}
 use Rattle.docker_model.specs.records.PrintedTime.{spaces, day_text, minute_text}
@@ -9,7 +10,7 @@ use Rattle.docker_model.specs.state.State.{State, entry_at, live_table}
 use Rattle.docker_model.specs.docker.LiveRows.{Train, IsChosenOn}
 use Rattle.docker_model.specs.docker.DockerText.{ended}
 
--- a schedule, with the stamp of the change that put it: the file that it came from, and the number of its record there
+-- a schedule, with the stamp of the change that put it: its file, and its record's number there
 pub record Stamped : Type 0 where
   pub schedule : Train
   pub stamp : Stamp
@@ -19,13 +20,14 @@ abbrev pub IsStampOf : State → Train → Stamp → Type 0
 IsStampOf state schedule stamp =
     entry_at state (schedule_key schedule.key) ≡ Some (record { stamp = stamp; op = put_with (schedule_body schedule.lines) })
 
--- what is found is the schedule that is chosen for the UID on the day, with its stamp; nothing is found where none runs
+-- what is found is the schedule that is chosen for the UID on the day, with its stamp; nothing is
+-- found if no schedule runs
 abbrev pub IsFoundFor : State → List ℕ → ℕ → Option Stamped → Type 0
 IsFoundFor state uid day None = IsChosenOn (live_table state) uid day None
 IsFoundFor state uid day (Some found) =
     IsChosenOn (live_table state) uid day (Some found.schedule) × IsStampOf state found.schedule found.stamp
 
--- a number below 10,000,000,000 in ten columns, with spaces before it
+-- a number below 10,000,000,000 in ten columns, padded with spaces on the left
 abbrev pub number_text : ℕ → List ℕ
 number_text number = spaces (10 - length (decimal number)) ++ decimal number
 
@@ -35,7 +37,8 @@ stamp_text stamp =
     day_text stamp.file.moment.day ++ spaces 1 ++ minute_text stamp.file.moment.minute ++ spaces 1 ++ stamp.file.reference ++ spaces 1
     ++ number_text stamp.number
 
--- what becomes of a train by a chosen schedule of this STP indicator: C cancels it, and by any other it runs
+-- whether a train runs by a chosen schedule with this STP indicator: C cancels it, and by any other
+-- it runs
 abbrev pub running_text : ℕ → List ℕ
 running_text indicator = if indicator == 67 then codes "CANCELLED" else codes "RUNS     "
 
@@ -45,7 +48,7 @@ found_text None = spaces 2 ++ codes "NONE" ++ spaces 40
 found_text (Some found) =
     found.schedule.key.indicator ∷ spaces 1 ++ running_text found.schedule.key.indicator ++ spaces 1 ++ stamp_text found.stamp
 
--- the 80 columns of a heading, with these in columns 27 to 72
+-- the 80 columns of a heading, with this text in columns 27 to 72
 unfoldable pub heading_with : List ℕ → ℕ → List ℕ → List ℕ
 heading_with uid day found = codes "TRAIN  " ++ uid ++ spaces 2 ++ day_text day ++ spaces 1 ++ found ++ spaces 8
 
@@ -53,7 +56,7 @@ heading_with uid day found = codes "TRAIN  " ++ uid ++ spaces 2 ++ day_text day 
 abbrev pub heading : List ℕ → ℕ → Option Stamped → List ℕ
 heading uid day found = heading_with uid day (found_text found)
 
--- the lines of what is found: each has 80 columns
+-- the lines of what is found, each with 80 columns
 abbrev pub lines_of : Option Stamped → List (List ℕ)
 lines_of None = []
 lines_of (Some found) = found.schedule.lines
@@ -62,10 +65,10 @@ lines_of (Some found) = found.schedule.lines
 abbrev pub last_line : List ℕ
 last_line = codes "END" ++ spaces 77
 
--- the text of a UID, a day and what is found
+-- the text for a UID, a day and what is found
 abbrev pub train_text : List ℕ → ℕ → Option Stamped → List ℕ
 train_text uid day found = ended (heading uid day found) ++ flat_map ended (lines_of found) ++ ended last_line
 
--- the train text of a state, a UID and a day
+-- this is the train text of a state, a UID and a day
 abbrev pub IsTrainText : State → List ℕ → ℕ → List ℕ → Type 0
 IsTrainText state uid day text = (found : Option Stamped) × IsFoundFor state uid day found × (text ≡ train_text uid day found)

@@ -11,7 +11,7 @@ use docker_join::Stamp;
 use docker_train::ScheduleView;
 use std::marker::Model;
 
-/// A UID and a day, with the schedule that is chosen for them, if one is.
+/// A UID and a day, with the schedule chosen for them, if there is one.
 #[derive(Debug, Drop)]
 pub struct ChosenTrain<'a> {
     uid: Uid,
@@ -53,7 +53,8 @@ impl<'a> ChosenTrain<'a> {
         self.day
     }
 
-    /// The schedule that is chosen: its key and its lines. It may be a cancellation. None if none runs.
+    /// The chosen schedule: its key and its lines. It may be a cancellation. `None` if no schedule
+    /// runs.
     pub fn schedule(&self) -> Option<&ScheduleView<'a>>
         ensures { option_copied result
             ≡ option_map (λ (it : text.Stamped). it.schedule) self.now.found }
@@ -64,7 +65,8 @@ impl<'a> ChosenTrain<'a> {
         }
     }
 
-    /// Where it came from: the date, the time and the reference of the extract, and the number of the record there. None if none runs.
+    /// Where the schedule came from: the date, the time and the reference of the extract, and the
+    /// record's number there. `None` if no schedule runs.
     pub fn stamp(&self) -> Option<&'a Stamp>
         ensures { option_map stamp_meant (option_copied result)
             ≡ option_map (λ (it : text.Stamped). it.stamp) self.now.found }
@@ -82,7 +84,7 @@ impl<'a> ChosenTrain<'a> {
         self.found.as_ref()
     }
 
-    /// The lines of the schedule. There are none if none runs.
+    /// The lines of the schedule. There are none if no schedule runs.
     pub(crate) fn lines(&self) -> &[Line]
         ensures { result.now ≡ lines_of self.now.found }
     {

@@ -1,4 +1,4 @@
-//! The finding of the schedule that is chosen for a UID on a day.
+//! Finds the schedule that is chosen for a UID on a day.
 ghost use Rattle.std.specs.Prelude.{◌≡◌, ◌<◌, ◌↔◌, IfOk, IfErr, Err};
 ghost use Rattle.docker_model.specs.state.State.{live_table};
 ghost use Rattle.docker_train.specs.Along.{IsLiveTrain};
@@ -13,8 +13,10 @@ use docker_day::DockerFault;
 use docker_state::State;
 use docker_train::{ScheduleView, chosen};
 
-/// The schedule that is chosen for a UID on a day, with the stamp of the change that put it. `Lapsed` if the day is before the horizon, because what ran on it may have
-/// lapsed. It takes no memory, so it never answers `Memory`. It looks only at the rows of the UID, which binary searches find.
+/// The schedule that is chosen for a UID on a day, with the stamp of the change that put it.
+/// `Lapsed` if the day is before the horizon, because schedules that ran on it may have lapsed. It
+/// takes no memory, so it never returns `Memory`. It looks only at the rows of the UID, which
+/// binary searches find.
 pub fn find_train<'a>(state: &'a State, uid: &Uid, day: Day) -> Result<ChosenTrain<'a>, DockerFault>
     ensures ok { IfOk result (IsAnswerOf state.now uid.now day) }
     ensures lapsed { (result ≡ Err DockerFault.Lapsed) ↔ (day < state.now.horizon) }
@@ -29,7 +31,7 @@ pub fn find_train<'a>(state: &'a State, uid: &Uid, day: Day) -> Result<ChosenTra
     }
 }
 
-/// A live schedule with the stamp that the state has of it.
+/// A live schedule with its stamp in the state.
 fn stamped<'a>(state: &'a State, schedule: ScheduleView<'a>) -> Stamped<'a>
     requires { IsLiveTrain (live_table state.now) schedule }
     ensures schedule { result.schedule ≡ schedule.entry }

@@ -1,4 +1,5 @@
-//! What the answers for a UID and a day say. Each law is the contract of a function with no body: it holds of all that it names.
+//! What the answers for a UID and a day say. Each law is the contract of a function with no body,
+//! so it is true of everything that it names.
 ghost use Rattle.std.specs.Prelude.{◌≡◌, ◌≤◌, ℕ, List, Option, Some, option_map};
 ghost use Rattle.docker_model.specs.records.Date.{IsDay};
 ghost use Rattle.docker_model.specs.state.Lapse.{IsDayRefused};
@@ -18,14 +19,16 @@ pub fn one_train_text()
         → IsTrainText state uid day text → IsTrainText state uid day other → text ≡ other }
 {}
 
-/// A schedule that is found in the summary of some files came from one of them: the file of its date, time and reference makes the change of its record number.
+/// A schedule found in the summary of some files came from one of them: the file with its date,
+/// time and reference makes the change with its record number.
 pub fn train_came_from_a_file()
     ensures { (files : List (List (List ℕ))) (horizon : ℕ) (state : State) (uid : List ℕ) (day : ℕ)
         (found : Stamped) → IsSummary files horizon state → IsFoundFor state uid day (Some found)
         → CameFrom files found }
 {}
 
-/// Where the files of a set have distinct moments, what is found in its summary on a day from the horizon on is what their plain table has then.
+/// If the files of a set have distinct moments, what is found in their summary on a day from the
+/// horizon on is what their plain table has then.
 pub fn found_train_is_plain()
     ensures { (files : List (List (List ℕ))) (horizon : ℕ) (state : State) (table : Table)
         (uid : List ℕ) (day : ℕ) (found : Option Stamped) → IsSummary files horizon state
@@ -33,7 +36,9 @@ pub fn found_train_is_plain()
         → IsChosenOn table uid day (option_map (λ (it : Stamped). it.schedule) found) }
 {}
 
-/// Each event on a docker that isn't refused is of the train that is found for its UID on its start day, and that runs then; and so is each association of its base train.
+/// Each event on a docker that isn't refused belongs to the train that is found for its UID on its
+/// start day, and that train runs then. Each association on it belongs to a base train of which the
+/// same is true.
 pub fn trains_of_a_docker()
     ensures events { (state : State) (place : List ℕ) (day : ℕ) (line : DockerLine)
         → IsValid state → ¬ IsDayRefused state.horizon day

@@ -1,4 +1,5 @@
-//! The answer to which schedule is chosen for a UID on a day, and which file it came from: a heading, the schedule's records and a last line.
+//! Which schedule is chosen for a UID on a day, and which file it came from. The answer is a
+//! heading, the schedule's records and a last line.
 #![tactic(auto)]
 
 mod chosen_train;

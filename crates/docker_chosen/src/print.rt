@@ -1,4 +1,5 @@
-//! The text of a train: a heading, the records of its schedule and a last line, each of 80 columns and a line feed.
+//! The text of a train: a heading, the records of its schedule and a last line, each of 80 columns
+//! and a line feed.
 ghost use Rattle.std.specs.Prelude.{◌≡◌, ◌≢◌, ℕ, List, ◌+◌, ◌-◌, ◌^◌, ◌<◌, ◌≤◌, ◌↔◌, ◌++◌, length, IsOk, Err, OnOk, OnErr, Some};
 ghost use Rattle.std.specs.List.{flat_map};
 ghost use Rattle.std.specs.Option.{option_copied};
@@ -22,11 +23,12 @@ use docker_join::Stamp;
 use docker_state::State;
 use itoa::Buffer;
 
-/// The bytes of a line, of 80 columns and a line feed.
+/// The bytes of a line: 80 columns and a line feed.
 const WIDTH: usize = 81;
 
-/// Prints the schedule that is chosen for a UID on a day, or that none is. It is found before the first byte is written, so that `Lapsed`, where the day is before the
-/// horizon, writes nothing; `Sink` leaves the sink with a beginning of the text, and not all of it. Takes no memory.
+/// Prints the schedule that is chosen for a UID on a day, or that none is. It is found before the
+/// first byte is written. So `Lapsed` writes nothing; it means that the day is before the horizon.
+/// `Sink` leaves the sink with a beginning of the text, and not all of it. It takes no memory.
 pub fn print_train<K: Sink>(
     state: &State,
     uid: &Uid,
@@ -51,7 +53,8 @@ pub fn print_train<K: Sink>(
     }
 }
 
-/// Writes what was found for a UID and a day as it is printed. A write that fails leaves the sink with a beginning of the text, and not all of it.
+/// Writes what was found for a UID and a day as it is printed. If a write fails, the sink has a
+/// beginning of the text, and not all of it.
 pub fn write_train<K: Sink>(train: &ChosenTrain<'_>, sink: &mut K) -> Result<(), Failed>
     requires { K.failures sink.old < 2 ^ 64 - 1 }
     ensures whole { OnOk result (Takes (K.taken sink.old) (text_of train.now) (K.taken sink.new)) }
@@ -102,7 +105,7 @@ fn heading(uid: &Uid, day: Day, found: &[u8; 46]) -> [u8; WIDTH]
     whole(text)
 }
 
-/// What the heading says of a schedule that is found, or that none is.
+/// What the heading says of the schedule that was found, or that none was.
 #[tactic(auto, unfolding(crate::specs::TrainText::found_text))]
 fn text_of_found(found: Option<&Stamped<'_>>) -> [u8; 46]
     ensures { result ≡ found_text (option_copied found.entry) }
@@ -113,7 +116,7 @@ fn text_of_found(found: Option<&Stamped<'_>>) -> [u8; 46]
     }
 }
 
-/// What it says of a schedule that is found.
+/// What the heading says of a schedule that was found.
 #[tactic(auto, unfolding(crate::specs::TrainText::found_text))]
 fn text_of_stamped(stamped: &Stamped<'_>) -> [u8; 46]
     ensures { result ≡ found_text (Some stamped.now) }
@@ -127,7 +130,7 @@ fn text_of_stamped(stamped: &Stamped<'_>) -> [u8; 46]
     whole(text)
 }
 
-/// Whether a train runs by a schedule of an STP indicator, or is cancelled.
+/// Whether a train runs by a schedule with this STP indicator, or is cancelled.
 fn running(stp: Stp) -> &'static [u8; 9]
     ensures { result.now ≡ running_text (stp_letter stp) }
 {
@@ -168,7 +171,7 @@ fn clock_text(minute: u16) -> [u8; 4]
     ]
 }
 
-/// A record number in ten columns, with spaces before it.
+/// A record number in ten columns, padded with spaces on the left.
 fn number_text(number: u32) -> [u8; 10]
     ensures { result ≡ number_text number }
 {

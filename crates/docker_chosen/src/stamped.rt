@@ -47,7 +47,8 @@ impl<'a> Stamped<'a> {
         &self.schedule
     }
 
-    /// The stamp of the change that put it: the date, the time and the reference of the file that it came from, and the number of its record there.
+    /// The stamp of the change that put it: the date, the time and the reference of its file, and
+    /// its record's number there.
     pub(crate) fn stamp(&self) -> &'a Stamp
         ensures stamp { stamp_meant result.now ≡ self.now.stamp }
         ensures minute { result.now.file.minute < 1440 }

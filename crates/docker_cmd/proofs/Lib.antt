@@ -1,3 +1,14 @@
+pub mod FirstWord
+pub mod LineOfJobLemmas
+pub mod LineWords
+pub mod PlainWords
+pub mod RequiredWords
+pub mod TaskWords
+pub mod FoundWords
+pub mod GrammarLemmas
+pub mod JobWords
+pub mod JobOfWordsLemmas
+pub mod WordsLemmas
 pub mod OutputLemmas
 pub mod ReadingLemmas
 pub mod SourcesLemmas

@@ -9,7 +9,7 @@ use Rattle.docker_office.specs.declared.fault.OfficeFault.{OfficeFault}
 use Rattle.docker_office.specs.declared.fault.OfficeFault.TheVariants as office
 use Rattle.docker_cmd.specs.Prepared.{DeviceBytes, EndsEmitting, docker_written, office_read}
 
--- what comes of printing a docker, by what an office tells of that
+-- the outcome of printing a docker, from what the office promises of it
 pub docker_ends : {K : Type 0} (taken : K → DeviceBytes) (failures : K → ℕ) (state : State) (place : List ℕ) (day : ℕ) (old new : K)
     (result : Result ⊤ OfficeFault)
     → (IsOk result → PrintsDocker state place day (taken old) (taken new))

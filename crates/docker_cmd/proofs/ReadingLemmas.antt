@@ -8,19 +8,19 @@ use Rattle.docker_model.specs.state.State.{State}
 use Rattle.docker_model.specs.state.StateText.{dks_2}
 use Rattle.docker_office.specs.Faults.{IsOfFile, IsOfState}
 use Rattle.docker_office.specs.Office.{WantsForFile}
-use Rattle.docker_office.specs.SourceRead.{ReadsState, RefusesState}
+use Rattle.docker_office.specs.SourceRead.{RefusesState}
 use Rattle.docker_office.specs.StateFault.{StateFault}
 use Rattle.docker_office.specs.declared.fault.OfficeFault.{OfficeFault}
 use Rattle.docker_office.specs.declared.fault.OfficeFault.TheVariants as office
-use Rattle.docker_job.specs.Reads.{no_source, sources_meant}
-use Rattle.docker_job.specs.declared.reads.Sources.{Sources}
+use Rattle.docker_cmd.specs.Reads.{sources_meant}
+use Rattle.docker_cmd.specs.declared.reads.Sources.{Sources}
 use Rattle.docker_cmd.specs.Prepared.{DeviceBytes, FailsBy, HasNoSource, HasReadToEnd, HoldsSomeState, IsContentOf, IsWhyRefused, ReadView, ReadsFew, ReadsFewOfFile, ReadsFewOfState, WantsForState, most_bytes, one_state, state_and_file, two_states}
 
--- two answers that are the same fault have the same fault
+-- two answers with the same fault have the same fault
 pub same_fault : {A : Type 0} (one two : OfficeFault) → ◌≡◌ {A = Result A OfficeFault} (Err one) (Err two) → one ≡ two
 same_fault one two is = cc
 
--- where a state is refused, a file after it is left
+-- if a state is refused, a file after it is left unread
 pub file_unread : (first left second : DeviceBytes) (fault : OfficeFault)
     → ReadsFew (one_state dks_2) first left second second (IsWhyRefused (one_state dks_2) first left second second fault)
     → ReadsFew state_and_file first left second second (IsWhyRefused state_and_file first left second second fault)
@@ -34,7 +34,7 @@ file_unread first left second fault reads = record { first_few = reads.first_few
     by office.Lapsed why = why
     by office.Sink why = why
 
--- so is another state
+-- so is a state after it
 pub state_unread : (first left second : DeviceBytes) (fault : OfficeFault)
     → ReadsFew (one_state dks_2) first left second second (IsWhyRefused (one_state dks_2) first left second second fault)
     → ReadsFew two_states first left second second (IsWhyRefused two_states first left second second fault)
@@ -90,7 +90,7 @@ state_refused first left second second_left fault holds few second_few only stat
     by office.Lapsed only state memory = only
     by office.Sink only state memory = only
 
--- a file that was refused after a source that did not fail
+-- a file was refused after a source that didn't fail
 pub file_failed : (one one_now two two_now : ℕ) (fault : OfficeFault) → one_now ≡ one → IsOfFile fault → (fault ≡ office.Source → two_now ≡ two + 1)
     → (fault ≢ office.Source → two_now ≡ two) → FailsBy one one_now two two_now fault
 file_failed one one_now two two_now (office.File fault) same only rose unfailed = (same, unfailed (λ is. cc))
@@ -100,7 +100,7 @@ file_failed one one_now two two_now office.Memory same only rose unfailed = (sam
 file_failed one one_now two two_now office.Lapsed same only rose unfailed = only
 file_failed one one_now two two_now office.Sink same only rose unfailed = only
 
--- and a state
+-- a state was refused after a source that didn't fail
 pub state_failed : (one one_now two two_now : ℕ) (fault : OfficeFault) → one_now ≡ one → IsOfState fault → (fault ≡ office.Source → two_now ≡ two + 1)
     → (fault ≢ office.Source → two_now ≡ two) → FailsBy one one_now two two_now fault
 state_failed one one_now two two_now (office.File fault) same only rose unfailed = elim only [ ]
@@ -120,7 +120,7 @@ read_at asked sources first left second second_left read is reads =
     subst (λ (s : Sources). ReadsFew (sources_meant s) first left second second_left
     (IsContentOf (sources_meant s) first second read × HasReadToEnd (sources_meant s) left second_left)) (sym is) reads
 
--- and why they were refused
+-- why these were refused
 pub refused_at : (asked sources : Sources) (first left second second_left : DeviceBytes) (fault : OfficeFault) → asked ≡ sources
     → ReadsFew (sources_meant sources) first left second second_left (IsWhyRefused (sources_meant sources) first left second second_left fault)
     → ReadsFew (sources_meant asked) first left second second_left (IsWhyRefused (sources_meant asked) first left second second_left fault)
@@ -128,7 +128,7 @@ refused_at asked sources first left second second_left fault is reads =
     subst (λ (s : Sources). ReadsFew (sources_meant s) first left second second_left
     (IsWhyRefused (sources_meant s) first left second second_left fault)) (sym is) reads
 
--- sources that are some leave nothing to say of none
+-- there are sources, so anything follows from having none
 pub some_at : (P : Type 0) (asked sources : Sources) → asked ≡ sources → ¬ HasNoSource (sources_meant sources) → HasNoSource (sources_meant asked) → P
 some_at P asked sources is some none = absurd (some (subst (λ (s : Sources). HasNoSource (sources_meant s)) is none))
 

@@ -1,5 +1,5 @@
 -- What a job has of its sources, from what was read of them.
-use Rattle.std.proofs.Common.{◌≡◌, ℕ, [], ◌∷◌, ◌⊎◌, Option, None, Some, refl, sym, ◌∙◌, ap, subst}
+use Rattle.std.proofs.Common.{◌≡◌, ℕ, [], ◌∷◌, ◌⊎◌, Option, None, refl, sym, ◌∙◌, ap, subst}
 use Rattle.cif_laws.proofs.lists.Membership.{Contains-single, nil-Contains}
 use Rattle.docker_model.specs.file.File.{most_records}
 use Rattle.docker_model.specs.state.State.{State}
@@ -8,10 +8,10 @@ use Rattle.state_laws.proofs.states.PlainLive.{live_table_is_plain}
 use Rattle.state_laws.proofs.states.SummaryLaws.{join_is_summary}
 use Rattle.docker_office.specs.Office.{TakesFile, no_state}
 use Rattle.docker_office.specs.declared.fault.OfficeFault.{OfficeFault}
-use Rattle.docker_job.specs.Job.{JobView, TaskView, task_meant, new_task, check_task, day_task, take_task, merge_task, print_task, files_task, horizon_task, migrate_task}
-use Rattle.docker_job.specs.Reads.{Sources, checked_file, taken_file, sources_of, horizon_of}
-use Rattle.docker_job.specs.Writes.{Output, output_of}
-use Rattle.docker_job.specs.declared.tasks.Task.{Task}
+use Rattle.docker_cmd.specs.Job.{JobView, TaskView, task_meant, new_task, check_task, day_task, take_task, merge_task, print_task, files_task, horizon_task, migrate_task}
+use Rattle.docker_cmd.specs.Reads.{Sources, checked_file, taken_file, sources_of, horizon_of}
+use Rattle.docker_cmd.specs.Writes.{Output, output_of}
+use Rattle.docker_cmd.specs.declared.tasks.Task.{Task}
 use Rattle.docker_cmd.specs.Prepared.{DeviceBytes, HasNoSource, HasReadToEnd, HasSecondSource, IsContentOf, IsOfOneFile, IsPreparedFor, IsReadOf, IsStateOf, IsWhyRefused, IsWrittenOf, ReadView, ReadsFew, file_read, office_read, under}
 
 -- no file, and no horizon
@@ -26,7 +26,7 @@ no_files = record {
   entries = λ key entry. (λ among. absurd (nil-Contains (key, entry) among), λ told. absurd (nil-Contains told.1.is.file told.1.is.kept.among));
 }
 
--- an office that knew no file, and took one, has its state, whose live table is plain
+-- an office that knew no file takes one: it has the state of this file, whose live table is plain
 of_one_file : (left : DeviceBytes) (state : State) → TakesFile most_records left no_state state → IsOfOneFile left (office_read state)
 of_one_file left state takes =
     let summary : IsSummary (takes.file ∷ []) 0 state =
@@ -43,7 +43,7 @@ of_one_file left state takes =
           (λ one two is_one is_two same. sym (Contains-single takes.file one is_one) ∙ Contains-single takes.file two is_two);
     }
 
--- a job that has an office take a file has that of this one file
+-- if a task's source is a file that an office takes, it has read the state of this one file
 pub read_one_file : (task : TaskView) (first second : DeviceBytes) (read : ReadView) → sources_of task ≡ taken_file → IsReadOf task first second read
     → IsOfOneFile first read
 read_one_file new_task first second read is reads = let never : ⊥ = cc in absurd never
@@ -59,7 +59,7 @@ read_one_file files_task first second read is reads = let never : ⊥ = cc in ab
 read_one_file (horizon_task day) first second read is reads = let never : ⊥ = cc in absurd never
 read_one_file migrate_task first second read is reads = let never : ⊥ = cc in absurd never
 
--- `check` alone only checks a file
+-- `check` is the only task that just checks a file
 checked : (task : TaskView) → sources_of task ≡ checked_file → task ≡ check_task
 checked new_task is = let never : ⊥ = cc in absurd never
 checked check_task is = refl
@@ -71,7 +71,7 @@ checked files_task is = let never : ⊥ = cc in absurd never
 checked (horizon_task day) is = let never : ⊥ = cc in absurd never
 checked migrate_task is = let never : ⊥ = cc in absurd never
 
--- the state of a task's sources, under the horizon that the task sets, is the one that the task makes
+-- the state of a task's sources, under the horizon that it sets, is the state that the task makes
 state_of : (task : TaskView) (first second : DeviceBytes) (state : State) → IsStateOf (sources_of task) first second state
     → IsReadOf task first second (under (horizon_of task) (office_read state))
 state_of new_task first second state is = is
@@ -84,7 +84,7 @@ state_of files_task first second state is = is
 state_of (horizon_task day) first second state is = record { own = state; reads = is; raised = refl }
 state_of migrate_task first second state is = is
 
--- so is what was read
+-- what was read of them, under this horizon, is what the task reads
 read_of : (task : TaskView) (first second : DeviceBytes) (read : ReadView) → IsContentOf (sources_of task) first second read
     → IsReadOf task first second (under (horizon_of task) read)
 read_of task first second (file_read file) is =
@@ -182,7 +182,7 @@ refused_of_task asked task first left second second_left fault is reads =
 pub some_of_task : (P : Type 0) (asked task : Task) → asked ≡ task → ¬ HasNoSource (sources_of (task_meant task)) → HasNoSource (sources_of (task_meant asked)) → P
 some_of_task P asked task is some none = absurd (some (subst (λ (t : Task). HasNoSource (sources_of (task_meant t))) is none))
 
--- a second source that was read only after the first
+-- a second source was read only after the first
 pub second_for : {First Good Kept : Type 0} (sources others : Sources) → sources ≡ others → First ⊎ (HasSecondSource sources × Good × Kept)
     → First ⊎ (HasSecondSource others × Good × Kept)
 second_for {First} {Good} {Kept} sources others same order = subst (λ s. First ⊎ (HasSecondSource s × Good × Kept)) same order

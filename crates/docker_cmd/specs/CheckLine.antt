@@ -2,10 +2,10 @@
 use Rattle.std.specs.Prelude.{ℕ, List, ◌++◌, length, codes, decimal}
 use Rattle.docker_model.specs.file.Change.{Change}
 
--- the line of a file with so many records and so many changes
+-- the line of a file with n records and m changes
 abbrev pub count_line : ℕ → ℕ → List ℕ
 count_line records changes = codes "accepted: " ++ decimal records ++ codes " records, " ++ decimal changes ++ codes " changes\n"
 
--- the line of a file with so many records and these changes
+-- the line of a file with n records and these changes
 abbrev pub check_line : ℕ → List Change → List ℕ
 check_line records changes = count_line records (length changes)

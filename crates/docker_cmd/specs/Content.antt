@@ -1,4 +1,4 @@
--- What the code has read, in the words of what a job reads.
+-- What the code has read, in the words of the definitions.
 use Rattle.docker_cmd.specs.Prepared.{ReadView, file_read, office_read}
 use Rattle.docker_cmd.specs.declared.sources.Content.{Content}
 use Rattle.docker_cmd.specs.declared.sources.Content.TheVariants.{File, Office}

@@ -1,15 +1,15 @@
--- How a fault is told: the exit status, and one line on standard error.
+-- How a fault is reported: the exit status, and one line on standard error.
 use Rattle.std.specs.Prelude.{ℕ, List, ◌++◌, codes, decimal}
 use Rattle.cif_file.specs.declared.fault.FileFault.{FileFault}
 use Rattle.cif_journey.specs.Cause.{cause_text}
 use Rattle.docker_office.specs.StateFault.{StateFault}
 use Rattle.docker_office.specs.FaultText as state_text
-use Rattle.docker_job.specs.declared.fault.JobFault.TheVariants as job
+use Rattle.docker_cmd.specs.declared.job_fault.JobFault.TheVariants as job
 use Rattle.docker_office.specs.declared.fault.OfficeFault.TheVariants as office
 use Rattle.docker_cmd.specs.declared.fault.Fault.{Fault}
 use Rattle.docker_cmd.specs.declared.fault.Fault.TheVariants.{Job, Office}
 
--- 1 refused input, 2 usage, 3 want of memory, 4 a device
+-- 1 refused input, 2 usage, 3 out of memory, 4 a device
 abbrev pub status_of : Fault → ℕ
 status_of (Job job.Usage) = 2
 status_of (Job job.Memory) = 3
@@ -34,7 +34,7 @@ state_line fault =
 abbrev pub day_line : List ℕ
 day_line = codes "docker: day refused: before horizon plus three days\n"
 
--- the line of want of memory
+-- the line for out of memory
 abbrev pub memory_line : List ℕ
 memory_line = codes "docker: want of memory\n"
 
@@ -46,7 +46,7 @@ device_line = codes "docker: device failed\n"
 abbrev pub usage_line : List ℕ
 usage_line = codes "docker: usage: new STATE | check FILE | day FILE TIPLOC DATE | take STATE FILE | merge STATE OTHER | print STATE TIPLOC DATE | files STATE | horizon STATE DATE | migrate STATE\n"
 
--- the line that tells a fault
+-- the line of a fault
 abbrev pub fault_line : Fault → List ℕ
 fault_line (Job job.Usage) = usage_line
 fault_line (Job job.Memory) = memory_line

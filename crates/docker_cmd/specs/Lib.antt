@@ -1,3 +1,10 @@
+pub mod Grammar
+pub mod Job
+pub mod JobLine
+pub mod Reads
+pub mod Subcommands
+pub mod Words
+pub mod Writes
 pub mod CheckLine
 pub mod Content
 pub mod FaultLine

@@ -17,9 +17,9 @@ use Rattle.docker_office.specs.StateFault.{StateFault}
 use Rattle.docker_office.specs.declared.fault.OfficeFault.{OfficeFault}
 use Rattle.docker_office.specs.declared.fault.OfficeFault.TheVariants as office
 use Rattle.docker_office.specs.Office.{no_state, TakesFile, WantsForFile}
-use Rattle.docker_job.specs.Job.{JobView, TaskView, check_task, horizon_task}
-pub use Rattle.docker_job.specs.Reads.{Sources, no_source, checked_file, taken_file, one_state, state_and_file, two_states, sources_of, horizon_of}
-pub use Rattle.docker_job.specs.Writes.{Output, counts_written, docker_written, files_written, state_written, output_of}
+use Rattle.docker_cmd.specs.Job.{JobView, TaskView, check_task, horizon_task}
+pub use Rattle.docker_cmd.specs.Reads.{Sources, no_source, checked_file, taken_file, one_state, state_and_file, two_states, sources_of, horizon_of}
+pub use Rattle.docker_cmd.specs.Writes.{Output, counts_written, docker_written, files_written, state_written, output_of}
 use Rattle.docker_cmd.specs.CheckLine.{count_line}
 
 -- the most bytes that a state's text may have
@@ -30,7 +30,7 @@ most_bytes = 1099511627776
 abbrev pub most_at_once : ℕ
 most_at_once = 65536
 
--- the bytes that a device has left, or took, or None where it can't tell them
+-- the bytes that a device has left, or took; None if it can't name them
 abbrev pub DeviceBytes : Type 0
 DeviceBytes = Option (List ℕ)
 
@@ -74,7 +74,7 @@ pub record RaisesState (day : ℕ) (first : DeviceBytes) (state : State) : Type 
   pub reads : ReadsState dks_2 most_bytes first own
   pub raised : state ≡ raise_horizon day own
 
--- the state of the office that has read these sources. Of a file that is only checked there is none
+-- the state of the office that has read these sources. A file that is only checked gives none
 abbrev pub IsStateOf : Sources → DeviceBytes → DeviceBytes → State → Type 0
 IsStateOf no_source first second state = state ≡ no_state
 IsStateOf checked_file first second state = ⊥
@@ -83,17 +83,18 @@ IsStateOf (one_state format) first second state = ReadsState format most_bytes f
 IsStateOf state_and_file first second state = TakesBehind first second state
 IsStateOf two_states first second state = JoinsBehind first second state
 
--- what was read of these sources: of a file that is only checked its counts, of any other a state
+-- what was read of these sources: the counts of a file that is only checked, otherwise a state
 abbrev pub IsContentOf : Sources → DeviceBytes → DeviceBytes → ReadView → Type 0
 IsContentOf sources first second (file_read file) = (sources ≡ checked_file) × CountsText most_records first file
 IsContentOf sources first second (office_read state) = IsStateOf sources first second state
 
--- the state of the office that a task has made of its sources: `horizon` raises its horizon. `check` makes none
+-- the state of the office that a task has made of its sources: `horizon` raises its horizon.
+-- `check` makes none
 abbrev pub IsStateReadBy : TaskView → DeviceBytes → DeviceBytes → State → Type 0
 IsStateReadBy (horizon_task day) first second state = RaisesState day first state
 IsStateReadBy task first second state = IsStateOf (sources_of task) first second state
 
--- what a task has read: `check` the counts of the file whose text its source held, any other a state
+-- what a task has read: `check` the counts of the file whose text its source held, others a state
 abbrev pub IsReadOf : TaskView → DeviceBytes → DeviceBytes → ReadView → Type 0
 IsReadOf task first second (file_read file) = (task ≡ check_task) × CountsText most_records first file
 IsReadOf task first second (office_read state) = IsStateReadBy task first second state
@@ -104,7 +105,8 @@ under None read = read
 under (Some day) (file_read file) = file_read file
 under (Some day) (office_read state) = office_read (raise_horizon day state)
 
--- a state was read that is of one file whose text the source held, and its live table is the plain table of that one file
+-- the state is the state of one file, whose text the source held, and its live table is the plain
+-- table of this file
 pub record IsOfOneFile (left : DeviceBytes) (read : ReadView) : Type 0 where
   pub text : List ℕ
   pub held : Held left text
@@ -115,7 +117,7 @@ pub record IsOfOneFile (left : DeviceBytes) (read : ReadView) : Type 0 where
   pub summary : IsSummary (file ∷ []) 0 state
   pub plain : IsPlainTable (file ∷ []) (live_table state)
 
--- the fault is that of the file, which may stand behind a state
+-- the fault is the fault of the file, which may follow a state
 abbrev pub RefusesFileOf : Sources → DeviceBytes → DeviceBytes → FileFault → Type 0
 RefusesFileOf no_source first second fault = ⊥
 RefusesFileOf checked_file first second fault = RefusesText most_records first fault
@@ -124,7 +126,8 @@ RefusesFileOf (one_state format) first second fault = ⊥
 RefusesFileOf state_and_file first second fault = HoldsSomeState first × RefusesText most_records second fault
 RefusesFileOf two_states first second fault = ⊥
 
--- the fault is that of a state; where there are two it is that of the first, or of the second behind a good one
+-- the fault is the fault of a state. If there are two, it is the fault of the first, or of the
+-- second after a good first one
 abbrev pub RefusesStateOf : Sources → DeviceBytes → DeviceBytes → StateFault → Type 0
 RefusesStateOf no_source first second fault = ⊥
 RefusesStateOf checked_file first second fault = ⊥
@@ -134,12 +137,12 @@ RefusesStateOf state_and_file first second fault = RefusesState dks_2 most_bytes
 RefusesStateOf two_states first second fault =
     RefusesState dks_2 most_bytes first fault ⊎ (HoldsSomeState first × RefusesState dks_2 most_bytes second fault)
 
--- memory was wanting for a state of a format
+-- memory ran out for a state of a format
 abbrev pub WantsForState : Format → DeviceBytes → DeviceBytes → Type 0
 WantsForState format old new = WantsMemory format most_at_once most_bytes old new
 
--- memory was wanting for what the sources hold: for the first, and nothing of the second was read, or for the second behind a good first; for a file that
--- is only checked, before it is read
+-- memory ran out for what the sources hold: for the first, and nothing of the second was read, or
+-- for the second after a good first one. For a file that is only checked it ran out before reading
 abbrev pub WantsFor : Sources → DeviceBytes → DeviceBytes → DeviceBytes → DeviceBytes → Type 0
 WantsFor no_source old new second_old second_new = ⊥
 WantsFor checked_file old new second_old second_new = Reads old [] new
@@ -150,15 +153,15 @@ WantsFor state_and_file old new second_old second_new =
 WantsFor two_states old new second_old second_new =
     (WantsForState dks_2 old new × (second_new ≡ second_old)) ⊎ (HoldsSomeState old × WantsForState dks_2 second_old second_new)
 
--- of a file nothing is read behind the piece that decides the answer
+-- nothing of a file is read after the piece that decides the answer
 abbrev pub ReadsFewOfFile : DeviceBytes → DeviceBytes → Type 0
 ReadsFewOfFile old new = ReadsNoFurther most_at_once most_records old new
 
--- nor of a state
+-- nothing of a state is read after the piece that decides the answer
 abbrev pub ReadsFewOfState : Format → DeviceBytes → DeviceBytes → Type 0
 ReadsFewOfState format old new = ReadsOnePieceMore format most_at_once most_bytes old new
 
--- what is read of the first source at most
+-- the most that is read of the first source
 abbrev pub ReadsFewOfFirst : Sources → DeviceBytes → DeviceBytes → Type 0
 ReadsFewOfFirst no_source old new = new ≡ old
 ReadsFewOfFirst checked_file old new = ReadsFewOfFile old new
@@ -167,7 +170,7 @@ ReadsFewOfFirst (one_state format) old new = ReadsFewOfState format old new
 ReadsFewOfFirst state_and_file old new = ReadsFewOfState dks_2 old new
 ReadsFewOfFirst two_states old new = ReadsFewOfState dks_2 old new
 
--- what is read of the second source at most: nothing at all, where the first held no state
+-- the most that is read of the second source: nothing if the first held no state
 abbrev pub ReadsFewOfSecond : Sources → DeviceBytes → DeviceBytes → DeviceBytes → Type 0
 ReadsFewOfSecond no_source first old new = new ≡ old
 ReadsFewOfSecond checked_file first old new = new ≡ old
@@ -176,7 +179,7 @@ ReadsFewOfSecond (one_state format) first old new = new ≡ old
 ReadsFewOfSecond state_and_file first old new = (new ≡ old) ⊎ (HoldsSomeState first × ReadsFewOfFile old new)
 ReadsFewOfSecond two_states first old new = (new ≡ old) ⊎ (HoldsSomeState first × ReadsFewOfState dks_2 old new)
 
--- the file that is read stands at its end
+-- the file that is read is at its end
 abbrev pub HasReadToEnd : Sources → DeviceBytes → DeviceBytes → Type 0
 HasReadToEnd no_source first second = ⊤
 HasReadToEnd checked_file first second = IsEnd first
@@ -185,7 +188,7 @@ HasReadToEnd (one_state format) first second = ⊤
 HasReadToEnd state_and_file first second = IsEnd second
 HasReadToEnd two_states first second = ⊤
 
--- why two sources were refused, by what they held and have left: never by a sink, and never for a day
+-- why two sources were refused, from what they held and have left: never because of a sink or a day
 abbrev pub IsWhyRefused : Sources → DeviceBytes → DeviceBytes → DeviceBytes → DeviceBytes → OfficeFault → Type 0
 IsWhyRefused sources first left second second_left (office.File fault) = RefusesFileOf sources first second fault
 IsWhyRefused sources first left second second_left (office.State fault) = RefusesStateOf sources first second fault
@@ -194,18 +197,19 @@ IsWhyRefused sources first left second second_left office.Memory = WantsFor sour
 IsWhyRefused sources first left second second_left office.Lapsed = ⊥
 IsWhyRefused sources first left second second_left office.Sink = ⊥
 
--- what came of reading two sources: a value of which this holds, at the end of the file that was read; or why they were refused
+-- the outcome of reading two sources: a value of which this holds, with the file that was read at
+-- its end, or why they were refused
 abbrev pub EndsReading : {A : Type 0} → (A → Type 0) → Sources → DeviceBytes → DeviceBytes → DeviceBytes → DeviceBytes → Result A OfficeFault → Type 0
 EndsReading IsMade sources first left second second_left (Ok made) = IsMade made × HasReadToEnd sources left second_left
 EndsReading IsMade sources first left second second_left (Err fault) = IsWhyRefused sources first left second second_left fault
 
--- two sources were read in their order and no further than decides, and this is what came of it
+-- two sources were read in their order and no further than decides, and this is the outcome
 pub record ReadsFew (sources : Sources) (first left second second_left : DeviceBytes) (Ends : Type 0) : Type 0 where
   pub first_few : ReadsFewOfFirst sources first left
   pub second_few : ReadsFewOfSecond sources first second second_left
   pub ends : Ends
 
--- the same, of what came of it
+-- two sources were read in this way, and this is the result
 abbrev pub ReadsSources : {A : Type 0} → (A → Type 0) → Sources → DeviceBytes → DeviceBytes → DeviceBytes → DeviceBytes → Result A OfficeFault → Type 0
 ReadsSources IsMade sources first left second second_left result =
     ReadsFew sources first left second second_left (EndsReading IsMade sources first left second second_left result)
@@ -229,11 +233,11 @@ abbrev pub ReadsInOrder : JobView → DeviceBytes → DeviceBytes → DeviceByte
 ReadsInOrder job first left second second_left result =
     ReadsSources (IsPreparedFor job first second) (sources_of job.task) first left second second_left result
 
--- neither of two sources failed, by how often they have before and now
+-- neither of two sources failed, by the count of their failures before and after
 abbrev pub HaveNotFailed : ℕ → ℕ → ℕ → ℕ → Type 0
 HaveNotFailed first first_now second second_now = (first_now ≡ first) × (second_now ≡ second)
 
--- one of the two failed once, if that is why they were refused, and else neither did
+-- one of the two failed once, if that is why they were refused; otherwise neither did
 abbrev pub FailsBy : ℕ → ℕ → ℕ → ℕ → OfficeFault → Type 0
 FailsBy first first_now second second_now (office.File fault) = HaveNotFailed first first_now second second_now
 FailsBy first first_now second second_now (office.State fault) = HaveNotFailed first first_now second second_now
@@ -242,12 +246,12 @@ FailsBy first first_now second second_now office.Memory = HaveNotFailed first fi
 FailsBy first first_now second second_now office.Lapsed = ⊥
 FailsBy first first_now second second_now office.Sink = ⊥
 
--- the same, by what came of reading them
+-- how often they failed, by the result of reading them
 abbrev pub CountsSources : {A : Type 0} → Result A OfficeFault → ℕ → ℕ → ℕ → ℕ → Type 0
 CountsSources (Ok made) first first_now second second_now = HaveNotFailed first first_now second second_now
 CountsSources (Err fault) first first_now second second_now = FailsBy first first_now second second_now fault
 
--- what is written of the office's state: its docker text, its files text, or its own text
+-- what is written for the office's state: its docker text, its files text, or its own text
 abbrev pub IsStateOutput : Output → State → List ℕ → Type 0
 IsStateOutput counts_written state text = ⊥
 IsStateOutput (docker_written place day) state text = IsDockerText (live_table state) place day text
@@ -259,7 +263,7 @@ abbrev pub IsOutputText : Output → ReadView → List ℕ → Type 0
 IsOutputText output (file_read file) text = (output ≡ counts_written) × (text ≡ count_line file.record_count file.change_count)
 IsOutputText output (office_read state) text = IsStateOutput output state text
 
--- such an output is written of what was read: counts of a file, and all else of a state
+-- such an output can be written from what was read: counts of a file, all else of a state
 abbrev pub IsWrittenOf : Output → ReadView → Type 0
 IsWrittenOf output (file_read file) = output ≡ counts_written
 IsWrittenOf output (office_read state) = output ≢ counts_written
@@ -270,7 +274,7 @@ pub record GainsText (output : Output) (read : ReadView) (old new : DeviceBytes)
   pub is : IsOutputText output read text
   pub gained : Takes old text new
 
--- the sink gained a beginning of it, and not all of it
+-- the sink gained a proper beginning of the text
 pub record GainsTextPart (output : Output) (read : ReadView) (old new : DeviceBytes) : Type 0 where
   pub text : List ℕ
   pub is : IsOutputText output read text
@@ -280,11 +284,11 @@ pub record GainsTextPart (output : Output) (read : ReadView) (old new : DeviceBy
 abbrev pub GainsOutput : PreparedView → DeviceBytes → DeviceBytes → Type 0
 GainsOutput prepared old new = GainsText (output_of prepared.job.task) prepared.read old new
 
--- the sink gained a beginning of it, and not all of it
+-- the sink gained a proper beginning of the text that a job writes
 abbrev pub GainsPart : PreparedView → DeviceBytes → DeviceBytes → Type 0
 GainsPart prepared old new = GainsTextPart (output_of prepared.job.task) prepared.read old new
 
--- it is a docker of an office's state that refuses its day
+-- it is a docker, and the office's state refuses its day
 abbrev pub IsRefusedDocker : Output → ReadView → Type 0
 IsRefusedDocker output (file_read file) = ⊥
 IsRefusedDocker counts_written (office_read state) = ⊥
@@ -296,7 +300,7 @@ IsRefusedDocker state_written (office_read state) = ⊥
 abbrev pub IsRefused : PreparedView → Type 0
 IsRefused prepared = IsRefusedDocker (output_of prepared.job.task) prepared.read
 
--- it is a docker
+-- the output is a docker
 abbrev pub IsDocker : Output → Type 0
 IsDocker counts_written = ⊥
 IsDocker (docker_written place day) = ⊤
@@ -307,7 +311,8 @@ IsDocker state_written = ⊥
 abbrev pub PrintsDocker : PreparedView → Type 0
 PrintsDocker prepared = IsDocker (output_of prepared.job.task)
 
--- what came of writing an output to a sink: it gained the text; or it failed, and gained a beginning of that; or a docker can't be made, and it is as it was
+-- the outcome of writing an output to a sink: it gained the text; or it failed, and gained a proper
+-- beginning of it; or a docker can't be made, and the sink is unchanged
 abbrev pub EndsEmitting : {K : Type 0} → (K → DeviceBytes) → (K → ℕ) → Output → ReadView → K → K → Result ⊤ OfficeFault → Type 0
 EndsEmitting taken failures output read old new (Ok done) =
     GainsText output read (taken old) (taken new) × (failures new ≡ failures old)

@@ -1,4 +1,4 @@
-//! The line that `check` writes of a file that is accepted.
+//! The line that `check` writes for an accepted file.
 ghost use Rattle.std.specs.Prelude.{◌≡◌};
 ghost use Rattle.docker_cmd.specs.CheckLine.{count_line};
 
@@ -9,7 +9,7 @@ use itoa::Buffer;
 /// The line, with its line feed. It has room for any two counts.
 pub(crate) type CheckText = ArrayVec<u8, 64>;
 
-/// The line of a file with so many records, its header and trailer among them, and so many changes.
+/// The line of a file with `records` records, header and trailer included, and `changes` changes.
 pub(crate) fn check_line(records: u32, changes: u64) -> CheckText
     ensures { result.items ≡ count_line records changes }
 {

@@ -1,9 +1,10 @@
 //! Why the program ends before it is done.
-use docker_job::JobFault;
+use crate::job_fault::JobFault;
 use docker_office::OfficeFault;
 use thiserror::Error;
 
-/// Whatever ends the program before it is done. It is shown as the fault in it; the line on standard error is `fault_text`.
+/// Whatever ends the program before it is done. It is displayed as the fault in it; `fault_text` is
+/// the line on standard error.
 #[derive(Clone, Copy, PartialEq, Eq, Debug, Error)]
 pub enum Fault {
     /// There is no job.

@@ -1,4 +1,4 @@
-//! The exit status and the line on standard error that tell a fault.
+//! The exit status of a fault, and its line on standard error.
 ghost use Rattle.std.specs.Prelude.{◌≡◌, ◌+◌, ◌≤◌, ◌++◌, [], decimal};
 ghost use Rattle.arrayvec.specs.ArrayVec.{array_vec_len};
 ghost use Rattle.cif_journey.specs.Cause.{cause_text};
@@ -7,19 +7,19 @@ ghost use Rattle.docker_office.specs.FaultText as state_text;
 
 use crate::buffer::put;
 use crate::fault::Fault;
+use crate::job_fault::JobFault;
 use arrayvec::ArrayVec;
 use cif_file::{FileCause, FileFault};
-use docker_job::JobFault;
 use docker_office::{OfficeFault, StateCause, StateFault};
 use itoa::Buffer;
 
-/// The line that tells a fault, with its line feed.
+/// The line of a fault, with its line feed.
 pub type FaultText = ArrayVec<u8, 192>;
 
 const USAGE: &[u8] =
     b"docker: usage: new STATE | check FILE | day FILE TIPLOC DATE | take STATE FILE | merge STATE OTHER | print STATE TIPLOC DATE | files STATE | horizon STATE DATE | migrate STATE\n";
 
-/// The exit status of a fault: 1 refused input, 2 usage, 3 want of memory, 4 a device.
+/// The exit status of a fault: 1 refused input, 2 usage, 3 out of memory, 4 a device.
 pub fn status(fault: &Fault) -> u8
     ensures { result ≡ status_of fault.now }
 {
@@ -31,7 +31,7 @@ pub fn status(fault: &Fault) -> u8
     }
 }
 
-/// The line on standard error that tells a fault.
+/// The line of a fault on standard error.
 pub fn fault_text(fault: &Fault) -> FaultText
     ensures { result.items ≡ fault_line fault.now }
 {
@@ -75,7 +75,7 @@ fn put_file_fault(text: &mut FaultText, fault: &FileFault)
     put(text, b"\n");
 }
 
-/// Appends the name of a file's cause, and the column behind it where it has one.
+/// Appends the name of a file's cause, and its column, if it has one.
 fn put_cause(text: &mut FaultText, cause: &FileCause)
     requires { array_vec_len text.old ≤ 80 }
     ensures text { text.new.items ≡ text.old.items ++ cause_text cause.now }

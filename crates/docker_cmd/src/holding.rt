@@ -1,14 +1,14 @@
 //! What a job holds of what it has read: `print` and `files` hold no more of a state than they
 //! write.
 ghost use Rattle.std.specs.Prelude.{◌≡◌, ◌+◌, ◌-◌, ◌^◌, ◌<◌, ◌⊎◌, ℕ, IfOk};
-ghost use Rattle.docker_job.specs.Job.{task_meant};
+ghost use Rattle.docker_cmd.specs.Job.{task_meant};
 ghost use Rattle.docker_model.specs.state.StateText.{dks_2};
 ghost use Rattle.docker_cmd.specs.Holding.{IsWrittenFrom, held_meant, place_read};
 ghost use Rattle.docker_cmd.specs.Prepared.{CountsSources, DeviceBytes, HasNoSource, HasSecondSource, HoldsSomeState, ReadsContent, ReadsTask, office_read, one_state, output_of, sources_of};
 
 use crate::sources::{Content, MOST_BYTES, read_sources};
+use crate::tasks::Task;
 use cif_line::{Day, Source, Tiploc};
-use docker_job::Task;
 use docker_office::{LedgerOffice, OfficeFault, PlaceOffice};
 use std::alloc::Global;
 

@@ -1,18 +1,35 @@
-//! The program's commands: what a job reads and writes, and the texts of faults.
+//! The program's commands: which job words name, what it reads and writes, and the texts of faults.
 #![tactic(auto)]
 
 mod buffer;
 mod check_line;
 mod fault;
 mod fault_line;
+mod grammar;
 mod holding;
+mod job_fault;
+mod job_of_words;
+mod jobs;
+mod line_of_job;
 mod output;
 mod prepared_job;
+mod reads;
 mod sources;
+mod subcommands;
+mod tasks;
+mod words;
+mod writes;
 
-pub use docker_job::{Job, JobFault, Output, Sources, Subcommand, Task, job, job_line};
 pub use docker_office::OfficeFault;
 pub use fault::Fault;
 pub use fault_line::{FaultText, fault_text, status};
+pub use job_fault::JobFault;
+pub use job_of_words::job;
+pub use jobs::Job;
+pub use line_of_job::job_line;
 pub use output::emit;
 pub use prepared_job::{Prepared, prepare};
+pub use reads::Sources;
+pub use subcommands::Subcommand;
+pub use tasks::Task;
+pub use writes::Output;

@@ -1,23 +1,25 @@
 //! What a job writes.
 ghost use Rattle.std.specs.Prelude.{◌≡◌, ◌≢◌, ◌+◌, ◌-◌, ◌^◌, ◌<◌, ◌↔◌, IfErr, OnErr, OnOk, Err};
 ghost use Rattle.cif_line.specs.Device.{Takes, TakesPart};
-ghost use Rattle.docker_job.specs.Writes.{output_meant};
+ghost use Rattle.docker_cmd.specs.Writes.{output_meant};
 ghost use Rattle.docker_cmd.specs.Prepared.{EndsEmitting, IsRefused, IsRefusedDocker, counts_written, docker_written, file_read, files_written, office_read, output_of};
 
 use crate::check_line::check_line;
 use crate::holding::Holding;
 use crate::prepared_job::Prepared;
 use crate::sources::Content;
+use crate::writes::Output;
 use cif_file::FileCount;
 use cif_line::{Day, Sink, write_all};
-use docker_job::Output;
 use docker_office::{LedgerOffice, Office, OfficeFault, PlaceOffice};
 
-/// Writes what the job prints, or the state's text that is to be kept: of `check` the line of its file's counts, of `day` and `print` the docker of their
-/// timing point on their day, of `files` the office's files, and of any other job the text of the office's state.
+/// Writes what the job prints, or the text of the state that is to be kept. `check` writes the line
+/// of its file's counts, `day` and `print` write the docker of their timing point on their day, and
+/// `files` writes the office's files. Any other job writes the text of the office's state.
 ///
-/// `Lapsed` comes where a docker is asked for of a day before the state's horizon plus three days, and `Memory` where room for a docker is refused: both
-/// before anything is written. `Sink` leaves the sink with a beginning of the text.
+/// It returns `Lapsed` for a docker of a day before the state's horizon plus three days, and
+/// `Memory` if room for a docker is refused: both before anything is written. `Sink` leaves the
+/// sink with a beginning of the text.
 pub fn emit<K: Sink>(prepared: &Prepared<'_>, sink: &mut K) -> Result<(), OfficeFault>
     requires { K.failures sink.old < 2 ^ 64 - 1 }
     ensures ends { EndsEmitting K.taken K.failures (output_of prepared.now.job.task)
@@ -44,7 +46,7 @@ fn write_counts<K: Sink>(file: &FileCount, sink: &mut K) -> Result<(), OfficeFau
     write(sink, text.as_slice())
 }
 
-/// Writes a text whole, or a beginning of it where the sink fails.
+/// Writes the whole text, or a beginning of it if the sink fails.
 fn write<K: Sink>(sink: &mut K, text: &[u8]) -> Result<(), OfficeFault>
     requires { K.failures sink.old < 2 ^ 64 - 1 }
     ensures whole { OnOk result (Takes (K.taken sink.old) text.now (K.taken sink.new)) }

@@ -1,11 +1,11 @@
 //! What a job has read.
-ghost use Rattle.std.specs.Prelude.{◌≡◌, ◌+◌, ◌-◌, ◌^◌, ◌<◌, ◌⊎◌, IfOk};
+ghost use Rattle.std.specs.Prelude.{◌≡◌, ◌-◌, ◌^◌, ◌<◌, ◌⊎◌, IfOk};
 ghost use Rattle.docker_cmd.specs.Holding.{IsWrittenFrom, held_meant};
 ghost use Rattle.docker_cmd.specs.Prepared.{CountsSources, HasNoSource, HasSecondSource, HoldsSomeState, IsOfOneFile, ReadsInOrder, output_of, sources_of, taken_file};
 
 use crate::holding::{Holding, hold};
+use crate::jobs::Job;
 use cif_line::Source;
-use docker_job::Job;
 use docker_office::OfficeFault;
 use std::alloc::Global;
 use std::marker::Model;
@@ -40,7 +40,8 @@ impl<'a> Prepared<'a> {
         self.job
     }
 
-    /// What it holds of what was read: of `check` the counts of a file, of any other an office, or what is written of one.
+    /// What it holds of what was read: for `check` the counts of a file, for any other job an
+    /// office, or the part of one that is written.
     pub(crate) fn held(&self) -> &Holding
         ensures held { self.now.read ≡ held_meant result.now }
         ensures written { IsWrittenFrom (output_of self.now.job.task) result.now }
@@ -49,13 +50,15 @@ impl<'a> Prepared<'a> {
     }
 }
 
-/// Reads what the job reads, in the order of its words, and answers the job with the file's counts, or the office, that it made of it. `new` reads nothing; `check`
-/// and `day` read FILE from the first source, `print`, `files`, `horizon` and `migrate` STATE; `take` and `merge` read STATE from the first source, and then
-/// FILE or OTHER from the second, of which nothing is read unless the first held a state. A source is read to its end, or to the piece of at most 65,536
+/// Reads what the job reads, in the order of its words. It returns the job, with the file's counts
+/// or the office that it has made. `new` reads nothing. `check` and `day` read FILE from the first
+/// source; `print`, `files`, `horizon` and `migrate` read STATE from it. `take` and `merge` read
+/// STATE from the first source, and then FILE or OTHER from the second, but nothing of the second
+/// unless the first held a state. A source is read to its end, or to the piece of at most 65,536
 /// bytes that decides.
 ///
-/// `File` and `State` tell why a source holds no text of a file or of a state, `Source` that one failed, and `Memory` that a growth was refused: nothing that
-/// was judged before is bad.
+/// `File` and `State` say why a source holds no text of a file or of a state, and `Source` that one
+/// failed. `Memory` says that a growth was refused: nothing that was judged before is bad.
 pub fn prepare<'a, S: Source, T: Source>(
     alloc: Global,
     job: &'a Job,

@@ -1,13 +1,13 @@
 //! What is read of a job's sources.
-ghost use Rattle.std.specs.Prelude.{◌≡◌, ◌+◌, ◌-◌, ◌^◌, ◌<◌, ◌⊎◌, ℕ};
-ghost use Rattle.docker_job.specs.Reads.{sources_meant};
+ghost use Rattle.std.specs.Prelude.{◌≡◌, ◌-◌, ◌^◌, ◌<◌, ◌⊎◌, ℕ};
+ghost use Rattle.docker_cmd.specs.Reads.{sources_meant};
 ghost use Rattle.docker_model.specs.state.StateText.{dks_1, dks_2};
 ghost use Rattle.docker_cmd.specs.Content.{content_meant};
 ghost use Rattle.docker_cmd.specs.Prepared.{CountsSources, DeviceBytes, HasNoSource, HasSecondSource, HoldsSomeState, ReadsContent, checked_file, file_read, office_read, one_state, state_and_file, taken_file, two_states, under};
 
+use crate::reads::Sources;
 use cif_file::{FileCount, MOST_RECORDS, judge_file};
 use cif_line::{Day, Source};
-use docker_job::Sources;
 use docker_office::{Office, OfficeFault};
 use std::alloc::Global;
 
@@ -24,7 +24,7 @@ pub(crate) enum Content {
 }
 
 impl Content {
-    /// The same, after a horizon was set on its office, if there is one.
+    /// The content after a horizon was set on its office, if there is one.
     pub(crate) fn under(self, horizon: Option<Day>) -> Content
         ensures { content_meant result ≡ under horizon (content_meant self) }
     {
@@ -116,7 +116,7 @@ fn office_of_older_state<S: Source>(alloc: Global, source: &mut S) -> Result<Off
     Ok(office)
 }
 
-/// An office with the state that a first source holds, which took the file that a second holds.
+/// An office with the state that the first source holds, which then took the file in the second.
 fn taken_behind<S: Source, T: Source>(
     alloc: Global,
     first: &mut S,
@@ -136,7 +136,8 @@ fn taken_behind<S: Source, T: Source>(
     Ok(taker)
 }
 
-/// An office with the state that a first source holds, which received the state that a second holds.
+/// An office with the state that the first source holds, which then received the state in the
+/// second.
 fn joined_behind<S: Source, T: Source>(
     alloc: Global,
     first: &mut S,

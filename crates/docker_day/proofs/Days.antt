@@ -5,7 +5,7 @@ use Rattle.std.specs.List.{flat_map}
 use Rattle.docker_laws.proofs.dockers.ScheduleLines.{number_itself}
 use Rattle.docker_model.specs.docker.Gathering.{start_days}
 
--- two tests of numbers that hold together
+-- two tests of numbers that imply each other are equal
 same_test : (a b c d : ℕ) → (a ≡ b → c ≡ d) → (c ≡ d → a ≡ b) → (a == b) ≡ (c == d)
 same_test a b c d forth back = by (a == b) refl (c == d) refl
   where
@@ -19,7 +19,7 @@ same_test a b c d forth back = by (a == b) refl (c == d) refl
         let holds : (a == b) ≡ true = ap (λ (n : ℕ). a == n) (sym (back (eqb-true c d g))) ∙ number_itself a in
         sym h ∙ holds
 
--- an event is on a day where as many midnights lie before it as days behind the start
+-- an event is on a day if as many midnights lie before it as days between the start and the day
 pub today_is : (day start falls : ℕ) → start ≤ day → (falls == day - start) ≡ (start + falls == day)
 today_is day start falls low = same_test falls (day - start) (start + falls) day (λ same. omega arith) (λ same. omega arith)
 

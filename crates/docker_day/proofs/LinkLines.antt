@@ -29,12 +29,12 @@ find_mapped f p (x ∷ xs) = by (p (f x)) (find_mapped f p xs)
     by true rest = refl
     by false rest = rest
 
--- the first event of the call that a walk meets
+-- the first event of the call, as a walk meets it
 pub first_call_is : (lines : List (List ℕ)) (location : List ℕ) (suffix : ℕ)
     → find (is_call location suffix) (occurrences lines) ≡ option_map (occurrence_of lines) (first_event_at lines location suffix)
 first_call_is lines location suffix = find_mapped (occurrence_of lines) (is_call location suffix) (events_of lines)
 
--- the line of an association is that of the definitions
+-- the line of an association is the definitions' line
 link_line_is : (trains : List ℕ → ℕ → Option Train) (day start : ℕ) (link : Link) (occasion : Option Occasion) (base : Option Train)
     → link_line_with trains day start link occasion base ≡ line_with trains day start link.key link.line occasion base
 link_line_is trains day start link None base = refl
@@ -52,7 +52,7 @@ none_of_all : (days : List ℕ) → flat_map (λ (day : ℕ). no_line) days ≡ 
 none_of_all [] = refl
 none_of_all (day ∷ days) = none_of_all days
 
--- the lines of a row are those of its start days
+-- the lines of a row are the lines on its start days
 row_pieces : (trains : List ℕ → ℕ → Option Train) (links : Group → ℕ → Option Link) (place : List ℕ) (day : ℕ) (key : Key) (body : Body)
     → flat_map (row_piece trains links place day key body) (start_days day) ≡ row_lines trains links place day key body
 row_pieces trains links place day (schedule_key key) (schedule_body lines) = refl
@@ -85,7 +85,7 @@ module _ (place : List ℕ) (day : ℕ) (key : Key) (body : Body) where
       ∙ three_parts first (row_back trains links place day key body 0) (row_back trains links place day key body 1) (row_back trains links place day key body 2)
       ∙ ap (λ more. first ++ more) (sym (starts_split (row_piece trains links place day key body) day) ∙ row_pieces trains links place day key body)
 
-  -- so they are added by adding those of each start day that there is
+  -- so they are added by adding the lines on each start day that there is
   pub three_backs : (live : Table) (first second third last : List DockerLine)
       → Adds live (λ trains links. row_back trains links place day key body 0) first second
       → Adds live (λ trains links. row_back trains links place day key body 1) second third

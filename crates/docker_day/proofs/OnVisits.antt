@@ -1,4 +1,4 @@
--- The lines of a row on each visit are its lines.
+-- The lines of a row on all visits are its lines.
 use Rattle.std.proofs.Common.{◌≡◌, ℕ, ◌-◌, Bool, true, false, cond, List, [], ◌++◌, refl, ap, sym, ◌∙◌, subst, Some, None, append-nil, arith}
 use Rattle.std.specs.Prelude.{Option, nat_le}
 use Rattle.std.proofs.Math.Dec.{leb-zero}
@@ -18,7 +18,7 @@ module _ (there : PlaceDay) (key : Key) (body : Body) where
   abbrev AddsBack : ℕ → List DockerLine → List DockerLine → Type 0
   AddsBack back before after = Adds (live_table there.state) (λ trains links. row_back trains links there.place there.day key body back) before after
 
-  -- what is added on a visit is what the row has so many days back
+  -- what a visit adds is what the row has `back` days before the day
   adds_back : (back : ℕ) (visit : Option Visit) (before after : List DockerLine) → visit ≡ visit_back there back → AddsIf visit key body before after
       → AddsBack back before after
   adds_back back visit before after is adds = by (nat_le back there.day) refl (subst (λ (v : Option Visit). AddsIf v key body before after) is adds)
@@ -39,7 +39,7 @@ module _ (there : PlaceDay) (key : Key) (body : Body) where
       (λ i. cond (leb-zero there.day i) (Some (record { state = there.state; place = there.place; day = there.day; start = there.day - 0 })) None)
       ∙ (λ i. Some (record { state = there.state; place = there.place; day = there.day; start = same i }))
 
-  -- on the day itself
+  -- the visit of the day itself adds what the row has on that day
   adds_today : (today : Visit) (before after : List DockerLine)
       → today ≡ record { state = there.state; place = there.place; day = there.day; start = there.day } → AddsAt today key body before after
       → AddsBack 0 before after
@@ -50,7 +50,7 @@ module _ (there : PlaceDay) (key : Key) (body : Body) where
   AddsRow before after = Adds (live_table there.state) (λ trains links. row_lines trains links there.place there.day key body) before after
 
 module _ (there again : PlaceDay) (key : Key) (body : Body) (today : Visit) (day_before two_before : Option Visit) where
-  -- so on all visits
+  -- so all visits together add the lines of the row
   pub adds_on_visits : (first second third last : List DockerLine) → there ≡ again
       → AreVisits there today day_before two_before → AddsAt today key body first second → AddsIf day_before key body second third
       → AddsIf two_before key body third last → AddsRow again key body first last
@@ -59,7 +59,8 @@ module _ (there again : PlaceDay) (key : Key) (body : Body) (today : Visit) (day
       (three_backs there.place there.day key body (live_table there.state) first second third last (adds_today there key body today first second are.today_is one)
       (adds_back there key body 1 day_before second third are.day_before_is two) (adds_back there key body 2 two_before third last are.two_before_is three))
 
-  -- and on the day alone, if its train is not under way since one of the two before
+  -- if the row's train isn't under way since one of the two days before, the visit of the day adds
+  -- them all
   pub adds_today_alone : (first second : List DockerLine) → there ≡ again → AreVisits there today day_before two_before
       → live_table again.state key ≡ Some body → row_under_way again.place key body again.day ≡ false → AddsAt today key body first second
       → AddsRow again key body first second
@@ -67,7 +68,7 @@ module _ (there again : PlaceDay) (key : Key) (body : Body) (today : Visit) (day
       first_back_alone again.place again.day key body (live_table again.state) first second is_live idle
       (subst (λ (p : PlaceDay). AddsBack p key body 0 first second) same (adds_today there key body today first second are.today_is one))
 
--- the lines of a walk that were added at a place were added at the same place
+-- the lines of a walk that were added at a place were added at an equal place
 pub gathered_at : (there again : PlaceDay) (walk : List Row) (before after : List DockerLine) → again ≡ there
     → Adds (live_table again.state) (λ trains links. gathered trains links again.place again.day walk) before after
     → Adds (live_table there.state) (λ trains links. gathered trains links there.place there.day walk) before after

@@ -1,4 +1,4 @@
--- What is passed over without a search gives no line.
+-- What is passed over without a search has no line.
 use Rattle.std.proofs.Common.{◌≡◌, ℕ, ◌+◌, ◌-◌, ◌<◌, ◌==◌, ◌⊎◌, inl, inr, Bool, true, false, cond, List, [], ◌∷◌, ◌++◌, refl, ap, sym, ◌∙◌, append-nil, Some, None, arith, eqb-true}
 use Rattle.std.specs.Prelude.{Option, ◌&&◌, ◌||◌, not, nat_le, codes}
 use Rattle.std.specs.Ordering.{is_eq}
@@ -35,7 +35,7 @@ use Rattle.docker_day.proofs.RowPieces.{no_line}
 true_false : true ≡ false → ⊥
 true_false bad = cc
 
--- a live schedule that does not run on a day is not that by which its train runs
+-- if a live schedule doesn't run on a day, its train doesn't run by it then
 pub runs_not : (live : Table) (rows : List Row) (train : Train) (start : ℕ) → AreRowsOf live rows → IsLiveTrain live train
     → schedule_runs (first_record train.lines) start ≡ false → runs_by (train_in rows train.key.uid start) train.key ≡ false
 runs_not live rows train start are is_live idle = by (train_in rows train.key.uid start) (trains_tell live rows are train.key.uid start)
@@ -51,7 +51,7 @@ runs_not live rows train start are is_live idle = by (train_in rows train.key.ui
             let lines = one_schedule live other.key train.key other.lines train.lines same runs.chosen.running.is_live is_live in
             absurd (true_false (sym runs.chosen.running.runs_then ∙ ap (λ (ls : List (List ℕ)). schedule_runs (first_record ls) start) lines ∙ idle))
 
--- a live association that does not run on a start day is not the one of its group that counts
+-- if a live association doesn't run on a start day, it isn't the one that counts in its group
 pub counts_not : (live : Table) (rows : List Row) (link : Link) (start : ℕ) → AreRowsOf live rows → IsLiveLink live link
     → association_runs link.line start ≡ false → counts_as (link_in rows (group_of link.key) start) link.key ≡ false
 counts_not live rows link start are is_live idle = by (link_in rows (group_of link.key) start) (links_tell live rows are (group_of link.key) start)
@@ -75,7 +75,7 @@ not_not : (b : Bool) → not b ≡ false → b ≡ true
 not_not true h = refl
 not_not false h = absurd (true_false h)
 
--- where no event is behind a midnight, none is on a day behind the start
+-- if no event is after a midnight, none is on a day after the start
 none_late : (place : List ℕ) (day start : ℕ) (key : ScheduleKey) (detail : Detail) (events : List Occurrence) → start < day → some_late events ≡ false
     → lines_there place day start key detail events ≡ []
 none_late place day start key detail [] before none = refl
@@ -106,14 +106,14 @@ no_lines_then place day start key lines before none =
     sym (event_lines_are place day start key lines) ∙ sym (lines_to_last place day start key detail lines)
     ∙ none_late place day start key detail (occurrences_to place lines) before none
 
--- none of two tests, or not the third
+-- neither of two tests holds, or the third doesn't
 none_of_both : (a b c : Bool) → ((a || b) && c) ≡ false → ((a ≡ false) × (b ≡ false)) ⊎ (c ≡ false)
 none_of_both a b false h = inr refl
 none_of_both false false true h = inl (refl, refl)
 none_of_both true b true h = absurd (true_false h)
 none_of_both false true true h = absurd (true_false h)
 
--- none of three tests
+-- none of three tests holds
 none_of_three : (a b c : Bool) → (a || b || c) ≡ false → (a ≡ false) × (b ≡ false) × (c ≡ false)
 none_of_three false false false h = (refl, refl, refl)
 none_of_three true b c h = absurd (true_false h)
@@ -124,7 +124,7 @@ module _ (live : Table) (rows : List Row) (are : AreRowsOf live rows) (place : L
   abbrev lines_back : Key → Body → ℕ → List DockerLine
   lines_back key body back = row_back (train_in rows) (link_in rows) place day key body back
 
-  -- a schedule that does not run on a day has no line of a train that started then
+  -- a schedule that doesn't run on a day has no line of a train that started then
   idle_back : (train : Train) (back : ℕ) → IsLiveTrain live train → runs_back train.lines day back ≡ false
       → lines_back (schedule_key train.key) (schedule_body train.lines) back ≡ []
   idle_back train back is_live idle = by (nat_le back day) refl
@@ -135,7 +135,7 @@ module _ (live : Table) (rows : List Row) (are : AreRowsOf live rows) (place : L
           (λ i. cond (runs_not live rows train (day - back) are is_live ((λ j. sym h j && schedule_runs (first_record train.lines) (day - back)) ∙ idle) i)
           (event_lines place day (day - back) train.key train.lines) [])
 
-  -- nor has one that passes no midnight on a day behind its start
+  -- a schedule that passes no midnight has no line on a day after its start
   early_back : (train : Train) (back : ℕ) → 0 < back → some_late (occurrences_to place train.lines) ≡ false
       → lines_back (schedule_key train.key) (schedule_body train.lines) back ≡ []
   early_back train back some early = by (nat_le back day) refl
@@ -153,7 +153,7 @@ module _ (live : Table) (rows : List Row) (are : AreRowsOf live rows) (place : L
           (no_lines_then place day (day - back) train.key train.lines before early)
           ∙ none_either (runs_by (train_in rows train.key.uid (day - back)) train.key)
 
-  -- a row of which no train is under way has no line of a train that started before
+  -- a row whose train isn't under way has no line of a train that started before the day
   pub none_back : (key : Key) (body : Body) → live key ≡ Some body → row_under_way place key body day ≡ false
       → (lines_back key body 1 ≡ []) × (lines_back key body 2 ≡ [])
   none_back (schedule_key key) (schedule_body lines) is_live not_so =
@@ -171,7 +171,7 @@ module _ (live : Table) (rows : List Row) (are : AreRowsOf live rows) (place : L
   none_back (tiploc_key code) body is_live not_so = absurd (true_false not_so)
   none_back (association_key key) body is_live not_so = absurd (true_false not_so)
 
-  -- and one of a schedule that runs on none of the three days has none at all
+  -- a row whose schedule runs on none of the three days has no line
   none_lately : (key : Key) (body : Body) → live key ≡ Some body → row_lately key body day ≡ false
       → (lines_back key body 0 ≡ []) × (lines_back key body 1 ≡ []) × (lines_back key body 2 ≡ [])
   none_lately (schedule_key key) (schedule_body lines) is_live not_so =
@@ -185,11 +185,11 @@ module _ (live : Table) (rows : List Row) (are : AreRowsOf live rows) (place : L
   none_lately (tiploc_key code) body is_live not_so = absurd (true_false not_so)
   none_lately (association_key key) body is_live not_so = absurd (true_false not_so)
 
--- adding no lines
+-- adding no lines changes nothing
 nothing : (before : List DockerLine) {more : List DockerLine} → more ≡ [] → before ≡ before ++ more
 nothing before none = sym (append-nil before) ∙ ap (λ out. before ++ out) (sym none)
 
--- so its lines are those of the trains that start on the day
+-- so its lines are the lines of the train that starts on the day
 pub first_back_alone : (place : List ℕ) (day : ℕ) (key : Key) (body : Body) (live : Table) (first second : List DockerLine) → live key ≡ Some body
     → row_under_way place key body day ≡ false → Adds live (λ trains links. row_back trains links place day key body 0) first second
     → Adds live (λ trains links. row_lines trains links place day key body) first second
@@ -198,7 +198,7 @@ first_back_alone place day key body live first second is_live not_so one =
     (λ rows are. nothing second (none_back live rows are place day key body is_live not_so).0)
     (λ rows are. nothing second (none_back live rows are place day key body is_live not_so).1)
 
--- and it has none where it runs on none of the three days
+-- a row has no lines if it runs on none of the three days
 pub not_lately : (place : List ℕ) (day : ℕ) (key : Key) (body : Body) (live : Table) (first : List DockerLine) → live key ≡ Some body
     → row_lately key body day ≡ false → Adds live (λ trains links. row_lines trains links place day key body) first first
 not_lately place day key body live first is_live not_so =
@@ -207,7 +207,7 @@ not_lately place day key body live first is_live not_so =
     (λ rows are. nothing first (none_lately live rows are place day key body is_live not_so).1)
     (λ rows are. nothing first (none_lately live rows are place day key body is_live not_so).2)
 
--- what has not begun, or is marked on none of the three days, runs on none
+-- a schedule that hasn't begun, or is marked on none of the three days, runs on none
 pub row_idle : (key : Key) (body : Body) (day : ℕ) → IsBodyOf key body → row_may_run key body day ≡ false → row_lately key body day ≡ false
 row_idle (schedule_key key) (schedule_body lines) day of never = let idle = idle_lately key lines day of never in (λ i. idle.0 i || idle.1 i || idle.2 i)
 row_idle (schedule_key key) (tiploc_body bytes) day of never = absurd (true_false never)
@@ -215,7 +215,7 @@ row_idle (schedule_key key) (association_body line) day of never = absurd (true_
 row_idle (tiploc_key code) body day of never = absurd (true_false never)
 row_idle (association_key key) body day of never = absurd (true_false never)
 
--- an association that does not run on a start day is not in force then
+-- an association that doesn't run on a start day isn't in force then
 pub not_in_force : (live : Table) (rows : List Row) (link : Link) (start : ℕ) → AreRowsOf live rows → IsLiveLink live link
     → association_runs link.line start ≡ false → false ≡ is_in_force (link_in rows) start link.key link.line
 not_in_force live rows link start are is_live idle =

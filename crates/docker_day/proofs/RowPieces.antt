@@ -1,4 +1,4 @@
--- The lines of a row on a start day, by what the row is of.
+-- The lines of a row on a start day, by the row's kind.
 use Rattle.std.proofs.Common.{◌≡◌, ℕ, Bool, List, [], refl, sym, Some, None}
 use Rattle.std.specs.Prelude.{Option}
 use Rattle.docker_model.specs.file.Change.{Key, tiploc_key, association_key, schedule_key, Body, tiploc_body, association_body, schedule_body}
@@ -30,7 +30,7 @@ some_train train h = cc
 some_link : (link : Link) → Some link ≡ None → ⊥
 some_link link h = cc
 
--- a test of a schedule's lines is that of its row
+-- a test of a schedule's lines is the test of its row
 pub test_of : (test : List (List ℕ) → Bool) (key : Key) (body : Body) (train : Train) → schedule_of key body ≡ Some train
     → test train.lines ≡ row_test test key body
 test_of test (schedule_key key) (schedule_body lines) train is = λ i. test (sym (same_train (record { key = key; lines = lines }) train is) i).lines
@@ -39,7 +39,7 @@ test_of test (schedule_key key) (association_body line) train is = absurd (none_
 test_of test (tiploc_key code) body train is = absurd (none_train train is)
 test_of test (association_key key) body train is = absurd (none_train train is)
 
--- and so is whether it may run lately
+-- whether a schedule may run lately is whether its row may
 pub may_run_of : (day : ℕ) (key : Key) (body : Body) (train : Train) → schedule_of key body ≡ Some train
     → may_run_lately train.key train.lines day ≡ row_may_run key body day
 may_run_of day (schedule_key key) (schedule_body lines) train is =
@@ -51,7 +51,7 @@ may_run_of day (tiploc_key code) body train is = absurd (none_train train is)
 may_run_of day (association_key key) body train is = absurd (none_train train is)
 
 module _ (trains : List ℕ → ℕ → Option Train) (links : Group → ℕ → Option Link) (place : List ℕ) (day start : ℕ) where
-  -- of a schedule
+  -- for a schedule's row
   pub piece_of_schedule : (key : Key) (body : Body) (train : Train) → schedule_of key body ≡ Some train
       → schedule_piece trains place day train.key train.lines start ≡ row_piece trains links place day key body start
   piece_of_schedule (schedule_key key) (schedule_body lines) train is =
@@ -62,7 +62,7 @@ module _ (trains : List ℕ → ℕ → Option Train) (links : Group → ℕ →
   piece_of_schedule (tiploc_key code) body train is = absurd (none_train train is)
   piece_of_schedule (association_key key) body train is = absurd (none_train train is)
 
-  -- of an association
+  -- for an association's row
   pub piece_of_link : (key : Key) (body : Body) (link : Link) → association_of key body ≡ Some link
       → link_here trains links place day link start ≡ row_piece trains links place day key body start
   piece_of_link (association_key key) (association_body line) link is =
@@ -72,7 +72,7 @@ module _ (trains : List ℕ → ℕ → Option Train) (links : Group → ℕ →
   piece_of_link (tiploc_key code) body link is = absurd (none_link link is)
   piece_of_link (schedule_key key) body link is = absurd (none_link link is)
 
-  -- of neither
+  -- for any other row
   pub no_piece : (key : Key) (body : Body) → schedule_of key body ≡ None → association_of key body ≡ None
       → no_line ≡ row_piece trains links place day key body start
   no_piece (schedule_key key) (schedule_body lines) no_schedule no_link = absurd (some_train (record { key = key; lines = lines }) no_schedule)

@@ -32,7 +32,7 @@ row_passed day key body before after may is good told never = λ place live are_
     idle : row_may_run key body day ≡ false
     idle = let same : may ≡ false = cc in sym told ∙ same
 
--- what is left of what is left
+-- what is left of the rows that are left
 pub left_again : (all rest fewer : List Row) → AreLeft all rest → AreLeft rest fewer → AreLeft all fewer
 left_again all rest fewer first second = record {
   good = λ good. second.good (first.good good);
@@ -40,17 +40,17 @@ left_again all rest fewer first second = record {
   fewer = (let some = first.fewer in let less = second.fewer in omega arith);
 }
 
--- and what is passed over then
+-- what is passed over of them
 pub passed_again : (day : ℕ) (all rest fewer : List Row) → AreLeft all rest → ArePassedOver day all rest → ArePassedOver day rest fewer
     → ArePassedOver day all fewer
 passed_again day all rest fewer left first second = λ place live are_live rows are.
     first place live are_live rows are ∙ second place live (left.live live are_live) rows are
 
--- what is told to be false
+-- an answer that is `Some false` is false
 pub told_false : (may : Bool) → ◌≡◌ {A = Option Bool} (Some may) (Some false) → may ≡ false
 told_false may told = cc
 
--- where none so far may have lines, nor those behind them, none may
+-- if neither the rows so far nor the ones after them may have lines, none may
 pub none_behind : (day : ℕ) (all rest fewer : List Row) (so_far behind : Bool) (found : Option Bool) → AreLeft all rest
     → (so_far ≡ false → ArePassedOver day all rest) → (IsNone found → fewer ≡ rest) → (found ≡ Some false → ArePassedOver day rest fewer)
     → behind ≡ unwrap_or found false → (so_far || behind) ≡ false → ArePassedOver day all fewer
@@ -67,7 +67,7 @@ pub moved_again : (there again : PlaceDay) (all rest fewer : List Row) (first se
 moved_again there again all rest fewer first second third same one two = λ rows are.
     subst (λ (p : PlaceDay). HaveMoved p rest fewer second third) same two rows are ∙ one rows are
 
--- and one that passes over rows
+-- a walk that has moved on, and passes over rows
 pub moved_over : (there again : PlaceDay) (all rest fewer : List Row) (first second : List DockerLine) → again ≡ there
     → AreLive (live_table again.state) rest → HaveMoved there all rest first second → ArePassedOver again.day rest fewer
     → HaveMoved there all fewer first second
@@ -77,6 +77,6 @@ moved_over there again all rest fewer first second same live one passed = λ row
     (subst (λ (p : PlaceDay). AreLive (live_table p.state) rest) same live) rows are))
     ∙ one rows are
 
--- rows that are live in one state are so in the same
+-- rows that are live in a state are live in an equal one
 pub live_again : (there again : PlaceDay) (rows : List Row) → again ≡ there → AreLive (live_table there.state) rows → AreLive (live_table again.state) rows
 live_again there again rows same live = subst (λ (p : PlaceDay). AreLive (live_table p.state) rows) (sym same) live

@@ -14,14 +14,14 @@ both_taken None second third front back one two = two ∙ ap (option_map (λ tak
 both_taken (Some taken) second third front back one two =
     two ∙ ap (option_map (λ out. out ++ back)) one ∙ ap Some (append_assoc taken front back)
 
--- a beginning of the first is one of both
+-- a beginning of the first part is a beginning of both
 pub part_of_front : (first second : Option (List ℕ)) (front back : List ℕ) → TakesPart first front second → TakesPart first (front ++ back) second
 part_of_front first second front back (n, short, taken) =
     let long = length-append front back in
     let same : take n (front ++ back) ≡ take n front = take-append-le n front back (omega arith) in
     (n, omega arith, subst (λ bytes. Takes first bytes second) (sym same) taken)
 
--- the first and a beginning of the second
+-- the first part and a beginning of the second are a beginning of both
 pub part_of_back : (first second third : Option (List ℕ)) (front back : List ℕ) → Takes first front second → TakesPart second back third
     → TakesPart first (front ++ back) third
 part_of_back first second third front back one (n, short, taken) =
@@ -32,12 +32,12 @@ part_of_back first second third front back one (n, short, taken) =
           (both_taken first second third front (take n back) one taken),
     )
 
--- what holds where a result is an error, of any result
+-- what is true is true if a result is an error
 pub on_any_err : {A E : Type 0} (result : Result A E) {P : Type 0} → P → OnErr result P
 on_any_err (Ok a) holds = tt
 on_any_err (Err e) holds = holds
 
--- three parts, each as it is
+-- three parts, each equal to what it should be
 module _ (first second third last : Option (List ℕ)) (a b c front middle back : List ℕ) (a_is : a ≡ front) (b_is : b ≡ middle) (c_is : c ≡ back) where
   -- all were taken
   pub all_taken : Takes first a second → Takes second b third → Takes third c last → Takes first (front ++ middle ++ back) last
@@ -67,7 +67,8 @@ module _ (first second third last : Option (List ℕ)) (a b c front middle back 
 
 -- ---- lines one by one
 
--- what is written of lines from a place on leads from one sink to a later one, as what is written of all does
+-- the lines still to be written lead from the sink now to a later one, as all lines do from the
+-- first sink
 pub record Leads {A : Type 0} (bytes : A → List ℕ) (lines rest : List A) (first now : Option (List ℕ)) : Type 0 where
   pub whole : (last : Option (List ℕ)) → Takes now (flat_map bytes rest) last → Takes first (flat_map bytes lines) last
   pub part : (last : Option (List ℕ)) → TakesPart now (flat_map bytes rest) last → TakesPart first (flat_map bytes lines) last
@@ -78,11 +79,11 @@ drop_next i xs x below at = drop-cons xs i x below ∙ (λ j. sym at j ∷ drop 
     one_more : suc i ≡ i + 1
     one_more = omega arith
 
--- at first
+-- before the first line
 pub leads_first : {A : Type 0} (bytes : A → List ℕ) (lines : List A) (first : Option (List ℕ)) → Leads bytes lines (drop 0 lines) first first
 leads_first bytes lines first = record { whole = λ last taken. taken; part = λ last taken. taken }
 
--- with one more line
+-- after one more line
 pub leads_on : {A : Type 0} (bytes : A → List ℕ) (lines : List A) (i : ℕ) (line : A) (text : List ℕ) (first now next : Option (List ℕ))
     → i < length lines → line ≡ get_or lines i line
     → text ≡ bytes line → Leads bytes lines (drop i lines) first now → Takes now text next → Leads bytes lines (drop (i + 1) lines) first next
@@ -99,7 +100,7 @@ leads_on bytes lines i line text first now next below at is leads taken = record
     joined : bytes line ++ flat_map bytes (drop (i + 1) lines) ≡ flat_map bytes (drop i lines)
     joined = ap (flat_map bytes) (sym (drop_next i lines line below at))
 
--- a beginning of one more line
+-- after a beginning of one more line
 pub leads_part : {A : Type 0} (bytes : A → List ℕ) (lines : List A) (i : ℕ) (line : A) (text : List ℕ) (first now next : Option (List ℕ))
     → i < length lines → line ≡ get_or lines i line
     → text ≡ bytes line → Leads bytes lines (drop i lines) first now → TakesPart now text next → TakesPart first (flat_map bytes lines) next
@@ -108,7 +109,7 @@ leads_part bytes lines i line text first now next below at is leads part =
     (subst (λ b. TakesPart now b next) (ap (flat_map bytes) (sym (drop_next i lines line below at)))
     (part_of_front now next (bytes line) (flat_map bytes (drop (i + 1) lines)) (subst (λ b. TakesPart now b next) is part)))
 
--- behind the last line
+-- after the last line
 pub leads_last : {A : Type 0} (bytes : A → List ℕ) (lines : List A) (i : ℕ) (first now : Option (List ℕ)) → length lines ≤ i
     → Leads bytes lines (drop i lines) first now → Takes first (flat_map bytes lines) now
 leads_last {A} bytes lines i first now end leads = leads.whole now (nothing now (drop i lines) (drop_of_length-le lines end))

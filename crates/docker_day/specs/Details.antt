@@ -1,4 +1,4 @@
--- What the end of a line of the code means, as the definitions name it.
+-- What the end of a line of the code means, in the definitions' terms.
 use Rattle.docker_model.specs.docker.DockerLine.{ends, partner}
 use Rattle.docker_model.specs.docker.DockerLine as model
 use Rattle.docker_day.specs.declared.detail.Detail.{Detail}

@@ -21,7 +21,7 @@ use Rattle.docker_train.specs.Midnights.{some_late}
 use Rattle.docker_train.specs.UpTo.{occurrences_to}
 use Rattle.docker_train.specs.Lately.{may_run_lately, runs_back}
 
--- the line of an event, of a schedule known by the key, on a start day, with these ends
+-- the line of an event of the schedule with this key, on a start day and with these ends
 abbrev pub line_at_event : ScheduleKey → ℕ → Detail → Occurrence → DockerLine
 line_at_event key start detail event = record {
   time = event.time;
@@ -61,73 +61,76 @@ line_of_link occasion key base start event identity = record {
 abbrev pub is_here : List ℕ → Occurrence → Bool
 is_here place event = bytes_eq (columns 3 9 event.line) place
 
--- the event of a train that starts on a day is on the day
+-- the event is on the day, if its train starts on the start day
 abbrev pub is_today : ℕ → ℕ → Occurrence → Bool
 is_today day start event = start + event.falls == day
 
--- the lines of those events that are at the place on the day
+-- the lines of the events that are at the place on the day
 abbrev pub lines_there : List ℕ → ℕ → ℕ → ScheduleKey → Detail → List Occurrence → List DockerLine
 lines_there place day start key detail [] = []
 lines_there place day start key detail (event ∷ events) =
     (if is_here place event && is_today day start event then line_at_event key start detail event ∷ [] else [])
     ++ lines_there place day start key detail events
 
--- the schedule of these lines runs on the day or on one of the two before it
+-- the schedule with these lines runs on the day or on one of the two days before it
 abbrev pub is_lately : List (List ℕ) → ℕ → Bool
 is_lately lines day = runs_back lines day 0 || runs_back lines day 1 || runs_back lines day 2
 
--- its train may be under way on the day, up to its last event at the place, since one of the two days before
+-- the train of the schedule may be under way on the day, up to its last event at the place, since
+-- one of the two days before
 abbrev pub is_under_way : List ℕ → List (List ℕ) → ℕ → Bool
 is_under_way place lines day = (runs_back lines day 1 || runs_back lines day 2) && some_late (occurrences_to place lines)
 
--- a test of the lines of a row, if it is of a schedule
+-- a test of the lines of a row; a row that isn't a schedule's passes
 abbrev pub row_test : (List (List ℕ) → Bool) → Key → Body → Bool
 row_test test (schedule_key key) (schedule_body lines) = test lines
 row_test test _ _ = true
 
--- the schedule of the row runs so, if it is of one
+-- if the row is a schedule's, the schedule runs on the day or on one of the two days before it
 abbrev pub row_lately : Key → Body → ℕ → Bool
 row_lately key body day = row_test (λ lines. is_lately lines day) key body
 
--- its train may be under way so
+-- if the row is a schedule's, its train may be under way on the day, up to its last event at the
+-- place
 abbrev pub row_under_way : List ℕ → Key → Body → ℕ → Bool
 row_under_way place key body day = row_test (λ lines. is_under_way place lines day) key body
 
--- the schedule of the row has begun by the day and is marked on it or on one of the two days before, if the row is of one
+-- if the row is a schedule's, the schedule has begun by the day and is marked on it or on one of
+-- the two days before
 abbrev pub row_may_run : Key → Body → ℕ → Bool
 row_may_run (schedule_key key) (schedule_body lines) day = may_run_lately key lines day
 row_may_run _ _ day = true
 
--- the event is of a call at the place and suffix
+-- the event is of a call at the place with the suffix
 abbrev pub is_call : List ℕ → ℕ → Occurrence → Bool
 is_call place suffix event = is_at place suffix event.line
 
--- these lines were added, which the trains and associations of the table tell
+-- these lines were added; the trains and associations that they need are the table's
 abbrev pub Adds : Table → ((List ℕ → ℕ → Option Train) → (Group → ℕ → Option Link) → List DockerLine) → List DockerLine → List DockerLine → Type 0
 Adds live more before after = (rows : List Row) → AreRowsOf live rows → after ≡ before ++ more (train_in rows) (link_in rows)
 
--- a line, if there is one
+-- a list with the line, if there is one
 abbrev pub listed : Option DockerLine → List DockerLine
 listed None = []
 listed (Some line) = line ∷ []
 
--- the lines of a schedule on a start day on which its train runs by it
+-- the lines of a schedule on a start day, if its train runs by it then
 abbrev pub schedule_piece : (List ℕ → ℕ → Option Train) → List ℕ → ℕ → ScheduleKey → List (List ℕ) → ℕ → List DockerLine
 schedule_piece trains place day key lines start = if runs_by (trains key.uid start) key then event_lines place day start key lines else []
 
--- the line of an association at an event of the base train, where that is on the day
+-- the line of an association at an event of the base train, if the event is on the day
 abbrev pub link_line_at : (List ℕ → ℕ → Option Train) → ℕ → ℕ → Link → Occasion → ScheduleKey → Occurrence → List DockerLine
 link_line_at trains day start link occasion base event =
     if is_today day start event
     then line_of_link occasion link.key base start event (partner_identity trains link.key.associated (partner_start (column 37 link.line) start)) ∷ []
     else []
 
--- the same at an event that there may not be
+-- like `link_line_at`, for an event that there may not be
 abbrev pub link_line_by : (List ℕ → ℕ → Option Train) → ℕ → ℕ → Link → Occasion → ScheduleKey → Option Occurrence → List DockerLine
 link_line_by trains day start link occasion base None = []
 link_line_by trains day start link occasion base (Some event) = link_line_at trains day start link occasion base event
 
--- the line of an association with the base train, where both there are
+-- the line of an association with its base train, if there is an occasion and a base train
 abbrev pub link_line_with : (List ℕ → ℕ → Option Train) → ℕ → ℕ → Link → Option Occasion → Option Train → List DockerLine
 link_line_with trains day start link None base = []
 link_line_with trains day start link (Some occasion) None = []
@@ -141,7 +144,7 @@ link_piece trains links day link start =
     then link_line_with trains day start link (category_occasion (columns 35 36 link.line)) (trains link.key.base start)
     else []
 
--- the same where it is at the place
+-- like `link_piece`, if the association is at the place
 abbrev pub link_here : (List ℕ → ℕ → Option Train) → (Group → ℕ → Option Link) → List ℕ → ℕ → Link → ℕ → List DockerLine
 link_here trains links place day link start = if bytes_eq link.key.location place then link_piece trains links day link start else []
 
@@ -152,19 +155,19 @@ row_piece trains links place day (association_key key) (association_body line) s
     link_here trains links place day (record { key = key; line = line }) start
 row_piece trains links place day _ _ start = []
 
--- the lines of a row so many days back, if there is such a day
+-- the lines of a row `back` days before the day, if there is such a day
 abbrev pub row_back : (List ℕ → ℕ → Option Train) → (Group → ℕ → Option Link) → List ℕ → ℕ → Key → Body → ℕ → List DockerLine
 row_back trains links place day key body back = if nat_le back day then row_piece trains links place day key body (day - back) else []
 
--- the order of lines of one time, occasion and UID
+-- the order of lines with the same time, occasion and UID
 abbrev pub cmp_of_one_train : DockerLine → DockerLine → Ordering
 cmp_of_one_train a b =
     ordering_then (nat_cmp a.start b.start) (ordering_then (nat_cmp a.number b.number) (bytes_cmp (associated_uid a.detail) (associated_uid b.detail)))
 
--- the order of lines of one time and occasion
+-- the order of lines with the same time and occasion
 abbrev pub cmp_at_one_event : DockerLine → DockerLine → Ordering
 cmp_at_one_event a b = ordering_then (bytes_cmp a.uid b.uid) (cmp_of_one_train a b)
 
--- the order of lines of one time
+-- the order of lines with the same time
 abbrev pub cmp_at_one_time : DockerLine → DockerLine → Ordering
 cmp_at_one_time a b = ordering_then (nat_cmp (occasion_rank a.occasion) (occasion_rank b.occasion)) (cmp_at_one_event a b)

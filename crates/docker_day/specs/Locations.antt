@@ -6,7 +6,7 @@ use Rattle.docker_model.specs.docker.DockerLine.{platform_by_kind, track_by_kind
 use Rattle.docker_model.specs.records.PrintedTime.{spaces}
 use Rattle.docker_day.specs.declared.location.Location.{Location}
 
--- what is shown: platform, line, path, and the public times of its arrival and its departure
+-- what is shown: platform, line, path, and the public times of arrival and departure
 pub record Shown : Type 0 where
   pub platform : List ℕ
   pub track : List ℕ
@@ -14,7 +14,7 @@ pub record Shown : Type 0 where
   pub arrival : List ℕ
   pub departure : List ℕ
 
--- by the code
+-- what the code shows
 abbrev pub location_meant : Location → Shown
 location_meant location = record {
   platform = location.platform.now;
@@ -24,7 +24,7 @@ location_meant location = record {
   departure = location.departure.now;
 }
 
--- of a record of a kind
+-- what is shown of a record of this kind
 abbrev pub location_by_kind : Option Kind → List ℕ → Shown
 location_by_kind kind line = record {
   platform = platform_by_kind kind line;

@@ -9,18 +9,21 @@ use Rattle.docker_model.specs.docker.Gathering.{gathered}
 use Rattle.docker_train.specs.Along.{AreGoodRows, AreLive}
 use Rattle.docker_train.specs.Known.{PlaceDay}
 
--- of some rows these are left, fewer where there were any
+-- the rows that are left of some rows; they are good and live if all were, and fewer if there were
+-- any
 pub record AreLeft (before after : List Row) : Type 0 where
   pub good : AreGoodRows before → AreGoodRows after
   pub live : (live : Table) → AreLive live before → AreLive live after
   pub fewer : length after ≤ length before - 1
 
--- what is gathered of the rows before is what is gathered of those after, at any place on the day: the rows that are left out have no line
+-- the rows left out have no line: at any place on the day, the rows before and the rows after
+-- gather the same lines
 abbrev pub ArePassedOver : ℕ → List Row → List Row → Type 0
 ArePassedOver day before after = (place : List ℕ) (live : Table) → AreLive live before → (rows : List Row) → AreRowsOf live rows
     → gathered (train_in rows) (link_in rows) place day before ≡ gathered (train_in rows) (link_in rows) place day after
 
--- a walk has moved on: what is out, and the lines of the rows that are left, are what they were together
+-- a walk has moved on: the lines so far and the lines of the remaining rows are together what they
+-- were
 abbrev pub HaveMoved : PlaceDay → List Row → List Row → List DockerLine → List DockerLine → Type 0
 HaveMoved there before after lines more = (rows : List Row) → AreRowsOf (live_table there.state) rows
     → more ++ gathered (train_in rows) (link_in rows) there.place there.day after

@@ -1,4 +1,4 @@
--- A place on a day, for the trains that start on one day, and for those of all start days.
+-- A place on a day, for the trains that start on one day, and for the trains of all start days.
 use Rattle.std.specs.Prelude.{◌≡◌, ℕ, ◌≤◌, ◌-◌, nat_le, if◌then◌else◌, List, Option, Some, None, ⊤}
 use Rattle.docker_model.specs.file.Change.{Key, Body}
 use Rattle.docker_model.specs.state.State.{State, live_table}
@@ -13,21 +13,21 @@ pub record Visit : Type 0 where
   pub day : ℕ
   pub start : ℕ
 
--- what is kept is of one state, place and start day, which is not after the day
+-- what is kept belongs to one state, place and start day, which is not after the day
 pub record IsOnePlace (state : State) (place : List ℕ) (day start : ℕ) (trains : StartDay) (links bases : PlaceDay) : Type 0 where
   pub past : start ≤ day
   pub trains_are : trains ≡ record { state = state; day = start }
   pub links_are : links ≡ record { state = state; place = place; day = start }
   pub bases_are : bases ≡ record { state = state; place = place; day = start }
 
--- the visit of the trains that start so many days before the day, if there is such a day
+-- the visit by the trains that start `back` days before the day, if there is such a day
 abbrev pub visit_back : PlaceDay → ℕ → Option Visit
 visit_back there back =
     if nat_le back there.day
     then Some (record { state = there.state; place = there.place; day = there.day; start = there.day - back })
     else None
 
--- these are the visits of the day and of the two before it
+-- these are the visits of the day and of the two days before it
 pub record AreVisits (there : PlaceDay) (today : Visit) (day_before two_before : Option Visit) : Type 0 where
   pub today_is : today ≡ record { state = there.state; place = there.place; day = there.day; start = there.day }
   pub day_before_is : day_before ≡ visit_back there 1
@@ -43,7 +43,7 @@ abbrev pub AddsAt : Visit → Key → Body → List DockerLine → List DockerLi
 AddsAt visit key body before after =
     Adds (live_table visit.state) (λ trains links. row_piece trains links visit.place visit.day key body visit.start) before after
 
--- and if there is no visit, nothing was added
+-- the lines of a row on a visit were added, if there is a visit; otherwise nothing was
 abbrev pub AddsIf : Option Visit → Key → Body → List DockerLine → List DockerLine → Type 0
 AddsIf None key body before after = after ≡ before
 AddsIf (Some visit) key body before after = AddsAt visit key body before after

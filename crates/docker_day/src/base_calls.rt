@@ -15,7 +15,8 @@ use docker_train::{Events, Occurrence};
 use std::alloc::Global;
 use std::collections::BTreeMap;
 
-/// A UID, and the calls of its train at some place on some start day: for each suffix the first event with it. None if the train does not run then.
+/// A UID, and the calls of its train at some place on some start day: for each suffix, the first
+/// event with it. There are none if the train doesn't run then.
 #[derive(Debug, Drop)]
 pub(crate) struct BaseCalls<'a> {
     pub(crate) uid: Uid,
@@ -23,7 +24,8 @@ pub(crate) struct BaseCalls<'a> {
 }
 
 impl<'a> BaseCalls<'a> {
-    /// The first event of the call with a suffix. None if they are the calls of another UID.
+    /// The first event of the call with a suffix, if there is one. `None` if the calls are another
+    /// UID's.
     pub(crate) fn asked(&self, uid: &Uid, suffix: u8) -> Option<Option<Occurrence<'a>>>
         ensures { option_map meant_if result ≡ (if bytes_eq self.now.uid uid.now
             then Some (get nat_cmp self.now.calls suffix) else None) }
@@ -35,7 +37,7 @@ impl<'a> BaseCalls<'a> {
         }
     }
 
-    /// The first event of the call with a suffix.
+    /// The first event of the call with a suffix, if there is one.
     pub(crate) fn first(&self, suffix: u8) -> Option<Occurrence<'a>>
         ensures { meant_if result ≡ get nat_cmp self.now.calls suffix }
     {
@@ -46,7 +48,7 @@ impl<'a> BaseCalls<'a> {
     }
 }
 
-/// Of each suffix the first event of a call at a place with that suffix.
+/// For each suffix, the first event of the call at a place with that suffix.
 pub(crate) fn first_calls<'a>(
     alloc: Global,
     events: Events<'a>,
@@ -62,7 +64,7 @@ pub(crate) fn first_calls<'a>(
     Ok(calls)
 }
 
-/// Takes one more event into the first ones, if it is at the place.
+/// Updates the first events with one more event, if it is at the place.
 fn add_event<'a>(
     calls: &mut BTreeMap<u8, Call<'a>>,
     event: &Occurrence<'a>,
@@ -78,7 +80,7 @@ fn add_event<'a>(
     }
 }
 
-/// Takes one more event of a call into the first ones, if there is none with its suffix.
+/// Updates the first events with one more event of a call, if its suffix has none yet.
 fn add_call<'a>(
     calls: &mut BTreeMap<u8, Call<'a>>,
     suffix: u8,

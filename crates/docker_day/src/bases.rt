@@ -1,4 +1,4 @@
-//! The calls at a place of the base trains of associations, of which the last ones asked for are kept.
+//! The calls at a place of the base trains of associations. The ones asked for last are kept.
 ghost use Rattle.std.specs.Prelude.{◌≡◌, ℕ, List, IfOk, IfSome};
 ghost use Rattle.std.specs.BTreeMap.{get};
 ghost use Rattle.std.specs.Ordering.{nat_cmp};
@@ -16,8 +16,9 @@ use std::alloc::Global;
 use std::collections::BTreeMap;
 use std::marker::Model;
 
-/// The calls at a place of the base trains that start on a day. Those of the train that was asked for last are kept: the associations of a base train come one after
-/// the other in a walk, so the lines of each base train are looked at once.
+/// The calls at a place of the base trains that start on a day. The calls of the train asked for
+/// last are kept. A walk meets the associations of a base train one after the other, so the lines
+/// of each base train are read once.
 #[derive(Debug, Drop)]
 pub(crate) struct Bases<'a> {
     alloc: Global,
@@ -45,7 +46,7 @@ impl<'a> Model for Bases<'a> {
 }
 
 impl<'a> Bases<'a> {
-    /// The calls at a place of the trains that start on a day, none of which was asked for yet.
+    /// The calls at a place of the trains that start on a day, none asked for yet.
     pub(crate) fn at(alloc: Global, state: &'a State, place: &Tiploc, day: Day) -> Bases<'a>
         ensures { result ≡ record { state = state.entry.now; place = place.now; day = day } }
     {
@@ -58,8 +59,9 @@ impl<'a> Bases<'a> {
         }
     }
 
-    /// The first event of the call of a UID's train at the place with a suffix. None if there is no such call, or the train does not run. `Memory` if there is no room
-    /// for the calls of the train.
+    /// The first event of the call of a UID's train at the place with a suffix. `None` if there is
+    /// no such call, or if the train doesn't run. `Memory` if there is no room for the calls of the
+    /// train.
     pub(crate) fn first_call(
         &mut self,
         uid: &Uid,
@@ -76,7 +78,8 @@ impl<'a> Bases<'a> {
         }
     }
 
-    /// The first event of the call among those that are kept. None if none are kept, or those of another train.
+    /// The first event of the call, from the kept calls. `None` if no calls are kept, or another
+    /// train's.
     fn known(&self, uid: &Uid, suffix: u8) -> Option<Option<Occurrence<'a>>>
         ensures { IfSome result (λ event. (rows : List Row)
             → AreRowsOf (live_table self.now.state) rows → meant_if event
@@ -88,7 +91,7 @@ impl<'a> Bases<'a> {
         }
     }
 
-    /// The same by a walk over the lines of the train. Its calls are kept.
+    /// Like `first_call`, by a walk over the lines of the train. Its calls are kept.
     fn look_up(&mut self, uid: &Uid, suffix: u8) -> Result<Option<Occurrence<'a>>, Memory>
         ensures same { self.new ≡ self.old }
         ensures event { IfOk result (λ event. (rows : List Row)
@@ -103,7 +106,7 @@ impl<'a> Bases<'a> {
     }
 }
 
-/// The first events of the calls of a UID's train at a place.
+/// The first events of the calls at a place of a UID's train that starts on a day.
 fn calls_of<'a>(
     alloc: Global,
     state: &'a State,

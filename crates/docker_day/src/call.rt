@@ -34,7 +34,7 @@ impl<'a> Model for Call<'a> {
 }
 
 impl<'a> Call<'a> {
-    /// Of this event.
+    /// Keeps this event.
     pub(crate) fn of(event: &Occurrence<'a>) -> Call<'a>
         ensures { result ≡ occurrence_meant event.now }
     {

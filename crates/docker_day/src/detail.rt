@@ -8,24 +8,24 @@ use cif_line::Uid;
 /// The end of a line.
 #[derive(Clone, Copy, Debug)]
 pub enum Detail {
-    /// Of an event: where the train begins and where it ends.
+    /// For an event: where the train begins and where it ends.
     Ends {
         /// The TIPLOC of its origin.
         origin: [u8; 7],
         /// The TIPLOC of its terminus.
         destination: [u8; 7],
     },
-    /// Of an association: the associated train.
+    /// For an association: the associated train.
     Partner {
         /// Its UID.
         uid: Uid,
-        /// Its identity on its start day, `????` where it does not run then.
+        /// Its identity on its start day, `????` if it doesn't run then.
         identity: [u8; 4],
     },
 }
 
 impl Detail {
-    /// The UID of the associated train, and no byte at an event.
+    /// The UID of the associated train. It is empty for an event.
     pub(crate) fn associated_uid(&self) -> &[u8]
         ensures { result.now ≡ associated_uid (detail_meant self.now) }
     {

@@ -19,8 +19,8 @@ use docker_train::{LinkView, Occasion, Occurrence, ScheduleView};
 use std::cmp::Ordering;
 use std::marker::Model;
 
-/// A line of a docker: an event of a train, or an association of its train with another. In the order of time, occasion, UID, start day, event number and
-/// UID of the associated train.
+/// A line of a docker: an event of a train, or an association of its train with another. Lines are
+/// ordered by time, occasion, UID, start day, event number and UID of the associated train.
 #[derive(Debug, Drop)]
 pub struct DockerLine<'a> {
     time: Time,
@@ -64,7 +64,7 @@ impl<'a> Model for DockerLine<'a> {
 }
 
 impl<'a> DockerLine<'a> {
-    /// The line of an event of a train that starts on a day, with this end.
+    /// The line of an event of a train that starts on a day. The line ends with this detail.
     #[tactic(auto, using(crate::proofs::Shown::public_is))]
     pub(crate) fn of_event(
         train: &ScheduleView<'a>,
@@ -94,7 +94,8 @@ impl<'a> DockerLine<'a> {
         }
     }
 
-    /// The line of an association at an event of its base train, which starts on a day. The associated train has this identity.
+    /// The line of an association at an event of its base train, which starts on a day. The
+    /// associated train has this identity.
     pub(crate) fn of_link(
         link: &LinkView<'a>,
         occasion: Occasion,
@@ -147,21 +148,21 @@ impl<'a> DockerLine<'a> {
         self.identity
     }
 
-    /// The UID of the train, at an association that of the base train.
+    /// The UID of the train. For an association, it is the base train's UID.
     pub fn uid(&self) -> Uid
         ensures { result ≡ self.now.uid }
     {
         self.uid
     }
 
-    /// The STP indicator of the schedule, at an association that of the association.
+    /// The STP indicator of the schedule. For an association, it is the association's indicator.
     pub fn stp(&self) -> Stp
         ensures { stp_letter result ≡ self.now.indicator }
     {
         self.stp
     }
 
-    /// The suffix of the location, which tells apart several calls at one timing point.
+    /// The suffix of the location. It distinguishes several calls at one timing point.
     pub fn suffix(&self) -> u8
         ensures { result ≡ self.now.suffix }
     {
@@ -175,21 +176,21 @@ impl<'a> DockerLine<'a> {
         self.platform
     }
 
-    /// The line on which the train leaves or passes, spaces at a terminus and at an association.
+    /// The line on which the train leaves or passes. Spaces at a terminus and for an association.
     pub fn track(&self) -> &'a [u8; 3]
         ensures { result.now ≡ self.now.track }
     {
         self.track
     }
 
-    /// The path by which the train comes or passes, spaces at an origin and at an association.
+    /// The path by which the train arrives or passes. Spaces at an origin and for an association.
     pub fn path(&self) -> &'a [u8; 3]
         ensures { result.now ≡ self.now.path }
     {
         self.path
     }
 
-    /// The public time of the arrival or the departure as HHMM, spaces where there is none.
+    /// The public time of the arrival or the departure as HHMM. Spaces if there is none.
     pub fn public_time(&self) -> &'a [u8; 4]
         ensures { result.now ≡ self.now.public_time }
     {
@@ -203,7 +204,7 @@ impl<'a> DockerLine<'a> {
         self.start
     }
 
-    /// The number of the event among those of the train, from 1.
+    /// The number of the event among the train's events, from 1.
     pub fn number(&self) -> u64
         ensures { result ≡ self.now.number }
     {
@@ -219,7 +220,7 @@ impl<'a> DockerLine<'a> {
 }
 
 impl DockerLine<'_> {
-    /// The order of lines of one time.
+    /// The order of lines with the same time.
     fn cmp_at_one_time(&self, other: &DockerLine<'_>) -> Ordering
         ensures { result ≡ cmp_at_one_time self.now other.now }
     {
@@ -229,7 +230,7 @@ impl DockerLine<'_> {
         }
     }
 
-    /// The order of lines of one time and occasion.
+    /// The order of lines with the same time and occasion.
     fn cmp_at_one_event(&self, other: &DockerLine<'_>) -> Ordering
         ensures { result ≡ cmp_at_one_event self.now other.now }
     {
@@ -239,7 +240,7 @@ impl DockerLine<'_> {
         }
     }
 
-    /// The order of lines of one time, occasion and UID.
+    /// The order of lines with the same time, occasion and UID.
     fn cmp_of_one_train(&self, other: &DockerLine<'_>) -> Ordering
         ensures { result ≡ cmp_of_one_train self.now other.now }
     {

@@ -28,7 +28,7 @@ impl<'a> Model for Docker<'a> {
 }
 
 impl<'a> Docker<'a> {
-    /// The docker of these parts.
+    /// A docker with these parts.
     pub(crate) fn of(
         place: Tiploc,
         day: Day,
@@ -64,14 +64,14 @@ impl<'a> Docker<'a> {
         self.day
     }
 
-    /// The description of the timing point, 26 bytes: spaces where it is not live.
+    /// The description of the timing point: 26 bytes, or 26 spaces if the timing point isn't live.
     pub fn description(&self) -> &'a [u8; 26]
         ensures { result.now ≡ self.now.description }
     {
         self.description
     }
 
-    /// The lines, in their order.
+    /// The lines, in order.
     pub fn lines(&self) -> &[DockerLine<'a>]
         ensures { result.now ≡ self.now.lines }
     {

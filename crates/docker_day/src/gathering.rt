@@ -1,4 +1,4 @@
-//! The lines of a docker that a row has.
+//! The lines that a row has in a docker.
 ghost use Rattle.std.specs.Prelude.{◌≡◌, ◌≤◌, OnOk, None, Some};
 ghost use Rattle.cif_file.specs.Meaning.{key_meant, body_meant};
 ghost use Rattle.docker_model.specs.state.State.{IsBodyOf, live_table};
@@ -17,7 +17,8 @@ use cif_file::{Body, Key};
 use cif_line::{Day, Memory, Tiploc};
 use docker_train::{LinkView, association_of, schedule_of};
 
-/// Adds the lines of a row, which has an index: those on each start day whose trains can be there on the day.
+/// Adds the lines of a row, which has this index, for each start day whose trains can be there on
+/// the day.
 pub(crate) fn add_row<'a>(
     lines: &mut Vec<DockerLine<'a>>,
     visits: &mut Visits<'a>,
@@ -44,7 +45,8 @@ pub(crate) fn add_row<'a>(
     add_back(lines, &mut visits.two_before, row, key, body)
 }
 
-/// Whether a row may have lines on a day: of a schedule only where it runs on that day or on one of the two before it, which is asked by one look at its fields.
+/// Whether a row may have lines on a day. A schedule may only if it runs on that day or on one of
+/// the two days before it. One read of its fields decides that.
 fn is_row_lately(key: &Key, body: &Body, day: Day) -> bool
     requires good { IsBodyOf (key_meant key.now) (body_meant body.now) }
     ensures { result ≡ row_lately (key_meant key.now) (body_meant body.now) day }
@@ -55,7 +57,8 @@ fn is_row_lately(key: &Key, body: &Body, day: Day) -> bool
     }
 }
 
-/// Whether a row may have lines at a place on a day of a train that started before it: of a schedule only where its train may be under way.
+/// Whether a row may have lines at a place on a day for a train that started on an earlier day. A
+/// schedule may only if its train may be under way.
 fn is_row_under_way(key: &Key, body: &Body, place: &Tiploc, day: Day) -> bool
     requires good { IsBodyOf (key_meant key.now) (body_meant body.now) }
     ensures { result ≡ row_under_way place.now (key_meant key.now) (body_meant body.now) day }
@@ -66,7 +69,7 @@ fn is_row_under_way(key: &Key, body: &Body, place: &Tiploc, day: Day) -> bool
     }
 }
 
-/// Adds the lines of a row on a visit, if there is one.
+/// Adds the lines of a row on a visit, if there is a visit.
 fn add_back<'a>(
     lines: &mut Vec<DockerLine<'a>>,
     visit: &mut Option<Visit<'a>>,
@@ -108,7 +111,7 @@ fn add_piece<'a>(
     }
 }
 
-/// The same of a row that is not of a schedule.
+/// Like `add_piece`, for a row that isn't a schedule's.
 fn add_other<'a>(
     lines: &mut Vec<DockerLine<'a>>,
     visit: &mut Visit<'a>,

@@ -20,7 +20,8 @@ use cif_file::AssocKey;
 use cif_line::Memory;
 use docker_train::{LinkView, Occasion, Occurrence};
 
-/// The line of an association at the place of a visit, if it counts on the start day and its base train runs then.
+/// The line of an association at the place of a visit, if it counts on the start day and its base
+/// train runs then.
 pub(crate) fn link_line<'a>(
     visit: &mut Visit<'a>,
     link: &LinkView<'a>,
@@ -46,14 +47,14 @@ fn is_in_force(visit: &Visit<'_>, link: &LinkView<'_>) -> bool
     ensures { (rows : List Row) → AreRowsOf (live_table visit.now.state) rows
         → result ≡ is_in_force (link_in rows) visit.now.start link.now.key link.now.line }
 {
-    // Its own days are asked first, for which association of its group counts takes a search.
+    // Its own days are checked first, because which association of its group counts takes a search.
     if !link.runs_on(visit.start()) {
         return false;
     }
     visit.counts(link.key()) & stands(link.key()) & has_indicator(link)
 }
 
-/// Whether it is the key of no cancellation.
+/// Whether a key isn't a cancellation's.
 fn stands(key: &AssocKey) -> bool
     ensures { result ≡ not ((association_key_meant key.now).indicator == 67) }
 {
@@ -67,14 +68,14 @@ fn has_indicator(link: &LinkView<'_>) -> bool
     is_date_indicator(link.record().date_indicator())
 }
 
-/// Whether it is one of the date indicators `S`, space, `N` and `P`.
+/// Whether this is one of the date indicators `S`, space, `N` and `P`.
 fn is_date_indicator(indicator: u8) -> bool
     ensures { result ≡ is_date_indicator indicator }
 {
     (indicator == b'S') | (indicator == b' ') | (indicator == b'N') | (indicator == b'P')
 }
 
-/// What an association category stands for: `JJ`, `VV` or `NP`. None of any other.
+/// The occasion of an association category: `JJ`, `VV` or `NP`. `None` for any other category.
 fn occasion_of(category: &[u8; 2]) -> Option<Occasion>
     ensures { option_map occasion_meant result ≡ category_occasion category.now }
 {
@@ -86,7 +87,8 @@ fn occasion_of(category: &[u8; 2]) -> Option<Occasion>
     }
 }
 
-/// The line of an association that is in force, if it has a category and its base train runs.
+/// The line of an association that is in force, if its category has an occasion and its base train
+/// runs.
 fn line_with<'a>(
     visit: &mut Visit<'a>,
     link: &LinkView<'a>,
@@ -105,7 +107,7 @@ fn line_with<'a>(
     }
 }
 
-/// The line of an association of a category, if its base train runs and calls there.
+/// The line of an association with this occasion, if its base train runs and calls there.
 fn line_by<'a>(
     visit: &mut Visit<'a>,
     link: &LinkView<'a>,
@@ -126,7 +128,7 @@ fn line_by<'a>(
     }
 }
 
-/// The line of an association at an event of its base train, if that is on the day.
+/// The line of an association at an event of its base train, if the event is on the day.
 fn line_at<'a>(
     visit: &mut Visit<'a>,
     link: &LinkView<'a>,
@@ -147,7 +149,8 @@ fn line_at<'a>(
     Ok(Some(DockerLine::of_link(link, occasion, visit.start(), event, identity)))
 }
 
-/// The identity of the associated train on its start day, and question marks if it does not run then or there is no such day.
+/// The identity of the associated train on its start day. Question marks if the train doesn't run
+/// then, or if there is no such day.
 fn partner_identity<'a>(visit: &mut Visit<'a>, link: &LinkView<'_>) -> Result<[u8; 4], Memory>
     ensures same { visit.new ≡ visit.old }
     ensures identity { IfOk result (λ identity. (rows : List Row)

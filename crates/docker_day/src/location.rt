@@ -10,14 +10,15 @@ ghost use Rattle.docker_day.specs.Locations.{location_meant, location_by_kind, p
 use cif_line::{Kind, Line, kind};
 use docker_train::Occasion;
 
-/// What a docker shows of a location record, as it is printed: what the record does not have is spaces.
+/// What a docker shows of a location record, as it is printed. What the record doesn't have is
+/// spaces.
 #[derive(Clone, Copy, Debug)]
 pub(crate) struct Location<'a> {
     /// The platform.
     pub(crate) platform: &'a [u8; 3],
     /// The line on which a train leaves or passes.
     pub(crate) track: &'a [u8; 3],
-    /// The path by which a train comes or passes.
+    /// The path by which a train arrives or passes.
     pub(crate) path: &'a [u8; 3],
     /// The public time of its arrival.
     pub(crate) arrival: &'a [u8; 4],
@@ -26,7 +27,8 @@ pub(crate) struct Location<'a> {
 }
 
 impl<'a> Location<'a> {
-    /// What is shown of a location record: of a line of another kind, which has no event, the platform's columns and else spaces.
+    /// What is shown of a location record. A line of another kind has no event: it shows the
+    /// platform's columns, and spaces for the rest.
     pub(crate) fn of(line: &'a Line) -> Location<'a>
         ensures { location_meant result ≡ location_by_kind (kind_of line.entry.now) line.entry.now }
     {
@@ -81,21 +83,21 @@ pub(crate) fn tiploc_in(line: &Line) -> &[u8; 7]
     field(line, 3)
 }
 
-/// The suffix of a location record, which tells apart several calls at one timing point.
+/// The suffix of a location record. It distinguishes several calls at one timing point.
 pub(crate) fn suffix_in(line: &Line) -> u8
     ensures { result ≡ column 10 line.now }
 {
     line.bytes()[9]
 }
 
-/// A public time as it is printed: `0000` is none.
+/// A public time as it is printed. `0000` means that there is none, and is printed as spaces.
 fn shown_public(field: &[u8; 4]) -> &[u8; 4]
     ensures { result.now ≡ shown_public field.entry.now }
 {
     if field == b"0000" { b"    " } else { field }
 }
 
-/// The `N` bytes of a line from a column on, counted from 1.
+/// The `N` bytes of a line from a column on. Columns are counted from 1.
 fn field<const N: usize>(line: &Line, first: usize) -> &[u8; N]
     requires from { 0 < first }
     requires within { first - 1 + N ≤ 80 }

@@ -1,4 +1,4 @@
-//! The making of a docker.
+//! Makes a docker.
 ghost use Rattle.std.specs.Prelude.{◌≡◌, ◌+◌, ◌-◌, ◌<◌, ◌≤◌, ◌↔◌, IsTrue, IfOk, OnOk, Err};
 ghost use Rattle.std.specs.List.Sorted.{IsSorted, IsPermutation};
 ghost use Rattle.docker_model.specs.docker.DockerLine.{docker_line_cmp};
@@ -23,8 +23,10 @@ use docker_state::State;
 use docker_train::{associations_at, rows_of, schedules_at};
 use std::alloc::Global;
 
-/// The docker of a timing point and a day: the events of the trains that run, and the associations, there on that day. `Lapsed` exactly where the state has a
-/// horizon and the day is before it plus three days, for then what has lapsed may be missing; `Memory` where room is refused, for the lines or for what is looked up for them.
+/// The docker of a timing point and a day: the events of the trains that run, and the associations,
+/// there on that day. `Lapsed` if and only if the state has a horizon and the day is before the
+/// horizon plus three days, because lapsed entries may then be missing. `Memory` if out of memory,
+/// for the lines or for what is looked up for them.
 pub fn docker<'a>(
     alloc: Global,
     state: &'a State,
@@ -38,7 +40,7 @@ pub fn docker<'a>(
         return Err(DockerFault::Lapsed);
     }
     let mut lines = Vec::new(alloc);
-    // That there are rows of the live table is a clause of theirs.
+    // Called for its contract: the live table has such rows.
     let _rows = rows_of(state);
     match add_all(alloc, &mut lines, state, tiploc, day) {
         Ok(()) => {
@@ -65,7 +67,7 @@ fn add_all<'a>(
     add_rows(lines, &mut visits, schedules_at(state, place))
 }
 
-/// The lines in their order.
+/// The lines, in order.
 fn in_order(mut lines: Vec<DockerLine<'_>>) -> Vec<DockerLine<'_>>
     ensures same { IsPermutation lines.entry.items result.items }
     ensures sorted { IsSorted docker_line_cmp result.items }
@@ -82,7 +84,7 @@ fn is_refused(horizon: u16, day: Day) -> bool
     (horizon > 0) & (day.number() < horizon + 3)
 }
 
-/// The description of a timing point: 26 bytes, spaces where it is not live.
+/// The description of a timing point: 26 bytes, or 26 spaces if the timing point isn't live.
 fn description<'a>(state: &'a State, tiploc: &Tiploc) -> &'a [u8; 26]
     ensures { result.now ≡ description_in (live_table state.now (tiploc_key tiploc.now)) }
 {
@@ -92,7 +94,7 @@ fn description<'a>(state: &'a State, tiploc: &Tiploc) -> &'a [u8; 26]
     }
 }
 
-/// The description that an op puts, and spaces where it puts none.
+/// The description that an op puts, or spaces if it puts none.
 fn described(op: &Op) -> &[u8; 26]
     ensures { result.now ≡ description_in (body_of (op_meant op.entry.now)) }
 {
@@ -102,14 +104,14 @@ fn described(op: &Op) -> &[u8; 26]
     }
 }
 
-/// The description in a TIPLOC's body, which has columns 10 to 72 of its record.
+/// The description in a TIPLOC's body, which holds columns 10 to 72 of its record.
 fn description_of(bytes: &[u8; 63]) -> &[u8; 26]
     ensures { result.now ≡ columns 10 35 bytes.now }
 {
     columns_of(bytes, 10)
 }
 
-/// The `N` bytes of a TIPLOC's body from a column on, counted from 1.
+/// The `N` bytes of a TIPLOC's body from a column on. The body's columns are counted from 1.
 fn columns_of<const N: usize>(bytes: &[u8; 63], first: usize) -> &[u8; N]
     requires from { 0 < first }
     requires within { first - 1 + N ≤ 63 }

@@ -1,4 +1,4 @@
-//! The lines of a docker, gathered from the rows of a walk, some rows at a time.
+//! Gathers the lines of a docker from the rows of a walk, some rows at a time.
 ghost use Rattle.std.specs.Prelude.{◌≡◌, ◌↔◌, [], OnOk, IsNone, Some, false};
 ghost use Rattle.cif_file.specs.Meaning.{key_meant, body_meant};
 ghost use Rattle.docker_model.specs.state.State.{IsBodyOf, live_table};
@@ -16,10 +16,10 @@ use docker_index::Numbered;
 use docker_state::Standing;
 use docker_train::schedule_of;
 
-/// How many rows are looked at before the lines of one are added: their bytes come from memory all at a time so, and not one after the other.
+/// How many rows are read before the lines of one are added, so that their cache misses overlap.
 const PORTION: usize = 16;
 
-/// Adds the lines of rows at a place on a day. `Memory` if a growth is refused.
+/// Adds the lines of rows at a place on a day. `Memory` if out of memory.
 pub(crate) fn add_rows<'a>(
     lines: &mut Vec<DockerLine<'a>>,
     visits: &mut Visits<'a>,
@@ -44,8 +44,8 @@ pub(crate) fn add_rows<'a>(
     }
 }
 
-/// Whether some of the first rows of a walk may have lines on a day, which goes on behind them. None where it is at its end. Each of them is looked at, whatever those
-/// before it are.
+/// Whether any of the next rows of a walk may have lines on a day. The walk advances past these
+/// rows. `None` if the walk is at its end. Each of the rows is read, whatever the earlier ones are.
 fn may_some_run(rows: &mut Numbered<'_>, day: Day) -> Option<bool>
     requires good { AreGoodRows rows.old }
     ensures none { IsNone result ↔ (rows.old ≡ []) }
@@ -59,7 +59,7 @@ fn may_some_run(rows: &mut Numbered<'_>, day: Day) -> Option<bool>
     Some(some)
 }
 
-/// Whether the next row of a walk may have lines on a day. None where there is none.
+/// Whether the next row of a walk may have lines on a day. `None` if there is no next row.
 fn may_next_run(rows: &mut Numbered<'_>, day: Day) -> Option<bool>
     requires good { AreGoodRows rows.old }
     ensures none { IsNone result ↔ (rows.old ≡ []) }
@@ -71,7 +71,8 @@ fn may_next_run(rows: &mut Numbered<'_>, day: Day) -> Option<bool>
     Some(may_row_run(key, body, day))
 }
 
-/// Whether a row may have lines on a day: of a schedule only where it has begun, and the weekday of the day or of one of the two before it is marked.
+/// Whether a row may have lines on a day. A schedule may only if it has begun, and the weekday of
+/// the day or of one of the two days before it is marked.
 fn may_row_run(key: &Key, body: &Body, day: Day) -> bool
     requires good { IsBodyOf (key_meant key.now) (body_meant body.now) }
     ensures { result ≡ row_may_run (key_meant key.now) (body_meant body.now) day }
@@ -82,7 +83,7 @@ fn may_row_run(key: &Key, body: &Body, day: Day) -> bool
     }
 }
 
-/// Adds the lines of the first rows of a walk, which goes on behind them.
+/// Adds the lines of the next rows of a walk. The walk advances past these rows.
 fn add_portion<'a>(
     lines: &mut Vec<DockerLine<'a>>,
     visits: &mut Visits<'a>,

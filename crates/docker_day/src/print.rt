@@ -16,10 +16,11 @@ use crate::docker_list::Docker;
 use arrayvec::ArrayVec;
 use cif_line::{Day, Failed, Sink, Tiploc, write_all};
 
-/// The bytes of a line, of 56 columns and a line feed.
+/// The bytes of a line: 56 columns and a line feed.
 const WIDTH: usize = 57;
 
-/// Writes a docker as it is printed. A write that fails leaves the sink with a beginning of the text, and not all of it.
+/// Writes a docker as it is printed. If a write fails, the sink has a beginning of the text, and
+/// not all of it.
 pub fn write_docker<K: Sink>(docker: &Docker<'_>, sink: &mut K) -> Result<(), Failed>
     requires { K.failures sink.old < 2 ^ 64 - 1 }
     ensures whole { OnOk result (Takes (K.taken sink.old) (text_of docker.now) (K.taken sink.new)) }
@@ -110,7 +111,7 @@ fn text_of_line(line: &DockerLine<'_>) -> [u8; WIDTH]
     whole(text)
 }
 
-/// The end of a line, in its last 15 columns.
+/// The end of a line: its last 15 columns.
 fn text_of_detail(detail: &Detail) -> [u8; 15]
     ensures { result ≡ detail_text (detail_meant detail.now) }
 {

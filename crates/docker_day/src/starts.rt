@@ -9,8 +9,9 @@ use crate::location::tiploc_in;
 use cif_line::{Day, Tiploc};
 use docker_train::{Occurrence, day_back};
 
-/// The start day of the associated train, where the base train starts on a day: the next day for the date indicator `N`, the one before for `P`, and else
-/// the same. None where there is no such day.
+/// The start day of the associated train, if the base train starts on a day. It is the next day for
+/// the date indicator `N`, the day before for `P`, and otherwise the same day. `None` if there is
+/// no such day.
 pub(crate) fn partner_start(indicator: u8, start: Day) -> Option<Day>
     ensures { result ≡ partner_start indicator start }
 {
@@ -28,7 +29,7 @@ pub(crate) fn is_here(event: &Occurrence<'_>, place: &Tiploc) -> bool
     tiploc_in(event.line) == place.bytes()
 }
 
-/// Whether an event is on a day, of a train that starts on a day by then.
+/// Whether an event is on a day. Its train starts on that day or before it.
 #[tactic(auto, using(crate::proofs::Days::today_is))]
 pub(crate) fn is_today(event: &Occurrence<'_>, day: Day, start: Day) -> bool
     requires past { start ≤ day }

@@ -18,8 +18,10 @@ use docker_train::{DayLinks, DayTrains, Identities, Occurrence, ScheduleView};
 use std::alloc::Global;
 use std::marker::Model;
 
-/// The visit to a place on a day of the trains that start on one day, which is not after it. What was looked up for it is kept: which trains and associations count on
-/// the start day, where base trains call, and the identities of associated trains. So each row is looked at once, however many rows ask for it.
+/// The visit to a place on a day by the trains that start on one day, which is not after it. What
+/// was looked up for it is kept: which trains and associations count on the start day, where base
+/// trains call, and the identities of associated trains. So each row is read once, however many
+/// rows need it.
 #[derive(Debug, Drop)]
 pub(crate) struct Visit<'a> {
     place: Tiploc,
@@ -49,7 +51,8 @@ impl<'a> Model for Visit<'a> {
 }
 
 impl<'a> Visit<'a> {
-    /// The visit of the trains that start on a day. `Memory` if there is no room for the associations that count on that day.
+    /// The visit by the trains that start on a day. `Memory` if there is no room for the
+    /// associations that count on that day.
     pub(crate) fn of(
         alloc: Global,
         state: &'a State,
@@ -98,7 +101,8 @@ impl<'a> Visit<'a> {
         self.start
     }
 
-    /// Whether the train of a schedule's UID runs by it, on a start day on which the schedule runs. The index is that of the schedule's row.
+    /// Whether the train of a schedule's UID runs by it on the start day, on which the schedule
+    /// runs. `row` is the index of the schedule's row.
     pub(crate) fn runs_by(&mut self, row: usize, train: &ScheduleView<'a>) -> bool
         requires live { IsLiveTrain (live_table self.old.state) train.now }
         requires runs { schedule_runs (first_record train.now.lines) self.old.start ≡ true }
@@ -109,7 +113,7 @@ impl<'a> Visit<'a> {
         self.trains.runs_by(row, train)
     }
 
-    /// Whether an association at the place is the one of its group that counts on the start day.
+    /// Whether this association at the place is the one that counts in its group on the start day.
     pub(crate) fn counts(&self, key: &AssocKey) -> bool
         requires { key.now.location ≡ self.now.place }
         ensures { (rows : List Row) → AreRowsOf (live_table self.now.state) rows → result
@@ -119,7 +123,8 @@ impl<'a> Visit<'a> {
         self.links.counts(key)
     }
 
-    /// The first event of the call of a UID's train at the place with a suffix. None if there is no such call, or the train does not run on the start day.
+    /// The first event of the call of a UID's train at the place with a suffix. `None` if there is
+    /// no such call, or if the train doesn't run on the start day.
     pub(crate) fn first_call(
         &mut self,
         uid: &Uid,
@@ -133,7 +138,8 @@ impl<'a> Visit<'a> {
         self.bases.first_call(uid, suffix)
     }
 
-    /// The identity of the train of a UID that starts on a day, and question marks if it does not run then.
+    /// The identity of the train of a UID that starts on a day. Question marks if the train doesn't
+    /// run then.
     pub(crate) fn identity(&mut self, uid: &Uid, day: Day) -> Result<[u8; 4], Memory>
         ensures same { self.new ≡ self.old }
         ensures identity { IfOk result (λ identity. (rows : List Row)

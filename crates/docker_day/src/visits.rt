@@ -10,7 +10,8 @@ use docker_train::day_back;
 use std::alloc::Global;
 use std::marker::Model;
 
-/// The visits to a place on a day: of the trains that start on the day, and of those that start on each of the two days before it that there are.
+/// The visits to a place on a day: by the trains that start on the day, and by the trains that
+/// start on each of the two days before it, if there are such days.
 #[derive(Debug, Drop)]
 pub(crate) struct Visits<'a> {
     pub(crate) today: Visit<'a>,
@@ -40,7 +41,8 @@ impl<'a> Model for Visits<'a> {
 }
 
 impl<'a> Visits<'a> {
-    /// The visits to a place on a day. `Memory` if there is no room for the associations that count on their start days.
+    /// The visits to a place on a day. `Memory` if there is no room for the associations that count
+    /// on their start days.
     pub(crate) fn at(
         alloc: Global,
         state: &'a State,
@@ -72,7 +74,7 @@ impl<'a> Visits<'a> {
     }
 }
 
-/// The visit of the trains that start so many days before the day, if there is such a day.
+/// The visit by the trains that start `back` days before the day, if there is such a day.
 fn visit_back<'a>(
     alloc: Global,
     state: &'a State,

@@ -1,4 +1,4 @@
--- The words of a line, the first apart.
+-- The words of a line: the first word, and the others.
 use Rattle.std.proofs.Common.{◌≡◌, ◌≢◌, ℕ, ◌+◌, ◌<◌, ◌≤◌, List, [], ◌∷◌, ◌++◌, length, take, drop, ap, ◌∙◌, refl, sym, subst, Bool, true, false, cond, suc, arith, rules, tests, append-nil, length-drop, inl, inr, get_or}
 use Rattle.std.specs.Prelude.{◌==◌, not, filter, ◌&&◌, ◌⊎◌, nat_le}
 use Rattle.std.specs.List.{slice_split, position_or_len, before_first, after_first, AllByRecursion, AllPass}
@@ -9,12 +9,12 @@ use Rattle.std.proofs.lemmas.List.Splits.{slice_split-cons_yes, slice_split_firs
 use Rattle.std.proofs.lemmas.Str.Ascii.{IsAscii-from_all}
 use Rattle.std.proofs.lemmas.Bool.Decides.{leb_tells}
 use Rattle.docker_model.specs.records.Record.{is_printable}
-use Rattle.docker_job.specs.JobLine.{is_space, word_or_none, words_in}
+use Rattle.docker_cmd.specs.JobLine.{is_space, word_or_none, words_in}
 use Rattle.docker_desk.specs.Requests.{behind_word, first_word, without_spaces}
 
 -- ---- the words of pieces
 
--- the first piece apart
+-- the words of pieces are the first piece, if it is a word, and the words of the others
 first_apart : (piece : List ℕ) (pieces : List (List ℕ))
     → filter (λ word. not (length word == 0)) (piece ∷ pieces) ≡ word_or_none piece ++ filter (λ word. not (length word == 0)) pieces
 first_apart piece pieces = by (length piece == 0)
@@ -32,14 +32,14 @@ some_word piece some = by (length piece == 0) refl
     by false is = refl
     by true is = let none : length piece ≡ 0 = search (rules, tests) in absurd (omega (arith, some, none))
 
--- a text with a space: the piece before it, and the words after it
+-- the words of a text with a space are the piece before it, if it is a word, and the words after it
 at_space : (text : List ℕ) → position_or_len is_space text < length text
     → words_in text ≡ word_or_none (before_first is_space text) ++ words_in (after_first is_space text)
 at_space text here =
     ap (filter (λ word. not (length word == 0))) (slice_split_first is_space text 0 here)
     ∙ first_apart (before_first is_space text) (slice_split is_space (after_first is_space text))
 
--- no byte is a space, where the first would stand at the end
+-- if the first space would be at the end, no byte is a space
 no_space : (text : List ℕ) → position_or_len is_space text ≡ length text → AllByRecursion (λ b. is_space b ≡ false) text
 no_space [] none = tt
 no_space (b ∷ text) none = by (is_space b) refl none (no_space text)
@@ -50,20 +50,20 @@ no_space (b ∷ text) none = by (is_space b) refl none (no_space text)
     by true here at_end rest = absurd (omega arith)
     by false here at_end rest = (here, rest (omega arith))
 
--- a text without a space
+-- a text without a space is one word, or none
 without_space : (text : List ℕ) → position_or_len is_space text ≡ length text → words_in text ≡ word_or_none text
 without_space text none =
     ap (filter (λ word. not (length word == 0))) (slice_split_none is_space text (All-from_recursion _ text (no_space text none)))
     ∙ first_apart text [] ∙ append-nil (word_or_none text)
 
--- a text of no bytes
+-- a text of length 0 has no byte
 pub no_byte : (xs : List ℕ) → length xs ≡ 0 → xs ≡ []
 no_byte [] none = refl
 no_byte (x ∷ xs) none = absurd (omega arith)
 
 -- ---- the spaces that a text begins with
 
--- they make no word
+-- these spaces make no word
 words_behind_spaces : (text : List ℕ) → words_in text ≡ words_in (without_spaces text)
 words_behind_spaces [] = refl
 words_behind_spaces (b ∷ text) = by (is_space b) refl (words_behind_spaces text)
@@ -73,7 +73,7 @@ words_behind_spaces (b ∷ text) = by (is_space b) refl (words_behind_spaces tex
     by false here rest = refl
     by true here rest = ap (filter (λ word. not (length word == 0))) (slice_split-cons_yes is_space b text here) ∙ rest
 
--- after them stands a word, or nothing
+-- after them comes a word, or nothing
 word_leads : (text : List ℕ) → without_spaces text ≢ [] → 0 < position_or_len is_space (without_spaces text)
 word_leads [] some = absurd (some refl)
 word_leads (b ∷ text) some = by (is_space b) refl some (word_leads text)
@@ -86,7 +86,7 @@ word_leads (b ∷ text) some = by (is_space b) refl some (word_leads text)
 
 -- ---- the first word
 
--- if a space stands after it
+-- if a space comes after it, the words are this word and the words after the space
 pub words_cut : (text : List ℕ) → without_spaces text ≢ [] → position_or_len is_space (without_spaces text) < length (without_spaces text)
     → words_in text ≡ first_word text ∷ words_in (behind_word text)
 words_cut text some here =
@@ -100,7 +100,7 @@ words_cut text some here =
     long = let leads = word_leads text some in
         let size = length-take-le (position_or_len is_space rest) rest (omega (arith, here)) in omega (arith, leads, size)
 
--- where none does
+-- if no space comes after it, it is the only word
 pub words_last : (text : List ℕ) → without_spaces text ≢ [] → position_or_len is_space (without_spaces text) ≡ length (without_spaces text)
     → (words_in text ≡ without_spaces text ∷ words_in []) × ((first_word text ≡ without_spaces text) × (behind_word text ≡ []))
 words_last text some end = (words_behind_spaces text ∙ without_space rest end ∙ some_word rest long, (first, behind))
@@ -121,7 +121,7 @@ words_last text some end = (words_behind_spaces text ∙ without_space rest end 
     behind : without_spaces (after_first is_space rest) ≡ []
     behind = nothing (after_first is_space rest) (let size = length-drop (position_or_len is_space rest + 1) rest in omega (arith, size, end))
 
--- likewise for a text that was stripped, and then cut
+-- like `words_cut`, for a text that was stripped and then cut
 pub words_cut_as : (text rest word behind more : List ℕ) → rest ≡ without_spaces text → rest ≢ [] → position_or_len is_space rest < length rest
     → word ≡ before_first is_space rest → behind ≡ after_first is_space rest → more ≡ without_spaces behind → words_in text ≡ word ∷ words_in more
 words_cut_as text rest word behind more stripped some here first after last =
@@ -129,18 +129,18 @@ words_cut_as text rest word behind more stripped some here first after last =
     (sym stripped) (words_cut text) some here
     ∙ (λ i. sym first i ∷ words_in (sym (last ∙ ap without_spaces after) i))
 
--- likewise if no space stands after it
+-- like `words_last`, for a text that was stripped
 pub words_last_as : (text rest : List ℕ) → rest ≡ without_spaces text → rest ≢ [] → position_or_len is_space rest ≡ length rest → words_in text ≡ rest ∷ []
 words_last_as text rest stripped some end =
     subst (λ r. r ≢ [] → position_or_len is_space r ≡ length r → words_in text ≡ r ∷ words_in []) (sym stripped) (λ some end. (words_last text some end).0) some end
 
--- a text with no byte but spaces
+-- a text with no byte but spaces has no word
 pub words_none : (text : List ℕ) → without_spaces text ≡ [] → (words_in text ≡ []) × (first_word text ≡ [])
 words_none text none = (words_behind_spaces text ∙ ap words_in none, ap (before_first is_space) none)
 
 -- ---- the spaces, one by one
 
--- a space leads
+-- if a space comes first, one space can be taken away
 pub space_leads : (text : List ℕ) → position_or_len is_space text < length text → before_first is_space text ≡ []
     → without_spaces text ≡ without_spaces (after_first is_space text)
 space_leads [] here none = absurd (omega (arith, here))
@@ -161,7 +161,7 @@ space_leads (b ∷ text) here none = by (is_space b) refl here none
             let zero : length (take n (b ∷ text)) ≡ 0 = ap length none in
             omega (arith, size, zero, some)
 
--- no space leads
+-- if a word comes first, no space is taken away
 pub word_stays : (text : List ℕ) → 0 < length (before_first is_space text) → without_spaces text ≡ text
 word_stays [] some = refl
 word_stays (b ∷ text) some = by (is_space b) refl some
@@ -174,7 +174,7 @@ word_stays (b ∷ text) some = by (is_space b) refl some
         absurd (omega (arith, none))
     by false is some = rw is refl
 
--- no space at all
+-- if there is no space at all, none is taken away
 pub spaces_nowhere : (text : List ℕ) → position_or_len is_space text ≡ length text → without_spaces text ≡ text
 spaces_nowhere [] end = refl
 spaces_nowhere (b ∷ text) end = (λ i. cond ((no_space (b ∷ text) end).0 i) (without_spaces text) (b ∷ text))
@@ -193,6 +193,6 @@ printable_small b good = by (leb_tells b 126) good
         under true two false_ both = cc
         under false two false_ both = cc
 
--- and so is a line
+-- so a line is ASCII
 pub line_ascii : (line : List ℕ) → AllPass is_printable line → IsAscii line
 line_ascii line good = IsAscii-from_all line (λ k d within. printable_small (get_or line k d) (good k d within))

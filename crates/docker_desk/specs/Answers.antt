@@ -1,7 +1,7 @@
--- An answer: a header, and the text whose size it has.
+-- An answer: a header, and then the text, whose size the header gives.
 use Rattle.std.specs.Prelude.{ℕ, ◌+◌, ◌==◌, if◌then◌else◌, List, [], ◌∷◌, ◌++◌, length, codes, decimal}
 
--- how many of the bytes are line feeds: the lines of a text of whole lines
+-- how many of the bytes are line feeds, which is how many lines a text of whole lines has
 abbrev pub line_count : List ℕ → ℕ
 line_count [] = 0
 line_count (byte ∷ bytes) = if byte == 10 then 1 + line_count bytes else line_count bytes
@@ -10,7 +10,7 @@ line_count (byte ∷ bytes) = if byte == 10 then 1 + line_count bytes else line_
 abbrev pub header_text : (status lines bytes : ℕ) → List ℕ
 header_text status lines bytes = decimal status ++ codes " " ++ decimal lines ++ codes " " ++ decimal bytes ++ codes "\n"
 
--- an answer of a status and a text
+-- the answer with a status and a text
 abbrev pub answer_text : ℕ → List ℕ → List ℕ
 answer_text status text = header_text status (line_count text) (length text) ++ text
 

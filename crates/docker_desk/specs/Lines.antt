@@ -1,14 +1,16 @@
--- The lines of standard input. A line is a request where it has at most 255 printable bytes and then a line feed.
+-- The lines of standard input. A line can be a request if it has at most 255 printable bytes and
+-- then a line feed.
 use Rattle.std.specs.Prelude.{◌≡◌, ◌≢◌, ℕ, ◌-◌, ◌^◌, ◌≤◌, List, [], ◌∷◌, ◌++◌, length, Option, Some, None, option_map, Result, Ok, Err, ⊤}
 use Rattle.std.specs.List.{AllByRecursion}
 use Rattle.cif_line.specs.Device.{Reads, IsEnd}
-use Rattle.docker_job.specs.JobLine.{IsLineText, IsJobLine}
+use Rattle.docker_cmd.specs.JobLine.{IsLineText, IsJobLine}
 use Rattle.docker_desk.specs.declared.lines.Asked.{Asked}
 use Rattle.docker_desk.specs.declared.lines.Asked.TheVariants as asked
 use Rattle.docker_desk.specs.declared.lines.InputFault.{InputFault}
 use Rattle.docker_desk.specs.declared.lines.InputFault.TheVariants.{Failed, Endless}
 
--- a line: its bytes before the line feed; one that is longer, or has another byte; or what stands after the last line feed
+-- a line: the bytes before its line feed; a line that is longer or has another byte; or what comes
+-- after the last line feed
 pub data LineView : Type 0 where
   whole_line : (line : List ℕ) → LineView
   bad_line : LineView
@@ -18,7 +20,7 @@ pub data LineView : Type 0 where
 abbrev pub IsWithoutFeed : List ℕ → Type 0
 IsWithoutFeed = AllByRecursion (λ byte. byte ≢ 10)
 
--- the text begins with a line that isn't whole, and its line feed, and then goes on with the rest
+-- the text begins with a line that isn't whole and its line feed, and then comes the rest
 pub record IsBadLine (text rest : List ℕ) : Type 0 where
   pub line : List ℕ
   pub whole : text ≡ line ++ 10 ∷ rest
@@ -30,7 +32,7 @@ pub record IsCutLine (text : List ℕ) : Type 0 where
   pub some : text ≢ []
   pub one : IsWithoutFeed text
 
--- the text begins with this line, and then goes on with the rest
+-- the text begins with this line, and then comes the rest
 abbrev pub IsNextLine : List ℕ → LineView → List ℕ → Type 0
 IsNextLine text (whole_line line) rest = IsJobLine text line rest
 IsNextLine text bad_line rest = IsBadLine text rest
@@ -41,22 +43,22 @@ abbrev pub AreLines : List ℕ → List LineView → Type 0
 AreLines text [] = text ≡ []
 AreLines text (line ∷ lines) = (rest : List ℕ) × (IsNextLine text line rest × AreLines rest lines)
 
--- what holds of a line if the source can't name its bytes
+-- what holds of a line if the source's bytes can't be named
 abbrev pub IsSomeLine : LineView → Type 0
 IsSomeLine (whole_line line) = IsLineText line
 IsSomeLine bad_line = ⊤
 IsSomeLine cut_line = ⊤
 
--- if the source names its bytes, they began with this line, and the rest is left
+-- if the source's bytes can be named, they began with this line, and the rest is left
 abbrev pub ReadsNext : Option (List ℕ) → LineView → Option (List ℕ) → Type 0
 ReadsNext None line new = IsSomeLine line
 ReadsNext (Some text) line new = (rest : List ℕ) × (IsNextLine text line rest × (new ≡ Some rest))
 
--- what is left of a source after these bytes, which were read ahead
+-- what is left of a source, after these bytes that were read ahead
 abbrev pub with_ahead : List ℕ → Option (List ℕ) → Option (List ℕ)
 with_ahead ahead left = option_map (λ rest. ahead ++ rest) left
 
--- what is asked, as a line; none at the end
+-- the line that the code's type means; none at the end
 abbrev pub asked_meant : Asked → Option LineView
 asked_meant (asked.Line line) = Some (whole_line line.items)
 asked_meant asked.Bad = Some bad_line
@@ -68,24 +70,26 @@ abbrev pub ReadsAsked : Option (List ℕ) → Option LineView → Option (List �
 ReadsAsked old None new = IsEnd old × (new ≡ old)
 ReadsAsked old (Some line) new = ReadsNext old line new
 
--- some bytes were read, at least this number
+-- bytes were read, at least this many
 pub record ReadsMany (least : ℕ) (old new : Option (List ℕ)) : Type 0 where
   pub lost : List ℕ
   pub many : least ≤ length lost
   pub read : Reads old lost new
 
--- how the reading of a line ends: with the line, with a source that failed, or with a line of more bytes than can be counted
+-- how the reading of a line ends: with the line, with a source that failed, or with more bytes than
+-- can be counted
 abbrev pub EndsLine : Option (List ℕ) → Result Asked InputFault → Option (List ℕ) → Type 0
 EndsLine old (Ok asked) new = ReadsAsked old (asked_meant asked) new
 EndsLine old (Err Failed) new = ReadsMany 0 old new
 EndsLine old (Err Endless) new = ReadsMany (2 ^ 64 - 1) old new
 
--- a line that has these bytes and then no more: none at all, or one whose line feed is missing
+-- a line that ends without a line feed after these bytes: none if there are no bytes, else one
+-- whose line feed is missing
 abbrev pub cut_or_end : List ℕ → Option LineView
 cut_or_end [] = None
 cut_or_end (byte ∷ bytes) = Some cut_line
 
--- the text goes on with other bytes of a line and its line feed, and what stands after that is left
+-- the text begins with the rest of a line and its line feed, and what comes after that is left
 pub record SkipsTo (text : List ℕ) (left : Option (List ℕ)) : Type 0 where
   pub skipped : List ℕ
   pub rest : List ℕ
@@ -93,17 +97,18 @@ pub record SkipsTo (text : List ℕ) (left : Option (List ℕ)) : Type 0 where
   pub one : IsWithoutFeed skipped
   pub behind : left ≡ Some rest
 
--- if the source names its bytes, a line's other bytes and its line feed were read
+-- if the source's bytes can be named, the rest of a line and its line feed were read
 abbrev pub SkipsLine : Option (List ℕ) → Option (List ℕ) → Type 0
 SkipsLine None new = ⊤
 SkipsLine (Some text) new = SkipsTo text new
 
--- if the source names its bytes, none of those that were left is a line feed, and all were read
+-- if the source's bytes can be named, none of those that were left is a line feed, and all were
+-- read
 abbrev pub SkipsAll : Option (List ℕ) → Option (List ℕ) → Type 0
 SkipsAll None new = ⊤
 SkipsAll (Some text) new = IsWithoutFeed text × (new ≡ Some [])
 
--- how the reading of a line's other bytes ends
+-- how the reading of the rest of a line ends
 abbrev pub EndsSkipping : Option (List ℕ) → Result Asked InputFault → Option (List ℕ) → Type 0
 EndsSkipping old (Ok (asked.Line line)) new = ⊥
 EndsSkipping old (Ok asked.Bad) new = SkipsLine old new

@@ -1,11 +1,11 @@
--- What a line asks for. Its first word names a request, and what stands after that has to fit.
+-- What a line asks for. Its first word names a request, and what comes after that word has to fit.
 use Rattle.std.specs.Prelude.{◌≡◌, ℕ, Bool, true, false, if◌then◌else◌, List, [], ◌∷◌, Option, Some, None, IsTrue, codes}
 use Rattle.std.specs.Str.{bytes_eq}
 use Rattle.std.specs.List.{before_first, after_first}
 use Rattle.docker_model.specs.records.Record.{IsTextOfLength}
-use Rattle.docker_job.specs.Words.{Text, NamesDay, NamesPlace, NamesStored, is_plain_word}
-use Rattle.docker_job.specs.Job.{OfOne, OfTwo}
-use Rattle.docker_job.specs.JobLine.{is_space, words_in}
+use Rattle.docker_cmd.specs.Words.{Text, NamesDay, NamesPlace, NamesStored, is_plain_word}
+use Rattle.docker_cmd.specs.Job.{OfOne, OfTwo}
+use Rattle.docker_cmd.specs.JobLine.{is_space, words_in}
 use Rattle.docker_desk.specs.declared.verbs.Verb.{Verb}
 use Rattle.docker_desk.specs.declared.verbs.Verb.TheVariants as verb
 use Rattle.docker_desk.specs.declared.requests.Request.{Request}
@@ -22,7 +22,7 @@ pub data RequestView : Type 0 where
   horizon_request : (day : ℕ) → RequestView
   save_request : RequestView
 
--- the code's request, as the same
+-- the request that a request of the code's type means
 abbrev pub request_meant : Request → RequestView
 request_meant (code.Print place day) = print_request place day
 request_meant (code.Train uid day) = train_request uid day
@@ -33,7 +33,7 @@ request_meant (code.Merge other) = merge_request other.now
 request_meant (code.Horizon day) = horizon_request day
 request_meant code.Save = save_request
 
--- the word by which a request is named
+-- the word that names a request
 abbrev pub verb_of : RequestView → Verb
 verb_of (print_request place day) = verb.Print
 verb_of (train_request uid day) = verb.Train
@@ -44,7 +44,7 @@ verb_of (merge_request other) = verb.Merge
 verb_of (horizon_request day) = verb.Horizon
 verb_of save_request = verb.Save
 
--- its bytes
+-- the bytes of such a word
 abbrev pub name_of : Verb → Text
 name_of verb.Print = codes "print"
 name_of verb.Train = codes "train"
@@ -67,7 +67,8 @@ verb_named name =
     (if bytes_eq name (codes "horizon") then Some verb.Horizon else
     (if bytes_eq name (codes "save") then Some verb.Save else None)))))))
 
--- it changes what is known, or the file: it is allowed only if the desk may write
+-- whether a request with this word changes what is known, or the file; then it is allowed only if
+-- the desk may write
 abbrev pub is_writing : Verb → Bool
 is_writing verb.Print = false
 is_writing verb.Train = false
@@ -83,32 +84,33 @@ abbrev pub without_spaces : List ℕ → List ℕ
 without_spaces [] = []
 without_spaces (byte ∷ bytes) = if is_space byte then without_spaces bytes else byte ∷ bytes
 
--- the first word of a text, or no byte where it has none
+-- the first word of a text, or no byte if it has none
 abbrev pub first_word : List ℕ → Text
 first_word text = before_first is_space (without_spaces text)
 
--- what stands after its first word, without the spaces between
+-- what comes after the first word of a text, without the spaces between
 abbrev pub behind_word : List ℕ → List ℕ
 behind_word text = without_spaces (after_first is_space (without_spaces text))
 
--- the word names this train: it is its UID, six bytes
+-- the word names this train: it is the train's UID, of six bytes
 pub record NamesTrain (word : Text) (uid : List ℕ) : Type 0 where
   pub six : IsTextOfLength 6 word
   pub same : uid ≡ word
 
--- the text names this file. No file is standard input, and the name of none begins with a hyphen
+-- the text names this file. A file's name isn't the word for standard input, and doesn't begin with
+-- a hyphen
 pub record NamesFile (text : List ℕ) (file : Text) : Type 0 where
   pub same : file ≡ text
   pub plain : IsTrue (is_plain_word text)
   pub stored : NamesStored text
 
--- the words are a timing point that no hyphen begins, and a day
+-- the words are a timing point, which doesn't begin with a hyphen, and a day
 pub record ArePlaceAndDay (place : List ℕ) (day : ℕ) (tiploc date : Text) : Type 0 where
   pub plain : IsTrue (is_plain_word tiploc)
   pub named : NamesPlace tiploc place
   pub dated : NamesDay date day
 
--- what stands after the word that names a request: its words, or its file, which is all that stands there
+-- what comes after the word that names a request: the request's words, or its file and nothing else
 abbrev pub HasRest : RequestView → List ℕ → Type 0
 HasRest (print_request place day) rest = OfTwo (ArePlaceAndDay place day) (words_in rest)
 HasRest (train_request uid day) rest = OfTwo (λ word date. NamesTrain word uid × NamesDay date day) (words_in rest)
@@ -119,28 +121,28 @@ HasRest (merge_request other) rest = NamesFile rest other
 HasRest (horizon_request day) rest = OfOne (λ date. NamesDay date day) (words_in rest)
 HasRest save_request rest = words_in rest ≡ []
 
--- the line asks for this of a desk that may write, or may not
+-- the line asks for this request, and the desk may write if the request needs it
 pub record IsRequestOf (may_write : Bool) (line : List ℕ) (request : RequestView) : Type 0 where
   pub name : first_word line ≡ name_of (verb_of request)
   pub rest : HasRest request (behind_word line)
   pub allowed : is_writing (verb_of request) ≡ true → may_write ≡ true
 
--- it asks for this, or for nothing
+-- the line asks for this request, or for none
 abbrev pub AsksFor : Bool → List ℕ → Option RequestView → Type 0
 AsksFor may_write line (Some request) = IsRequestOf may_write line request
 AsksFor may_write line None = (request : RequestView) → ¬ IsRequestOf may_write line request
 
--- the request of this name that has this rest, or there is none
+-- the request has this name and this rest, or no request has
 abbrev pub FitsRest : Verb → List ℕ → Option RequestView → Type 0
 FitsRest verb rest (Some request) = (verb_of request ≡ verb) × HasRest request rest
 FitsRest verb rest None = (request : RequestView) → verb_of request ≡ verb → ¬ HasRest request rest
 
--- the text has two words, these, or it hasn't
+-- the text has exactly these two words, or it hasn't two words
 abbrev pub HasTwoWords : List ℕ → Option (Text × Text) → Type 0
 HasTwoWords text (Some words) = words_in text ≡ words.0 ∷ words.1 ∷ []
 HasTwoWords text None = (first second : Text) → ¬ (words_in text ≡ first ∷ second ∷ [])
 
--- the text has one word, this, or it hasn't
+-- the text has exactly this word, or it hasn't one word
 abbrev pub HasOneWord : List ℕ → Option Text → Type 0
 HasOneWord text (Some word) = words_in text ≡ word ∷ []
 HasOneWord text None = (word : Text) → ¬ (words_in text ≡ word ∷ [])

@@ -1,16 +1,16 @@
-//! Bytes of a source that were read ahead.
+//! The bytes that were read ahead from a source.
 ghost use Rattle.std.specs.Prelude.{◌≡◌, ◌≢◌, ◌+◌, ◌-◌, ◌^◌, ◌<◌, ◌↔◌, [], ◌∷◌, IsTrue, IfOk, OnOk, OnErr, MatchOption};
 ghost use Rattle.cif_line.specs.Device.{IsEnd};
-ghost use Rattle.docker_job.specs.JobLine.{ReadsByte};
+ghost use Rattle.docker_cmd.specs.JobLine.{ReadsByte};
 ghost use Rattle.docker_desk.specs.Lines.{with_ahead};
 
 use cif_line::{Failed, Source};
 use std::marker::Model;
 
-/// How many bytes are read at once.
+/// How many bytes are read at once, at most.
 const PIECE: usize = 4096;
 
-/// Bytes that a source gave, and that no line has taken yet.
+/// Bytes that were read from a source, and that no line has taken yet.
 #[derive(Debug, Drop)]
 pub struct Ahead {
     bytes: [u8; PIECE],
@@ -29,7 +29,7 @@ impl Model for Ahead {
 }
 
 impl Ahead {
-    /// None yet.
+    /// No bytes yet.
     pub fn new() -> Ahead
         ensures { result ≡ [] }
     {
@@ -40,14 +40,14 @@ impl Ahead {
         }
     }
 
-    /// Whether there are none.
+    /// Whether no byte is left.
     fn is_empty(&self) -> bool
         ensures { IsTrue result ↔ (self.now ≡ []) }
     {
         self.at == self.end
     }
 
-    /// Takes the first of them, if there is one.
+    /// Takes the first byte that is left, if there is one.
     fn take_first(&mut self) -> Option<u8>
         ensures { MatchOption result ((self.old ≡ []) × (self.new ≡ []))
             (λ byte. self.old ≡ byte ∷ self.new) }
@@ -60,7 +60,7 @@ impl Ahead {
         Some(byte)
     }
 
-    /// Reads once where there are none, so that then there are none only at the end.
+    /// Reads once if no byte is left. So if still none is left, the source is at its end.
     fn make_ready<S: Source>(&mut self, source: &mut S) -> Result<(), Failed>
         requires { S.failures source.old < 2 ^ 64 - 1 }
         ensures same { with_ahead self.new (S.left source.new)
@@ -79,7 +79,7 @@ impl Ahead {
         Ok(())
     }
 
-    /// Takes the next byte of a source; none at its end.
+    /// Takes the next byte of a source. Returns `None` at the source's end.
     pub(crate) fn next_byte<S: Source>(&mut self, source: &mut S) -> Result<Option<u8>, Failed>
         requires { S.failures source.old < 2 ^ 64 - 1 }
         ensures byte { IfOk result (λ byte. ReadsByte (with_ahead self.old (S.left source.old))

@@ -1,4 +1,4 @@
-//! The writing of an answer.
+//! How an answer is written.
 ghost use Rattle.std.specs.Prelude.{◌≡◌, ◌+◌, ◌-◌, ◌^◌, ◌<◌, ◌≤◌, ◌++◌, length, OnOk, OnErr};
 ghost use Rattle.arrayvec.specs.ArrayVec.{array_vec_len};
 ghost use Rattle.cif_line.specs.Device.{Takes, TakesPart};
@@ -8,11 +8,11 @@ use arrayvec::ArrayVec;
 use cif_line::{Failed, Sink, write_all};
 use itoa::Buffer;
 
-/// The header of an answer, with its line feed. It has room for any numbers.
+/// The header of an answer, with its line feed. It has room for all numbers.
 type Header = ArrayVec<u8, 64>;
 
-/// Writes the answer of a status and a text: its header, and then the text, as it stands. A write that fails leaves the sink with a
-/// beginning of the answer, and not all of it.
+/// Writes the answer with a status and a text: its header, and then the text as it is. If a write
+/// fails, the sink has gained a proper beginning of the answer.
 pub fn write_answer<K: Sink>(status: u8, text: &[u8], sink: &mut K) -> Result<(), Failed>
     requires { K.failures sink.old < 2 ^ 64 - 1 }
     ensures whole { OnOk result (Takes (K.taken sink.old) (answer_text status text.now)
@@ -41,7 +41,7 @@ fn header(status: u8, lines: usize, bytes: usize) -> Header
     header
 }
 
-/// Appends bytes that there is room for.
+/// Appends bytes to a header that has room for them.
 fn put(header: &mut Header, bytes: &[u8])
     requires { array_vec_len header.old + length bytes.now ≤ 64 }
     ensures items { header.new.items ≡ header.old.items ++ bytes.now }

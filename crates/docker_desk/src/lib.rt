@@ -1,4 +1,5 @@
-//! The desk: what an office asks of a state that is kept in memory, line by line, and what it is answered.
+//! The desk: what an office can ask, line by line, of a state that is kept in memory, and how it is
+//! answered.
 #![tactic(auto)]
 
 mod ahead;

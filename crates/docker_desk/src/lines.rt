@@ -17,9 +17,9 @@ pub type Line = ArrayVec<u8, LONGEST>;
 pub enum Asked {
     /// At most 255 printable bytes, without the line feed after them.
     Line(Line),
-    /// More bytes, or one that isn't printable: it was read to its line feed.
+    /// More bytes, or a byte that isn't printable. The line was read up to its line feed.
     Bad,
-    /// What stands after the last line feed.
+    /// What comes after the last line feed.
     Cut,
     /// The source is at its end.
     End,
@@ -45,7 +45,8 @@ impl From<cif_line::Failed> for InputFault {
     }
 }
 
-/// Reads the next line of a source, whose bytes may have been read ahead. The source is left after its line feed.
+/// Reads the next line of a source, whose bytes may have been read ahead. The source is left after
+/// the line's line feed.
 pub fn next_line<S: Source>(ahead: &mut Ahead, source: &mut S) -> Result<Asked, InputFault>
     requires { S.failures source.old < 2 ^ 64 - 1 }
     ensures ends { EndsLine (with_ahead ahead.old (S.left source.old)) result
@@ -71,7 +72,7 @@ pub fn next_line<S: Source>(ahead: &mut Ahead, source: &mut S) -> Result<Asked, 
     unreachable!()
 }
 
-/// What a line is that has these bytes and then no more: the end, if it has none.
+/// What a line is that ends without a line feed after these bytes. It is the end if there are none.
 fn without_feed(line: &Line) -> Asked
     ensures { asked_meant result ≡ cut_or_end line.now.items }
 {
@@ -82,7 +83,7 @@ fn without_feed(line: &Line) -> Asked
     }
 }
 
-/// Reads what is left of a line that isn't whole.
+/// Reads the rest of a line that isn't whole.
 fn skip_line<S: Source>(ahead: &mut Ahead, source: &mut S) -> Result<Asked, InputFault>
     requires { S.failures source.old < 2 ^ 64 - 1 }
     ensures ends { EndsSkipping (with_ahead ahead.old (S.left source.old)) result

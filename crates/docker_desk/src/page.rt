@@ -5,7 +5,7 @@ use cif_line::{Failed, Sink};
 use std::alloc::Global;
 use std::marker::Model;
 
-/// A sink in memory, which grows as it is written. It fails only if a growth is refused.
+/// A sink in memory. It grows as it is written, and fails only if memory runs out.
 #[derive(Debug, Drop)]
 pub struct Page {
     bytes: Vec<u8>,
@@ -35,7 +35,7 @@ impl Page {
         }
     }
 
-    /// What was written on it.
+    /// What was written on the page.
     pub fn text(&self) -> &[u8]
         ensures { result.now ≡ self.now.text }
     {
@@ -49,15 +49,16 @@ impl Sink for Page {
     ghost failures = { λ page. page.failures };
 
     fn write(&mut self, piece: &[u8]) -> Result<usize, Failed>
-        requires { self.old.failures < 2 ^ 64 - 1 }
+        requires failures { self.old.failures < 2 ^ 64 - 1 }
+        requires piece { 0 < length piece.now }
         ensures within { IfOk result (λ n. n ≤ length piece.now) }
         ensures moved { IfOk result (λ n. self.new.text ≡ self.old.text ++ take n piece.now) }
-        ensures progress { IfOk result (λ n. 0 < length piece.now → 0 < n) }
+        ensures progress { IfOk result (λ n. 0 < n) }
         ensures no_failure { OnOk result (self.new.failures ≡ self.old.failures) }
         ensures counted { OnErr result (self.new.failures ≡ self.old.failures + 1) }
         ensures unmoved { OnErr result (self.new.text ≡ self.old.text) }
 
-        // What a sink promises is above, and what this one adds below.
+        // The clauses of a sink are above. What this sink adds is below.
         ensures whole { IfOk result (λ n. n ≡ length piece.now) }
     {
         match self.bytes.extend_from_slice(piece) {

@@ -1,8 +1,8 @@
 //! What a line asks for.
 ghost use Rattle.std.specs.Prelude.{◌≡◌, ◌≢◌, ℕ, List, [], option_map, IfSome, IsNone, IsSome};
-ghost use Rattle.docker_job.specs.JobLine.{IsLineText, words_in};
+ghost use Rattle.docker_cmd.specs.JobLine.{IsLineText, words_in};
 ghost use Rattle.docker_desk.specs.Requests.{AsksFor, FitsRest, NamesFile, NamesTrain, request_meant};
-ghost use Rattle.docker_job.specs.Words.{is_plain_word};
+ghost use Rattle.docker_cmd.specs.Words.{is_plain_word};
 ghost use Rattle.docker_desk.specs.declared.verbs.Verb.TheVariants as verb;
 
 use crate::verbs::Verb;
@@ -28,22 +28,23 @@ pub enum Request<'a> {
     },
     /// `files`: the files that are known.
     Files,
-    /// `renew`: what is known is joined with what the state's file holds.
+    /// `renew`: joins what is known with what the state's file holds.
     Renew,
-    /// `take FILE`: one file more is known.
+    /// `take FILE`: adds one file to what is known.
     Take(&'a str),
-    /// `merge OTHER`: what is known is joined with another state.
+    /// `merge OTHER`: joins what is known with another state.
     Merge(&'a str),
-    /// `horizon DATE`: a horizon that may be later.
+    /// `horizon DATE`: sets a horizon, which may be later.
     Horizon {
         /// The day.
         day: Day,
     },
-    /// `save`: the state's file holds what is known.
+    /// `save`: writes what is known to the state's file.
     Save,
 }
 
-/// What a line asks for, of a desk that may write or not. None if it asks for nothing, or if the desk would have to write for it and may not.
+/// What a line asks for, of a desk that may or may not write. None if it asks for nothing, or if it
+/// asks a desk that may not write for something that needs writing.
 pub fn request_in(line: &[u8], may_write: bool) -> Option<Request<'_>>
     requires { IsLineText line.now }
     ensures { AsksFor may_write line.now (option_map request_meant result) }
@@ -56,7 +57,7 @@ pub fn request_in(line: &[u8], may_write: bool) -> Option<Request<'_>>
     request_of(verb, rest)
 }
 
-/// The request of this name that has this rest.
+/// The request with this name and this rest.
 fn request_of(verb: Verb, rest: &str) -> Option<Request<'_>>
     ensures { FitsRest verb rest.now (option_map request_meant result) }
 {
@@ -113,7 +114,7 @@ fn horizon_request(rest: &str) -> Option<Request<'_>>
     Some(Request::Horizon { day })
 }
 
-/// Something where no word stands.
+/// Some if no word is there.
 fn alone(rest: &str) -> Option<()>
     ensures alone { IsSome result → words_in rest.now ≡ [] }
     ensures more { IsNone result → words_in rest.now ≢ [] }
@@ -149,7 +150,7 @@ fn file_named(text: &str) -> Option<&str>
     None
 }
 
-/// Whether a word is there, and no hyphen leads it.
+/// Whether there is a word, and it doesn't begin with a hyphen.
 fn is_plain(word: &str) -> bool
     ensures { result ≡ is_plain_word word.now }
 {

@@ -24,7 +24,7 @@ pub enum Verb {
 }
 
 impl Verb {
-    /// The one of this name.
+    /// The verb of this name.
     pub(crate) fn of_name(name: &str) -> Option<Verb>
         ensures { result ≡ verb_named name.now }
     {
@@ -41,7 +41,7 @@ impl Verb {
         }
     }
 
-    /// Whether it is one of a desk that may write.
+    /// Whether only a desk that may write allows it.
     pub(crate) fn is_writing(self) -> bool
         ensures { result ≡ is_writing self }
     {

@@ -1,7 +1,7 @@
 //! The words of a line.
 ghost use Rattle.std.specs.Prelude.{◌≡◌, ◌+◌, ◌<◌, [], ◌∷◌, length, MatchOption, IfSome, IsNone, ◌↔◌, false, option_map};
 ghost use Rattle.std.specs.List.{position_or_len, before_first, after_first};
-ghost use Rattle.docker_job.specs.JobLine.{IsLineText, is_space, words_in};
+ghost use Rattle.docker_cmd.specs.JobLine.{IsLineText, is_space, words_in};
 ghost use Rattle.docker_desk.specs.Requests.{HasOneWord, HasTwoWords, behind_word, first_word, without_spaces};
 
 use std::str;
@@ -17,7 +17,7 @@ pub(crate) fn text_of(line: &[u8]) -> &str
     }
 }
 
-/// The piece before the first space, and what stands after that.
+/// The piece before the first space, and what comes after the space.
 fn split_at_space(text: &str) -> Option<(&str, &str)>
     ensures pieces { MatchOption result (position_or_len is_space text.now
         ≡ length text.now) (λ parts.
@@ -44,7 +44,8 @@ fn without_spaces(text: &str) -> &str
     rest
 }
 
-/// The first word of a text, and what stands after it and the spaces between. None if the text has no word.
+/// The first word of a text, and what comes after it and the spaces that follow it. None if the
+/// text has no word.
 pub(crate) fn next_word(text: &str) -> Option<(&str, &str)>
     ensures none { IsNone result → (words_in text.now ≡ []) × (first_word text.now ≡ []) }
     ensures word { IfSome result (λ cut. cut.0.now ≡ first_word text.now) }
@@ -61,7 +62,7 @@ pub(crate) fn next_word(text: &str) -> Option<(&str, &str)>
     }
 }
 
-/// The two words of a text that has two.
+/// The words of a text that has exactly two.
 pub(crate) fn two_words(text: &str) -> Option<(&str, &str)>
     ensures { HasTwoWords text.now
         (option_map (λ words. (words.0.now, words.1.now)) result) }
@@ -74,7 +75,7 @@ pub(crate) fn two_words(text: &str) -> Option<(&str, &str)>
     Some((first, second))
 }
 
-/// The word of a text that has one.
+/// The word of a text that has exactly one.
 pub(crate) fn one_word(text: &str) -> Option<&str>
     ensures { HasOneWord text.now (option_map (λ word. word.now) result) }
 {
@@ -85,7 +86,7 @@ pub(crate) fn one_word(text: &str) -> Option<&str>
     Some(word)
 }
 
-/// Whether a text has a word.
+/// Whether a text has any word.
 pub(crate) fn has_word(text: &str) -> bool
     ensures { (result ≡ false) ↔ (words_in text.now ≡ []) }
 {

@@ -1,4 +1,4 @@
--- Pieces that are given to a sink by way of a buffer, one after another.
+-- Pieces that are given to a sink through a buffer, one after another.
 use Rattle.std.proofs.Common.{◌≡◌, ℕ, suc, ◌+◌, ◌<◌, ◌≤◌, List, [], ◌∷◌, ◌++◌, length, take, drop, get_or, map, refl, ap, sym, ◌∙◌, subst, arith, append_assoc, append-nil, length-append, Some, None, Ok, Err, Result}
 use Rattle.std.specs.Prelude.{Option, IsErrAnd, OnOk, OnErr}
 use Rattle.std.specs.List.{concat, flat_map}
@@ -7,7 +7,7 @@ use Rattle.std.proofs.lemmas.Grind.{flat_map-append}
 use Rattle.cif_line.specs.Device.{Takes, TakesPart}
 use Rattle.docker_encode.specs.Written.{Gathers, Gives, Flushes}
 
--- what a sink that tells its bytes took, or nothing
+-- the bytes that a sink took, or nothing if it doesn't name them
 abbrev Told : Type 0
 Told = Option (List ℕ)
 
@@ -30,11 +30,11 @@ takes_then (Some taken) x y c e first second =
     longer None = None
     longer (Some t) = Some (t ++ y)
 
--- a piece that was added to the buffer
+-- a piece was added to the buffer
 pub gathers_add : (start : Told) (held piece more : List ℕ) → more ≡ held ++ piece → Gathers start held piece start more
 gathers_add start held piece more is = ([], is, takes_none start)
 
--- two pieces, one behind the other
+-- two pieces, one after the other
 pub gathers_then : (a : Told) (b p : List ℕ) (c : Told) (d q : List ℕ) (e : Told) (f : List ℕ)
     → Gathers a b p c d → Gathers c d q e f → Gathers a b (p ++ q) e f
 gathers_then a b p c d q e f first second = (
@@ -50,7 +50,7 @@ take_past (x ∷ xs) ys n =
     let same : length (x ∷ xs) + n ≡ suc (length xs + n) = omega arith in
     ap (λ k. take k (x ∷ xs ++ ys)) same ∙ ap (λ zs. x ∷ zs) (take_past xs ys n)
 
--- a part of bytes is one of them and more
+-- a part of some bytes is a part of these bytes and more
 part_longer : (a : Told) (x y : List ℕ) (e : Told) → TakesPart a x e → TakesPart a (x ++ y) e
 part_longer a x y e part =
     let size = length-append x y in
@@ -58,7 +58,7 @@ part_longer a x y e part =
     let within : part.0 ≤ length x = omega arith in
     (part.0, omega arith, subst (λ xs. Takes a xs e) (sym (take-append-le part.0 x y within)) part.2)
 
--- a part behind a piece that was gathered
+-- a part after a piece that was gathered
 gathers_part : (a : Told) (b p : List ℕ) (c : Told) (d q : List ℕ) (e : Told)
     → Gathers a b p c d → TakesPart c (d ++ q) e → TakesPart a (b ++ (p ++ q)) e
 gathers_part a b p c d q e first part =
@@ -72,7 +72,7 @@ gathers_part a b p c d q e first part =
       subst (λ xs. Takes a xs e) same (takes_then a first.0 (take part.0 (d ++ q)) c e first.2 part.2),
     )
 
--- ---- what is given, by way of a result
+-- ---- what is given, by the result
 
 module _ {S A E : Type 0} (taken : S → Told) (failures : S → ℕ) where
   -- a buffer that is written is given to the sink
@@ -82,7 +82,7 @@ module _ {S A E : Type 0} (taken : S → Told) (failures : S → ℕ) where
   flush_gives old new held holds (Err failed) part empty =
       (subst (λ xs. TakesPart (taken old) xs (taken new)) (sym (append-nil held)) part.0, part.1)
 
-  -- a piece more behind one that was gathered
+  -- one more piece after a piece that was gathered
   pub then_gives : (old mid new : S) (b p d q h : List ℕ) (result : Result A E) → Gathers (taken old) b p (taken mid) d
       → failures mid ≡ failures old → Gives taken failures mid d q result new h → Gives taken failures old b (p ++ q) result new h
   then_gives old mid new b p d q h (Ok done) first same second =
@@ -90,7 +90,7 @@ module _ {S A E : Type 0} (taken : S → Told) (failures : S → ℕ) where
   then_gives old mid new b p d q h (Err failed) first same second =
       (gathers_part (taken old) b p (taken mid) d q (taken new) first second.0, second.1 ∙ ap (λ n. n + 1) same)
 
-  -- a failure at a first piece is one of all
+  -- a failure at the first piece is a failure at all of it
   pub fails_first : (old new : S) (b p q holds : List ℕ) (result : Result A E) (Q : E → Type 0) → IsErrAnd result Q
       → TakesPart (taken old) (b ++ p) (taken new) × (failures new ≡ failures old + 1)
       → Gives taken failures old b (p ++ q) result new holds
@@ -101,14 +101,14 @@ module _ {S A E : Type 0} (taken : S → Told) (failures : S → ℕ) where
     part.1,
   )
 
-  -- what is told of bytes that are written, clause by clause
+  -- what holds of bytes that are written, clause by clause
   pub flushed : (old new : S) (bytes : List ℕ) (result : Result A E) → Flushes taken failures old bytes result new
       → OnOk result (Takes (taken old) bytes (taken new)) × OnErr result (TakesPart (taken old) bytes (taken new))
       × OnOk result (failures new ≡ failures old) × OnErr result (failures new ≡ failures old + 1)
   flushed old new bytes (Ok done) told = (told.0, tt, told.1, tt)
   flushed old new bytes (Err failed) told = (tt, told.0, tt, told.1)
 
-  -- what is gathered of a text is written in full, or in part
+  -- what was gathered of a text is written in full, or in part
   pub flush_written : (old mid new : S) (b p d whole : List ℕ) (result : Result A E) → Gathers (taken old) b p (taken mid) d
       → failures mid ≡ failures old → b ++ p ≡ whole → Flushes taken failures mid d result new → Flushes taken failures old whole result new
   flush_written old mid new b p d whole (Ok done) first same is second = (
@@ -129,10 +129,10 @@ module _ {S A E : Type 0} (taken : S → Told) (failures : S → ℕ) where
   part_written old new b p whole (Ok done) Q fails is part = absurd fails
   part_written old new b p whole (Err failed) Q fails is part = (subst (λ xs. TakesPart (taken old) xs (taken new)) is part.0, part.1)
 
--- ---- a list of which each element gives its bytes
+-- ---- a list whose elements each give their bytes
 
 module _ {X : Type 0} (bytes : List X → List ℕ) (joined : (xs ys : List X) → bytes (xs ++ ys) ≡ bytes xs ++ bytes ys) where
-  -- the bytes of one element more
+  -- the bytes of one more element
   pub one_more : (xs : List X) (i : ℕ) (x : X) (piece : List ℕ) → i < length xs → x ≡ get_or xs i x → bytes (x ∷ []) ≡ piece
       → bytes (take (i + 1) xs) ≡ bytes (take i xs) ++ piece
   one_more xs i x piece below at is =
@@ -140,13 +140,13 @@ module _ {X : Type 0} (bytes : List X → List ℕ) (joined : (xs ys : List X) �
       ∙ ap (λ p. bytes (take i xs) ++ p) is
 
   module _ (xs : List X) (i : ℕ) (x : X) (piece : List ℕ) (below : i < length xs) (at : x ≡ get_or xs i x) (is : bytes (x ∷ []) ≡ piece) where
-    -- behind the elements so far one more was given
+    -- after the elements so far, one more was given
     pub each_given : (a : Told) (b : List ℕ) (c : Told) (d : List ℕ) (e : Told) (f : List ℕ)
         → Gathers a b (bytes (take i xs)) c d → Gathers c d piece e f → Gathers a b (bytes (take (i + 1) xs)) e f
     each_given a b c d e f first second =
         subst (λ p. Gathers a b p e f) (sym (one_more xs i x piece below at is)) (gathers_then a b (bytes (take i xs)) c d piece e f first second)
 
-    -- behind the elements so far one more was given in part
+    -- after the elements so far, one more was given in part
     pub each_part : (a : Told) (b : List ℕ) (c : Told) (d : List ℕ) (e : Told)
         → Gathers a b (bytes (take i xs)) c d → TakesPart c (d ++ piece) e → TakesPart a (b ++ bytes xs) e
     each_part a b c d e first part =
@@ -158,7 +158,7 @@ module _ {X : Type 0} (bytes : List X → List ℕ) (joined : (xs ys : List X) �
         subst (λ ys. TakesPart a ys e) whole
         (part_longer a (b ++ now) rest e (subst (λ p. TakesPart a (b ++ p) e) (sym (one_more xs i x piece below at is)) so_far))
 
-    -- a failure at the room for one more element is one of all
+    -- a failure to make room for one more element is a failure at all of them
     pub each_room_fails : {S A E : Type 0} (taken : S → Told) (failures : S → ℕ) (old now new : S) (b d holds : List ℕ) (result : Result A E) (Q : E → Type 0)
         → Gathers (taken old) b (bytes (take i xs)) (taken now) d → failures now ≡ failures old → IsErrAnd result Q
         → TakesPart (taken now) (d ++ []) (taken new) × (failures new ≡ failures now + 1) → Gives taken failures old b (bytes xs) result new holds
@@ -169,7 +169,7 @@ module _ {X : Type 0} (bytes : List X → List ℕ) (joined : (xs ys : List X) �
       part.1 ∙ ap (λ n. n + 1) same,
     )
 
-    -- a failure at one more element is one of all
+    -- a failure at one more element is a failure at all of them
     pub each_fails : {S A E : Type 0} (taken : S → Told) (failures : S → ℕ) (old now new : S) (b d holds : List ℕ) (result : Result A E) (Q : E → Type 0)
         → Gathers (taken old) b (bytes (take i xs)) (taken now) d → failures now ≡ failures old → IsErrAnd result Q
         → TakesPart (taken now) (d ++ piece) (taken new) × (failures new ≡ failures now + 1) → Gives taken failures old b (bytes xs) result new holds
@@ -182,7 +182,7 @@ pub mapped_join : {A B : Type 0} (f : B → List ℕ) (m : A → B) (xs ys : Lis
     → flat_map f (map m (xs ++ ys)) ≡ flat_map f (map m xs) ++ flat_map f (map m ys)
 mapped_join f m xs ys = ap (flat_map f) (map-append m xs ys) ∙ flat_map-append f (map m xs) (map m ys)
 
--- the same of lines
+-- like `mapped_join`, for lines
 pub concat_join : (xs ys : List (List ℕ)) → concat (xs ++ ys) ≡ concat xs ++ concat ys
 concat_join [] ys = refl
 concat_join (x ∷ xs) ys = ap (λ zs. x ++ zs) (concat_join xs ys) ∙ sym (append_assoc x (concat xs) (concat ys))

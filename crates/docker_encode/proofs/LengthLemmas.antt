@@ -18,7 +18,7 @@ lines_length : (lines : List (List ℕ)) → AllByRecursion IsRecord lines → l
 lines_length [] all = refl
 lines_length (line ∷ lines) all = let rest = lines_length lines all.1 in let one = all.0.0 in let size = length-append line (concat lines) in omega arith
 
--- the bytes of a schedule's body
+-- how many bytes a schedule's body has
 pub schedule_length : (key : Key) (body : Body) (lines : List (List ℕ)) (n : ℕ) → body ≡ schedule_body lines → IsBodyOf key body → n ≡ length lines
     → 4 + 80 * n ≡ length (put_bytes body)
 schedule_length key body lines n is of count = subst (λ o. 4 + 80 * n ≡ length (put_bytes o)) (sym is) (by key (subst (IsBodyOf key) is of))
@@ -32,7 +32,7 @@ schedule_length key body lines n is of count = subst (λ o. 4 + 80 * n ≡ lengt
     by (tiploc_key code) of = absurd of
     by (association_key k) of = absurd of
 
--- the bytes of an entry
+-- how many bytes an entry has
 pub entry_length : (entry : Key × Entry) → IsOfWidth entry → length (key_text entry.0) + 15 + length (op_bytes entry.1.op) ≡ length (entry_bytes entry)
 entry_length entry is =
     let wide = is.2 in
@@ -59,7 +59,7 @@ items_length (item ∷ items) good =
     let joined = length-append (item_bytes item) (flat_map item_bytes items) in
     omega arith
 
--- the bytes of a valid state's text
+-- how many bytes the text of a valid state has
 pub text_length : {A B : Type 0} (state : State) (item : A → LedgerItem) (row : B → Key × Entry) (items : List A) (rows : List B) (total : ℕ) → IsValid state
     → map item items ≡ state.ledger → map row rows ≡ state.entries → total ≡ length (flat_map entry_bytes (map row rows))
     → 22 + 19 * length items + total ≡ length (state_text dks_2 state)

@@ -15,7 +15,7 @@ use Rattle.cif_line.specs.Device.{TakesPart}
 use Rattle.docker_encode.specs.Written.{body_text, Gathers, Gives}
 use Rattle.docker_encode.proofs.BufferLemmas.{gathers_then, then_gives, fails_first}
 
--- an entry without its lines, and its lines
+-- an entry is its bytes without its lines, and then its lines
 pub entry_text : (entry : Key × Entry) → entry_head entry ++ concat (op_lines entry.1.op) ≡ entry_bytes entry
 entry_text entry = by entry.1.op
   where
@@ -30,7 +30,7 @@ entry_text entry = by entry.1.op
     by (put_with (association_body line)) = append-nil (front ++ 1 ∷ line)
     by (put_with (schedule_body lines)) = append_assoc front (1 ∷ to_be_bytes w32 (length lines)) (concat lines)
 
--- what holds of all that are mapped holds at an index
+-- what holds of everything that a function gives for a list holds of what it gives at an index
 pub at_mapped : {A B : Type 0} (P : B → Type 0) (m : A → B) (xs : List A) (i : ℕ) (x : A) → All P (map m xs) → i < length xs → x ≡ get_or xs i x → P (m x)
 at_mapped P m xs i x all below at =
     let size = length-map xs m in
@@ -48,7 +48,7 @@ state_text_is state item items ledger =
     (λ i. (head_text dks_2 state.horizon ++ to_be_bytes w64 (many i)) ++ body_text state)
     ∙ sym (append_assoc head (front ++ count) rows) ∙ ap (λ xs. xs ++ rows) (sym (append_assoc head front count))
 
--- ---- the text behind the head
+-- ---- the text after the head
 
 module _ {S A B : Type 0} (taken : S → Option (List ℕ)) (failures : S → ℕ) (state : State) (item : A → LedgerItem) (row : B → Key × Entry)
     (items : List A) (rows : List B) (ledger : map item items ≡ state.ledger) (entries : map row rows ≡ state.entries) where
@@ -60,7 +60,7 @@ module _ {S A B : Type 0} (taken : S → Option (List ℕ)) (failures : S → �
     given : Gathers (taken old) b (flat_map item_bytes state.ledger) (taken first) d
     given = subst (λ es. Gathers (taken old) b (flat_map item_bytes es) (taken first) d) ledger one
 
-    -- the number of entries could not be given
+    -- the number of entries couldn't be given
     pub count_fails : {X E : Type 0} (holds : List ℕ) (result : Result X E) (Q : E → Type 0) → IsErrAnd result Q
         → TakesPart (taken first) (d ++ to_be_bytes w64 (length rows)) (taken second) × (failures second ≡ failures first + 1)
         → Gives taken failures old b (body_text state) result second holds

@@ -1,4 +1,4 @@
--- The bytes of an entry in two parts: those up to its lines, and its lines.
+-- The bytes of an entry in two parts: the bytes before its lines, and its lines.
 use Rattle.std.specs.Prelude.{◌≡◌, ℕ, ◌<◌, ◌^◌, List, [], ◌∷◌, ◌++◌, length}
 use Rattle.std.specs.Int.{w32, to_be_bytes}
 use Rattle.docker_model.specs.file.Change.{Key, Body, tiploc_body, association_body, schedule_body}
@@ -6,7 +6,7 @@ use Rattle.docker_model.specs.state.Op.{Op, deleted, lapsed, put_with, Entry, ke
 use Rattle.docker_model.specs.state.State.{IsGoodKey, IsOpOf}
 use Rattle.docker_model.specs.state.StateText.{key_bytes, stamp_bytes}
 
--- a body without its lines: of a schedule their number
+-- a body without its lines; for a schedule, the number of its lines
 abbrev pub body_head : Body → List ℕ
 body_head (tiploc_body bytes) = bytes
 body_head (association_body line) = line
@@ -33,7 +33,7 @@ op_lines deleted = []
 op_lines lapsed = []
 op_lines (put_with body) = lines_in body
 
--- four bytes can hold the number of its lines
+-- four bytes can hold the number of an entry's lines
 abbrev pub HasFewLines : Key × Entry → Type 0
 HasFewLines entry = length (op_lines entry.1.op) < 2 ^ 32
 

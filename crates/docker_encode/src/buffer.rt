@@ -9,7 +9,7 @@ use cif_line::{Failed, Sink, write_all};
 /// How many bytes are gathered before they are written.
 pub(crate) const ROOM: usize = 65_536;
 
-/// Bytes that a sink is to take.
+/// Bytes that a sink will take.
 pub(crate) type Buffer = ArrayVec<u8, ROOM>;
 
 /// Writes what the buffer holds, and empties it.

@@ -80,7 +80,7 @@ fn add_schedule_key(buffer: &mut Buffer, key: &ScheduleKey)
     add(buffer, &[key.stp.letter()]);
 }
 
-/// Adds a key with its tag. That of an association is the longest.
+/// Adds a key with its tag. The key of an association is the longest.
 fn add_key(buffer: &mut Buffer, key: &Key)
     requires { array_vec_len buffer.old + (TAG + ASSOC_KEY) ≤ ROOM }
     ensures items { buffer.new.items ≡ buffer.old.items ++ key_text (key_meant key.now) }
@@ -96,7 +96,7 @@ fn add_key(buffer: &mut Buffer, key: &Key)
     }
 }
 
-/// Adds an op without its lines. That of an association is the longest.
+/// Adds an op without its lines. The op of an association is the longest.
 fn add_op(buffer: &mut Buffer, op: &Op)
     requires room { array_vec_len buffer.old + (OP + LINE) ≤ ROOM }
     requires few { length (op_lines (op_meant op.now)) < 2 ^ 32 }

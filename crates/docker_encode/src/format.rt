@@ -1,4 +1,5 @@
-//! The formats of a state's text: their marks, how wide each part is, and where the fields of a part begin. Widths and offsets are in bytes.
+//! The formats of a state's text: their marks, how wide each part is, and where the fields of a
+//! part begin. Widths and offsets are in bytes.
 
 /// The formats, by their marks. `DKS1` has no horizon and no lapsed op.
 #[derive(Clone, Copy, Debug)]
@@ -48,10 +49,11 @@ pub const TIPLOC_BODY: usize = 63;
 /// The width of the number of a schedule's lines.
 pub const LINE_COUNT: usize = 4;
 
-/// The width of a line, which the body of an association is too. No part is wider.
+/// The width of a line. The body of an association is a line. No part is wider.
 pub const LINE: usize = 80;
 
-/// The most bytes of an entry before its lines: the tag and the key of an association, a stamp, an op and a line.
+/// The most bytes of an entry before its lines: the tag and the key of an association, a stamp, an
+/// op and a line.
 pub const ENTRY_HEAD: usize = 120;
 
 /// Where the minute of a file stamp begins.
@@ -63,7 +65,7 @@ pub const REFERENCE_AT: usize = 4;
 /// Where the extract indicator of a ledger item stands.
 pub const INDICATOR_AT: usize = 11;
 
-/// Where the reference of the file before begins, in a ledger item.
+/// Where the reference of the previous file begins, in a ledger item.
 pub const LAST_REFERENCE_AT: usize = 12;
 
 /// Where the record number of a stamp begins.

@@ -17,7 +17,7 @@ use cif_file::{Body, Key};
 use docker_join::{Entry, Op};
 use docker_state::State;
 
-/// The bytes of a key with its tag.
+/// How many bytes a key has with its tag.
 fn key_len(key: &Key) -> usize
     requires { IsGoodKey (key_meant key.now) }
     ensures value { result ≡ length (key_text (key_meant key.now)) }
@@ -30,7 +30,7 @@ fn key_len(key: &Key) -> usize
     }
 }
 
-/// The bytes of a body of this key.
+/// How many bytes a body of this key has.
 fn body_len(key: &Key, body: &Body) -> u128
     requires { IsBodyOf (key_meant key.now) (body_meant body.now) }
     ensures value { result ≡ length (put_bytes (body_meant body.now)) }
@@ -43,7 +43,7 @@ fn body_len(key: &Key, body: &Body) -> u128
     }
 }
 
-/// The bytes of an op of this key.
+/// How many bytes an op of this key has.
 fn op_len(key: &Key, op: &Op) -> u128
     requires { IsOpOf (key_meant key.now) (op_meant op.now) }
     ensures value { result ≡ length (op_bytes (op_meant op.now)) }
@@ -55,7 +55,7 @@ fn op_len(key: &Key, op: &Op) -> u128
     }
 }
 
-/// The bytes of an entry.
+/// How many bytes an entry has.
 fn row_len(row: &(Key, Entry)) -> u128
     requires { IsOfWidth (row_meant row.now) }
     ensures value { result ≡ length (entry_bytes (row_meant row.now)) }
@@ -64,7 +64,7 @@ fn row_len(row: &(Key, Entry)) -> u128
     (key_len(&row.0) + STAMP) as u128 + op_len(&row.0, &row.1.op)
 }
 
-/// The bytes of entries.
+/// How many bytes entries have.
 fn rows_len(rows: &[(Key, Entry)]) -> u128
     requires { All IsOfWidth (map row_meant rows.now) }
     ensures value { result ≡ length (flat_map entry_bytes (map row_meant rows.now)) }
@@ -77,7 +77,8 @@ fn rows_len(rows: &[(Key, Entry)]) -> u128
     total
 }
 
-/// The exact number of bytes of the text of a state: its mark, its horizon, its counts, items and entries.
+/// The exact number of bytes of the text of a state: its mark, its horizon, its counts, items and
+/// entries.
 pub fn encoded_len(state: &State) -> u128
     ensures { result ≡ length (state_text dks_2 state.now) }
 {

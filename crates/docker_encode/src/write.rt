@@ -80,7 +80,7 @@ fn put_count<K: Sink>(sink: &mut K, buffer: &mut Buffer, count: usize) -> Result
     Ok(())
 }
 
-/// Sets mark, horizon and the number of ledger items into a buffer that has room for them.
+/// Adds the mark, the horizon and the number of ledger items to a buffer that has room for them.
 fn add_head(buffer: &mut Buffer, horizon: u16, count: usize)
     requires { array_vec_len buffer.old + (MARK + HORIZON + COUNT) ≤ ROOM }
     ensures { buffer.new.items ≡ buffer.old.items
@@ -91,7 +91,8 @@ fn add_head(buffer: &mut Buffer, horizon: u16, count: usize)
     add(buffer, &(count as u64).to_be_bytes());
 }
 
-/// Writes the bytes of ledger items and entries, each list after its number: the first number is written already.
+/// Gives the bytes of ledger items and entries, each list after its number. The number of ledger
+/// items is given already.
 fn put_body<K: Sink>(sink: &mut K, buffer: &mut Buffer, state: &State) -> Result<(), Failed>
     requires { K.failures sink.old < 2 ^ 64 - 1 }
     ensures { Gives K.taken K.failures sink.old buffer.old.items (body_text state.now) result
@@ -114,7 +115,8 @@ fn put_text<K: Sink>(sink: &mut K, state: &State) -> Result<(), Failed>
     flush(sink, &mut buffer)
 }
 
-/// Writes the text of a state. A write that fails leaves the sink with a beginning of the text, and not all of it.
+/// Writes the text of a state. If a write fails, the sink has a beginning of the text, and not all
+/// of it.
 pub fn write_state<K: Sink>(state: &State, sink: &mut K) -> Result<(), Failed>
     requires { K.failures sink.old < 2 ^ 64 - 1 }
     ensures whole { OnOk result

@@ -1,4 +1,4 @@
--- The excerpt that is left at the end of a state, and the dockers that are made of it.
+-- The excerpt at the end of a state, and the dockers made from it.
 use Rattle.std.proofs.Common.{◌≡◌, ℕ, List, refl, ap, sym, ◌∙◌, subst}
 use Rattle.std.specs.Prelude.{Option, Some}
 use Rattle.docker_model.specs.file.Change.{Key, tiploc_key}
@@ -14,11 +14,11 @@ use Rattle.docker_day.specs.Dockers.{IsDockerOf}
 use Rattle.docker_parts.specs.Told.{horizon_meant, under}
 use Rattle.docker_excerpt.specs.Values.{Excerpt, with_entries, IsExcerptOf}
 
--- a state without a horizon, and with none read
+-- a state without a horizon is itself under the horizon 0
 plain_state : (state : State) → state.horizon ≡ 0 → state ≡ under 0 state
 plain_state state none = λ i. record { horizon = none i; ledger = state.ledger; entries = state.entries }
 
--- the one that was read makes nothing lapse
+-- the horizon that was read makes no entry lapse
 pub horizon_set : (state raised : State) (horizon : Option ℕ) (day : ℕ) → state.horizon ≡ 0 → horizon ≡ Some day
     → IsValid (under (horizon_meant horizon) state) → raised ≡ raise_horizon day state → raised ≡ under (horizon_meant horizon) state
 horizon_set state raised horizon day plain read valid set =
@@ -27,11 +27,11 @@ horizon_set state raised horizon day plain read valid set =
     ∙ ap (λ (h : Option ℕ). under (horizon_meant h) state) (sym read)
 
 module _ (place : List ℕ) (horizon : ℕ) (told : State) (valid : IsValid (under horizon told)) where
-  -- what is kept of it is good
+  -- the entries that are kept are good
   pub kept_entries : (rows : List (Key × Entry)) → rows ≡ (excerpt_for place told).entries → AreEntries told.ledger rows
   kept_entries rows is = subst (λ (all : List (Key × Entry)). AreEntries told.ledger all) (sym is) (walk_valid place (under horizon told) valid).entries
 
-  -- and valid under the horizon
+  -- they are valid under the horizon
   pub kept_valid : (state : State) (rows : List (Key × Entry)) → rows ≡ (excerpt_for place told).entries → state.ledger ≡ told.ledger → state.entries ≡ rows
       → IsValid (under horizon state)
   kept_valid state rows is same entries =
@@ -41,7 +41,7 @@ module _ (place : List ℕ) (horizon : ℕ) (told : State) (valid : IsValid (und
       → part.entries ≡ rows → part ≡ excerpt_for place (under horizon told)
   part_is part rows is same_horizon same entries = λ i. record { horizon = same_horizon i; ledger = same i; entries = (entries ∙ is) i }
 
-  -- it is an excerpt of the state whose entries were given
+  -- the part is an excerpt of the state whose entries were given
   pub is_excerpt_of : (part : State) (rows entries : List (Key × Entry)) → rows ≡ (excerpt_for place told).entries → part.horizon ≡ horizon
       → part.ledger ≡ told.ledger → part.entries ≡ rows → entries ≡ told.entries → IsExcerptOf place (with_entries part entries) part
   is_excerpt_of part rows entries is same_horizon same kept given =
@@ -49,7 +49,7 @@ module _ (place : List ℕ) (horizon : ℕ) (told : State) (valid : IsValid (und
       (subst (λ (all : List (Key × Entry)). IsExcerptOf place (with_entries (excerpt_for place (under horizon told)) all) (excerpt_for place (under horizon told)))
       (sym given) (record { valid = valid; excerpt = walk_is_excerpt place (under horizon told) valid.entries.1 }))
 
-  -- which it stands for
+  -- the excerpt stands for that state
   pub stands_for : (part : State) (entries : List (Key × Entry)) → part.horizon ≡ horizon → part.ledger ≡ told.ledger → entries ≡ told.entries
       → ◌≡◌ {A = Excerpt} (record { place = place; state = with_entries part entries }) (record { place = place; state = under horizon told })
   stands_for part entries same_horizon same given = λ i. record {
@@ -57,7 +57,7 @@ module _ (place : List ℕ) (horizon : ℕ) (told : State) (valid : IsValid (und
     state = record { horizon = same_horizon i; ledger = same i; entries = given i };
   }
 
--- a docker of an excerpt is one of the whole state
+-- a docker of an excerpt is a docker of the whole state
 pub docker_of_whole : (place : List ℕ) (state part : State) → IsExcerptOf place state part → (day : ℕ) (docker : Docker)
     → IsDockerOf (live_table part) place day docker → IsDockerOf (live_table state) place day docker
 docker_of_whole place state part is day docker made = record {

@@ -1,4 +1,4 @@
--- What a binary search over names in order finds, which may stand there more than once.
+-- What a binary search finds in sorted names, in which a name may occur more than once.
 use Rattle.std.proofs.Common.{◌≡◌, ℕ, ◌<◌, ◌≤◌, List, Bool, true, false, length, get_or, ap, sym, ◌∙◌, inl, inr, ◌⊎◌, Contains, Ok, Err, arith}
 use Rattle.std.proofs.lemmas.Bool.{cases_lt}
 use Rattle.std.proofs.lemmas.List.Sorted.{searchable_from_sorted}

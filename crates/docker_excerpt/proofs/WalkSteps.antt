@@ -17,17 +17,17 @@ pub rows_more : (rows before after : List (Key × Entry)) (key : Key) (entry : E
 rows_more rows before after key entry same pushed =
     ap (map row_meant) (pushed ∙ ap (λ (front : List (Key × Entry)). front ++ (key, entry) ∷ []) same) ∙ map-append row_meant rows ((key, entry) ∷ [])
 
--- names with the one that was found
+-- the names with the one that was found
 pub names_with_some : (names after : List (List ℕ)) (name : List ℕ) (found told : Option (List ℕ)) → after ≡ names ++ name ∷ [] → found ≡ Some name
     → found ≡ told → after ≡ names ++ option_to_list told
 names_with_some names after name found told pushed is same = pushed ∙ ap (λ (one : Option (List ℕ)). names ++ option_to_list one) (sym is ∙ same)
 
--- and where none was found
+-- the names are the same if none was found
 pub names_with_none : (names : List (List ℕ)) (found told : Option (List ℕ)) → found ≡ None → found ≡ told → names ≡ names ++ option_to_list told
 names_with_none names found told is same =
     sym (append-nil names) ∙ ap (λ (one : Option (List ℕ)). names ++ option_to_list one) (sym is ∙ same)
 
--- a walk is what it is, in other words
+-- a walk is the same walk if all its parts are equal
 pub walk_by : (place : List ℕ) (entries kept run other_kept other_run : List (model.Key × ops.Entry)) (needed other_needed : Bool) (names other_names : List (List ℕ))
     → other_kept ≡ kept → other_run ≡ run → other_needed ≡ needed → other_names ≡ names → IsWalk place entries kept run needed names
     → IsWalk place entries other_kept other_run other_needed other_names
@@ -37,7 +37,7 @@ walk_by place entries kept run other_kept other_run needed other_needed names ot
     (subst (λ (b : Bool). IsWalk place entries kept run b other_names) (sym needed_is)
     (subst (λ (n : List (List ℕ)). IsWalk place entries kept run needed n) (sym names_is) is)))
 
--- what is kept where a run ended
+-- what is kept after a run ended
 pub run_ended : (needed other : Bool) (kept run after : List (Key × Entry)) → needed ≡ other → after ≡ cond needed (kept ++ run) kept
     → map row_meant after ≡ cond other (map row_meant kept ++ map row_meant run) (map row_meant kept)
 run_ended true other kept run after same is =

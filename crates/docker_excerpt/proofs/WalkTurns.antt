@@ -1,4 +1,4 @@
--- One step of the walk that keeps an excerpt, with the partners' names beside it.
+-- One step of the walk that keeps an excerpt and the partners' names.
 use Rattle.std.proofs.Common.{◌≡◌, ℕ, List, [], ◌∷◌, ◌++◌, refl, ap, sym, ◌∙◌, subst, inl, inr, ◌⊎◌, Bool, true, false, cond, Contains}
 use Rattle.std.specs.Prelude.{◌||◌, ◌↔◌, Option, Some, None}
 use Rattle.std.specs.Option.{option_to_list}
@@ -19,7 +19,7 @@ use Rattle.docker_excerpt.specs.Walked.{AreNames, IsWalk}
 abbrev Keyed : Type 0
 Keyed = Key × Entry
 
--- no name of no entry
+-- no entries have no names
 pub no_names : AreNames [] []
 no_names uid = (λ among. among, λ among. among)
 
@@ -27,7 +27,7 @@ no_names uid = (λ among. among, λ among. among)
 pub walk_first : (place : List ℕ) → IsWalk place [] [] [] false []
 walk_first place = record { has_kept = kept_first place; told = no_names; sorted = inl refl }
 
--- without a run none is needed
+-- if there is no run, none is needed
 unneeded : (place : List ℕ) (entries kept run : List Keyed) (needed : Bool) → HasKept place entries kept run needed → run ≡ [] → needed ≡ false
 unneeded place entries kept run needed has none =
     sym has.is_needed ∙ ap (λ (r : List Keyed). is_run_needed place (record { kept = kept; run = r })) none
@@ -40,7 +40,7 @@ names_of_one key entry = by (name_in key entry.op)
     by None = refl
     by (Some name) = refl
 
--- and the ones of an entry more
+-- the names with one more entry
 names_more : (names : List (List ℕ)) (kept : List Keyed) (key : Key) (entry : Entry) → AreNames names kept
     → AreNames (names ++ option_to_list (name_in key entry.op)) (kept ++ (key, entry) ∷ [])
 names_more names kept key entry are uid =
@@ -58,7 +58,7 @@ names_more names kept key entry are uid =
 
 module _ (place : List ℕ) (state : State) (kept run : List Keyed) (needed : Bool) (names : List (List ℕ))
     (is : IsWalk place state.entries kept run needed names) where
-  -- where a TIPLOC or an association comes no run is there
+  -- when a TIPLOC or an association comes, there is no run
   alone : (key : Key) → IsAboveEntries state key → ((uid : List ℕ) → has_uid uid key ≡ false) → run ≡ []
   alone = kept_alone place state kept run needed is.has_kept
 
@@ -67,7 +67,7 @@ module _ (place : List ℕ) (state : State) (kept run : List Keyed) (needed : Bo
       subst (λ (r : List Keyed). HasKept place entries after r needed) (sym none)
       (subst (λ (b : Bool). HasKept place entries after [] b) (sym (unneeded place state.entries kept run needed is.has_kept none)) has)
 
-  -- one at the place is kept, and names its partner
+  -- if it is at the place, it is kept, and so is the name of its partner
   pub walk_here : (key : Key) (entry : Entry) → IsAboveEntries state key → ((uid : List ℕ) → has_uid uid key ≡ false) → is_here place key ≡ true
       → IsWalk place (state.entries ++ (key, entry) ∷ []) (kept ++ (key, entry) ∷ []) run needed (names ++ option_to_list (name_in key entry.op))
   walk_here key entry above never here = record {
@@ -77,7 +77,7 @@ module _ (place : List ℕ) (state : State) (kept run : List Keyed) (needed : Bo
     sorted = inl (alone key above never);
   }
 
-  -- one elsewhere is not
+  -- if it is elsewhere, it isn't kept
   pub walk_elsewhere : (key : Key) (entry : Entry) → IsAboveEntries state key → ((uid : List ℕ) → has_uid uid key ≡ false) → is_here place key ≡ false
       → IsWalk place (state.entries ++ (key, entry) ∷ []) kept run needed names
   walk_elsewhere key entry above never elsewhere = record {
@@ -134,6 +134,6 @@ module _ (place : List ℕ) (state : State) (kept run : List Keyed) (needed : Bo
     sorted = inr sorted;
   }
 
-  -- what is kept in the end
+  -- what is kept at the end
   pub walk_last : (excerpt_for place state).entries ≡ cond needed (kept ++ run) kept
   walk_last = kept_last place state kept run needed is.has_kept

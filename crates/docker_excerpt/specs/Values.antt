@@ -1,4 +1,5 @@
--- What is kept of a state for a place stands for the whole state: the dockers there are the same.
+-- What is kept of a state for a place stands for the whole state: the dockers of the place are the
+-- same.
 use Rattle.std.specs.Prelude.{ℕ, List}
 use Rattle.docker_model.specs.file.Change.{Key}
 use Rattle.docker_model.specs.state.Op.{Entry}
@@ -19,7 +20,7 @@ pub record Excerpt : Type 0 where
 abbrev pub with_entries : State → List (Key × Entry) → State
 with_entries state entries = record { horizon = state.horizon; ledger = state.ledger; entries = entries }
 
--- part is an excerpt for the place of a state, which is valid
+-- `part` is an excerpt for the place of a state, which is valid
 pub record IsExcerptOf (place : List ℕ) (state part : State) : Type 0 where
   pub valid : IsValid state
   pub excerpt : IsExcerptState place state part

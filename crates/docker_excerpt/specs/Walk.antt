@@ -6,6 +6,6 @@ use Rattle.docker_join.specs.Meaning.{row_meant}
 use Rattle.docker_excerpt.specs.declared.walk.Walk.{Walk}
 use Rattle.docker_excerpt.specs.Walked.{IsWalk}
 
--- it has passed these entries
+-- the walk has passed these entries
 abbrev pub HasWalked : Walk → List (Key × Entry) → Type 0
 HasWalked walk entries = IsWalk walk.place entries (map row_meant walk.kept.items) (map row_meant walk.run.items) walk.needed walk.names.items

@@ -13,7 +13,8 @@ use std::alloc::Global;
 use std::fmt;
 use std::marker::Model;
 
-/// What is kept of a state for a place: the dockers there are made of it as of the whole state. It serves for nothing else: it is no state to write, join or send.
+/// What is kept of a state for a place. The dockers of the place are the same as the whole state's.
+/// It serves for nothing else: it is no state to write, join or send.
 #[derive(Drop)]
 pub struct Excerpt {
     place: Tiploc,
@@ -43,7 +44,8 @@ impl fmt::Debug for Excerpt {
 }
 
 impl Excerpt {
-    /// The excerpt for a place of the state whose entries were given, with this part of it.
+    /// The excerpt for a place of the state with the entries that were given. `part` is what was
+    /// kept of that state.
     pub(crate) fn of(place: Tiploc, part: State, given: Given) -> Excerpt
         requires { IsExcerptOf place (with_entries part given.entries) part }
         ensures { result ≡ record { place = place; state = with_entries part given.entries } }
@@ -51,8 +53,9 @@ impl Excerpt {
         Excerpt { place, part, given }
     }
 
-    /// The docker of the place and a day. `Lapsed` if the state has a horizon and the day is before it plus three days, because what has lapsed may be missing then.
-    /// `Memory` if there is no room for the docker.
+    /// The docker of the place and a day. `Lapsed` if the state has a horizon and the day is before
+    /// the horizon plus three days, because lapsed entries may then be missing. `Memory` if there
+    /// is no room for the docker.
     pub fn docker(&self, alloc: Global, day: Day) -> Result<Docker<'_>, DockerFault>
         ensures ok { IfOk result (IsDockerOf (live_table self.now.state) self.now.place day) }
         ensures lapsed { (result ≡ Err DockerFault.Lapsed)

@@ -1,4 +1,4 @@
-//! The excerpt of a state for a place, as the state's parts are given.
+//! Makes the excerpt of a state for a place as the state's parts are given.
 ghost use Rattle.std.specs.Prelude.{◌≡◌, ◌-◌, ◌^◌, ◌<◌, [], ◌∷◌, ◌++◌, length, map, IsOk, IsErr, IfOk};
 ghost use Rattle.std.specs.Option.{option_copied, option_map};
 ghost use Rattle.docker_model.specs.state.State.{IsLedger, IsOpOf, IsValid, AreEntries};
@@ -21,8 +21,10 @@ use std::alloc::Global;
 use std::fmt;
 use std::marker::Model;
 
-/// The excerpt of a state for a place. The state's parts are given in their order, as `Parts` takes them. It keeps only the entries from which dockers of the place are
-/// made: its TIPLOC's, the associations there, and all schedules of a UID that calls there or that a live association there names as its associated one.
+/// The excerpt of a state for a place. The state's parts are given in order, as `Parts` takes them.
+/// It keeps only the entries from which dockers of the place are made: the place's TIPLOC, the
+/// associations there, and all schedules of some UIDs. These are the UIDs that call there, and the
+/// ones that a live association there names as its associated train.
 #[derive(Drop)]
 pub struct Excerpting {
     ledger: Ledger,
@@ -47,7 +49,7 @@ impl fmt::Debug for Excerpting {
 }
 
 impl Excerpting {
-    /// No part yet. It takes no memory.
+    /// No parts yet. It takes no memory.
     pub fn new(alloc: Global, place: Tiploc) -> Excerpting
         ensures { result ≡ record {
           place = place;
@@ -60,7 +62,7 @@ impl Excerpting {
         }
     }
 
-    /// Gives the next ledger item. Want of memory leaves all as it was.
+    /// Gives the next ledger item. If memory runs out, everything is as it was.
     pub fn item(&mut self, item: LedgerItem) -> Result<(), Memory>
         requires before_entries { self.old.told.entries ≡ [] }
         requires ledger { IsLedger (self.old.told.ledger ++ item_meant item ∷ []) }
@@ -72,7 +74,8 @@ impl Excerpting {
         self.ledger.item(item)
     }
 
-    /// Gives the next entry, with its key. Want of memory leaves all as it was, without the entry.
+    /// Gives the next entry, with its key. If memory runs out, everything is as it was, without the
+    /// entry.
     pub fn entry(&mut self, key: Key, entry: Entry) -> Result<(), Memory>
         requires few { length self.old.told.entries < 2 ^ 64 - 1 }
         requires here { IsStampHere self.old.told (key_meant key) (entry_meant entry).stamp }
@@ -103,15 +106,16 @@ impl Excerpting {
         self.ledger.len()
     }
 
-    /// The key of the last entry given, kept or not. None if there is none yet.
+    /// The key of the last entry given, kept or not. `None` if there is none yet.
     pub fn last(&self) -> Option<&Key>
         ensures { option_map key_meant (option_copied result) ≡ last_key self.now.told.entries }
     {
         self.ledger.last()
     }
 
-    /// The excerpt of the state whose parts were given, under the horizon that was read, if one was. Out of memory lets go of them; so do more than 4,294,967,295
-    /// entries or places that are kept, which are numbered in 32 bits.
+    /// The excerpt of the state whose parts were given, under the horizon that was read, if one
+    /// was. `Memory` if memory runs out, or if more than 4,294,967,295 entries or places are kept,
+    /// which are numbered in 32 bits. The parts are then dropped.
     pub fn finish(self, horizon: Option<Day>) -> Result<Excerpt, Memory>
         requires { IsValid (under (horizon_meant horizon) self.told) }
         ensures { IfOk result (λ excerpt. excerpt
@@ -127,7 +131,7 @@ impl Excerpting {
     }
 }
 
-/// Parts to which rows are given as entries.
+/// Gives rows to parts as entries.
 fn with_rows(mut parts: Parts, rows: Vec<(Key, Entry)>) -> Result<Parts, Memory>
     requires plain { parts.horizon ≡ 0 }
     requires none { parts.entries ≡ [] }
@@ -140,7 +144,7 @@ fn with_rows(mut parts: Parts, rows: Vec<(Key, Entry)>) -> Result<Parts, Memory>
     Ok(parts)
 }
 
-/// A state under the horizon that was read, if one was. Nothing of it lapses.
+/// A state under the horizon that was read, if one was. None of its entries lapses.
 fn under_horizon(mut state: State, horizon: Option<Day>) -> State
     requires plain { state.horizon ≡ 0 }
     requires valid { IsValid (under (horizon_meant horizon) state) }

@@ -1,4 +1,4 @@
-//! The ledger of a state, as its parts are given, without the entries.
+//! Makes the ledger of a state as the state's parts are given. It keeps no entries.
 ghost use Rattle.std.specs.Prelude.{◌≡◌, ◌+◌, ◌-◌, ◌^◌, ◌<◌, [], ◌∷◌, ◌++◌, length, map, IsOk, IsErr, Some};
 ghost use Rattle.std.specs.Option.{option_copied, option_map};
 ghost use Rattle.docker_model.specs.state.State.{IsLedger, IsOpOf, IsValid};
@@ -19,7 +19,8 @@ use std::alloc::Global;
 use std::fmt;
 use std::marker::Model;
 
-/// The ledger of a state whose parts are given in their order, as `Parts` takes them: ledger items, and then entries, of which none is kept.
+/// The ledger of a state whose parts are given in order, as `Parts` takes them: ledger items, and
+/// then entries. It keeps none of the entries.
 #[derive(Drop)]
 pub struct Ledger {
     // only the ledger items
@@ -48,7 +49,7 @@ impl fmt::Debug for Ledger {
 }
 
 impl Ledger {
-    /// No part yet. It takes no memory.
+    /// No parts yet. It takes no memory.
     pub fn new(alloc: Global) -> Ledger
         ensures { result ≡ record { horizon = 0; ledger = []; entries = [] } }
     {
@@ -60,7 +61,7 @@ impl Ledger {
         }
     }
 
-    /// Gives the next ledger item. Want of memory leaves the ledger as it was.
+    /// Gives the next ledger item. If memory runs out, the ledger is as it was.
     pub fn item(&mut self, item: LedgerItem) -> Result<(), Memory>
         requires before_entries { self.old.entries ≡ [] }
         requires ledger { IsLedger (self.old.ledger ++ item_meant item ∷ []) }
@@ -85,7 +86,7 @@ impl Ledger {
         self.count
     }
 
-    /// The key of the last entry given. None if there is none yet.
+    /// The key of the last entry given. `None` if there is none yet.
     pub fn last(&self) -> Option<&Key>
         ensures { option_map key_meant (option_copied result) ≡ last_key self.now.entries }
     {
@@ -99,7 +100,7 @@ impl Ledger {
         &self.given
     }
 
-    /// The same with an entry more.
+    /// The entries given so far with one more, for proofs.
     pub(crate) fn with(&self, key: &Key, entry: &Entry) -> Given
         requires here { IsStampHere self.now (key_meant key.now) (entry_meant entry.now).stamp }
         requires op { IsOpOf (key_meant key.now) (entry_meant entry.now).op }
@@ -111,7 +112,7 @@ impl Ledger {
         Given::with(&self.given, key, entry)
     }
 
-    /// Counts one entry more, of a key.
+    /// Counts one more entry, which has this key.
     pub(crate) fn pass(&mut self, key: Key, given: Given)
         requires few { length self.old.entries < 2 ^ 64 - 1 }
         requires valid { IsValid (with_entries self.old given.entries) }
@@ -124,7 +125,8 @@ impl Ledger {
         self.given = given;
     }
 
-    /// The ledger items as parts of a state to which its entries are still to be given, and what was given.
+    /// The ledger items as parts of a state to which its entries are still to be given, and what
+    /// was given.
     pub(crate) fn into_parts(self) -> (Parts, Given)
         ensures parts { result.0 ≡ record { horizon = 0; ledger = self.ledger; entries = [] } }
         ensures given { result.1.entries ≡ self.entries }
@@ -146,7 +148,7 @@ impl Keeper for Ledger {
         self.parts.item(item)
     }
 
-    /// Counts the entry, and lets go of it. It takes no memory.
+    /// Counts the entry and drops it. It takes no memory.
     fn entry(&mut self, key: Key, entry: Entry) -> Result<(), Memory> {
         let given = self.with(&key, &entry);
         self.pass(key, given);

@@ -1,4 +1,5 @@
-//! What a reader of a state keeps for one place: an excerpt, from which the dockers there are made, or only the ledger.
+//! What a reader of a state keeps for one place: an excerpt, from which the dockers there are made,
+//! or only the ledger.
 #![tactic(auto)]
 
 mod excerpt;

@@ -1,4 +1,4 @@
-//! What of an entry is needed at a place.
+//! What is needed of an entry at a place.
 ghost use Rattle.std.specs.Prelude.{◌≡◌, ◌&&◌, ◌||◌, ◌↔◌, map, true, Contains};
 ghost use Rattle.std.specs.List.Sorted.{IsSorted};
 ghost use Rattle.docker_model.specs.file.Journey.{calls_at};
@@ -13,7 +13,7 @@ use cif_file::{Body, Key};
 use cif_line::{Kind, Line, Tiploc, Uid, kind};
 use docker_join::{Entry, Op};
 
-/// Whether a key is a TIPLOC's or an association's, and at a place.
+/// Whether a key is a TIPLOC's or an association's at a place.
 pub(crate) fn is_here(place: &Tiploc, key: &Key) -> bool
     ensures { result ≡ is_here place.now (key_meant key.now) }
 {
@@ -24,7 +24,7 @@ pub(crate) fn is_here(place: &Tiploc, key: &Key) -> bool
     }
 }
 
-/// The UID that a live association names as its associated train's. None for anything else.
+/// The UID of the associated train that a live association names. `None` for any other entry.
 pub(crate) fn name_in(key: &Key, op: &Op) -> Option<Uid>
     ensures { result ≡ name_in (key_meant key.now) (op_meant op.now) }
 {
@@ -34,7 +34,7 @@ pub(crate) fn name_in(key: &Key, op: &Op) -> Option<Uid>
     }
 }
 
-/// Whether the schedules of a UID go on with a run.
+/// Whether a schedule of this UID continues a run.
 pub(crate) fn goes_on(run: &[(Key, Entry)], uid: &Uid) -> bool
     ensures { result ≡ goes_on (map row_meant run.now) uid.now }
 {
@@ -44,7 +44,7 @@ pub(crate) fn goes_on(run: &[(Key, Entry)], uid: &Uid) -> bool
     }
 }
 
-/// Whether a UID is among names in order. By a binary search.
+/// Whether a UID is among sorted names, by a binary search.
 pub(crate) fn has_name(names: &[Uid], uid: &Uid) -> bool
     requires { IsSorted bytes_cmp names.now }
     ensures { (result ≡ true) ↔ Contains names.now uid.now }
@@ -52,7 +52,8 @@ pub(crate) fn has_name(names: &[Uid], uid: &Uid) -> bool
     names.binary_search(uid).is_ok()
 }
 
-/// Whether a run is needed with an entry more: it was, or the entry is a live schedule that calls at a place.
+/// Whether a run is needed with one more entry: it was needed before, or the entry is a live
+/// schedule that calls at a place.
 pub(crate) fn is_needed_with(needed: bool, place: &Tiploc, op: &Op) -> bool
     ensures { result ≡ (needed || is_call place.now (op_meant op.now)) }
 {
@@ -72,19 +73,19 @@ fn is_call(place: &Tiploc, op: &Op) -> bool
     }
 }
 
-/// Whether a schedule with these lines calls at a place, by an LO, an LI or an LT.
+/// Whether a schedule with these lines calls at a place, in an LO, an LI or an LT.
 fn calls_at(place: &Tiploc, lines: &[Line]) -> bool
     ensures { result ≡ calls_at place.now lines.now }
 {
     lines.iter().any(|line| is_call_line(place, line))
 }
 
-/// Whether a line is a location record with a place.
+/// Whether a line is a location record of a place.
 fn is_call_line(place: &Tiploc, line: &Line) -> bool
     ensures { result
         ≡ (is_location (kind_of line.now) && bytes_eq (columns 3 9 line.now) place.now) }
 {
-    // Few lines have the place, so that the kind of few is looked at.
+    // Few lines name the place, so the kind of only a few is looked at.
     if line.bytes()[2..9] != place.bytes()[..] {
         return false;
     }

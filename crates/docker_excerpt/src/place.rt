@@ -1,4 +1,5 @@
-//! An excerpt for the place that a type names, for a reader that gives a state's parts to any keeper.
+//! An excerpt for the place that a type names, for a reader that gives a state's parts to any
+//! keeper.
 ghost use Rattle.std.specs.Prelude.{◌≡◌, ℕ, List, []};
 
 use crate::excerpt::Excerpt;
@@ -11,7 +12,8 @@ use docker_state::LedgerItem;
 use std::alloc::Global;
 use std::marker::{Brand, Model, PhantomData};
 
-/// Names a place, for proofs: a reader of parts knows nothing of the place for which its keeper keeps them.
+/// Names a place, for proofs. A reader of parts doesn't know the place for which its keeper keeps
+/// them.
 pub trait Place {
     // the place
     ghost place: { List ℕ };
@@ -42,7 +44,7 @@ impl<P: Place> Model for ExcerptingAt<P> {
 }
 
 impl<P: Place> ExcerptingAt<P> {
-    /// No part yet. It takes no memory.
+    /// No parts yet. It takes no memory.
     pub fn new(alloc: Global, place: Tiploc) -> ExcerptingAt<P>
         requires { place ≡ P.place }
         ensures { result ≡ record { horizon = 0; ledger = []; entries = [] } }

@@ -1,4 +1,4 @@
-//! The walk over a state's entries that keeps those which the dockers of a place are made of.
+//! Walks over a state's entries, and keeps the entries from which the dockers of a place are made.
 ghost use Rattle.std.specs.Prelude.{◌≡◌, ◌<◌, ℕ, List, [], ◌∷◌, ◌++◌, map, true, false, vec_len, vec_capacity, if◌then◌else◌, IsOk, IsErr, IfOk};
 ghost use Rattle.std.specs.List.Sorted.{IsSorted};
 ghost use Rattle.docker_model.specs.state.Order.{bytes_cmp};
@@ -17,15 +17,15 @@ use docker_join::Entry;
 use docker_parts::Given;
 use std::alloc::Global;
 
-/// What is kept so far, and the run of schedules of one UID, which stays apart until it ends or is needed.
+/// What is kept so far, and the run of schedules of one UID. The run is separate until it ends.
 #[derive(Debug, Drop)]
 pub(crate) struct Walk {
     place: Tiploc,
     kept: Vec<(Key, Entry)>,
     run: Vec<(Key, Entry)>,
-    // whether the run is needed: a partner's, or of one that calls at the place
+    // whether the run is needed: its UID is a partner's, or one of its schedules calls at the place
     needed: bool,
-    // the UIDs of partners; in order from the first run on, since all associations stand before it
+    // the UIDs of partners; sorted from the first run on, since all associations come before it
     names: Vec<Uid>,
 }
 
@@ -51,7 +51,7 @@ impl Walk {
         self.place
     }
 
-    /// Passes the next entry, with its key. Want of memory leaves the walk before it.
+    /// Passes the next entry, with its key. If memory runs out, the walk is still before it.
     pub(crate) fn entry(&mut self, given: &Given, key: Key, entry: Entry) -> Result<(), Memory>
         requires walked { HasWalked self.old given.now.entries }
         requires above { IsAboveEntries (state_of_entries given.now.entries) (key_meant key) }
@@ -67,7 +67,7 @@ impl Walk {
         }
     }
 
-    /// Passes a TIPLOC or an association, which is kept at once where it is at the place.
+    /// Passes a TIPLOC or an association, which is kept at once if it is at the place.
     fn single(&mut self, given: &Given, key: Key, entry: Entry) -> Result<(), Memory>
         requires walked { HasWalked self.old given.now.entries }
         requires above { IsAboveEntries (state_of_entries given.now.entries) (key_meant key) }
@@ -118,7 +118,7 @@ impl Walk {
         Ok(())
     }
 
-    /// Ends the run before a schedule of another UID, and begins the next with it.
+    /// Ends the run before a schedule of another UID, and begins the next run with that schedule.
     fn begin(&mut self, given: &Given, key: ScheduleKey, entry: Entry) -> Result<(), Memory>
         requires walked { HasWalked self.old given.now.entries }
         requires other { goes_on (map row_meant self.old.run.items) key.uid ≡ false }
@@ -137,7 +137,7 @@ impl Walk {
         Ok(())
     }
 
-    /// Puts the partners' names in order before the first run.
+    /// Sorts the partners' names before the first run.
     fn sort_names(&mut self, given: &Given)
         requires { HasWalked self.old given.now.entries }
         ensures walked { HasWalked self.new given.now.entries }
@@ -152,7 +152,8 @@ impl Walk {
         }
     }
 
-    /// Moves the run to what is kept if it is needed, and lets go of it if not. Want of memory leaves both.
+    /// Moves the run to what is kept if it is needed, and drops it if not. If memory runs out, both
+    /// are as they were.
     fn end_run(&mut self) -> Result<(), Memory>
         ensures kept { IsOk result → self.new.kept.items ≡ (if self.old.needed
             then self.old.kept.items ++ self.old.run.items else self.old.kept.items) }
@@ -172,7 +173,7 @@ impl Walk {
         Ok(())
     }
 
-    /// The entries of the excerpt, each with its key, in the order of the keys.
+    /// The entries of the excerpt, each with its key, in key order.
     pub(crate) fn finish(self) -> Result<Vec<(Key, Entry)>, Memory>
         ensures { IfOk result (λ rows. (state : states.State) → HasWalked self state.entries
             → map row_meant rows.items ≡ (excerpt_for self.place state).entries) }

@@ -1,4 +1,4 @@
--- How many spots rows have, and that they are no more than what made them has.
+-- How many spots rows have: no more than what the rows were made from has.
 use Rattle.std.proofs.Common.{◌≡◌, ℕ, ◌+◌, ◌≤◌, List, [], ◌∷◌, ◌++◌, map, length, refl, ap, sym, ◌∙◌, subst, inl, inr, ◌⊎◌, Contains, arith}
 use Rattle.std.specs.declared.cmp.Ordering.TheVariants.{Less, Equal}
 use Rattle.std.specs.Ordering.{on}
@@ -40,7 +40,7 @@ total-append : (count : Key → Op → ℕ) (first second : List Pair) → total
 total-append count [] second = omega arith
 total-append count (pair ∷ first) second = let rest = total-append count first second in omega arith
 
--- a member parts a list in two
+-- a member cuts a list in two
 cut_at : (pairs : List Pair) (pair : Pair) → Contains pairs pair → (front : List Pair) × (back : List Pair) × (pairs ≡ front ++ (pair ∷ back))
 cut_at [] pair among = absurd (nil-Contains pair among)
 cut_at (first ∷ pairs) pair among = by (cut_at pairs pair) (Contains-cons first pairs pair among)
@@ -50,7 +50,7 @@ cut_at (first ∷ pairs) pair among = by (cut_at pairs pair) (Contains-cons firs
     by rest (inl same) = ([], pairs, (λ i. same i ∷ pairs))
     by rest (inr inside) = let found = rest inside in (first ∷ found.0, found.1, (λ i. first ∷ found.2 i))
 
--- rows of different keys that are all among some pairs have no more than these
+-- rows of different keys, each of them among some pairs, have no more places than the pairs
 fewer : (count : Key → Op → ℕ) (rows : List Keyed) → AreAscending rows → (pairs : List Pair) →
     ((row : Keyed) → Contains rows row → Contains {X = Pair} pairs (row.0, row.1.op))
     → total count (pairs_of rows) ≤ total count pairs
@@ -88,7 +88,7 @@ fewer count (row ∷ rows) up pairs among = by (fewer count rows up.1) (cut_at p
             place next inside (Contains-append_cases front ((row.0, row.1.op) ∷ back) (next.0, next.1.op)
             (subst (λ (zs : List Pair). Contains zs (next.0, next.1.op)) whole (among next (cons-Contains row rows next inside))))
 
--- of each association there is at most one place
+-- an association has at most one place
 few_links : (key : Key) (op : Op) → length (link_places key op) ≤ 1
 few_links (association_key key) (put_with (association_body line)) = omega arith
 few_links (association_key key) (put_with (tiploc_body bytes)) = omega arith
@@ -105,11 +105,11 @@ at_most_all (pair ∷ pairs) = let one = few_links pair.0 pair.1 in let rest = a
 abbrev pub changed : List model.Change → List Pair
 changed changes = map (λ (change : model.Change). (change.key, op_of change.act)) changes
 
--- rows have as many calls as their keys with their ops
+-- rows have as many calls as their keys and ops do
 pub places_of_rows : (rows : List Keyed) → length (spots_of call_places rows) ≡ total (λ key op. length (call_places key op)) (pairs_of rows)
 places_of_rows rows = spots_total call_places 0 rows
 
--- and rows have at most one link each
+-- rows have at most one link each
 pub links_of_rows : (rows : List Keyed) → length (spots_of link_places rows) ≤ length rows
 links_of_rows rows =
     let one = spots_total link_places 0 rows in
@@ -117,7 +117,7 @@ links_of_rows rows =
     let three = length-map {B = Pair} rows (λ (row : Keyed). (row.0, row.1.op)) in
     omega arith
 
--- rows that changes make have no more calls than these
+-- rows that changes make have no more calls than the changes
 pub places_of_changes : (rows : List Keyed) (changes : List model.Change) → AreAscending rows → AreMadeBy changes rows
     → length (spots_of call_places rows) ≤ total (λ key op. length (call_places key op)) (changed changes)
 places_of_changes rows changes up made =
@@ -138,7 +138,7 @@ ones : (pairs : List Pair) → total (λ key op. 1) pairs ≡ length pairs
 ones [] = refl
 ones (pair ∷ pairs) = let rest = ones pairs in omega arith
 
--- rows that changes make are no more than these
+-- changes make no more rows than there are changes
 pub rows_of_changes : (rows : List Keyed) (changes : List model.Change) → AreAscending rows → AreMadeBy changes rows → length rows ≤ length changes
 rows_of_changes rows changes up made =
     let few = fewer (λ key op. 1) rows up (changed changes) made in

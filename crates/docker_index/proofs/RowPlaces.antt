@@ -1,4 +1,4 @@
--- The places of a row: those where its schedule calls, and that where its association is.
+-- The places of a row: where its schedule calls, or where its association is.
 use Rattle.std.proofs.Common.{◌≡◌, ℕ, List, [], refl, ap, subst, inl, inr, ◌⊎◌, true, false, Some, None, Contains}
 use Rattle.std.specs.Prelude.{Option, filter}
 use Rattle.docker_model.specs.records.Record.{Kind, header, tiploc_insert, tiploc_amend, tiploc_delete, association, basic_schedule, extra_details, origin_location, intermediate_location, terminating_location, change_en_route, trailer, kind_of, HasKind, columns, is_location}
@@ -86,7 +86,7 @@ pub link_forth : (key : AssociationKey) (line : List ℕ) (place : List ℕ) →
     → Contains (link_places (association_key key) (put_with (association_body line))) place
 link_forth key line place here = single-Contains key.location place here
 
--- what isn't put has no place
+-- a row that isn't put has no place
 pub no_calls : (key : Key) (op : Op) → is_put op ≡ false → call_places key op ≡ []
 no_calls (schedule_key key) deleted none = refl
 no_calls (schedule_key key) lapsed none = refl

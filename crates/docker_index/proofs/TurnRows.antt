@@ -1,4 +1,5 @@
--- The turns of a walk over two tables: whose rows they have, which win, and where those go.
+-- The turns of a walk over two tables: whose rows they have, which rows win, and where the winning
+-- rows go.
 use Rattle.std.proofs.Common.{◌≡◌, ℕ, suc, ◌+◌, ◌≤◌, List, [], ◌∷◌, map, length, refl, ap, Bool, true, false, cond, None, arith}
 use Rattle.std.specs.Prelude.{Option, ⊤}
 use Rattle.std.specs.List.{AllByRecursion}
@@ -20,17 +21,17 @@ use Rattle.docker_index.specs.Turns.{AtKey, in_first, in_second, in_both, firsts
 abbrev pub Row : Type 0
 Row = Key × Entry
 
--- the entry that wins of two
+-- the winning entry of two
 abbrev pub picked : Entry → Entry → Entry
 picked = ord_max (on entry_meant entry_cmp)
 
--- the row that wins
+-- the winning row of a turn
 abbrev pub winner : AtKey → Row
 winner (in_first one) = one
 winner (in_second other) = other
 winner (in_both one other) = (one.0, picked one.1 other.1)
 
--- both rows are of one key
+-- if a turn has two rows, they are of one key
 abbrev pub IsLevel : AtKey → Type 0
 IsLevel (in_first one) = ⊤
 IsLevel (in_second other) = ⊤
@@ -98,17 +99,17 @@ pub firsts_are : (xs ys : List Row) → firsts (turns_of xs ys) ≡ xs
 firsts_are [] ys = no_firsts ys
 firsts_are (x ∷ xs) ys = firsts_from x xs (turns_of xs) (firsts_are xs) ys
 
--- and those of the second
+-- the turns have the rows of the second table
 pub seconds_are : (xs ys : List Row) → seconds (turns_of xs ys) ≡ ys
 seconds_are [] ys = all_seconds ys
 seconds_are (x ∷ xs) ys = seconds_from x xs (turns_of xs) (seconds_are xs) ys
 
--- the rows that win are those of the walk that joins the tables
+-- the winning rows are the rows of the walk that joins the tables
 pub winners_are : (xs ys : List Row) → map winner (turns_of xs ys) ≡ walk picked xs ys
 winners_are [] ys = all_winners ys
 winners_are (x ∷ xs) ys = winners_from x xs (turns_of xs) (walk picked xs) (winners_are xs) ys
 
--- at each turn both are of one key
+-- at each turn, two rows are of one key
 pub turns_level : (xs ys : List Row) → AllByRecursion IsLevel (turns_of xs ys)
 turns_level [] ys = all_level ys
 turns_level (x ∷ xs) ys = level_from x xs (turns_of xs) (turns_level xs) ys
@@ -137,7 +138,7 @@ module _ (floor : Option FileStamp) (horizon : ℕ) where
       by true won lost = won
       by false won lost = lost
 
-  -- and each row of the second
+  -- each row of the second table has a move
   pub second_len : (at : ℕ) (turns : List AtKey) → length (second_moves floor horizon at turns) ≡ length (seconds turns)
   second_len at [] = refl
   second_len at (in_first one ∷ turns) = second_len (after floor at one.1) turns

@@ -20,46 +20,49 @@ use Rattle.docker_index.specs.declared.mark.Mark.{Mark}
 use Rattle.docker_index.specs.declared.moves.Moves.{Moves}
 use Rattle.docker_index.specs.Spots.{Places, call_places, link_places, spots_of}
 
--- a floor
+-- the floor that the code stands for
 abbrev pub floor_meant : Option stamp.FileStamp → Option FileStamp
 floor_meant floor = option_map file_stamp_meant floor
 
--- an entry of the key among these, kept under the floor, lapses under the horizon to this one
+-- among these entries of the key, one is kept under the floor and lapses under the horizon to this
+-- one
 abbrev pub LapsesTo : List (model.Key × ops.Entry) → Option FileStamp → ℕ → model.Key → ops.Entry → Type 0
 LapsesTo entries floor horizon key entry =
     (before : ops.Entry) × Contains entries (key, before) × IsKept floor before.stamp.file × (lapse_entry horizon before ≡ entry)
 
--- the entries are what the join of two tables keeps under the floor, each lapsed under the horizon
+-- the entries are the ones that the join of two tables keeps under the floor, each lapsed under the
+-- horizon
 pub record AreJoined (first second : List (Key × Entry)) (floor : Option FileStamp) (horizon : ℕ) (joined : List (model.Key × ops.Entry)) : Type 0 where
   pub whole : List (Key × Entry)
   pub is_join : IsJoinOfRows (ord_max (on entry_meant entry_cmp)) first second whole
   pub ascending : states.AreAscending joined
   pub members : (key : model.Key) (entry : ops.Entry) → Contains joined (key, entry) ↔ LapsesTo (map row_meant whole) floor horizon key entry
 
--- a spot where its row goes, if that stands live in the join
+-- a spot, moved to where its row goes, if the row stands live in the join
 abbrev pub moved_spot : List (Option ℕ) → Spot → Option Spot
 moved_spot moves spot =
     option_map (λ at. record { place = spot.place; at = at }) (option_and_then (λ (move : Option ℕ). move) (slice_get moves spot.at))
 
--- spots where their rows go
+-- spots, moved to where their rows go
 abbrev pub moved_spots : List (Option ℕ) → List Spot → List Spot
 moved_spots moves spots = filter_map (moved_spot moves) spots
 
--- a mark where its place and its row go, by the indexes of its places among others
+-- a mark, moved to where its place and its row go; `ranks` has the indexes of its places among
+-- other places
 abbrev pub moved_mark : List ℕ → List (Option ℕ) → Mark → Option Mark
 moved_mark ranks moves mark = option_and_then
     (λ rank. option_map (λ at. record { place = rank; at = at }) (option_and_then (λ (move : Option ℕ). move) (slice_get moves mark.at)))
     (slice_get ranks mark.place)
 
--- marks where their places and their rows go
+-- marks, moved to where their places and their rows go
 abbrev pub moved_marks : List ℕ → List (Option ℕ) → List Mark → List Mark
 moved_marks ranks moves marks = filter_map (moved_mark ranks moves) marks
 
--- of two rows that go into the join the first goes before the other
+-- of two rows that go into the join, the first goes before the second
 abbrev pub AreRising : List (Option ℕ) → Type 0
 AreRising moves = (i j p q : ℕ) → i < j → slice_get moves i ≡ Some (Some p) → slice_get moves j ≡ Some (Some q) → p < q
 
--- the spots of the joined rows are the spots of both sides, where their rows go
+-- the spots of the joined rows are the spots of both sides, moved to where their rows go
 abbrev pub HasMovedSpots : Places → List (model.Key × ops.Entry) → List (model.Key × ops.Entry) → List (model.Key × ops.Entry) → Moves → Type 0
 HasMovedSpots places first second joined moves = (spot : Spot) → Contains (spots_of places joined) spot
     ↔ (Contains (moved_spots moves.first.items (spots_of places first)) spot ⊎ Contains (moved_spots moves.second.items (spots_of places second)) spot)

@@ -12,7 +12,7 @@ mark_of ranks at number = record { place = get_or ranks number 0; at = at }
 abbrev pub row_before : ℕ → List Piece → ℕ
 row_before rows left = rows - length left - 1
 
--- the marks of this many rows, of which these pieces are left
+-- the marks of this many rows, if these pieces are left
 abbrev pub noted_marks : Bool → List ℕ → List ℕ → ℕ → List Piece → List Mark
 noted_marks links ranks numbers rows [] = []
 noted_marks links ranks numbers rows (piece ∷ pieces) =

@@ -19,7 +19,7 @@ pub record HasRoomOf (count : ℕ) (marks : Vec Mark) : Type 0 where
   pub empty : vec_len marks ≡ 0
   pub room : count ≤ vec_capacity marks
 
--- nothing is counted, and there is room for this many places and this many marks
+-- nothing is counted yet, and there is room for this many places and this many marks
 pub record HasSlots (places marks : ℕ) (slots : Slots) : Type 0 where
   pub none : AreCounts [] slots.counts.items
   pub len : length slots.counts.items ≡ places
@@ -28,7 +28,8 @@ pub record HasSlots (places marks : ℕ) (slots : Slots) : Type 0 where
   pub room_next : places ≤ vec_capacity slots.next
   pub room : marks ≤ length slots.marks.items
 
--- room for the index of the rows: their places, in order, the indexes of those that have numbers, and slots for the marks
+-- room for the index of the rows: their places, in order, the index of each place that has a
+-- number, and slots for the marks
 pub record HasRoomFor (rows : List (model.Key × ops.Entry)) (names : List (List ℕ)) (room : Room) : Type 0 where
   pub named : IsStrictlyAscending bytes_cmp room.places.items
   pub ranks : AreRanks room.places.items names room.ranks.items
@@ -36,7 +37,7 @@ pub record HasRoomFor (rows : List (model.Key × ops.Entry)) (names : List (List
   pub calls : HasSlots (length room.places.items) (length (spots_of call_places rows)) room.calls
   pub links : HasSlots (length room.places.items) (length (spots_of link_places rows)) room.links
 
--- each place of the one list is in the other
+-- each place of the first list is in the second
 abbrev pub Includes : List (List ℕ) → List (List ℕ) → Type 0
 Includes few many = (place : List ℕ) → Contains few place → Contains many place
 
@@ -48,7 +49,7 @@ pub record IsRoom (names : List (List ℕ)) (most_calls most_rows : ℕ) (room :
   pub calls : HasSlots (length room.places.items) most_calls room.calls
   pub links : HasSlots (length room.places.items) most_rows room.links
 
--- each of the rows is one that a change makes
+-- each row is one that a change makes
 abbrev pub AreMadeBy : List model.Change → List (model.Key × ops.Entry) → Type 0
 AreMadeBy changes rows = (row : model.Key × ops.Entry) → Contains rows row
     → Contains {X = model.Key × ops.Op} (map (λ (change : model.Change). (change.key, op_of change.act)) changes) (row.0, row.1.op)

@@ -1,4 +1,5 @@
--- An index of rows by place: the spots where live schedules call, and those where live associations are.
+-- An index of rows by place: the spots where live schedules call, and the spots where live
+-- associations are.
 use Rattle.std.specs.Prelude.{ℕ, ◌+◌, ◌↔◌, List, [], ◌∷◌, ◌++◌, map, Contains, Option, option_map, slice_get}
 use Rattle.std.specs.List.{filter_map}
 use Rattle.docker_model.specs.file.Change.{Key}
@@ -10,7 +11,7 @@ use Rattle.docker_index.specs.declared.mark.Mark.{Mark}
 use Rattle.docker_index.specs.MarkOrder.{mark_cmp}
 use Rattle.docker_index.specs.declared.index.Index.{Index}
 
--- the places of what a row has
+-- a function from a key and its op to places
 abbrev pub Places : Type 0
 Places = Key → Op → List (List ℕ)
 
@@ -18,11 +19,11 @@ Places = Key → Op → List (List ℕ)
 abbrev pub places_of : Places → Key × Entry → List (List ℕ)
 places_of places row = places row.0 row.1.op
 
--- a place of the row that has this index
+-- the spot of a place and of the row that has this index
 abbrev pub spot_at : ℕ → List ℕ → Spot
 spot_at at place = record { place = place; at = at }
 
--- the spots of rows of which the first has this index
+-- the spots of rows, if the first row has this index
 abbrev pub spots_from : Places → ℕ → List (Key × Entry) → List Spot
 spots_from places at [] = []
 spots_from places at (row ∷ rows) = map (spot_at at) (places_of places row) ++ spots_from places (1 + at) rows
@@ -31,12 +32,12 @@ spots_from places at (row ∷ rows) = map (spot_at at) (places_of places row) ++
 abbrev pub spots_of : Places → List (Key × Entry) → List Spot
 spots_of places rows = spots_from places 0 rows
 
--- the spots are the rows' spots, each once, ascending
+-- the spots are the spots of the rows, each once, ascending
 pub record AreSpotsOf (places : Places) (rows : List (Key × Entry)) (spots : List Spot) : Type 0 where
   pub ascending : IsStrictlyAscending spot_cmp spots
   pub members : (spot : Spot) → Contains spots spot ↔ Contains (spots_of places rows) spot
 
--- the spot that a mark stands for, by the places that it names
+-- the spot that a mark stands for; its place is an index into these places
 abbrev pub mark_spot : List (List ℕ) → Mark → Option Spot
 mark_spot names mark = option_map (spot_at mark.at) (slice_get names mark.place)
 

@@ -1,4 +1,4 @@
--- What stands at spots.
+-- The live rows at spots.
 use Rattle.std.specs.Prelude.{◌≡◌, ℕ, Bool, List, ◌++◌, Contains, Option, Some, slice_get, option_and_then}
 use Rattle.std.specs.List.{filter_map}
 use Rattle.std.specs.Option.{is_some}
@@ -28,7 +28,7 @@ live_at_mark rows mark = option_and_then live_row (slice_get rows mark.at)
 abbrev pub standing_marks : List (Key × Entry) → List Mark → List Row
 standing_marks rows marks = filter_map (live_at_mark rows) marks
 
--- the marks of the place that has this index: none before or after them is of it
+-- the marks of the place that has this index; no mark before or after them is of that place
 pub record IsPieceOf (rank : ℕ) (marks piece : List Mark) : Type 0 where
   pub before : List Mark
   pub behind : List Mark
@@ -37,7 +37,7 @@ pub record IsPieceOf (rank : ℕ) (marks piece : List Mark) : Type 0 where
   pub here : (mark : Mark) → Contains piece mark → mark.place ≡ rank
   pub none_behind : (mark : Mark) → Contains behind mark → ¬ (mark.place ≡ rank)
 
--- the spots of the place: none before or after them is of it
+-- the spots of the place; no spot before or after them is of that place
 pub record IsPieceAt (place : List ℕ) (spots piece : List Spot) : Type 0 where
   pub before : List Spot
   pub behind : List Spot

@@ -1,4 +1,4 @@
--- The rows of the two indexes of a live table that spots stand for.
+-- The rows that spots stand for in the two indexes of a live table.
 use Rattle.std.specs.Prelude.{ℕ, List, Option, Some, None, slice_get, option_and_then}
 use Rattle.std.specs.List.{filter_map}
 use Rattle.docker_model.specs.file.Change.{Key, association_key, schedule_key}
@@ -6,12 +6,12 @@ use Rattle.docker_model.specs.state.Op.{Entry}
 use Rattle.docker_model.specs.state.Index.{CallingRow, LinkedRow}
 use Rattle.docker_index.specs.SpotOrder.{Spot}
 
--- a place with the schedule of a key
+-- a place with the schedule that has the key
 abbrev pub calling_row : List ℕ → Key → Option CallingRow
 calling_row place (schedule_key key) = Some (place, key)
 calling_row _ _ = None
 
--- a place with the association of a key
+-- a place with the association that has the key
 abbrev pub linked_row : List ℕ → Key → Option LinkedRow
 linked_row place (association_key key) = Some (place, key)
 linked_row _ _ = None

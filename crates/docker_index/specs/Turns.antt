@@ -20,7 +20,7 @@ pub data AtKey : Type 0 where
   in_second : (other : Key × Entry) → AtKey
   in_both : (one other : Key × Entry) → AtKey
 
--- a turn of the walk
+-- what a turn of the walk has
 abbrev pub turn_meant : Turn → AtKey
 turn_meant (turn.First one) = in_first one.now
 turn_meant (turn.Second other) = in_second other.now
@@ -33,20 +33,20 @@ firsts (in_first one ∷ turns) = one ∷ firsts turns
 firsts (in_second other ∷ turns) = firsts turns
 firsts (in_both one other ∷ turns) = one ∷ firsts turns
 
--- the rows of the second
+-- the rows of the second table
 abbrev pub seconds : List AtKey → List (Key × Entry)
 seconds [] = []
 seconds (in_first one ∷ turns) = seconds turns
 seconds (in_second other ∷ turns) = other ∷ seconds turns
 seconds (in_both one other ∷ turns) = other ∷ seconds turns
 
--- the turn at the least key, by how the first keys compare, before the rest of the walk
+-- the turn at the lesser key, by how the first keys compare, before the rest of the walk
 abbrev pub placed_turn : Ordering → Key × Entry → Key × Entry → List AtKey → List AtKey → List AtKey → List AtKey
 placed_turn Less x y less equal greater = in_first x ∷ less
 placed_turn Equal x y less equal greater = in_both x y ∷ equal
 placed_turn Greater x y less equal greater = in_second y ∷ greater
 
--- the walk from a row of the first table on, whose rest is walked so
+-- the walk from a row of the first table on; `rest` walks the rows after it
 abbrev pub turns_from : Key × Entry → (List (Key × Entry) → List AtKey) → List (Key × Entry) → List AtKey
 turns_from x rest [] = in_first x ∷ rest []
 turns_from x rest (y ∷ ys) = placed_turn (row_cmp x y) x y (rest (y ∷ ys)) (rest ys) (turns_from x rest ys)
@@ -56,27 +56,27 @@ abbrev pub turns_of : List (Key × Entry) → List (Key × Entry) → List AtKey
 turns_of [] ys = map in_second ys
 turns_of (x ∷ xs) ys = turns_from x (turns_of xs) ys
 
--- what has this file stamp is kept under the floor
+-- whether the floor keeps what has this file stamp
 abbrev pub is_kept : Option FileStamp → FileStamp → Bool
 is_kept None stamp = true
 is_kept (Some floor) stamp = not (is_gt (file_stamp_cmp floor stamp))
 
--- the op is a put
+-- whether the op is a put
 abbrev pub is_put : ops.Op → Bool
 is_put deleted = false
 is_put lapsed = false
 is_put (put_with body) = true
 
--- the index to which a winning entry goes, after this many rows
+-- the index that a winning entry gets, after this many rows
 abbrev pub goes : Option FileStamp → ℕ → ℕ → Entry → Option ℕ
 goes floor horizon at entry =
     if is_kept floor (entry_meant entry).stamp.file && is_put (lapse horizon (entry_meant entry).op) then Some at else None
 
--- how many rows go up to and with it
+-- how many rows there are with a winning entry, after this many rows
 abbrev pub after : Option FileStamp → ℕ → Entry → ℕ
 after floor at entry = if is_kept floor (entry_meant entry).stamp.file then 1 + at else at
 
--- the first entry wins over the second
+-- whether the first entry wins over the second
 abbrev pub wins : Entry → Entry → Bool
 wins one other = is_lt (entry_cmp (entry_meant other) (entry_meant one))
 

@@ -24,19 +24,20 @@ use cif_places::Notes;
 use docker_join::Entry;
 use std::alloc::Global;
 
-/// An index of rows, each a key with its entry: which of them have to do with a place.
+/// An index of rows, each a key with its entry: which rows call or are linked at a place.
 #[derive(Debug, Drop)]
 pub struct Index {
     /// The TIPLOCs that are named, ascending, each once.
     pub places: Vec<[u8; 7]>,
-    /// Each place with each live schedule that calls there (by an LO, an LI or an LT), once, ascending.
+    /// Each place with each live schedule that calls there (by an LO, an LI or an LT), once,
+    /// ascending.
     pub calls: Vec<Mark>,
     /// Each place with each live association there, once, ascending.
     pub links: Vec<Mark>,
 }
 
 impl Index {
-    /// The index of no row.
+    /// The index of no rows.
     pub fn new(alloc: Global) -> Index
         ensures { IsIndexOf [] result }
     {
@@ -47,7 +48,8 @@ impl Index {
         }
     }
 
-    /// The index of these rows, by what was noted of them, in room for it. It takes no memory.
+    /// The index of these rows, made from what was noted of them, in the room for it. It takes no
+    /// memory.
     pub fn of_rows(room: Room, notes: Notes, rows: &[(Key, Entry)]) -> Index
         requires room { HasRoomFor (map row_meant rows.now) notes.names.list.items room }
         requires noted { AreNoted notes.names.list.items notes.numbers.items
@@ -75,7 +77,8 @@ impl Index {
         }
     }
 
-    /// The index after rows have lapsed, in place: of these rows, which were others before a horizon was set. It takes no memory.
+    /// Makes this the index of these rows, in place: a horizon was set, and some rows lapsed. It
+    /// takes no memory.
     pub fn lapse(&mut self, rows: &[(Key, Entry)])
         ensures { (before : List (model.Key × ops.Entry)) (horizon : ℕ)
             → map row_meant rows.now ≡ lapse_entries horizon before
@@ -85,7 +88,8 @@ impl Index {
         self.links.retain(|mark| is_put_at(rows, mark));
     }
 
-    /// The index of the join of the rows that two are of, in a time that is linear in both. `Memory` if the allocator refuses it.
+    /// The index of the join of two tables, from the indexes of the two. It takes time linear in
+    /// both. `Memory` if the allocator refuses it.
     pub fn of_join(
         alloc: Global,
         first: &Index,
@@ -132,7 +136,8 @@ impl Index {
         })
     }
 
-    /// Walks the live schedules that call at a TIPLOC, of the rows that this is the index of. By a binary search.
+    /// Walks the live schedules that call at a TIPLOC, among the rows that this is the index of. It
+    /// finds them by a binary search.
     pub fn calling<'a>(&'a self, rows: &'a [(Key, Entry)], tiploc: &Tiploc) -> Standing<'a>
         requires index { IsIndexOf (map row_meant rows.now) self.now }
         requires ascending { AreAscending (map row_meant rows.now) }
@@ -149,7 +154,8 @@ impl Index {
         )
     }
 
-    /// Walks the live associations at a location, of the rows that this is the index of. By a binary search.
+    /// Walks the live associations at a location, among the rows that this is the index of. It
+    /// finds them by a binary search.
     pub fn linked<'a>(&'a self, rows: &'a [(Key, Entry)], tiploc: &Tiploc) -> Standing<'a>
         requires index { IsIndexOf (map row_meant rows.now) self.now }
         requires ascending { AreAscending (map row_meant rows.now) }
@@ -167,7 +173,8 @@ impl Index {
     }
 }
 
-/// An empty vector with room for this many marks of each of two indexes. `Memory` if the allocator refuses it.
+/// An empty vector with room for this many marks of each of two indexes. `Memory` if the allocator
+/// refuses it.
 fn room_for(alloc: Global, first: usize, second: usize) -> Result<Vec<Mark>, Memory>
     ensures { IfOk result (HasRoomOf (first + second)) }
 {

@@ -1,4 +1,5 @@
-//! What the spots of an index are of the live table. Each law is the contract of a function with no body: it holds of all that it names.
+//! The spots of an index, as indexes of the live table. Each law is the contract of a function with
+//! no body: it holds of all that it names.
 ghost use Rattle.std.specs.Prelude.{◌≡◌, List};
 ghost use Rattle.docker_model.specs.file.Change.{Key};
 ghost use Rattle.docker_model.specs.state.Op.{Entry};

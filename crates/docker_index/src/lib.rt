@@ -1,5 +1,5 @@
-//! Two indexes of the rows of a state: the TIPLOCs where its live schedules call, and the locations of its live associations.
-//! What was noted of rows is handed on from the crate below.
+//! Two indexes of the rows of a state: the TIPLOCs where its live schedules call, and the locations
+//! of its live associations. Re-exports the notes of rows from the crate below.
 #![tactic(auto)]
 
 mod fill;

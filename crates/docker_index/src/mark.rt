@@ -6,7 +6,8 @@ ghost use Rattle.docker_index.specs.MarkOrder.{mark_cmp, mark_total};
 
 use std::cmp::Ordering;
 
-/// A place among the places of an index, and one of some rows that calls or is linked there. Ordered by place, and then by row.
+/// A place, as an index into the places of an index of rows, and a row that calls or is linked
+/// there. Ordered by place, then by row.
 #[derive(Clone, Copy, Debug)]
 pub struct Mark {
     /// The index of the place among the places, from 0.

@@ -14,18 +14,19 @@ use cif_line::Memory;
 use docker_join::{Entry, FileStamp, Op};
 use std::alloc::Global;
 
-/// For each row of two tables, in their order, its index among the rows of their join; none if the other table's entry wins, where the entry is not kept under
-/// the floor, and where it is not live there.
+/// For each row of two tables, in order, its index among the rows of their join. None if the other
+/// table's entry wins, if the floor doesn't keep the entry, or if the entry isn't live there.
 #[derive(Debug, Drop)]
 pub struct Moves {
-    /// Those of the first table's rows.
+    /// The indexes of the first table's rows.
     pub first: Vec<Option<u32>>,
-    /// Those of the second table's rows.
+    /// The indexes of the second table's rows.
     pub second: Vec<Option<u32>>,
 }
 
 impl Moves {
-    /// No moves yet, with room for the moves of this many rows of each table. `Memory` if the allocator refuses it.
+    /// No moves yet, with room for the moves of this many rows of each table. `Memory` if the
+    /// allocator refuses it.
     pub fn with_room(alloc: Global, first: usize, second: usize) -> Result<Moves, Memory>
         ensures { IfOk result (HasRows first second) }
     {
@@ -38,8 +39,9 @@ impl Moves {
         Ok(Moves { first, second })
     }
 
-    /// The moves of the rows of two tables into those of their join that are kept under a floor, each lapsed under a horizon, a day number from 0 for 1960-01-01. They
-    /// have to have room. It takes no memory.
+    /// The moves of the rows of two tables into their join, which keeps what the floor keeps, each
+    /// lapsed under a horizon. A horizon is a day number from 0 for 1960-01-01. The moves need room
+    /// for the rows of both tables. It takes no memory.
     pub fn of_tables(
         self,
         first: &[(Key, Entry)],
@@ -79,7 +81,8 @@ impl Moves {
         moves
     }
 
-    /// Takes a turn of the walk over both tables, after this many rows. Returns how many there are with it.
+    /// Takes a turn of the walk over both tables, after this many rows. Returns how many rows there
+    /// are with it.
     fn take(&mut self, turn: Turn<'_>, floor: &Option<FileStamp>, horizon: u16, at: u32) -> u32
         requires few { at + 1 < 2 ^ 32 }
         requires first_room { vec_len self.old.first + length (firsts (turn_meant turn ∷ []))
@@ -130,14 +133,14 @@ impl Moves {
     }
 }
 
-/// Whether the first of two entries of a key wins: where they are level the second does.
+/// Whether the first of two entries of a key wins. If they are equal, the second wins.
 fn wins(one: &Entry, other: &Entry) -> bool
     ensures { result ≡ wins one.now other.now }
 {
     other < one
 }
 
-/// The index to which a winning entry goes, after this many rows. None if it is not kept, or not live.
+/// The index that a winning entry gets, after this many rows. None if it isn't kept, or isn't live.
 fn index_of(entry: &Entry, floor: &Option<FileStamp>, horizon: u16, at: u32) -> Option<u32>
     ensures { result ≡ goes (floor_meant floor.now) horizon at entry.now }
 {
@@ -148,7 +151,7 @@ fn index_of(entry: &Entry, floor: &Option<FileStamp>, horizon: u16, at: u32) -> 
     }
 }
 
-/// How many rows go up to and with an entry that wins.
+/// How many rows there are with a winning entry, after this many rows.
 fn index_after(entry: &Entry, floor: &Option<FileStamp>, at: u32) -> u32
     requires { at + 1 < 2 ^ 32 }
     ensures { result ≡ after (floor_meant floor.now) at entry.now }
@@ -160,7 +163,7 @@ fn index_after(entry: &Entry, floor: &Option<FileStamp>, at: u32) -> u32
     }
 }
 
-/// Whether what has this file stamp is kept under a floor.
+/// Whether a floor keeps what has this file stamp.
 fn is_kept(floor: &Option<FileStamp>, stamp: &FileStamp) -> bool
     ensures { result ≡ is_kept (floor_meant floor.now) (file_stamp_meant stamp.now) }
 {
@@ -170,7 +173,7 @@ fn is_kept(floor: &Option<FileStamp>, stamp: &FileStamp) -> bool
     }
 }
 
-/// Whether an op is a put that does not lapse under a horizon.
+/// Whether an op is a put that doesn't lapse under a horizon.
 fn stays_put(op: &Op, horizon: u16) -> bool
     ensures { result ≡ is_put (lapse horizon (op_meant op.now)) }
 {

@@ -23,7 +23,7 @@ pub fn notes_of_rows(alloc: Global, rows: &[(Key, Entry)]) -> Result<Notes, Memo
     Ok(notes)
 }
 
-/// Notes the next row, a key with its op. Want of memory leaves out the row.
+/// Notes the next row: a key with its op. If it returns `Memory`, the row isn't noted.
 pub fn note_row(notes: &mut Notes, key: &Key, op: &Op) -> Result<(), Memory>
     ensures ok { IsOk result → (items : List Item) → HasNoted items notes.old
         → HasNoted (items ++ (key_meant key.now, op_meant op.now) ∷ []) notes.new }

@@ -13,21 +13,22 @@ use cif_line::Memory;
 use cif_places::Notes;
 use std::alloc::Global;
 
-/// The places of an index that is to be made, and room for the rest of it.
+/// The places of an index that will be made, and room for the rest of it.
 #[derive(Debug, Drop)]
 pub struct Room {
     /// The TIPLOCs that the rows name, ascending.
     pub places: Vec<[u8; 7]>,
-    /// Of each place that has a provisional number its index among them.
+    /// For each place that has a provisional number, its index among the places.
     pub ranks: Vec<u32>,
-    /// Where the calls are put in order.
+    /// Where the calls are sorted.
     pub calls: Slots,
-    /// Where the links are put in order.
+    /// Where the links are sorted.
     pub links: Slots,
 }
 
 impl Room {
-    /// Room for the index of the rows that were noted, and of those rows of which the changes that were noted make one for each key. `Memory` if the allocator refuses it.
+    /// Room for the index of the rows that were noted. If changes were noted, room for the index of
+    /// the rows that they make, one for each key. `Memory` if the allocator refuses it.
     pub fn for_notes(alloc: Global, notes: &Notes) -> Result<Room, Memory>
         ensures rows { (rows : List (model.Key × ops.Entry)) → HasNoted (items_of rows) notes.now
             → IfOk result (HasRoomFor rows notes.now.names.list.items) }
@@ -43,7 +44,7 @@ impl Room {
         )
     }
 
-    /// The places of names, and room for this many calls and for the links of this many rows.
+    /// The places of names, with room for this many calls and for the links of this many rows.
     fn for_names(
         alloc: Global,
         names: &[[u8; 7]],

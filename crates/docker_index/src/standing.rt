@@ -18,8 +18,9 @@ use cif_file::{Body, Key};
 use docker_join::{Entry, Op};
 use std::marker::Model;
 
-/// Walks the live rows at a place, each with an index and its key with its body, in the order of the keys. The index is that among the rows where it stands, but
-/// no clause says so: it is where to look first, and no answer rests on it.
+/// Walks the live rows at a place, in the order of the keys: each an index and a key with its body.
+/// The index is the row's index among the rows, but no clause says so: it is where to look first,
+/// and no answer rests on it.
 #[derive(Clone, Debug, Drop)]
 pub struct Numbered<'a> {
     rows: &'a [(Key, Entry)],
@@ -57,7 +58,7 @@ impl<'a> Iterator for Numbered<'a> {
     }
 }
 
-/// Walks the live rows at a place, each key with its body, in the order of the keys.
+/// Walks the live rows at a place, in the order of the keys: each a key with its body.
 #[derive(Clone, Debug, Drop)]
 pub struct Standing<'a> {
     numbered: Numbered<'a>,
@@ -82,7 +83,7 @@ impl<'a> Standing<'a> {
         }
     }
 
-    /// The same walk, each row with its index, from 0.
+    /// The same walk, with the index of each row, from 0.
     pub fn numbered(self) -> Numbered<'a>
         ensures { result ≡ self.entry }
     {
@@ -130,7 +131,8 @@ pub(crate) fn is_put_at(rows: &[(Key, Entry)], mark: &Mark) -> bool
     }
 }
 
-/// The marks of the place that has an index, of marks that ascend. By a binary search.
+/// The marks of the place that has an index, among marks that ascend. It finds them by a binary
+/// search.
 pub(crate) fn marks_of<'a>(marks: &'a [Mark], rank: usize) -> &'a [Mark]
     requires { IsStrictlyAscending mark_cmp marks.now }
     ensures { IsPieceOf rank marks.entry.now result.now }
@@ -154,7 +156,8 @@ fn is_up_to(mark: &Mark, rank: usize) -> bool
     (mark.place as usize).cmp(&rank).is_le()
 }
 
-/// The marks at a place, of marks that ascend. By a binary search, none if the place is not named.
+/// The marks at a place, among marks that ascend. It finds them by a binary search; none if the
+/// place isn't named.
 pub(crate) fn marks_at<'a>(places: &[[u8; 7]], marks: &'a [Mark], place: &[u8; 7]) -> &'a [Mark]
     requires named { IsStrictlyAscending bytes_cmp places.now }
     requires up { IsStrictlyAscending mark_cmp marks.now }

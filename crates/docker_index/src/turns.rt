@@ -18,7 +18,7 @@ pub(crate) enum Turn<'a> {
     Both(&'a (Key, Entry), &'a (Key, Entry)),
 }
 
-/// Walks the keys of two tables in order, each with what they have there.
+/// Walks the keys of two tables in order, with what the tables have at each key.
 #[derive(Clone, Debug, Drop)]
 pub(crate) struct Turns<'a> {
     first: &'a [(Key, Entry)],

@@ -17,7 +17,7 @@ use Rattle.cif_file.specs.Meaning.{key_meant}
 use Rattle.docker_join.specs.Rows.{row_cmp, AreAscending, value_at}
 use Rattle.docker_join.specs.RowLaws.{value_of, row_of}
 
--- how a row's key stands to a key
+-- how a row's key compares with a key
 abbrev pub by_key : {E : Type 0} → model.Key → Key × E → Ordering
 by_key key row = key_cmp (key_meant row.0) key
 
@@ -28,14 +28,14 @@ module _ {E : Type 0} where
   above_at low (row ∷ rows) zero d above within = above.0
   above_at low (row ∷ rows) (suc j) d above within = above_at low rows j d above.1 (omega arith)
 
-  -- each row is below those after it
+  -- each row is below the rows after it
   below_at : (rows : List (Key × E)) (i j : ℕ) (d : Key × E) → AreAscending rows → i < j → j < length rows → row_cmp (get_or rows i d) (get_or rows j d) ≡ Less
   below_at [] i j d up before within = absurd (let none : j < length {A = ℕ} [] = within in omega arith)
   below_at (row ∷ rows) i zero d up before within = absurd (omega arith)
   below_at (row ∷ rows) zero (suc j) d up before within = above_at row rows j d up.0 (omega arith)
   below_at (row ∷ rows) (suc i) (suc j) d up before within = below_at rows i j d up.1 (omega arith) (omega arith)
 
-  -- the answers of the search rise where the keys do
+  -- if one row is below another, their comparisons with a key do not go down
   rises : (key : model.Key) (x y : Key × E) → row_cmp x y ≡ Less → ordering_index (by_key key x) ≤ ordering_index (by_key key y)
   rises key x y below = by (by_key key x) refl (by_key key y) refl
     where
@@ -52,7 +52,7 @@ module _ {E : Type 0} where
           let turned = key_total.antisymm (key_meant y.0) (key_meant x.0) in let r = ap ordering_reverse below in cc)
       by Greater at_x Greater at_y = omega arith
 
-  -- how the rows compare with a key never goes down
+  -- the comparisons of the rows with a key never go down
   pub rows_rise : (rows : List (Key × E)) (key : model.Key) → AreAscending rows → IsNonDecreasingBy (λ row. ordering_index (by_key key row)) rows
   rows_rise rows key up = λ i j d before within. by i j d before within (cases_lt i j)
     where
@@ -70,7 +70,7 @@ module _ {E : Type 0} where
       let here : by_key key row ≡ Equal = ap (by_key key) is ∙ tied row in
       sym (subst (λ k. value_at rows k ≡ Some row.1) (exact_key (key_meant row.0) key here) (value_of rows row up (at, within, sym is)))
 
-  -- rows that are below the key up to a place, and above it from there on, do not have it
+  -- rows below the key up to a place, and above it from there on, do not have the key
   pub row_missing : (rows : List (Key × E)) (key : model.Key) (at : ℕ) → AreAscending rows
       → IsPartitionPoint (λ row. by_key key row ≡ Less) (λ row. by_key key row ≡ Greater) rows at → None ≡ value_at rows key
   row_missing rows key at up parts = by (value_at rows key) refl

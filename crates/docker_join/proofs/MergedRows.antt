@@ -1,4 +1,4 @@
--- The walk over the rows of two tables, and that it gives their join.
+-- The walk over the rows of two tables gives their join.
 use Rattle.std.proofs.Common.{◌≡◌, ℕ, List, [], ◌∷◌, ◌++◌, length, refl, ap, sym, ◌∙◌, subst, Some, None, MatchOption, arith}
 use Rattle.std.specs.Prelude.{Option, ⊤}
 use Rattle.std.specs.Option.{option_to_list}
@@ -16,18 +16,19 @@ use Rattle.cif_file.specs.Meaning.{key_meant}
 use Rattle.docker_join.specs.Rows.{row_cmp, AreAscending, value_at, picked_value, IsJoinOfRows}
 use Rattle.docker_join.specs.RowLaws.{value_here, value_behind, value_above}
 
--- the row that goes out, by how the keys of the first rows compare, before the rest of the walk
+-- the row that goes out, before the rest of the walk; it depends on how the keys of the first rows
+-- compare
 abbrev pub row_out : {E : Type 0} → (E → E → E) → Ordering → Key × E → Key × E → List (Key × E) → List (Key × E) → List (Key × E) → List (Key × E)
 row_out picked Less x y less equal greater = x ∷ less
 row_out picked Equal x y less equal greater = (x.0, picked x.1 y.1) ∷ equal
 row_out picked Greater x y less equal greater = y ∷ greater
 
--- the walk from a row of the first table on, whose rest is walked so
+-- the walk from a row of the first table on, given the walk over the rest of that table
 abbrev pub walk_from : {E : Type 0} → (E → E → E) → Key × E → (List (Key × E) → List (Key × E)) → List (Key × E) → List (Key × E)
 walk_from picked x rest [] = x ∷ rest []
 walk_from picked x rest (y ∷ ys) = row_out picked (row_cmp x y) x y (rest (y ∷ ys)) (rest ys) (walk_from picked x rest ys)
 
--- the walk over both
+-- the walk over both tables
 abbrev pub walk : {E : Type 0} → (E → E → E) → List (Key × E) → List (Key × E) → List (Key × E)
 walk picked [] ys = ys
 walk picked (x ∷ xs) ys = walk_from picked x (walk picked xs) ys
@@ -36,13 +37,13 @@ module _ {E : Type 0} where
   abbrev Above : Key × E → List (Key × E) → Type 0
   Above low rows = AllByRecursion (IsBelow row_cmp low) rows
 
-  -- what is above a row is above each row below it
+  -- rows above a row are above each row below that row
   above_lower : (low high : Key × E) (rows : List (Key × E)) → row_cmp low high ≡ Less → Above high rows → Above low rows
   above_lower low high [] below above = tt
   above_lower low high (row ∷ rows) below above =
       (key_total.trans (key_meant low.0) (key_meant high.0) (key_meant row.0) below above.0, above_lower low high rows below above.1)
 
-  -- and above each row of its key
+  -- they are also above each row with its key
   above_level : (low high : Key × E) (rows : List (Key × E)) → row_cmp low high ≡ Equal → Above high rows → Above low rows
   above_level low high [] tied above = tt
   above_level low high (row ∷ rows) tied above =
@@ -52,7 +53,7 @@ module _ {E : Type 0} where
   row_cmp_turned x y greater = key_total.antisymm (key_meant y.0) (key_meant x.0) ∙ ap ordering_reverse greater
 
 module _ {E : Type 0} (picked : E → E → E) where
-  -- the walk is above what both tables are above
+  -- the walk is above a row if the rows of both tables are
   from_above : (low x : Key × E) (rest : List (Key × E) → List (Key × E)) → row_cmp low x ≡ Less → ((ys : List (Key × E)) → Above low ys → Above low (rest ys))
       → (ys : List (Key × E)) → Above low ys → Above low (walk_from picked x rest ys)
   from_above low x rest below behind [] above = (below, behind [] tt)
@@ -87,7 +88,7 @@ module _ {E : Type 0} (picked : E → E → E) where
   abbrev Both : List (Key × E) → List (Key × E) → model.Key → Option E
   Both xs ys key = picked_value picked (value_at xs key) (value_at ys key)
 
-  -- a row of the first table alone goes out
+  -- a row that only the first table has goes out
   first_out : (x : Key × E) (xs ys tail : List (Key × E)) (key : model.Key) → Above x ys → value_at tail key ≡ Both xs ys key
       → value_at (x ∷ tail) key ≡ Both (x ∷ xs) ys key
   first_out x xs ys tail key above later = by (key_cmp (key_meant x.0) key) refl
@@ -102,7 +103,7 @@ module _ {E : Type 0} (picked : E → E → E) where
           let none : value_at ys key ≡ None = subst (λ k. value_at ys k ≡ None) (exact_key (key_meant x.0) key is) (value_above (key_meant x.0) ys above) in
           value_here x tail key is ∙ sym (λ i. picked_value picked (value_here x xs key is i) (none i))
 
-  -- a row of the second table alone goes out
+  -- a row that only the second table has goes out
   second_out : (y : Key × E) (xs ys tail : List (Key × E)) (key : model.Key) → Above y xs → value_at tail key ≡ Both xs ys key
       → value_at (y ∷ tail) key ≡ Both xs (y ∷ ys) key
   second_out y xs ys tail key above later = by (key_cmp (key_meant y.0) key) refl
@@ -160,14 +161,14 @@ module _ {E : Type 0} (picked : E → E → E) where
   pub walk_joins : (xs ys : List (Key × E)) → AreAscending xs → AreAscending ys → IsJoinOfRows picked xs ys (walk picked xs ys)
   walk_joins xs ys up_x up_y = record { ascends = walk_ascends xs ys up_x up_y; values = walk_values xs ys up_x up_y }
 
--- where nothing is in hand and none is left behind it, there are no rows
+-- if no row is in hand and none is left after it, there are no rows
 pub none_left : {A : Type 0} (hand : Option A) (rest : List A) (n : ℕ) → hand ≡ None → n ≡ length rest → MatchOption hand (n ≡ 0) (λ _. ⊤)
     → option_to_list hand ++ rest ≡ []
 none_left None [] n is size done = refl
 none_left None (x ∷ xs) n is size done = absurd (omega arith)
 none_left (Some x) rest n is size done = cc
 
--- what went out is the join, once no rows are left
+-- once no rows are left, what went out is the join
 pub walk_is_join : {E : Type 0} (picked : E → E → E) (first second out left right : List (Key × E)) → AreAscending first → AreAscending second
     → left ≡ [] → right ≡ [] → out ++ walk picked left right ≡ walk picked first second → IsJoinOfRows picked first second out
 walk_is_join picked first second out left right up_first up_second no_left no_right same =

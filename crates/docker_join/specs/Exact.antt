@@ -1,4 +1,4 @@
--- Stamps and entries that tie are equal: stamps always, entries where their bodies are of records.
+-- Stamps that tie are equal. So are entries that tie, if their bodies are of records.
 use Rattle.std.proofs.Common.{◌≡◌, ℕ, List, [], ◌∷◌, length, All, refl, ap, sym, ◌∙◌, arith, length-append}
 use Rattle.std.specs.Prelude.{⊤}
 use Rattle.std.specs.List.{concat}
@@ -23,11 +23,11 @@ use Rattle.docker_join.specs.declared.entry.Entry.{Entry}
 use Rattle.docker_join.specs.Meaning.{file_stamp_meant, stamp_meant, op_meant, entry_meant}
 use Rattle.docker_join.specs.Records.{IsOfRecords, HasRecords}
 
--- file stamps that mean one thing are equal
+-- file stamps with the same meaning are equal
 pub same_file_stamp : (a b : FileStamp) → file_stamp_meant a ≡ file_stamp_meant b → a ≡ b
 same_file_stamp a b same = λ i. record { day = (same i).moment.day; minute = (same i).moment.minute; reference = (same i).reference }
 
--- stamps that mean one thing are equal
+-- stamps with the same meaning are equal
 pub same_stamp : (a b : Stamp) → stamp_meant a ≡ stamp_meant b → a ≡ b
 same_stamp a b same = λ i. record { file = same_file_stamp a.file b.file (λ j. (same j).file) i; number = (same i).number }
 

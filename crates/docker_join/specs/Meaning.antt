@@ -1,4 +1,4 @@
--- What stamps, ops and entries of the code mean, as the definitions name them.
+-- What stamps, ops and entries of the code mean, by the names of the definitions.
 use Rattle.docker_model.specs.file.Change as changes
 use Rattle.docker_model.specs.state.Stamp as model
 use Rattle.docker_model.specs.state.Op as ops

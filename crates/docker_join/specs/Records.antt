@@ -1,4 +1,4 @@
--- Bodies and ops that are of records, which their order tells apart.
+-- Bodies and ops of records. Those that tie in their order are equal.
 use Rattle.std.specs.Prelude.{⊤, All}
 use Rattle.docker_model.specs.records.Record.{IsRecord}
 use Rattle.docker_model.specs.file.Change.{Body, tiploc_body, association_body, schedule_body}

@@ -72,7 +72,7 @@ same_schedule a b same = λ i. record {
   stp = same_stp a.stp b.stp (λ j. (same j).indicator) i;
 }
 
--- keys that mean one thing are equal
+-- keys with the same meaning are equal
 pub same_key : (a b : Key) → key_meant a ≡ key_meant b → a ≡ b
 same_key (key.Tiploc a) (key.Tiploc b) same = ap key.Tiploc (let codes : a ≡ b = cc in codes)
 same_key (key.Tiploc a) (key.Assoc b) same = cc
@@ -88,12 +88,12 @@ module _ {E : Type 0} where
   row_total : IsTotalOrder (row_cmp {E = E})
   row_total = on_total (λ (row : Key × E). key_meant row.0) key_total
 
-  -- the value at the key of the first row
+  -- at the first row's key, the value is the first row's
   pub value_here : (row : Key × E) (rows : List (Key × E)) (key : model.Key) → key_cmp (key_meant row.0) key ≡ Equal → value_at (row ∷ rows) key ≡ Some row.1
   value_here row rows key tied =
       λ i. option_map (λ (r : Key × E). r.1) (cond (is_eq (tied i)) (Some row) (find (λ (r : Key × E). is_eq (key_cmp (key_meant r.0) key)) rows))
 
-  -- at another key the value is that of the rows behind it
+  -- at another key, the value is the value in the rows after the first
   pub value_behind : (row : Key × E) (rows : List (Key × E)) (key : model.Key) → ¬ (key_cmp (key_meant row.0) key ≡ Equal)
       → value_at (row ∷ rows) key ≡ value_at rows key
   value_behind row rows key other = by (key_cmp (key_meant row.0) key) refl
@@ -103,14 +103,14 @@ module _ {E : Type 0} where
       by Equal is = absurd (other is)
       by Greater is = λ i. option_map (λ (r : Key × E). r.1) (cond (is_eq (is i)) (Some row) (find (λ (r : Key × E). is_eq (key_cmp (key_meant r.0) key)) rows))
 
-  -- rows above a key do not have it
+  -- rows above a key do not have the key
   pub value_above : (key : model.Key) (rows : List (Key × E)) → AllByRecursion (λ row. key_cmp key (key_meant row.0) ≡ Less) rows → value_at rows key ≡ None
   value_above key [] above = refl
   value_above key (row ∷ rows) above =
       value_behind row rows key (λ tied. let turned = key_total.antisymm key (key_meant row.0) in let below = above.0 in cc)
       ∙ value_above key rows above.1
 
-  -- ascending rows have at the key of each what stands there
+  -- ascending rows have at the key of each row what the row has
   pub value_of : (rows : List (Key × E)) (row : Key × E) → AreAscending rows → Contains rows row → value_at rows (key_meant row.0) ≡ Some row.1
   value_of [] row up among = absurd (nil-Contains row among)
   value_of (first ∷ rows) row up among = by (value_of rows row up.1) (Contains-cons first rows row among)
@@ -124,11 +124,11 @@ module _ {E : Type 0} where
           (λ tied. let below : row_cmp first row ≡ Less = below_by_recursion (IsBelow row_cmp first) rows row up.0 inside in cc)
           ∙ rest inside
 
-  -- a row that has this at a key
+  -- a row that has this value at a key
   abbrev RowWith : List (Key × E) → model.Key → E → Type 0
   RowWith rows key value = (row : Key × E) × Contains rows row × (key_meant row.0 ≡ key) × (row.1 ≡ value)
 
-  -- what rows have at a key stands in one of them
+  -- what rows have at a key is in one of them
   pub row_of : (rows : List (Key × E)) (key : model.Key) (value : E) → value_at rows key ≡ Some value → RowWith rows key value
   row_of [] key value found = cc
   row_of (row ∷ rows) key value found = by (key_cmp (key_meant row.0) key) refl (row_of rows key value)
@@ -144,7 +144,7 @@ module _ {E : Type 0} where
           let later = rest (sym (value_behind row rows key (λ tied. cc)) ∙ found) in
           (later.0, cons-Contains row rows later.0 later.1, later.2, later.3)
 
-  -- rows that ascend are fixed by what they have at each key
+  -- what ascending rows have at each key determines them
   pub same_rows : (a b : List (Key × E)) → AreAscending a → AreAscending b → ((key : model.Key) → value_at a key ≡ value_at b key) → a ≡ b
   same_rows a b up_a up_b same = same_list row_total a b up_a up_b (λ row. (into a b up_a same row, into b a up_b (λ key. sym (same key)) row))
     where
@@ -154,7 +154,7 @@ module _ {E : Type 0} where
           let whole : there.0 ≡ row = (λ i. (same_key there.0.0 row.0 there.2 i, there.3 i)) in
           subst (Contains y) whole there.1
 
--- what may stand at a key is valid, if anything stands there
+-- what rows have at a key is valid, if they have something there
 abbrev IsValidValue : {E : Type 0} → (E → Type 0) → Option E → Type 0
 IsValidValue valid None = ⊤
 IsValidValue valid (Some value) = valid value
@@ -166,7 +166,7 @@ pub record ArePickLaws {E : Type 0} (valid : E → Type 0) (picked : E → E →
   pub associates : (a b c : E) → valid a → valid b → valid c → picked (picked a b) c ≡ picked a (picked b c)
   pub itself : (a : E) → valid a → picked a a ≡ a
 
--- what gives a join has the laws of joins
+-- a pick that gives a join has the laws of joins
 pub pick_laws : {E : Type 0} (valid : E → Type 0) (is_join : E → E → E → Type 0) (picked : E → E → E)
     → ((a b c : E) → valid a → valid b → is_join a b c → valid c)
     → ((a b c d : E) → valid a → valid b → is_join a b c → is_join a b d → c ≡ d)
@@ -234,14 +234,14 @@ module _ {E : Type 0} (valid : E → Type 0) (picked : E → E → E) (laws : Ar
         (valid_at b (key_meant row.0) good_b))),
   )
 
-  -- the join of valid tables is that of the tables in either order
+  -- valid tables in the other order have the same join
   pub joins_commute : (a b c : List (Key × E)) → AreValidRows valid a → AreValidRows valid b → IsJoinOfRows picked a b c → IsJoinOfRows picked b a c
   joins_commute a b c good_a good_b is = record {
     ascends = is.ascends;
     values = λ key. is.values key ∙ values_commute (value_at a key) (value_at b key) (valid_at a key good_a) (valid_at b key good_b);
   }
 
-  -- of three valid tables the join is one, by whichever two it begins
+  -- three valid tables have one join, whichever two are joined first
   pub joins_associate : (a b c ab bc left right : List (Key × E)) → AreValidRows valid a → AreValidRows valid b → AreValidRows valid c
       → IsJoinOfRows picked a b ab → IsJoinOfRows picked ab c left → IsJoinOfRows picked b c bc → IsJoinOfRows picked a bc right → left ≡ right
   joins_associate a b c ab bc left right good_a good_b good_c is_ab is_left is_bc is_right =
@@ -252,6 +252,6 @@ module _ {E : Type 0} (valid : E → Type 0) (picked : E → E → E) (laws : Ar
       ∙ sym (ap (λ value. picked_value picked (value_at a key) value) (is_bc.values key))
       ∙ sym (is_right.values key))
 
-  -- a valid table is its join with itself
+  -- a valid table joined with itself is itself
   pub joins_itself : (a : List (Key × E)) → AreValidRows valid a → IsJoinOfRows picked a a a
   joins_itself a good = record { ascends = good.0; values = λ key. values_itself (value_at a key) (valid_at a key good) }

@@ -9,7 +9,7 @@ use Rattle.docker_model.specs.state.Order.{IsStrictlyAscending}
 use Rattle.cif_change.specs.declared.key.Key.{Key}
 use Rattle.cif_file.specs.Meaning.{key_meant}
 
--- rows, by their keys
+-- the order of rows by their keys
 abbrev pub row_cmp : {E : Type 0} → Key × E → Key × E → Ordering
 row_cmp a b = key_cmp (key_meant a.0) (key_meant b.0)
 
@@ -21,7 +21,8 @@ AreAscending rows = IsStrictlyAscending row_cmp rows
 abbrev pub value_at : {E : Type 0} → List (Key × E) → model.Key → Option E
 value_at rows key = option_map (λ row. row.1) (find (λ row. is_eq (key_cmp (key_meant row.0) key)) rows)
 
--- what two tables have at a key, joined: the pick where both have something, and else what the one has
+-- what two tables have at a key, joined: the pick if both have something, and otherwise what the
+-- one has
 abbrev pub picked_value : {E : Type 0} → (E → E → E) → Option E → Option E → Option E
 picked_value picked None other = other
 picked_value picked (Some value) None = Some value
@@ -32,6 +33,6 @@ pub record IsJoinOfRows {E : Type 0} (picked : E → E → E) (first second join
   pub ascends : AreAscending joined
   pub values : (key : model.Key) → value_at joined key ≡ picked_value picked (value_at first key) (value_at second key)
 
--- the keys of the rows ascend, and what stands at each is valid
+-- the keys of the rows ascend, and what each row has is valid
 abbrev pub AreValidRows : {E : Type 0} → (E → Type 0) → List (Key × E) → Type 0
 AreValidRows valid rows = AreAscending rows × All (λ row. valid row.1) rows

@@ -1,4 +1,4 @@
-//! What is known of a key, and since when.
+//! What is known at a key, and since when.
 ghost use Rattle.std.specs.Prelude.{◌≡◌, IfOk, IsOk, if◌then◌else◌};
 ghost use Rattle.std.specs.Ordering.{on, as_partial_cmp, eq_by_cmp, ord_max};
 ghost use Rattle.std.specs.Cmp.{partial_equiv_from_equiv, on_equiv, on_total, eq_by_cmp_equiv, partial_order_from_total};
@@ -18,19 +18,22 @@ use cif_file::Body;
 use std::alloc::Global;
 use std::cmp::Ordering;
 
-/// What is known of a key. A deletion is below what has lapsed, and that below each put; of two puts the order is that of their bodies.
+/// What is known at a key. A deletion is less than a lapsed op, and a lapsed op is less than each
+/// put. Two puts have the order of their bodies.
 #[derive(Debug, Drop)]
 pub enum Op {
     /// The key is deleted.
     Deleted,
-    /// The key was put with a body that ended before a horizon, and which is no longer known.
+    /// The key was put with a body that ended before a horizon. The body is no longer known.
     Lapsed,
-    /// The key is there with this body.
+    /// The key is present, with this body.
     Put(Body),
 }
 
 impl Op {
-    /// The op under a horizon, a day number: a put whose end number is below it has lapsed, and its body goes. Nothing else changes: a deletion, what has lapsed, a TIPLOC and what has no end stay under each.
+    /// The op under a horizon, a day number. A put whose end number is below the horizon lapses,
+    /// and its body is dropped. Nothing else changes: a deletion, a lapsed op, a TIPLOC and a body
+    /// without end stay under each horizon.
     pub fn lapse(self, horizon: u16) -> Op
         ensures { op_meant result ≡ lapse horizon (op_meant self) }
     {
@@ -41,7 +44,7 @@ impl Op {
         }
     }
 
-    /// Whether it is a put whose end number is below a horizon.
+    /// Whether it is a put whose end number is below the horizon.
     fn ends_before(&self, horizon: u16) -> bool
         ensures { lapse horizon (op_meant self.now) ≡
             (if result then lapsed else op_meant self.now) }
@@ -102,17 +105,19 @@ impl Ord for Op {
     }
 }
 
-/// What is known of a key, with the stamp of the change that said so. Ordered by stamp, then by op: of two entries of a key the greater wins.
+/// What is known at a key, with the stamp of the change that made it so. Ordered by stamp, then by
+/// op. The greater of two entries of a key wins.
 #[derive(Debug, Drop)]
 pub struct Entry {
     /// The stamp of the change.
     pub stamp: Stamp,
-    /// What it said.
+    /// What the change did to the key.
     pub op: Op,
 }
 
 impl Entry {
-    /// Lapses its op under a horizon, where it is. Its stamp stays, so that no older entry wins over it.
+    /// Lapses the op under a horizon, in place. The stamp stays, so that no older entry wins over
+    /// this one.
     pub fn lapse(&mut self, horizon: u16)
         ensures { entry_meant self.new ≡ lapse_entry horizon (entry_meant self.old) }
     {
@@ -163,7 +168,7 @@ impl Ord for Entry {
 }
 
 impl Merge for Entry {
-    // the lines of its body are records
+    // the lines of the op's body are records
     ghost is_valid = { λ entry. HasRecords (op_meant entry.op) };
 
     ghost is_join = { IsGreater (on entry_meant entry_cmp) };
@@ -183,7 +188,7 @@ impl Merge for Entry {
     ghost idempotent = { greater_itself (λ entry. HasRecords (op_meant entry.op))
         (on_total entry_meant entry_total) };
 
-    /// The greater of two, which takes no memory.
+    /// The greater of the two. It takes no memory.
     fn join(self, _alloc: Global, other: Entry) -> Result<Entry, (Entry, Entry)>
         ensures always { IsOk result }
         ensures ok { IfOk result (IsGreater (on entry_meant entry_cmp) self other) }
@@ -198,7 +203,7 @@ impl Pick for Entry {
     ghost joins = { greater_max (λ entry. HasRecords (op_meant entry.op))
         (on_total entry_meant entry_total) };
 
-    /// The greater of two.
+    /// The greater of the two.
     fn pick(self, other: Entry) -> Entry {
         self.max(other)
     }

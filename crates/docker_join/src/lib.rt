@@ -1,4 +1,5 @@
-//! Stamps, ops and entries with their order, the lapse of what ended before a day, and the join of tables of them.
+//! Stamps, ops and entries with their orders, the lapse of what ended before a day, and the join of
+//! tables of entries.
 #![tactic(auto)]
 
 mod entry;

@@ -3,15 +3,16 @@ ghost use Rattle.std.specs.Prelude.{◌≡◌, IfOk, IfErr};
 
 use std::alloc::Global;
 
-/// What can be joined. Of valid values the join is commutative, associative and idempotent, wherever the joins succeed.
+/// What can be joined. For valid values the join is commutative, associative and idempotent, if the
+/// joins succeed.
 pub trait Merge: Sized {
-    // the values that the laws speak of
+    // the values for which the laws hold
     ghost is_valid: { Self → Type 0 };
 
     // the third value is the join of the first two
     ghost is_join: { Self → Self → Self → Type 0 };
 
-    /// The join of two values. Want of memory hands both back as they were.
+    /// The join of two values. If memory runs out, returns both as they were.
     fn join(self, alloc: Global, other: Self) -> Result<Self, (Self, Self)>
         ensures ok { IfOk result (is_join self other) }
         ensures err { IfErr result (λ both. (both.0 ≡ self) × (both.1 ≡ other)) };
@@ -31,7 +32,7 @@ pub trait Merge: Sized {
     ghost idempotent: { (a : Self) → is_valid a → is_join a a a };
 }
 
-/// What can be joined without memory.
+/// What can be joined without allocating memory.
 pub trait Pick: Merge {
     // the join of two values
     ghost picked: { Self → Self → Self };

@@ -1,4 +1,4 @@
-//! Stamps: when a file was made, and by which record of it a key was changed.
+//! Stamps: when a file was made, and which of its records changed a key.
 ghost use Rattle.std.specs.Prelude.{◌≡◌, IfOk, IsOk, ⊤};
 ghost use Rattle.std.specs.Ordering.{on, as_partial_cmp, eq_by_cmp, ord_max};
 ghost use Rattle.std.specs.Cmp.{partial_equiv_from_equiv, on_equiv, on_total, eq_by_cmp_equiv, partial_order_from_total};
@@ -85,7 +85,7 @@ impl Merge for FileStamp {
 
     ghost idempotent = { greater_itself (λ _. ⊤) (on_total file_stamp_meant file_stamp_total) };
 
-    /// The greater of two, which takes no memory.
+    /// The greater of the two. It takes no memory.
     fn join(self, _alloc: Global, other: FileStamp) -> Result<FileStamp, (FileStamp, FileStamp)>
         ensures always { IsOk result }
         ensures ok { IfOk result (IsGreater (on file_stamp_meant file_stamp_cmp) self other) }
@@ -99,13 +99,14 @@ impl Pick for FileStamp {
 
     ghost joins = { greater_max (λ _. ⊤) (on_total file_stamp_meant file_stamp_total) };
 
-    /// The greater of two.
+    /// The greater of the two.
     fn pick(self, other: FileStamp) -> FileStamp {
         self.max(other)
     }
 }
 
-/// The file stamp of a file, and the number of a record in it. Ordered by file stamp, then by number.
+/// The file stamp of a file, and the number of a record in it. Ordered by file stamp, then by
+/// number.
 #[derive(Clone, Copy, Debug)]
 pub struct Stamp {
     /// The file stamp.
@@ -170,7 +171,7 @@ impl Merge for Stamp {
 
     ghost idempotent = { greater_itself (λ _. ⊤) (on_total stamp_meant stamp_total) };
 
-    /// The greater of two, which takes no memory.
+    /// The greater of the two. It takes no memory.
     fn join(self, _alloc: Global, other: Stamp) -> Result<Stamp, (Stamp, Stamp)>
         ensures always { IsOk result }
         ensures ok { IfOk result (IsGreater (on stamp_meant stamp_cmp) self other) }
@@ -184,7 +185,7 @@ impl Pick for Stamp {
 
     ghost joins = { greater_max (λ _. ⊤) (on_total stamp_meant stamp_total) };
 
-    /// The greater of two.
+    /// The greater of the two.
     fn pick(self, other: Stamp) -> Stamp {
         self.max(other)
     }

@@ -1,4 +1,4 @@
-//! Tables of what is known of keys.
+//! Tables of what is known at keys.
 ghost use Rattle.std.specs.Prelude.{◌≡◌, ◌==◌, ◌+◌, ◌≤◌, [], length, map, vec_len, vec_capacity, IfSome};
 ghost use Rattle.std.specs.Option.{option_copied};
 ghost use Rattle.cif_file.specs.Meaning.{key_meant};
@@ -14,10 +14,10 @@ use std::alloc::Global;
 use std::cmp::Ordering;
 use std::marker::Model;
 
-/// What is known of each of some keys.
+/// What is known at each of some keys.
 #[derive(Debug, Drop)]
 pub struct Table<E> {
-    /// The rows, each a key with what is known of it. Their keys ascend.
+    /// The rows, each a key with what is known at it. Their keys ascend.
     pub rows: Vec<(Key, E)>,
 }
 
@@ -34,7 +34,7 @@ impl<E> Model for Table<E> {
 }
 
 impl<E> Table<E> {
-    /// The table of no key.
+    /// The table without keys.
     pub fn new(alloc: Global) -> Table<E>
         ensures { result ≡ [] }
     {
@@ -82,7 +82,7 @@ impl<E> Table<E> {
         self.rows.is_empty()
     }
 
-    /// What is known of a key. None where the table does not have it.
+    /// What is known at a key. None if the table does not have the key.
     pub fn get(&self, key: &Key) -> Option<&E>
         ensures { option_copied result ≡ value_at self.now (key_meant key.now) }
     {
@@ -94,7 +94,8 @@ impl<E> Table<E> {
 }
 
 impl Table<Entry> {
-    /// Lapses what is known of each key under a horizon. The keys and the stamps stay, and the bodies of what lapses go.
+    /// Lapses what is known at each key under a horizon. The keys and the stamps stay. The bodies
+    /// of what lapses are dropped.
     pub fn lapse(&mut self, horizon: u16)
         ensures { map row_meant self.new ≡ lapse_entries horizon (map row_meant self.old) }
     {
@@ -105,7 +106,8 @@ impl Table<Entry> {
 }
 
 impl<E: Pick> Table<E> {
-    /// An empty vector with room for the rows of the join with another table. None where memory is wanting.
+    /// An empty vector with room for the rows of the join with another table. None if memory runs
+    /// out.
     pub fn room_for_join(&self, alloc: Global, other: &Table<E>) -> Option<Vec<(Key, E)>>
         ensures { IfSome result (HasRoomForRows (length self.now + length other.now)) }
     {
@@ -113,7 +115,9 @@ impl<E: Pick> Table<E> {
         Vec::with_capacity(alloc, count).ok()
     }
 
-    /// The table of the keys of both, each with what the one table knows of it, or the join of what both know. It takes no memory but that of the vector, which is empty and has room for the rows of both.
+    /// The table of the keys of both. Each key has what one table knows at it, or the join of what
+    /// both know. It takes no memory besides the vector, which is empty and has room for the rows
+    /// of both.
     pub fn join_in(self, other: Table<E>, rows: Vec<(Key, E)>) -> Table<E>
         requires { HasRoomForRows (length self + length other) rows }
         ensures { IsJoinOfRows E.picked self other result }
@@ -126,7 +130,7 @@ impl<E: Pick> Merge for Table<E> {
     ghost use Rattle.docker_join.specs.Rows.{AreValidRows, IsJoinOfRows};
     ghost use Rattle.docker_join.specs.RowLaws.{pick_laws, joins_closed, joins_one, joins_commute, joins_associate, joins_itself};
 
-    // the keys ascend, and what is known of each is valid
+    // the keys ascend, and what is known at each is valid
     ghost is_valid = { AreValidRows E.is_valid };
 
     ghost is_join = { IsJoinOfRows E.picked };
@@ -145,7 +149,9 @@ impl<E: Pick> Merge for Table<E> {
     ghost idempotent = { joins_itself E.is_valid E.picked
         (pick_laws E.is_valid E.is_join E.picked E.closed E.one E.commutative E.associative E.idempotent E.joins) };
 
-    /// The table of the keys of both, each with what the one table knows of it, or the join of what both know. Want of memory, before a row was moved, hands both back as they were.
+    /// The table of the keys of both. Each key has what one table knows at it, or the join of what
+    /// both know. If memory runs out, no row has been moved, and it returns both tables as they
+    /// were.
     fn join(self, alloc: Global, other: Table<E>) -> Result<Table<E>, (Table<E>, Table<E>)> {
         match self.room_for_join(alloc, &other) {
             Some(rows) => Ok(self.join_in(other, rows)),

@@ -5,19 +5,19 @@ use Rattle.docker_model.specs.state.StateText.{Format}
 use Rattle.docker_model.specs.run.Run.{KnownSets, RunEvent, done, after_reply}
 use Rattle.docker_model.specs.run.Knowledge.{Holds}
 
--- the day is the start day or one of the two days behind it
+-- the day is the start day or one of the two days after it
 abbrev pub IsNear : ℕ → ℕ → Type 0
 IsNear start day = (start ≤ day) × (day ≤ start + 2)
 
--- each of some index rows is of the place
+-- each of these index rows is at the place
 abbrev pub AreAt : {K : Type 0} → List ℕ → List (List ℕ × K) → Type 0
 AreAt {K} place rows = (row : List ℕ × K) → Contains rows row → row.0 ≡ place
 
--- none of some index rows is of the place
+-- none of these index rows is at the place
 abbrev pub AreElsewhere : {K : Type 0} → List ℕ → List (List ℕ × K) → Type 0
 AreElsewhere {K} place rows = (row : List ℕ × K) → Contains rows row → ¬ (row.0 ≡ place)
 
--- an exchange holds what is known after an event that was done, with a new state of its office
+-- an exchange holds what is known after an event that was done, with its office's new state
 abbrev pub HoldsAfter : Format → KnownSets → RunEvent → List State → ℕ → State → List (List ℕ) → Type 0
 HoldsAfter format known event states office now messages =
     Holds format (after_reply known (event, done)) (slice_set states office now) messages

@@ -1,4 +1,6 @@
-//! Laws of excerpts: what is left out of a table or a state for one place changes no docker of that place. Each is the contract of a function with no body: it holds of all that it names.
+//! Laws of excerpts: leaving entries out of a table or a state for one place changes no docker of
+//! that place. Each is the contract of a function with an empty body, so it holds for all values of
+//! its variables.
 ghost use Rattle.std.specs.Prelude.{◌≡◌, ℕ, List, [], ◌∷◌, ◌++◌, ◌↔◌, ◌||◌, ◌⊎◌, Contains, filter, Bool, true, false, if◌then◌else◌};
 ghost use Rattle.docker_model.specs.file.Change.{Key, schedule_key, ScheduleKey};
 ghost use Rattle.docker_model.specs.state.Stamp.{LedgerItem, Stamp};
@@ -13,7 +15,7 @@ ghost use Rattle.docker_model.specs.docker.DockerText.{IsDockerText};
 ghost use Rattle.docker_model.specs.docker.Excerpt.{IsNeeded, IsExcerpt, IsSublist, IsExcerptState};
 ghost use Rattle.docker_model.specs.docker.ExcerptWalk.{ExcerptSoFar, nothing_kept, is_here, has_uid, names_in, is_call, is_run_calling, is_run_needed, kept_after_run, goes_on, next_kept, kept_from, kept_so_far, excerpt_for, HasKept};
 
-/// A table and each excerpt of it for a place have on each day one docker there.
+/// A table and each excerpt of it for a place have the same docker there on each day.
 pub fn excerpt_has_one_docker()
     ensures list { (place : List ℕ) (live part : Table) (day : ℕ) (lines : List DockerLine)
         → IsExcerpt place live part
@@ -25,7 +27,8 @@ pub fn excerpt_has_one_docker()
         → IsExcerpt place live part → HasGoodBodies live → HasGoodBodies part }
 {}
 
-/// An excerpt of a valid state for a place is valid, refuses the same days and prints the same dockers there. An excerpt of an excerpt is one, and a state is one of itself.
+/// An excerpt of a valid state for a place is valid, refuses the same days and prints the same
+/// dockers there. An excerpt of an excerpt is an excerpt. A state is an excerpt of itself.
 pub fn excerpt_of_state()
     ensures valid { (place : List ℕ) (state part : State)
         → IsValid state → IsExcerptState place state part → IsValid part }
@@ -46,7 +49,9 @@ pub fn excerpt_of_state()
         → IsExcerptState place state smaller }
 {}
 
-/// What the walk over a state's entries in key order leaves is an excerpt: the entries whose keys are needed at the place, and no others. Of a valid state it is valid, and has the same dockers there.
+/// The walk over a state's entries in key order leaves an excerpt: the entries whose keys are
+/// needed at the place, and no others. For a valid state the excerpt is valid and has the same
+/// dockers there.
 pub fn walk_leaves_excerpt()
     ensures is { (place : List ℕ) (state : State)
         → AreAscending state.entries → IsExcerptState place state (excerpt_for place state) }
@@ -63,7 +68,8 @@ pub fn walk_leaves_excerpt()
         ↔ IsDockerText (live_table (excerpt_for place state)) place day text }
 {}
 
-/// That walk, entry by entry: from its beginning on, and from any entry to its end. What it has kept and its run are some of the entries so far.
+/// That walk, entry by entry: from its beginning on, and from any entry to its end. What it has
+/// kept and its run are some of the entries so far.
 pub fn excerpt_in_a_walk()
     ensures none { (place : List ℕ) → kept_so_far place [] ≡ nothing_kept }
     ensures more { (place : List ℕ) (entries : List (Key × Entry)) (entry : Key × Entry)
@@ -88,7 +94,9 @@ pub fn excerpt_in_a_walk()
         ++ (kept_so_far place entries).run) }
 {}
 
-/// One step of that walk. In key order no run is pending where a TIPLOC or an association comes: it is kept where it is at the place. A schedule joins the run of its UID, or ends the run and begins the next.
+/// One step of that walk. In key order no run is pending when a TIPLOC or an association comes.
+/// Such an entry is kept if it is at the place. A schedule joins the run of its UID, or it ends the
+/// run and begins the next.
 pub fn excerpt_by_entry()
     ensures no_run { (place : List ℕ) (state : State) (key : Key)
         → IsAboveEntries state key → ((uid : List ℕ) → has_uid uid key ≡ false)
@@ -107,7 +115,9 @@ pub fn excerpt_by_entry()
         ≡ record { kept = kept_after_run place so_far; run = (schedule_key key, entry) ∷ [] } }
 {}
 
-/// The end of a run: it is kept as a whole where it is needed, and else dropped as a whole. It is needed where a live association at the place names its UID, or a live schedule of it calls there.
+/// The end of a run. The run is kept as a whole if it is needed, and otherwise dropped as a whole.
+/// It is needed if a live association at the place names its UID, or one of its live schedules
+/// calls there.
 pub fn run_of_one_uid()
     ensures keeps { (place : List ℕ) (so_far : ExcerptSoFar)
         → is_run_needed place so_far ≡ true
@@ -137,7 +147,8 @@ pub fn run_of_one_uid()
         → Contains (kept_so_far place entries).run one → has_uid uid one.0 ≡ true }
 {}
 
-/// The same walk as a loop has it that keeps rows, a run and whether the run is to be kept: from nothing, entry by entry in key order, to the excerpt.
+/// The same walk as a loop does it, with the kept rows, a run, and whether to keep the run. It goes
+/// from nothing, entry by entry in key order, to the excerpt.
 pub fn excerpt_in_a_loop()
     ensures first { (place : List ℕ) → HasKept place [] [] [] false }
     ensures alone { (place : List ℕ) (state : State) (kept run : List (Key × Entry))
@@ -175,7 +186,9 @@ pub fn excerpt_in_a_loop()
         → AreEntries ledger entries → AreEntries ledger (kept ++ run) }
 {}
 
-/// Some of the entries that a state was given, one behind the other: what may come behind all of them may come behind those, and each of those behind the ones before it.
+/// Some of a state's entries, in the order in which the state was given them. An entry that may
+/// follow all of the state's entries may also follow only these. Each of them may follow the ones
+/// before it.
 pub fn some_of_entries()
     ensures more { (state : State) (key : Key) (entry : Entry)
         → AreEntries state.ledger state.entries → IsStampHere state key entry.stamp

@@ -18,7 +18,7 @@ is_there known state end =
     let low = end.there in
     omega arith
 
--- what was said of the office as its run has it
+-- what holds of an office in its run holds of its knowledge and its state
 at_end : (P : Known → State → Type 0) (known : Known) (state : State) → (end : EndsWith known state)
     → P (known_at_end end.offices end.events end.exchange end.office) (office_state end.exchange.states end.office) → P known state
 at_end P known state end is = subst (P known) end.has (subst (λ k. P k (office_state end.exchange.states end.office)) end.knows is)
@@ -32,13 +32,13 @@ one_state first second one two left right same =
     (same_state dks_2 left.offices right.offices left.events right.events left.exchange right.exchange left.leaves.run right.leaves.run left.office
     right.office (is_there first one left) (is_there second two right))) same
 
--- what two states print is one, where both print it
+-- two states print the same docker, if both print one
 abbrev PrintOne : State → State → Type 0
 PrintOne one two =
     (place : List ℕ) (day : ℕ) → ¬ IsDayRefused one.horizon day → ¬ IsDayRefused two.horizon day → (text other : List ℕ)
     → IsDockerText (live_table one) place day text → IsDockerText (live_table two) place day other → text ≡ other
 
--- offices that know the same files print one docker
+-- offices that know the same files print the same docker
 pub one_docker : (first second : Known) (one two : State) → EndsWith first one → EndsWith second two → HaveSameFiles first.files second.files
     → PrintOne one two
 one_docker first second one two left right same =
@@ -48,7 +48,7 @@ one_docker first second one two left right same =
     (same_docker dks_2 left.offices right.offices left.events right.events left.exchange right.exchange left.leaves.run right.leaves.run left.office
     right.office (is_there first one left) (is_there second two right) left.leaves.good right.leaves.good)) same
 
--- and it is that of their plain table
+-- an office prints the dockers of its files' plain table
 pub plain_prints : (known : Known) (state : State) → EndsWith known state → (plain : Table) → IsPlainTable known.files plain → PrintsAs state plain
 plain_prints known state end plain is =
     at_end (λ k s. IsPlainTable k.files plain → PrintsAs s plain) known state end

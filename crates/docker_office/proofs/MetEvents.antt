@@ -33,7 +33,7 @@ use Rattle.docker_office.specs.declared.steps.Holdings.{Holdings}
 use Rattle.docker_office.specs.RunMeaning.{IsMissing, IsTextCause, refusal_of_file, reply_for, texts_of}
 use Rattle.docker_office.specs.RunSteps.{AreOf, MeetsEvent}
 
--- what refuses the bytes that are left refuses the text that they are
+-- if the bytes that are left are this text, a fault of the bytes is a fault of the text
 pub refused_text : (limit : ℕ) (left text : List ℕ) (answer : Result Unit OfficeFault) → left ≡ text
     → ((fault : StateFault) → answer ≡ Err (why.State fault) → RefusesState dks_2 limit (Some left) fault)
     → (fault : StateFault) → answer ≡ Err (why.State fault) → RefusesState dks_2 limit (Some text) fault
@@ -68,22 +68,22 @@ module _ (known : KnownSets) (held : Holdings) (holds : AreOf known held) where
 
   -- ---- no such office, and no such message
 
-  -- no office takes the file
+  -- a take at an office that isn't there
   pub take_without_office : (office : ℕ) (text : List ℕ) (limit : ℕ) → length held.offices.items ≤ office
       → MeetsEvent known (take_file office text limit) (Refused NoOffice) held
   take_without_office office text limit far =
       record { told = tt; may = no_office_there office (IsFileReply limit text (refused no_office)) far; holds = holds }
 
-  -- none sends
+  -- a send at an office that isn't there
   pub send_without_office : (office : ℕ) → length held.offices.items ≤ office → MeetsEvent known (send_state office) (Refused NoOffice) held
   send_without_office office far = record { told = tt; may = no_office_there office (IsDoneOrNoMemory (refused no_office)) far; holds = holds }
 
-  -- none sets a horizon
+  -- a horizon at an office that isn't there
   pub horizon_without_office : (office day : ℕ) → length held.offices.items ≤ office → MeetsEvent known (horizon_event office day) (Refused NoOffice) held
   horizon_without_office office day far =
       record { told = tt; may = no_office_there office (refused no_office ≡ model.done) far; holds = holds }
 
-  -- the office or the message to be delivered is missing
+  -- a delivery whose office or message is missing
   pub delivery_missing : (office message : ℕ) (fault : RunFault)
       → IsMissing (length held.offices.items) (length held.messages.items) office message fault
       → MeetsEvent known (deliver office message) (Refused fault) held
@@ -96,7 +96,7 @@ module _ (known : KnownSets) (held : Holdings) (holds : AreOf known held) where
   }
   delivery_missing office message (Office fault) never = absurd never
 
-  -- the office or the message to go back to is missing
+  -- a reload whose office or message is missing
   pub reload_missing : (office message : ℕ) (fault : RunFault)
       → IsMissing (length held.offices.items) (length held.messages.items) office message fault
       → MeetsEvent known (reload office message) (Refused fault) held
@@ -111,7 +111,7 @@ module _ (known : KnownSets) (held : Holdings) (holds : AreOf known held) where
 
   -- ---- what is held after an event
 
-  -- the state of an office was replaced, and the messages are those before
+  -- the state of one office was replaced, and the messages are as before
   pub record IsReplaced (office : ℕ) (now : State) (after : Holdings) : Type 0 where
     pub offices : after.offices.items ≡ set held.offices.items office now
     pub messages : after.messages.items ≡ held.messages.items
@@ -122,7 +122,7 @@ module _ (known : KnownSets) (held : Holdings) (holds : AreOf known held) where
       subst (λ states. Holds dks_2 sets states (texts_of after.messages.items)) (sym is.offices)
       (subst (λ kept. Holds dks_2 sets (set held.offices.items office now) (texts_of kept)) (sym is.messages) have)
 
-  -- by the state that it had
+  -- replacing a state by itself leaves what is held as it was known
   unchanged : (office : ℕ) (now : State) (after : Holdings) → IsReplaced office now after → now ≡ get_or held.offices.items office no_state
       → AreOf known after
   unchanged office now after is same =
@@ -172,7 +172,7 @@ module _ (known : KnownSets) (held : Holdings) (holds : AreOf known held) where
       holds = unchanged office now after is same;
     }
 
-    -- whatever the office answers
+    -- the take meets its definition, whatever the office answers
     pub take_met : (answer : Result Unit OfficeFault) (reply : Reply) → reply ≡ reply_for answer → limit ≤ 4_294_967_294
         → (IsOk answer → TakesFile limit (Some text) (get_or held.offices.items office no_state) now)
         → (IsErr answer → now ≡ get_or held.offices.items office no_state)
@@ -195,7 +195,7 @@ module _ (known : KnownSets) (held : Holdings) (holds : AreOf known held) where
 
   -- ---- a state is sent
 
-  -- as a message behind those before
+  -- the new message comes after the earlier ones
   pub send_met : (office : ℕ) (message : Store) (after : Holdings) → office < length held.offices.items → after.offices.items ≡ held.offices.items
       → after.messages.items ≡ held.messages.items ++ message ∷ [] → message.taken ≡ state_text dks_2 (get_or held.offices.items office no_state)
       → MeetsEvent known (send_state office) Done after
@@ -210,7 +210,7 @@ module _ (known : KnownSets) (held : Holdings) (holds : AreOf known held) where
         (after_send dks_2 known held.offices.items (texts_of held.messages.items) holds office (is_office office there)));
   }
 
-  -- without memory there is no message more
+  -- if memory runs out, there is no new message
   pub send_without_memory : (office : ℕ) → office < length held.offices.items → MeetsEvent known (send_state office) (Refused (Office why.Memory)) held
   send_without_memory office there = record {
     told = tt;
@@ -251,7 +251,7 @@ module _ (known : KnownSets) (held : Holdings) (holds : AreOf known held) where
             no_fault_of_state dks_2 (length text) text reads.0 (record { at = fault.at; cause = cause }) reads.1
             (subst (λ t. states.IsStateFault dks_2 (length text) t (record { at = fault.at; cause = cause })) (sym refuses.held) is)
 
-    -- what is read of it is told by its text
+    -- a state that is read is the one whose text the message is
     read_of : (state : State) → (read : ReadsState dks_2 (length text) (Some text) state)
         → IsStateText dks_2 (length text) (message_text (texts_of held.messages.items) message) state
     read_of state read = subst (λ t. IsStateText dks_2 (length text) t state) (sym read.held ∙ text_is) read.is
@@ -289,7 +289,7 @@ module _ (known : KnownSets) (held : Holdings) (holds : AreOf known held) where
       reload_without_memory : now ≡ get_or held.offices.items office no_state → MeetsEvent known (reload office message) (Refused (Office why.Memory)) after
       reload_without_memory same = record { told = tt; may = no_memory_there; holds = unchanged office now after is same }
 
-      -- it is delivered, whatever the office answers
+      -- the delivery meets its definition, whatever the office answers
       pub delivery_met : (answer : Result Unit OfficeFault) (reply : Reply) → reply ≡ reply_for answer
           → (IsOk answer → JoinsState dks_2 (length text) (Some text) (get_or held.offices.items office no_state) now)
           → (IsErr answer → now ≡ get_or held.offices.items office no_state)
@@ -310,7 +310,7 @@ module _ (known : KnownSets) (held : Holdings) (holds : AreOf known held) where
           by (Err why.Lapsed) ok stays state source only = absurd only
           by (Err why.Sink) ok stays state source only = absurd only
 
-      -- it is gone back to, whatever the office answers
+      -- the reload meets its definition, whatever the office answers
       pub reload_met : (answer : Result Unit OfficeFault) (reply : Reply) → reply ≡ reply_for answer
           → (IsOk answer → ReadsState dks_2 (length text) (Some text) now) → (IsErr answer → now ≡ get_or held.offices.items office no_state)
           → ((fault : StateFault) → answer ≡ Err (why.State fault) → RefusesState dks_2 (length text) (Some text) fault) → ¬ (answer ≡ Err why.Source)

@@ -1,4 +1,4 @@
--- What an office's calls tell, from what the calls below tell.
+-- What an office's calls promise, from what the calls below promise.
 use Rattle.std.proofs.Common.{◌≡◌, ℕ, List, [], ◌∷◌, ◌++◌, ap, sym, ◌∙◌, subst, Ok, Err}
 use Rattle.std.specs.Prelude.{Option, Result, max, IsOk, OnOk, OnErr}
 use Rattle.std.specs.Result.{is_ok}
@@ -21,21 +21,24 @@ use Rattle.docker_office.specs.declared.fault.OfficeFault.TheVariants.{File}
 use Rattle.docker_office.specs.Faults.{told_of_file}
 use Rattle.docker_office.specs.Office.{TakesFile, KnowsFileToo, HoldsState}
 
--- ---- answers that are Ok together
+-- ---- answers that are Ok or Err together
 
--- what holds where an answer is Ok holds where one is that is Ok with it
+-- if two answers are both Ok or both Err, what holds where the first is Ok holds where the second
+-- is Ok
 pub on_ok_with : {A B E F : Type 0} (P : Type 0) (first : Result A E) (second : Result B F) → is_ok second ≡ is_ok first → OnOk first P → OnOk second P
 on_ok_with P (Ok a) (Ok b) same holds = holds
 on_ok_with P (Ok a) (Err f) same holds = tt
 on_ok_with P (Err e) (Err f) same holds = tt
 on_ok_with P (Err e) (Ok b) same holds = let never : ⊥ = cc in absurd never
 
--- what holds where an answer is Ok, where one is that is Ok with it
+-- if two answers are both Ok or both Err, what holds where the first is Ok holds if the second is
+-- Ok
 pub of_ok : {A B E F : Type 0} (P : Type 0) (first : Result A E) (second : Result B F) → is_ok second ≡ is_ok first → OnOk first P → IsOk second → P
 of_ok P (Ok a) second same holds is = holds
 of_ok P (Err e) second same holds is = let never : ⊥ = cc in absurd never
 
--- what holds where an answer is Err, where one is that is Ok with it
+-- if two answers are both Ok or both Err, what holds where the first is Err holds if the second is
+-- Err
 pub of_err : {A B E F : Type 0} (P : Type 0) (first : Result A E) (second : Result B F) → is_ok second ≡ is_ok first → OnErr first P → (e : F) → second ≡ Err e
     → P
 of_err P (Err e) second same holds fault is = holds
@@ -43,7 +46,7 @@ of_err P (Ok a) second same holds fault is = let never : ⊥ = cc in absurd neve
 
 -- ---- faults
 
--- an office tells a file's fault of no other one
+-- if an office reports a file's fault, that was the fault in reading the file
 pub same_file_fault : (cause : files.ReadFault) (fault : FileFault) → told_of_file cause ≡ File fault → cause ≡ file_faults.File fault
 same_file_fault file_faults.Source fault same = let never : ⊥ = cc in absurd never
 same_file_fault (file_faults.File other) fault same = cc
@@ -64,7 +67,7 @@ takes_file limit left read old own new reads summary join = record {
   joined = join;
 }
 
--- so the summary of some files becomes that of one more
+-- so a summary of some files becomes the summary of one file more
 pub knows_file_too : (limit : ℕ) (left : Option (List ℕ)) (old new : State) (files : List (List (List ℕ))) (horizon : ℕ) → TakesFile limit left old new
     → IsSummary files horizon old → KnowsFileToo limit left files horizon new
 knows_file_too limit left old new files horizon takes is = record {
@@ -76,14 +79,14 @@ knows_file_too limit left old new files horizon takes is = record {
       (join_is_summary (takes.file ∷ []) files 0 horizon takes.own old new takes.of_file is (join_commutes old takes.own new takes.joined));
 }
 
--- of a source that tells its bytes one state is read
+-- from a source whose bytes are known only one state can be read
 pub one_read : (format : Format) (limit : ℕ) (left : Option (List ℕ)) (read sent : State) → ReadsState format limit left read
     → HoldsState format limit left sent → read ≡ sent
 one_read format limit left read sent reads holds =
     let same : holds.text ≡ reads.text = subst (λ bytes. Held bytes reads.text) holds.told reads.held in
     one_text format read sent reads.is.valid holds.is.valid (sym reads.is.is ∙ sym same ∙ holds.is.is)
 
--- so the summaries of two sets of files become that of both
+-- so the summaries of two sets of files become the summary of both
 pub joins_summaries : (limit : ℕ) (left : Option (List ℕ)) (old new : State) → JoinsState dks_2 limit left old new
     → (files others : List (List (List ℕ))) (g h : ℕ) (sent : State) → IsSummary files g old → IsSummary others h sent → HoldsState dks_2 limit left sent
     → IsSummary (files ++ others) (max g h) new

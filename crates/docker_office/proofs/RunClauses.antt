@@ -39,17 +39,17 @@ module _ (offices : ℕ) (events : List RunEvent) (exchange : Exchange) (leaves 
   pub one_sent : length exchange.messages ≡ sent_count events exchange.replies
   one_sent = many.1 ∙ messages_are offices events exchange.replies
 
-  -- so many offices
+  -- a state for each office
   pub all_offices : length exchange.states ≡ offices
   all_offices = many.0 ∙ offices_are offices events exchange.replies
 
-  -- each has the summary of what it knows
+  -- each office's state is the summary of what it knows
   pub each_state : (office : ℕ) → office < offices → HasSummary offices events exchange office
   each_state office there =
       office_is dks_2 (sets_of offices events exchange) exchange.states exchange.messages held office
       (let same = offices_are offices events exchange.replies in omega arith)
 
-  -- each message tells the summary of what it knows
+  -- each message is the text of the summary of what it knows
   pub each_message : (message : ℕ) → message < length exchange.messages → TellsSummary offices events exchange message
   each_message message sent =
       message_is dks_2 (sets_of offices events exchange) exchange.states exchange.messages held message (let same = many.1 in omega arith)

@@ -24,7 +24,7 @@ pub record HasRun (offices : ℕ) (events : List RunEvent) (replies : List Reply
   pub holds : AreOf (known_sets offices events (map reply_meant replies)) held
   pub good : All (IsGoodEvent dks_2) events
 
--- at first
+-- before the first event
 pub run_at_first : (offices : ℕ) (held : Holdings) → length held.offices.items ≡ offices → All (IsSummary [] 0) held.offices.items
     → held.messages.items ≡ [] → HasRun offices [] [] held
 run_at_first offices held many each none = record {
@@ -65,7 +65,7 @@ run_with_one_more offices events replies held after event reply run good meets =
       good = All-push (IsGoodEvent dks_2) events event run.good good;
     }
 
--- and at the end
+-- after the last event
 pub run_at_end : (offices : ℕ) (events : List Event) (index : ℕ) (replies : List Reply) (held : Holdings) (exchange : Exchange)
     → HasRun offices (events_meant (take index events)) replies held → length events ≤ index
     → exchange ≡ record { states = held.offices.items; messages = texts_of held.messages.items; replies = map reply_meant replies }

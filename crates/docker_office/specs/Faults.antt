@@ -1,4 +1,5 @@
--- The faults of an office: which of a lower call they are, and which a call can have.
+-- The faults of an office: which of them a lower call's fault becomes, and which of them a call can
+-- have.
 use Rattle.std.specs.Prelude.{⊤}
 use Rattle.cif_file.specs.declared.fault.ReadFault as files
 use Rattle.cif_file.specs.declared.fault.ReadFault.TheVariants as file_faults
@@ -9,24 +10,24 @@ use Rattle.docker_day.specs.declared.fault.DockerFault.TheVariants as docker_fau
 use Rattle.docker_office.specs.declared.fault.OfficeFault.{OfficeFault}
 use Rattle.docker_office.specs.declared.fault.OfficeFault.TheVariants.{File, State, Lapsed, Source, Sink, Memory}
 
--- the fault of a file that is read, as an office tells it
+-- the office's fault for a fault in reading a file
 abbrev pub told_of_file : files.ReadFault → OfficeFault
 told_of_file file_faults.Source = Source
 told_of_file (file_faults.File fault) = File fault
 told_of_file file_faults.Memory = Memory
 
--- the fault of a state that is read
+-- the office's fault for a fault in reading a state
 abbrev pub told_of_state : states.ReadFault → OfficeFault
 told_of_state state_faults.Source = Source
 told_of_state (state_faults.State fault) = State fault
 told_of_state state_faults.Memory = Memory
 
--- the fault of a docker that is made
+-- the office's fault for a fault in making a docker
 abbrev pub told_of_docker : dockers.DockerFault → OfficeFault
 told_of_docker docker_faults.Lapsed = Lapsed
 told_of_docker docker_faults.Memory = Memory
 
--- one that a call which reads a file can have
+-- a fault that a call which reads a file can have
 abbrev pub IsOfFile : OfficeFault → Type 0
 IsOfFile (File fault) = ⊤
 IsOfFile Source = ⊤
@@ -35,7 +36,7 @@ IsOfFile (State fault) = ⊥
 IsOfFile Lapsed = ⊥
 IsOfFile Sink = ⊥
 
--- one that a call which reads a state can have
+-- a fault that a call which reads a state can have
 abbrev pub IsOfState : OfficeFault → Type 0
 IsOfState (State fault) = ⊤
 IsOfState Source = ⊤
@@ -44,7 +45,7 @@ IsOfState (File fault) = ⊥
 IsOfState Lapsed = ⊥
 IsOfState Sink = ⊥
 
--- one that a call which prints a docker can have
+-- a fault that a call which prints a docker can have
 abbrev pub IsOfDocker : OfficeFault → Type 0
 IsOfDocker Lapsed = ⊤
 IsOfDocker Sink = ⊤

@@ -13,14 +13,15 @@ use Rattle.cif_file.specs.SourceRead.{Held, WantsMemory}
 abbrev pub no_state : State
 no_state = record { horizon = 0; ledger = []; entries = [] }
 
--- the source held the text of a file of at most so many records
+-- the source held the text of a file, of at most `limit` records
 pub record HoldsFile (limit : ℕ) (left : Option (List ℕ)) : Type 0 where
   pub text : List ℕ
   pub held : Held left text
   pub file : List (List ℕ)
   pub is_text : IsFileText limit text file
 
--- the state was joined with that of the file whose text the source held, of at most so many records
+-- the source held the text of a file, of at most `limit` records, and the state was joined with the
+-- file's summary
 pub record TakesFile (limit : ℕ) (left : Option (List ℕ)) (old new : State) : Type 0 where
   pub text : List ℕ
   pub held : Held left text
@@ -30,11 +31,11 @@ pub record TakesFile (limit : ℕ) (left : Option (List ℕ)) (old new : State) 
   pub of_file : IsSummary (file ∷ []) 0 own
   pub joined : IsJoin old own new
 
--- memory was wanting while a file was read, or for the state of one that was read whole
+-- memory ran out while a file was read, or for the state of a file that was read whole
 abbrev pub WantsForFile : ℕ → Option (List ℕ) → Option (List ℕ) → Type 0
 WantsForFile limit old new = WantsMemory 65536 limit old new ⊎ HoldsFile limit old
 
--- the state is the summary of these files and of the one whose text the source held, under their horizon
+-- the state is the summary of these files and the one whose text the source held, under the horizon
 pub record KnowsFileToo (limit : ℕ) (left : Option (List ℕ)) (files : List (List (List ℕ))) (horizon : ℕ) (new : State) : Type 0 where
   pub text : List ℕ
   pub held : Held left text
@@ -42,13 +43,14 @@ pub record KnowsFileToo (limit : ℕ) (left : Option (List ℕ)) (files : List (
   pub is_text : IsFileText limit text file
   pub summary : IsSummary (file ∷ files) horizon new
 
--- the source tells its bytes, and they are the text of this state in a format, within the limit
+-- the source's bytes are known, and are the text of this state in a format, within the limit
 pub record HoldsState (format : Format) (limit : ℕ) (left : Option (List ℕ)) (sent : State) : Type 0 where
   pub text : List ℕ
   pub told : left ≡ Some text
   pub is : IsStateText format limit text sent
 
--- where the state was the summary of some files, and the source held the text of that of others, it is the summary of all of them
+-- if the old state is the summary of some files, and the source held the text of a summary of other
+-- files, the new state is the summary of all of them, under the greater horizon
 abbrev pub JoinsSummaries : ℕ → Option (List ℕ) → State → State → Type 0
 JoinsSummaries limit left old new =
     (files others : List (List (List ℕ))) (g h : ℕ) (sent : State) → IsSummary files g old → IsSummary others h sent → HoldsState dks_2 limit left sent
@@ -60,7 +62,7 @@ pub record PrintsDocker (state : State) (place : List ℕ) (day : ℕ) (old new 
   pub is : IsDockerText (live_table state) place day text
   pub gained : Takes old text new
 
--- the sink gained a beginning of it, and not all of it
+-- the sink gained a proper beginning of that text
 pub record PrintsPart (state : State) (place : List ℕ) (day : ℕ) (old new : Option (List ℕ)) : Type 0 where
   pub text : List ℕ
   pub is : IsDockerText (live_table state) place day text

@@ -16,16 +16,17 @@ HasGoodLimit (deliver office message) = ⊤
 HasGoodLimit (reload office message) = ⊤
 HasGoodLimit (horizon_event office day) = ⊤
 
--- it is what a run of these events at so many offices leaves, with messages of the mark DKS2; limits and horizons of the events are good
+-- what a run of these events at `offices` offices leaves, with messages of the mark DKS2; the
+-- events' limits and horizons are good
 pub record LeavesRun (offices : ℕ) (events : List RunEvent) (exchange : Exchange) : Type 0 where
   pub run : IsRun dks_2 offices events exchange
   pub good : All (IsGoodEvent dks_2) events
 
--- what an office knows where a run ends
+-- what an office knows at the end of a run
 abbrev pub known_at_end : ℕ → List RunEvent → Exchange → ℕ → Known
 known_at_end offices events exchange office = office_known (sets_of offices events exchange) office
 
--- what a message knows there
+-- what a message knows at the end of a run
 abbrev pub sent_with : ℕ → List RunEvent → Exchange → ℕ → Known
 sent_with offices events exchange message = message_known (sets_of offices events exchange) message
 
@@ -37,7 +38,7 @@ event_at events place = slice_index_or events place (send_state 0)
 abbrev pub reply_at : List Reply → ℕ → Reply
 reply_at replies place = slice_index_or replies place done
 
--- the reply at a place is one that the event there may have, after the events before it and their replies
+-- the reply at a place is one that its event may have after the earlier events and their replies
 abbrev pub IsReplyAt : ℕ → List RunEvent → List Reply → ℕ → Type 0
 IsReplyAt offices events replies place =
     IsReply (known_sets offices (take place events) (take place replies)) (event_at events place) (reply_at replies place)
@@ -46,11 +47,11 @@ IsReplyAt offices events replies place =
 abbrev pub HasSummary : ℕ → List RunEvent → Exchange → ℕ → Type 0
 HasSummary offices events exchange office = IsStateOf (known_at_end offices events exchange office) (office_state exchange.states office)
 
--- the bytes of a message are the text of the summary of what it knows, as its office knew it when it was sent
+-- the bytes of a message are the text of the summary of what its office knew when it was sent
 abbrev pub TellsSummary : ℕ → List RunEvent → Exchange → ℕ → Type 0
 TellsSummary offices events exchange message = IsMessageOf dks_2 (sent_with offices events exchange message) (message_text exchange.messages message)
 
--- an office of some run knows this where the run ends, and has this state
+-- at the end of some run, an office knows this and has this state
 pub record EndsWith (known : Known) (state : State) : Type 0 where
   pub offices : ℕ
   pub events : List RunEvent
@@ -61,7 +62,8 @@ pub record EndsWith (known : Known) (state : State) : Type 0 where
   pub knows : known_at_end offices events exchange office ≡ known
   pub has : office_state exchange.states office ≡ state
 
--- of each timing point and each day that the state does not refuse, its docker is that of the table
+-- for each timing point and each day that the state does not refuse, its docker is the table's
+-- docker
 abbrev pub PrintsAs : State → Table → Type 0
 PrintsAs state table =
     (place : List ℕ) (day : ℕ) → ¬ IsDayRefused state.horizon day → (text : List ℕ) → IsDockerText (live_table state) place day text

@@ -26,12 +26,13 @@ event_meant (event.Horizon office day) = horizon_event office day
 abbrev pub events_meant : List Event → List model.RunEvent
 events_meant = map event_meant
 
--- a file's fault with this cause, or want of memory where it has none of a text's
+-- the refusal for a file's fault with this cause, or out of memory if the cause is not one of a
+-- text
 abbrev pub refusal_of_file : ℕ → Option files.FileCause → model.Refusal
 refusal_of_file number None = no_memory
 refusal_of_file number (Some cause) = bad_file (record { number = number; cause = cause })
 
--- what a fault of an office is as a refusal. Of those that a run gives it is the file's, or want of memory
+-- the refusal for an office's fault. The only faults in a run are a file's fault and out of memory
 abbrev pub refusal_meant : OfficeFault → model.Refusal
 refusal_meant (fault.File why) = refusal_of_file why.number (cause_meant why.cause)
 refusal_meant _ = no_memory
@@ -48,7 +49,8 @@ abbrev pub IsTextCause : Option files.FileCause → Type 0
 IsTextCause None = ⊥
 IsTextCause (Some cause) = ⊤
 
--- the faults of an office that a run gives: a file's, whose cause is never want of memory, and want of memory
+-- the office faults that a run can give: a file's fault, whose cause is never out of memory, and
+-- out of memory
 abbrev pub IsRunRefusal : OfficeFault → Type 0
 IsRunRefusal (fault.File why) = IsTextCause (cause_meant why.cause)
 IsRunRefusal fault.Memory = ⊤
@@ -57,19 +59,20 @@ IsRunRefusal fault.Lapsed = ⊥
 IsRunRefusal fault.Source = ⊥
 IsRunRefusal fault.Sink = ⊥
 
--- the replies that a run gives
+-- the replies that a run can give
 abbrev pub IsRunReply : Reply → Type 0
 IsRunReply Done = ⊤
 IsRunReply (Refused NoOffice) = ⊤
 IsRunReply (Refused NoMessage) = ⊤
 IsRunReply (Refused (Office why)) = IsRunRefusal why
 
--- the reply to an event by what its office answers
+-- the reply to an event, from its office's result
 abbrev pub reply_for : Result Unit OfficeFault → Reply
 reply_for (Ok unit) = Done
 reply_for (Err why) = Refused (Office why)
 
--- of so many offices and messages, an office or a message is missing: the message only where the office is there
+-- what is missing among this many offices and messages: the office, or, if the office is there, the
+-- message
 abbrev pub IsMissing : (offices messages office message : ℕ) → RunFault → Type 0
 IsMissing offices messages office message NoOffice = offices ≤ office
 IsMissing offices messages office message NoMessage = (office < offices) × (messages ≤ message)

@@ -32,7 +32,7 @@ impl Model for Exchange {
 }
 
 impl Exchange {
-    /// The exchange of these.
+    /// The exchange with these parts.
     pub(crate) fn of(offices: Vec<Office>, messages: Vec<Kept>, replies: Vec<Reply>) -> Exchange
         requires { All IsRunReply replies.items }
         ensures { result ≡ record {
@@ -55,14 +55,16 @@ impl Exchange {
         self.offices.as_slice()
     }
 
-    /// The messages, in the order in which they were sent, also those that no event delivered. Each holds its whole text.
+    /// The messages in the order in which they were sent, with those that no event delivered. Each
+    /// holds its whole text.
     pub fn messages(&self) -> &[Kept]
         ensures { texts_of result.now ≡ self.now.messages }
     {
         self.messages.as_slice()
     }
 
-    /// The replies, one for each event and in their order. Each is one that a run gives: of the faults of an office a file's, or want of memory.
+    /// The replies, one for each event, in the events' order. Each is a reply that a run can give:
+    /// its only office faults are a file's fault and out of memory.
     pub fn replies(&self) -> &[Reply]
         ensures meant { map reply_meant result.now ≡ self.now.replies }
         ensures each { All IsRunReply result.now }

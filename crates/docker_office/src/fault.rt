@@ -4,16 +4,17 @@ use docker_bytes::StateFault;
 use docker_day::DockerFault;
 use thiserror::Error;
 
-/// Why an office refuses what it is asked for.
+/// Why an office refuses a request.
 #[derive(Clone, Copy, PartialEq, Eq, Debug, Error)]
 pub enum OfficeFault {
-    /// The source holds no text of a file: its first record at fault. The cause is never want of memory.
+    /// The source holds no text of a file: the first record at fault. The cause is never out of
+    /// memory.
     #[error("file refused: {0}")]
     File(FileFault),
-    /// The source holds no text of a state: its first bad part. The cause is never want of memory.
+    /// The source holds no text of a state: the first bad part. The cause is never out of memory.
     #[error("state refused: {0}")]
     State(StateFault),
-    /// The state has a horizon, and the day asked for is before it plus three days.
+    /// The state has a horizon, and the requested day is before the horizon plus three days.
     #[error("day refused: before horizon plus three days")]
     Lapsed,
     /// The source failed.
@@ -22,7 +23,7 @@ pub enum OfficeFault {
     /// The sink failed.
     #[error("the sink failed")]
     Sink,
-    /// A growth was refused: want of memory.
+    /// Out of memory: an allocation was refused.
     #[error("want of memory")]
     Memory,
 }

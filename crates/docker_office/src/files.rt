@@ -1,4 +1,4 @@
-//! The text of the files that a state knows: a line for each, of 33 columns and a line feed.
+//! The text of the files that a state knows: for each file one line of 33 columns and a line feed.
 ghost use Rattle.std.specs.Prelude.{◌≡◌, ◌+◌, ◌-◌, ◌^◌, ◌<◌, ◌≤◌, ◌++◌, length, map, All, OnOk, OnErr};
 ghost use Rattle.arrayvec.specs.ArrayVec.{array_vec_len};
 ghost use Rattle.cif_line.specs.Device.{Takes, TakesPart};
@@ -11,10 +11,10 @@ use arrayvec::ArrayVec;
 use cif_line::{Failed, Sink, write_all};
 use docker_state::LedgerItem;
 
-/// The bytes of a line, of 33 columns and a line feed.
+/// The bytes of a line: 33 columns and a line feed.
 const WIDTH: usize = 34;
 
-/// Writes the lines of ledger items, in their order.
+/// Writes the lines of ledger items in their order.
 pub(crate) fn write_files<K: Sink>(items: &[LedgerItem], sink: &mut K) -> Result<(), Failed>
     requires failures { K.failures sink.old < 2 ^ 64 - 1 }
     requires good { All IsGoodItem (map item_meant items.now) }
@@ -31,7 +31,8 @@ pub(crate) fn write_files<K: Sink>(items: &[LedgerItem], sink: &mut K) -> Result
     Ok(())
 }
 
-/// The line of a ledger item, with its line feed: its day and minute, its reference, its update indicator and its last reference.
+/// The line of a ledger item with its line feed: day, minute, reference, update indicator and last
+/// reference.
 fn line_of(item: &LedgerItem) -> [u8; WIDTH]
     requires { item.now.minute < 1440 }
     ensures { result ≡ ended (file_text (item_meant item.now)) }
@@ -63,7 +64,7 @@ fn clock_text(minute: u16) -> [u8; 4]
     ]
 }
 
-/// Appends bytes for which there is room.
+/// Appends bytes to a text that has room for them.
 fn put(text: &mut ArrayVec<u8, WIDTH>, bytes: &[u8])
     requires { array_vec_len text.old + length bytes.now ≤ WIDTH }
     ensures items { text.new.items ≡ text.old.items ++ bytes.now }

@@ -1,5 +1,6 @@
-//! What holds of every run: whatever its offices take, send, lose, repeat, reorder, receive or reload, what an office knows fixes its bytes and its dockers.
-//! Each law is the contract of a function with no body: it holds of all that it names.
+//! What holds of every run. Its offices may take, send, lose, repeat, reorder, receive or reload
+//! anything: the files and horizons that an office knows determine its bytes and its dockers. Each
+//! law is the contract of a function with an empty body, so it holds for every value that it names.
 ghost use Rattle.std.specs.Prelude.{◌≡◌, ℕ, List, ◌↔◌};
 ghost use Rattle.docker_model.specs.state.State.{State, live_table};
 ghost use Rattle.docker_model.specs.state.StateText.{dks_2, state_text};
@@ -11,7 +12,8 @@ ghost use Rattle.docker_model.specs.run.Run.{Known};
 ghost use Rattle.docker_model.specs.run.Knowledge.{AreOneKnowledge, HaveSameFiles};
 ghost use Rattle.docker_office.specs.RunEnds.{EndsWith, PrintsAs};
 
-/// Two offices, of one run or of two, that know the same files and the same horizon have equal states, and so equal bytes.
+/// Two offices, in one run or in two, that know the same files and the same horizon have equal
+/// states, and so equal bytes.
 pub fn known_files_fix_states()
     ensures state { (first second : Known) (one two : State) → EndsWith first one
         → EndsWith second two → AreOneKnowledge first second → one ≡ two }
@@ -20,8 +22,8 @@ pub fn known_files_fix_states()
         → state_text dks_2 one ≡ state_text dks_2 two }
 {}
 
-/// Two offices, of one run or of two, that know the same files print one docker of each timing point and of each day that neither refuses, whatever their
-/// horizons.
+/// Two offices, in one run or in two, that know the same files print the same docker for each
+/// timing point and each day that neither refuses, whatever their horizons.
 pub fn known_files_fix_dockers()
     ensures { (first second : Known) (one two : State) → EndsWith first one → EndsWith second two
         → HaveSameFiles first.files second.files → (place : List ℕ) (day : ℕ)
@@ -30,8 +32,9 @@ pub fn known_files_fix_dockers()
         → IsDockerText (live_table two) place day other → text ≡ other }
 {}
 
-/// Where no two files that an office knows have one moment, they have a plain table, made by applying the newest full extract and then all later updates in
-/// the order of their moments; and each docker that the office prints is that of this table.
+/// If no two files that an office knows have the same moment, they have a plain table. It is made
+/// by applying the newest full extract and then all later updates in the order of their moments.
+/// Each docker that the office prints is the docker of this table.
 pub fn dockers_are_of_the_plain_table()
     ensures { (known : Known) (state : State) → EndsWith known state
         → HaveDistinctMoments known.files

@@ -1,4 +1,5 @@
-//! Offices: each keeps a state, takes files, swaps states with the others, and prints; and runs of events at several of them.
+//! Offices and runs. Each office keeps a state, takes files, swaps states with the others, and
+//! prints. A run is a list of events at several offices.
 #![tactic(auto)]
 
 mod event;

@@ -1,4 +1,4 @@
-//! An office, and what is asked of it.
+//! An office, and what it can be asked for.
 ghost use Rattle.std.specs.Prelude.{◌≡◌, ◌≢◌, ℕ, List, [], ◌+◌, ◌-◌, ◌^◌, ◌<◌, ◌≤◌, ◌⊎◌, ◌↔◌, max, IsOk, IsErr, IfErr, OnOk, OnErr, Err};
 ghost use Rattle.cif_line.specs.Device.{IsEnd, Takes, TakesPart};
 ghost use Rattle.cif_file.specs.SourceRead.{ReadsNoFurther, RefusesText};
@@ -51,18 +51,20 @@ impl Office {
         }
     }
 
-    /// The state that it keeps.
+    /// The office's state.
     pub fn state(&self) -> &State
         ensures state { result.now ≡ self.now }
         ensures valid { IsValid self.now }
     {
-        // A state is valid, as its ledger tells.
+        // Called for its contract: the state is valid.
         let _ledger = self.state.ledger();
         &self.state
     }
 
-    /// Takes the file whose text a source holds, of at most `limit` records: its state is joined with the office's. The source is read to its end, or to
-    /// the piece, of at most 65,536 bytes, that tells the first fault. A refusal, `File`, `Source` or `Memory`, leaves the office as it was.
+    /// Takes the file whose text a source holds, of at most `limit` records, and joins the file's
+    /// state with the office's. Reads the source to its end, or up to the piece, of at most 65,536
+    /// bytes, that shows the first fault. A refusal, `File`, `Source` or `Memory`, leaves the
+    /// office as it was.
     pub fn take<S: Source>(&mut self, source: &mut S, limit: u32) -> Result<(), OfficeFault>
         requires failures { S.failures source.old < 2 ^ 64 - 1 }
         requires limit { limit ≤ MOST_RECORDS }
@@ -90,14 +92,14 @@ impl Office {
         self.join(taken)
     }
 
-    /// Joins the state with another. Want of memory leaves it as it was.
+    /// Joins the state with another. If memory runs out, the state stays as it was.
     fn join(&mut self, other: State) -> Result<(), OfficeFault>
         requires { IsValid other }
         ensures ok { IsOk result → IsJoin self.old other self.new }
         ensures unchanged { IsErr result → self.new ≡ self.old }
         ensures only { IfErr result (λ fault. fault ≡ OfficeFault.Memory) }
     {
-        // A state is valid, as its ledger tells.
+        // Called for its contract: the state is valid.
         let _ledger = self.state.ledger();
         let own = mem::replace(&mut self.state, State::empty(self.alloc));
         match own.join(self.alloc, other) {
@@ -112,8 +114,8 @@ impl Office {
         }
     }
 
-    /// Joins the state with the one whose text a source holds, of at most `limit` bytes. A refusal, `State`, `Source` or `Memory`, leaves the office as it
-    /// was.
+    /// Joins the state with the one whose text a source holds, of at most `limit` bytes. A refusal,
+    /// `State`, `Source` or `Memory`, leaves the office as it was.
     pub fn receive<S: Source>(&mut self, source: &mut S, limit: u64) -> Result<(), OfficeFault>
         requires { S.failures source.old < 2 ^ 64 - 1 }
         ensures ok { IsOk result
@@ -136,8 +138,9 @@ impl Office {
         Ok(())
     }
 
-    /// Replaces the state by the one whose text a source holds, of at most `limit` bytes: what the office knew and the text does not tell is forgotten. A
-    /// refusal, `State`, `Source` or `Memory`, leaves the office as it was.
+    /// Replaces the state by the one whose text a source holds, of at most `limit` bytes. The
+    /// office forgets what it knew, unless the text holds it. A refusal, `State`, `Source` or
+    /// `Memory`, leaves the office as it was.
     pub fn reload<S: Source>(&mut self, source: &mut S, limit: u64) -> Result<(), OfficeFault>
         requires { S.failures source.old < 2 ^ 64 - 1 }
         ensures ok { IsOk result → ReadsState dks_2 limit (S.left source.old) self.new }
@@ -159,8 +162,10 @@ impl Office {
         Ok(())
     }
 
-    /// Replaces the state by the one whose text of the mark `DKS1` a source holds, of at most `limit` bytes: it tells no horizon, and the state has none. A
-    /// text of the mark `DKS2` is refused at 0. A refusal, `State`, `Source` or `Memory`, leaves the office as it was.
+    /// Replaces the state by the one whose text a source holds, of at most `limit` bytes and with
+    /// the mark `DKS1`. Such a text has no horizon, so the new state has none. A text with the mark
+    /// `DKS2` is refused at offset 0. A refusal, `State`, `Source` or `Memory`, leaves the office
+    /// as it was.
     pub fn migrate<S: Source>(&mut self, source: &mut S, limit: u64) -> Result<(), OfficeFault>
         requires { S.failures source.old < 2 ^ 64 - 1 }
         ensures ok { IsOk result → ReadsState dks_1 limit (S.left source.old) self.new }
@@ -180,8 +185,8 @@ impl Office {
         Ok(())
     }
 
-    /// Sets a horizon: what is put and ends before this day lapses. A day that is not after the horizon changes nothing. Takes no memory, and is never
-    /// refused.
+    /// Sets a horizon: each entry that is put and ends before this day lapses. A day that is not
+    /// after the present horizon changes nothing. Takes no memory, and is never refused.
     pub fn set_horizon(&mut self, day: Day)
         ensures raised { self.new ≡ raise_horizon day self.old }
         ensures summary { (files : List (List (List ℕ))) (horizon : ℕ)
@@ -190,8 +195,8 @@ impl Office {
         self.state.set_horizon(day);
     }
 
-    /// Writes the text of the state, as another office receives or reloads it. Takes no memory: `Sink` alone refuses, and leaves the sink with a beginning
-    /// of the text, and not all of it.
+    /// Writes the text of the state, for another office to receive or reload. Takes no memory, so
+    /// it fails only with `Sink`. Then the sink has gained a proper beginning of the text.
     pub fn send<K: Sink>(&self, sink: &mut K) -> Result<(), OfficeFault>
         requires { K.failures sink.old < 2 ^ 64 - 1 }
         ensures whole { OnOk result
@@ -206,8 +211,9 @@ impl Office {
         write_state(&self.state, sink).map_err(|_| OfficeFault::Sink)
     }
 
-    /// Prints the docker of a timing point and a day. It is made before its first byte is written, so that `Lapsed`, where the day is before the horizon
-    /// plus three days, and `Memory` write nothing; `Sink` leaves the sink with a beginning of the text, and not all of it.
+    /// Prints the docker of a timing point and a day. The docker is made before its first byte is
+    /// written, so `Lapsed` and `Memory` write nothing. `Lapsed` means that the day is before the
+    /// horizon plus three days. With `Sink`, the sink has gained a proper beginning of the text.
     pub fn print<K: Sink>(&self, place: &Tiploc, day: Day, sink: &mut K) -> Result<(), OfficeFault>
         requires { K.failures sink.old < 2 ^ 64 - 1 }
         ensures ok { IsOk result
@@ -227,8 +233,8 @@ impl Office {
         write_docker(&docker, sink).map_err(|_| OfficeFault::Sink)
     }
 
-    /// Writes a line for each file that the office knows, in the order of the ledger. Takes no memory: `Sink` alone refuses, and leaves the sink with a
-    /// beginning of the text, and not all of it.
+    /// Writes a line for each file that the office knows, in the ledger's order. Takes no memory,
+    /// so it fails only with `Sink`. Then the sink has gained a proper beginning of the text.
     pub fn files<K: Sink>(&self, sink: &mut K) -> Result<(), OfficeFault>
         requires { K.failures sink.old < 2 ^ 64 - 1 }
         ensures whole { OnOk result

@@ -1,13 +1,13 @@
-//! What events are answered.
+//! The replies to events.
 use crate::fault::OfficeFault;
 use thiserror::Error;
 
 /// The reply to an event.
 #[derive(Clone, Copy, PartialEq, Eq, Debug)]
 pub enum Reply {
-    /// It was done.
+    /// The event was done.
     Done,
-    /// It was refused, and changed nothing.
+    /// The event was refused, and changed nothing.
     Refused(RunFault),
 }
 
@@ -17,10 +17,10 @@ pub enum RunFault {
     /// There is no such office.
     #[error("no such office")]
     NoOffice,
-    /// The office is there, and there is no such message.
+    /// The office exists, but there is no such message.
     #[error("no such message")]
     NoMessage,
-    /// The office refuses: the file's fault at a `Take`, or want of memory.
+    /// The office refuses: at a `Take` for the file's fault, or because it is out of memory.
     #[error("{0}")]
     Office(OfficeFault),
 }

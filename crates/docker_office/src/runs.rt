@@ -10,14 +10,19 @@ use crate::steps::Holdings;
 use cif_line::Memory;
 use std::alloc::Global;
 
-/// Meets events in their order, at so many offices that know nothing at first, and answers what they leave. `Memory` only where room for the offices, the
-/// messages or the replies is refused, before the first event; then each event has one reply, and one that is refused changes nothing.
+/// Runs events in their order at `offices` offices, which know nothing at first, and returns what
+/// the run leaves. Fails with `Memory` only before the first event, if room for the offices, the
+/// messages or the replies is refused. After that each event has one reply, and a refused event
+/// changes nothing.
 ///
-/// Each reply is one that its event may have there: `NoOffice` where there is no such office, and where there is, `NoMessage` where there is no such message.
-/// Else a Take is done, or refused for the fault of its text or for want of memory; a Send, a Deliver and a Reload are done or want memory, and a Horizon is
-/// done. Each office has the state of exactly the files and the horizon that it knows, and each message tells what its office knew when it was sent.
+/// Each reply is one that its event may have there. It is `NoOffice` if there is no such office,
+/// and `NoMessage` if there is such an office but no such message. Otherwise a Take is done, or
+/// refused for its text's fault or because memory ran out. A Send, a Deliver and a Reload are done
+/// or run out of memory. A Horizon is done. Each office has the state of exactly the files and the
+/// horizon that it knows. Each message holds what its office knew when it was sent.
 ///
-/// So the files and horizons that an office knows fix its bytes and its dockers, whatever was lost, repeated or reordered: the laws of `headline` say it.
+/// So the files and horizons that an office knows determine its bytes and its dockers, whatever was
+/// lost, repeated or reordered. The laws of `headline` say this.
 pub fn run(alloc: Global, offices: usize, events: &[Event<'_>]) -> Result<Exchange, Memory>
     requires { All HasGoodLimit (events_meant events.now) }
     ensures run { IfOk result (LeavesRun offices (events_meant events.now)) }

@@ -20,10 +20,10 @@ use cif_line::{Bytes, Day, Kept, Memory};
 use docker_bytes::encoded_len;
 use std::alloc::Global;
 
-/// How many bytes of a text or of a message are read at once, at most.
+/// The most bytes of a text or of a message that are read at once.
 const PIECE: usize = 65_536;
 
-/// Offices and the messages that they sent so far.
+/// Offices, and the messages that they have sent so far.
 #[derive(Debug, Drop)]
 pub(crate) struct Holdings {
     pub(crate) offices: Vec<Office>,
@@ -33,7 +33,7 @@ pub(crate) struct Holdings {
 impl Holdings {
     ghost use Rattle.docker_office.specs.RunSteps.{AreOf, MeetsEvent};
 
-    /// So many offices that know nothing, and room for so many messages.
+    /// `offices` offices that know nothing, and room for `messages` messages.
     pub(crate) fn new(alloc: Global, offices: usize, messages: usize) -> Result<Holdings, Memory>
         ensures offices { IfOk result (λ held. length held.offices.items ≡ offices) }
         ensures each { IfOk result (λ held. All (IsSummary [] 0) held.offices.items) }
@@ -51,7 +51,7 @@ impl Holdings {
         })
     }
 
-    /// The reply to an event, once it is done or refused.
+    /// Does or refuses an event, and returns its reply.
     pub(crate) fn meet(&mut self, alloc: Global, event: &Event<'_>) -> Reply
         requires limit { HasGoodLimit (event_meant event.now) }
         requires room { vec_len self.old.messages < vec_capacity self.old.messages }
@@ -74,7 +74,7 @@ impl Holdings {
         }
     }
 
-    /// What is missing of an office and a message: first the office.
+    /// Which of an office and a message is missing. The office is looked for first.
     fn missing(&self, office: usize, message: usize) -> Option<RunFault>
         ensures some { IfSome result (IsMissing (length self.now.offices.items)
             (length self.now.messages.items) office message) }
@@ -103,7 +103,7 @@ impl Holdings {
         reply_to(take_text(&mut self.offices[office], text, limit))
     }
 
-    /// An office sends its state. Where that is refused, there is no message more.
+    /// An office sends its state. If that is refused, there is no new message.
     fn send(&mut self, alloc: Global, office: usize) -> Reply
         requires { vec_len self.old.messages < vec_capacity self.old.messages }
         ensures met { (known : KnownSets) → AreOf known self.old
@@ -138,7 +138,7 @@ impl Holdings {
         }
     }
 
-    /// An office goes back to the state that a message tells.
+    /// An office goes back to the state in a message.
     fn reload(&mut self, office: usize, message: usize) -> Reply
         ensures met { (known : KnownSets) → AreOf known self.old
             → MeetsEvent known (reload office message) result self.new }
@@ -183,7 +183,7 @@ fn take_text(office: &mut Office, text: &[u8], limit: u32) -> Result<(), OfficeF
     office.take(&mut Bytes::new(text, PIECE), limit)
 }
 
-/// An office receives the state of a text, of which every byte is read.
+/// An office receives the state of a text. Every byte of the text is read.
 fn receive_text(office: &mut Office, text: &[u8]) -> Result<(), OfficeFault>
     ensures ok { IsOk result
         → JoinsState dks_2 (length text.now) (Some text.now) office.old office.new }
@@ -196,7 +196,7 @@ fn receive_text(office: &mut Office, text: &[u8]) -> Result<(), OfficeFault>
     office.receive(&mut Bytes::new(text, PIECE), text.len() as u64)
 }
 
-/// An office goes back to the state of a text, of which every byte is read.
+/// An office goes back to the state of a text. Every byte of the text is read.
 fn reload_text(office: &mut Office, text: &[u8]) -> Result<(), OfficeFault>
     ensures ok { IsOk result → ReadsState dks_2 (length text.now) (Some text.now) office.new }
     ensures unchanged { IsErr result → office.new ≡ office.old }
@@ -208,7 +208,8 @@ fn reload_text(office: &mut Office, text: &[u8]) -> Result<(), OfficeFault>
     office.reload(&mut Bytes::new(text, PIECE), text.len() as u64)
 }
 
-/// What an office sends: its whole text, in room that is reserved before a byte is written. A text that is too long for any room is want of memory.
+/// The message that an office sends: its whole text, in room that is reserved before a byte is
+/// written. A text too long for any room is reported as out of memory.
 fn message_of(alloc: Global, office: &Office) -> Result<Kept, Memory>
     ensures { IfOk result (λ kept. kept.taken ≡ state_text dks_2 office.now) }
 {
@@ -216,7 +217,7 @@ fn message_of(alloc: Global, office: &Office) -> Result<Kept, Memory>
         return Err(Memory);
     };
     let mut message = Kept::new(alloc, room)?;
-    // A sink in memory fails only where its room is used up.
+    // A sink in memory fails only if its room is used up.
     match office.send(&mut message) {
         Ok(()) => Ok(message),
         Err(_) => Err(Memory),
@@ -232,7 +233,7 @@ fn text_at(messages: &[Kept], message: usize) -> &[u8]
     messages[message].bytes()
 }
 
-/// The reply to an event by what the office answers.
+/// The reply to an event, from the office's result.
 fn reply_to(answer: Result<(), OfficeFault>) -> Reply
     ensures { result ≡ reply_for answer }
 {

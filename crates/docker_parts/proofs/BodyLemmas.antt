@@ -1,4 +1,4 @@
--- What is found of associations and of the first lines of schedules.
+-- How associations and the first lines of schedules are judged.
 use Rattle.std.proofs.Common.{◌≡◌, ℕ, List, sym, subst, Bool, true, false, ◌∙◌}
 use Rattle.std.specs.Prelude.{IsTrue, ◌↔◌}
 use Rattle.docker_model.specs.records.Record.{IsRecord, HasKind, association, basic_schedule, columns}
@@ -9,7 +9,7 @@ use Rattle.docker_model.specs.state.State.{IsAssociationOf}
 use Rattle.cif_laws.proofs.records.Columns.{good_fields}
 use Rattle.docker_parts.specs.Judged.{IsFirstOf}
 
--- a good association record that is new and of a key is its line
+-- a good association record that is new and has a key is that key's line
 pub association_test : (key : AssociationKey) (line view : List ℕ) (test : Bool) → IsRecord line → HasKind association line → HasGoodFields line → view ≡ line
     → IsTrue test ↔ (HasNewTransaction view × (association_named view ≡ association_key key)) → IsTrue test ↔ IsAssociationOf key line
 association_test key line view test is kind fields same tested = (

@@ -1,4 +1,4 @@
--- Of an ascending list all are below what its last element is below.
+-- In an ascending list, all elements are below what the last element is below.
 use Rattle.std.proofs.Common.{◌≡◌, suc, ◌-◌, List, [], ◌∷◌, length, refl, ap, sym, ◌∙◌, subst, inl, inr, ◌⊎◌, arith, Bool, true, All, Some, None}
 use Rattle.std.specs.Prelude.{slice_get, IsTrue, ◌↔◌}
 use Rattle.std.specs.List.{AllByRecursion}
@@ -9,7 +9,7 @@ use Rattle.std.specs.Cmp.{IsTotalOrder}
 use Rattle.std.proofs.lemmas.List.Elements.{All-from_recursion, recursion_from_All}
 use Rattle.docker_model.specs.state.Order.{IsBelow, IsStrictlyAscending}
 
--- a comparison that is less
+-- an ordering that tests as less is less
 pub less_by_test : (o : Ordering) → is_lt o ≡ true → o ≡ Less
 less_by_test Less is = refl
 less_by_test Equal is = cc

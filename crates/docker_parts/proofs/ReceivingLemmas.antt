@@ -1,4 +1,4 @@
--- What is staged of the entries that were given, and the join that a commit of it is.
+-- What is staged of the entries given. Its commit is the join.
 use Rattle.std.proofs.Common.{◌≡◌, ℕ, ◌-◌, List, [], ◌∷◌, ◌++◌, length, refl, ap, sym, ◌∙◌, subst, inl, inr, arith, length-append, All, Some, None}
 use Rattle.std.specs.Prelude.{Option, slice_get}
 use Rattle.docker_model.specs.file.Change.{Key}
@@ -15,13 +15,13 @@ use Rattle.docker_state.specs.Staging.{Staging, IsOffered, IsAboveStaged}
 use Rattle.docker_parts.specs.Receiving.{told_state, items_of, IsStagedOf}
 use Rattle.docker_parts.specs.Told.{under}
 
--- a key above all that were given is above what is staged of them
+-- a key above the keys of all entries given is above what is staged of them
 pub above_staged : (own : State) (floor : Option FileStamp) (entries staged : List (Key × Entry)) (key : Key) → IsStaged own floor entries staged
     → All (λ (entry : Key × Entry). IsBelow key_cmp entry.0 key) entries → IsAboveStaged staged key
 above_staged own floor entries staged key are above other among =
     member_of (λ (entry : Key × Entry). IsBelow key_cmp entry.0 key) entries other above ((are.members other.0 other.1).0 among).0
 
--- an entry that was offered is given
+-- an entry that was offered is among the entries given
 pub offered_more : (own : State) (staging after : Staging) (entries : List (Key × Entry)) (key : Key) (entry : Entry) → IsStagedOf own staging entries
     → IsAboveStaged staging.staged key → IsOffered own staging key entry after → IsStagedOf own after (entries ++ (key, entry) ∷ [])
 offered_more own staging after entries key entry are above (inl to) =
@@ -51,7 +51,7 @@ commit_joins own after items held entries staging horizon valid told same are co
     (staging_joins_before own (under horizon (told_state staging.items entries)) staging.floor staging.staged after valid
     (subst (λ its. IsValid (under horizon (told_state its entries))) same told) are.floor are.staged (commit entries are.staged))
 
--- no entry has no last key
+-- if there are no entries, there is no last key
 pub no_last : (entries : List (Key × Entry)) → entries ≡ [] → None ≡ last_key entries
 no_last entries none = subst (λ es. None ≡ last_key es) (sym none) refl
 

@@ -1,4 +1,4 @@
--- What is found of the lines of a schedule.
+-- How the lines of a schedule are judged.
 use Rattle.std.proofs.Common.{◌≡◌, ℕ, List, [], ◌∷◌, ◌++◌, length, refl, ap, sym, subst, inl, inr, ◌⊎◌, Some, None, ◌+◌, ◌<◌, ◌≤◌, Bool, true, false, arith, length-append}
 use Rattle.std.specs.Prelude.{Option, IsTrue, ◌↔◌}
 use Rattle.std.proofs.lemmas.Bool.{cases_lt}
@@ -19,7 +19,7 @@ first_kind line begin =
     let same : line ≡ begin.1.basic = ap first_record begin.1.whole in
     (subst (HasKind basic_schedule) (sym same) begin.1.kind, subst HasGoodFields (sym same) begin.1.fields)
 
--- a first line that is none of the key is none of its schedule
+-- a line that isn't a first line for the key begins no schedule of the key
 pub not_first : (state : State) (key : ScheduleKey) (count : ℕ) (lines : Lines) (line : List ℕ) → lines ≡ [] → ¬ IsFirstOf state.horizon key line
     → ¬ AreLinesUpToIn state key count (lines ++ line ∷ [])
 not_first state key count lines line none bad are =
@@ -27,7 +27,7 @@ not_first state key count lines line none bad are =
     let first = first_kind line one.0.lines_of.begin in
     bad (record { kind = first.0; fields = first.1; of_key = record { new = one.0.lines_of.new; key_is = one.0.lines_of.key_is; stays = one.1 } })
 
--- the lines with one more are still of the key, and have not to lapse
+-- the lines with one more still have the key, and don't lapse
 pub one_line_more : (state : State) (key : ScheduleKey) (lines : Lines) (line : List ℕ) → (lines ≡ []) ⊎ AreLinesIn state key lines
     → (lines ≡ [] → IsOfKey state.horizon key line)
     → BeginsSchedule (lines ++ line ∷ []) → AreLinesIn state key (lines ++ line ∷ [])
@@ -35,7 +35,7 @@ one_line_more state key [] line are first begin = let told = first refl in (reco
 one_line_more state key (basic ∷ lines) line (inl none) first begin = cc
 one_line_more state key (basic ∷ lines) line (inr are) first begin = (record { begin = begin; new = are.0.new; key_is = are.0.key_is }, are.1)
 
--- no more lines are to come behind the next one of so many
+-- if no more lines are to come after the next one, it is the last of `count`
 pub no_more : (more : Bool) (n count : ℕ) → (IsTrue more ↔ (n + 1 < count)) → n < count → more ≡ false → n + 1 ≡ count
 no_more more n count tells few none = by (cases_lt (n + 1) count)
   where
@@ -43,7 +43,7 @@ no_more more n count tells few none = by (cases_lt (n + 1) count)
     by (inl below) = absurd (let told = tells.1 below in cc)
     by (inr enough) = omega arith
 
--- the last of so many lines is no schedule's
+-- the last of `count` lines that doesn't complete a schedule is refused
 pub incomplete : (count : ℕ) (lines : Lines) (line : List ℕ) (more complete : Bool) → (IsTrue more ↔ (length lines + 1 < count)) → length lines < count
     → more ≡ false
     → (IsTrue complete ↔ IsSchedule (lines ++ line ∷ [])) → complete ≡ false → ¬ BeginUpTo count (lines ++ line ∷ [])
@@ -53,14 +53,14 @@ incomplete count lines line more complete tells few none is not_one up_to =
     let whole = is.1 (up_to.complete (omega arith)) in
     cc
 
--- a line with more to come, or one with which the lines are a schedule
+-- a line may come next if more are to come, or if it completes a schedule
 pub begin_up_to : (count : ℕ) (lines : Lines) (line : List ℕ) (more : Bool) → (IsTrue more ↔ (length lines + 1 < count)) → BeginsSchedule (lines ++ line ∷ [])
     → (more ≡ true) ⊎ IsSchedule (lines ++ line ∷ []) → BeginUpTo count (lines ++ line ∷ [])
 begin_up_to count lines line more tells begin (inl is) = record
     { begin = begin; complete = λ all. let size = length-append lines (line ∷ []) in let below = tells.0 is in absurd (omega arith) }
 begin_up_to count lines line more tells begin (inr whole) = record { begin = begin; complete = λ all. whole }
 
--- so many lines of the key, as they begin a schedule with this one
+-- lines that begin a schedule with this one are the first of `count` lines of the key
 pub lines_up_to : (state : State) (key : ScheduleKey) (count : ℕ) (lines : Lines) (line bytes : List ℕ) → line ≡ bytes
     → (lines ≡ []) ⊎ AreLinesIn state key lines → (lines ≡ [] → IsOfKey state.horizon key line)
     → BeginUpTo count (lines ++ line ∷ []) → AreLinesUpToIn state key count (lines ++ bytes ∷ [])
@@ -68,7 +68,7 @@ lines_up_to state key count lines line bytes same here first up_to =
     let are = one_line_more state key lines line here first up_to.begin in
     subst (λ b. AreLinesUpToIn state key count (lines ++ b ∷ [])) same (record { lines_of = are.0; complete = up_to.complete }, are.1)
 
--- why a line does not go on, as the key's lines tell
+-- why a line doesn't continue the lines of the key
 pub line_refused : (state : State) (key : ScheduleKey) (count : ℕ) (lines : Lines) (line bytes : List ℕ) → line ≡ bytes
     → (lines ≡ []) ⊎ AreLinesIn state key lines → (lines ≡ [] → IsOfKey state.horizon key line)
     → (cause : Option StateCause) → IsLineRefusal count lines line cause → IsUpToRefusal state key count lines bytes cause

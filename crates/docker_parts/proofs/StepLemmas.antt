@@ -17,21 +17,21 @@ use Rattle.docker_parts.specs.Judged.{MayFollow, Judges}
 use Rattle.docker_parts.specs.declared.stage.Stage.{Stage}
 use Rattle.docker_parts.specs.Stage.{stage_meant, IsFresh}
 
--- an item that may follow makes a ledger again
+-- a ledger with an item that may follow is a ledger
 pub item_follows : (ledger told : List LedgerItem) (item meant : LedgerItem) → told ≡ ledger → IsLedger ledger → meant ≡ item → MayFollow told item
     → IsLedger (ledger ++ meant ∷ [])
 item_follows ledger told item meant same is equal may =
     let here = subst (λ l. MayFollow l meant) same (subst (MayFollow told) (sym equal) may) in
     one_item_more ledger meant is here.good here.above here.keeps_floor
 
--- with the last line there are as many as were told
+-- with the last line, there are as many lines as their number said
 pub taken_all : (lines : List (List ℕ)) (line : List ℕ) (taken : List (List ℕ)) (n : ℕ) → taken ≡ lines ++ line ∷ [] → n ≤ length lines + 1 → n ≤ length taken
 taken_all lines line taken n is last =
     let size = length-append lines (line ∷ []) in
     let same : length taken ≡ length (lines ++ line ∷ []) = ap (λ (ls : List (List ℕ)). length ls) is in
     omega arith
 
--- an entry that was given, or for which memory was wanting
+-- an entry was given, or memory ran out for it
 pub entry_judged : (format : Format) (before after : Before) (bytes : List ℕ) (new : State) (lines : List (List ℕ)) (result : Result Stage StateCause)
     → IfOk result (λ s. (ls : List (List ℕ)) → stage_meant s new ls ≡ after) → IfOk result (λ s. IsFresh s new)
     → IfErr result (λ told. told ≡ cause.Memory) → after ≡ advance format before bytes → IsWantingHere format before bytes
@@ -41,7 +41,7 @@ entry_judged format before after bytes new lines (Ok s) is fresh err same here =
 entry_judged format before after bytes new lines (Err told) is fresh err same here =
     subst (λ (k : StateCause). IsBadHere format before bytes (cause_meant k)) (sym err) here
 
--- a part that is judged at its stage
+-- a part that is judged is judged at its stage
 pub judged_at : (meant format : Format) (at exact : Stage) → meant ≡ format → at ≡ exact → (state new : State) (lines after : List (List ℕ)) (bytes : List ℕ)
     (result : Result Stage StateCause) → Judges format (stage_meant exact state lines) bytes new after result
     → Judges meant (stage_meant at state lines) bytes new after result
@@ -59,7 +59,7 @@ module _ (format : Format) (count : ℕ) (state : State) (key : ScheduleKey) (st
       let below = here.2 in
       omega arith
 
-  -- the last line
+  -- with the last line, the entry is complete
   pub all_there : (body : List (List ℕ)) → body ≡ taken → n ≤ length taken
       → after_entries count (with_entry state (schedule_key key) stamp (put_with (schedule_body body))) ≡ advance format
       (in_entry count state (before_line key stamp n lines)) line

@@ -1,4 +1,4 @@
--- What causes of the code mean, as the definitions name them.
+-- What causes of the code mean, in the definitions' terms.
 use Rattle.std.specs.Prelude.{◌≢◌, ℕ, List, Option, Some, None, slice_index, ⊤}
 use Rattle.docker_model.specs.file.Change.{tiploc_key, association_key, schedule_key}
 use Rattle.docker_model.specs.state.StateText.{Format}
@@ -8,7 +8,7 @@ use Rattle.docker_model.specs.state.StateFault as model
 use Rattle.docker_parts.specs.declared.cause.StateCause.{StateCause}
 use Rattle.docker_parts.specs.declared.cause.StateCause.TheVariants as cause
 
--- a cause. Want of memory is none of a text's
+-- a cause of the code; running out of memory is no fault of a text
 abbrev pub cause_meant : StateCause → Option model.StateCause
 cause_meant cause.Mark = Some bad_mark
 cause_meant cause.Item = Some bad_item
@@ -23,7 +23,8 @@ cause_meant cause.Long = Some too_long
 cause_meant cause.Memory = None
 cause_meant cause.Horizon = Some bad_horizon
 
--- memory is taken for a part of an entry: for a line, and for what ends an entry. The op of a put, which is 1, ends none
+-- a part of an entry takes memory: a line does, and so does the part that ends the entry; the op of
+-- a put, which is 1, ends none
 abbrev pub PartTakesMemory : EntryPart → List ℕ → Type 0
 PartTakesMemory before_tag bytes = ⊥
 PartTakesMemory (before_key tag) bytes = ⊥
@@ -34,18 +35,18 @@ PartTakesMemory (before_body (association_key key) stamp) bytes = ⊤
 PartTakesMemory (before_body (schedule_key key) stamp) bytes = ⊥
 PartTakesMemory (before_line key stamp count lines) bytes = ⊤
 
--- memory is taken for a part: for a ledger item, and for those of an entry
+-- a part takes memory: a ledger item does, and so do some parts of an entry
 abbrev pub TakesMemory : Before → List ℕ → Type 0
 TakesMemory (before_item horizon count ledger) bytes = ⊤
 TakesMemory (in_entry count state part) bytes = PartTakesMemory part bytes
 TakesMemory _ bytes = ⊥
 
--- memory was wanting for a part: one that takes memory, and is not bad
+-- memory ran out for a part, which takes memory and isn't bad
 pub record IsWantingHere (format : Format) (before : Before) (bytes : List ℕ) : Type 0 where
   pub takes : TakesMemory before bytes
   pub not_bad : (cause : model.StateCause) → ¬ IsBadPart format before bytes cause
 
--- the part is bad for this cause, or memory was wanting for it
+-- the part is bad for this cause, or memory ran out for it
 abbrev pub IsBadHere : Format → Before → List ℕ → Option model.StateCause → Type 0
 IsBadHere format before bytes None = IsWantingHere format before bytes
 IsBadHere format before bytes (Some cause) = IsBadPart format before bytes cause

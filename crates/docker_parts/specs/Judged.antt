@@ -1,4 +1,4 @@
--- What is found of a part.
+-- How a part is judged.
 use Rattle.std.specs.Prelude.{◌≡◌, ℕ, ◌≤◌, List, Option, Some, None, Result, Ok, Err}
 use Rattle.docker_model.specs.state.Stamp as stamps
 use Rattle.docker_model.specs.file.Change as model
@@ -21,7 +21,8 @@ use Rattle.docker_parts.specs.FaultMeaning.{cause_meant, IsBadHere}
 use Rattle.docker_parts.specs.declared.stage.Stage.{Stage}
 use Rattle.docker_parts.specs.Stage.{LeadsTo}
 
--- a part behind what stands before it: it leads to a stage, or it is bad for a cause, or memory was wanting for it
+-- a part, after what stands before it, leads to a stage, or is bad for a cause, or memory ran out
+-- for it
 abbrev pub Judges : Format → fault_statepart.Before → List ℕ → State → List (List ℕ) → Result Stage StateCause → Type 0
 Judges format before bytes state lines (Ok stage) = LeadsTo format before bytes stage state lines
 Judges format before bytes state lines (Err cause) = IsBadHere format before bytes (cause_meant cause)
@@ -32,7 +33,7 @@ pub record MayFollow (ledger : List stamps.LedgerItem) (item : stamps.LedgerItem
   pub above : IsAboveItems ledger item
   pub keeps_floor : ¬ RaisesFloor ledger item
 
--- it is bad for a cause
+-- the item is bad for a cause
 abbrev pub IsItemCause : List stamps.LedgerItem → stamps.LedgerItem → Option fault.StateCause → Type 0
 IsItemCause ledger item None = ⊥
 IsItemCause ledger item (Some cause) = IsBadItem ledger item cause
@@ -52,7 +53,7 @@ abbrev pub IsJudgedKey : State → model.Key → Result Key StateCause → Type 
 IsJudgedKey state key (Ok told) = (key_meant told ≡ key) × IsGoodKey key × IsAboveEntries state key
 IsJudgedKey state key (Err cause) = IsKeyCause state key (cause_meant cause)
 
--- an association of this key that does not end before a horizon
+-- an association with this key that does not end before a horizon
 abbrev pub IsAssociationUnder : ℕ → model.AssociationKey → List ℕ → Type 0
 IsAssociationUnder horizon key line = IsAssociationOf key line × (horizon ≤ body_end (association_body line))
 
@@ -62,7 +63,7 @@ pub record IsOfKey (horizon : ℕ) (key : model.ScheduleKey) (line : List ℕ) :
   pub key_is : schedule_named line ≡ schedule_key key
   pub stays : horizon ≤ readable_end (columns 16 21 line)
 
--- a good basic schedule, new and of this key, that does not end before a horizon
+-- a good basic schedule that is new, has this key and does not end before a horizon
 pub record IsFirstOf (horizon : ℕ) (key : model.ScheduleKey) (line : List ℕ) : Type 0 where
   pub kind : HasKind basic_schedule line
   pub fields : HasGoodFields line

@@ -18,7 +18,7 @@ use Rattle.docker_parts.specs.declared.receiving.Receiving.{Receiving}
 abbrev pub told_state : List stamps.LedgerItem → List (model.Key × ops.Entry) → State
 told_state items entries = record { horizon = 0; ledger = items; entries = entries }
 
--- the ledger items received: from the first entry on they stand with what is staged
+-- the ledger items received; from the first entry on, they are with what is staged
 abbrev pub items_of : List LedgerItem → Option Staging → List stamps.LedgerItem
 items_of items None = map item_meant items
 items_of items (Some staging) = staging.items
@@ -27,12 +27,12 @@ items_of items (Some staging) = staging.items
 abbrev pub told_of : {R : Type 0} → Receiving R → State
 told_of it = told_state (items_of it.items.items it.staging) it.given.entries
 
--- of the entries given those are staged that are to be, under the floor of both ledgers
+-- what is staged of the entries given is what is to be, under the floor of both ledgers
 pub record IsStagedOf (own : State) (staging : Staging) (entries : List (model.Key × ops.Entry)) : Type 0 where
   pub floor : IsFloor (own.ledger ++ staging.items) staging.floor
   pub staged : IsStaged own staging.floor entries staging.staged
 
--- a valid state, this one, and what it has received agree with what was given
+-- the state is this one and valid, and what it has received agrees with what was given
 pub record IsReceiving {R : Type 0} (own : State) (it : Receiving R) : Type 0 where
   pub own_is : it.own ≡ own
   pub valid : IsValid it.own

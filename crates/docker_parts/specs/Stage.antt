@@ -1,4 +1,5 @@
--- What a stage of the code means: what stands before the next part, of these parts of a state and these lines of an open schedule.
+-- What a stage of the code means: what stands before the next part, for these parts of a state and
+-- these lines of an open schedule.
 use Rattle.std.specs.Prelude.{◌≡◌, ℕ, ◌+◌, ◌≤◌, Bool, true, false, List, [], length, ⊤}
 use Rattle.docker_model.specs.file.Change.{schedule_key}
 use Rattle.docker_model.specs.file.Change as model
@@ -17,7 +18,7 @@ use Rattle.docker_parts.specs.declared.stage.Stage.{Stage}
 use Rattle.docker_parts.specs.declared.stage.Stage.TheVariants as stage
 use Rattle.state_laws.specs.TextStage.{advance}
 
--- 1 for TIPLOCs, 2 for associations, 3 for schedules
+-- the tag's number: 1 for TIPLOCs, 2 for associations, 3 for schedules
 abbrev pub tag_meant : Tag → ℕ
 tag_meant tag.Tiploc = 1
 tag_meant tag.Assoc = 2
@@ -62,7 +63,7 @@ abbrev pub begins_item : Before → Bool
 begins_item (in_entry count state part) = begins_part part
 begins_item _ = true
 
--- what is still to come of a state is not there yet
+-- the parts of a state that are still to come are not there yet
 abbrev pub IsFresh : Stage → State → Type 0
 IsFresh stage.Mark state = (state.ledger ≡ []) × (state.entries ≡ []) × (state.horizon ≡ 0)
 IsFresh stage.Horizon state = (state.ledger ≡ []) × (state.entries ≡ [])
@@ -76,12 +77,12 @@ abbrev pub IsLast : Stage → List (List ℕ) → Type 0
 IsLast (stage.Line count key stamp n) lines = n ≤ length lines + 1
 IsLast _ lines = ⊤
 
--- a stage has been come to by good parts
+-- good parts have led to the stage
 pub record IsReady (format : Format) (stage : Stage) (state : State) (lines : List (List ℕ)) : Type 0 where
   pub good : AreGood format (stage_meant stage state lines)
   pub fresh : IsFresh stage state
 
--- behind what stands before, these bytes are a part that is not bad, and lead to the stage
+-- after what stands before, these bytes are a part that isn't bad, and lead to the stage
 pub record LeadsTo (format : Format) (before : Before) (bytes : List ℕ) (stage : Stage) (state : State) (lines : List (List ℕ)) : Type 0 where
   pub is : stage_meant stage state lines ≡ advance format before bytes
   pub not_bad : (cause : StateCause) → ¬ IsBadPart format before bytes cause

@@ -1,11 +1,11 @@
--- What the parts of a text have told: a horizon, and a state without one.
+-- What the parts of a text have said: a horizon, and a state without one.
 use Rattle.std.specs.Prelude.{ℕ, List, [], ◌∷◌, ◌++◌, map, Option, Some, None}
 use Rattle.docker_model.specs.file.Change.{Key}
 use Rattle.docker_model.specs.state.Stamp.{LedgerItem, FileStamp}
 use Rattle.docker_model.specs.state.Op.{Entry}
 use Rattle.docker_model.specs.state.State.{State}
 
--- a horizon that was read, 0 where none was
+-- a horizon that was read, or 0 if none was
 abbrev pub horizon_meant : Option ℕ → ℕ
 horizon_meant None = 0
 horizon_meant (Some day) = day
@@ -18,10 +18,10 @@ file_stamps items = map (λ (item : LedgerItem). item.stamp) items
 abbrev pub under : ℕ → State → State
 under horizon state = record { horizon = horizon; ledger = state.ledger; entries = state.entries }
 
--- a state without entries, and one ledger item more
+-- a state without entries, with one more ledger item
 abbrev pub with_item : State → LedgerItem → State
 with_item state item = record { horizon = state.horizon; ledger = state.ledger ++ item ∷ []; entries = [] }
 
--- a state, and one entry more
+-- a state with one more entry
 abbrev pub with_row : State → Key × Entry → State
 with_row state row = record { horizon = state.horizon; ledger = state.ledger; entries = state.entries ++ row ∷ [] }

@@ -1,4 +1,4 @@
-//! Bodies of TIPLOCs and associations, and the first line of a schedule, as they are read.
+//! Reads the bodies of TIPLOCs and associations, and the first line of a schedule.
 ghost use Rattle.std.specs.Prelude.{◌≡◌, ◌+◌, ◌≤◌, ◌↔◌, length, slice_range, false, IsTrue, MatchOption};
 ghost use Rattle.docker_model.specs.records.Record.{IsRecord, HasKind, association, columns, IsTextOfLength};
 ghost use Rattle.docker_model.specs.records.Date.{is_date, date_number};
@@ -22,7 +22,7 @@ const ASSOC_END_AT: usize = 21;
 /// Where the end date of a basic schedule begins.
 const SCHEDULE_END_AT: usize = 15;
 
-/// The body of a TIPLOC that bytes are. None where a byte is not printable.
+/// The TIPLOC body with these bytes. `None` if a byte isn't printable.
 pub(crate) fn tiploc_body(bytes: &[u8]) -> Option<Body>
     requires { length bytes.now ≡ TIPLOC_BODY }
     ensures { MatchOption result (¬ IsTextOfLength TIPLOC_BODY bytes.now)
@@ -34,7 +34,8 @@ pub(crate) fn tiploc_body(bytes: &[u8]) -> Option<Body>
     Some(Body::Tiploc(*field(bytes, 0)))
 }
 
-/// The body of an association of this key that bytes are, and that does not end before a horizon. None where they are none.
+/// The body with these bytes, of the association with this key. `None` if the bytes are no such
+/// body, or if it ends before a horizon.
 pub(crate) fn assoc_body(key: &AssocKey, horizon: u16, bytes: &[u8]) -> Option<Body>
     ensures { MatchOption result (¬ IsAssociationUnder horizon (assoc_meant key.now) bytes.now)
         (λ body. (body_meant body ≡ association_body bytes.now)
@@ -52,7 +53,8 @@ pub(crate) fn assoc_body(key: &AssocKey, horizon: u16, bytes: &[u8]) -> Option<B
     Some(Body::Assoc(line))
 }
 
-/// Whether the end date at an index of a line is not before a horizon. What cannot be read is no end.
+/// Whether the end date at an index of a line is not before a horizon. A date that can't be read
+/// counts as no end.
 fn stays(line: &Line, at: usize, horizon: u16) -> bool
     requires { at + 6 ≤ LINE }
     ensures { IsTrue result ↔ (horizon ≤ readable_end (slice_range line.now at (at + 6))) }
@@ -70,7 +72,7 @@ fn has_kind(line: &Line, wanted: Kind) -> bool
     kind(line) == Some(wanted)
 }
 
-/// Whether a line is that of an association of this key.
+/// Whether a line is the association with this key.
 fn is_association_of(key: &AssocKey, line: &Line) -> bool
     requires { IsRecord line.now }
     ensures { IsTrue result ↔ IsAssociationOf (assoc_meant key.now) line.now }
@@ -84,7 +86,7 @@ fn is_association_of(key: &AssocKey, line: &Line) -> bool
     }
 }
 
-/// Whether an association is new and of this key.
+/// Whether an association is new and has this key.
 fn is_new_association(key: &AssocKey, view: &Assoc<'_>) -> bool
     ensures { IsTrue result ↔ (HasNewTransaction view.now ×
         (association_named view.now ≡ association_key (assoc_meant key.now))) }
@@ -92,7 +94,7 @@ fn is_new_association(key: &AssocKey, view: &Assoc<'_>) -> bool
     view.transaction() == Transaction::New && is_same(&association_of(view), &Key::Assoc(*key))
 }
 
-/// What an association is known by.
+/// The key of an association.
 fn association_of(view: &Assoc<'_>) -> Key
     ensures { key_meant result ≡ association_named view.now }
 {
@@ -106,14 +108,15 @@ fn association_of(view: &Assoc<'_>) -> Key
     })
 }
 
-/// Whether two keys are the same.
+/// Whether two keys are equal.
 fn is_same(first: &Key, second: &Key) -> bool
     ensures { IsTrue result ↔ (key_meant first.now ≡ key_meant second.now) }
 {
     first == second
 }
 
-/// Whether a line is new, of the schedule of this key, and does not end before a horizon. It is asked of the line's bytes, without judging its fields.
+/// Whether a line is new, names the schedule with this key, and doesn't end before a horizon. It
+/// reads the line's bytes, and doesn't judge its fields.
 pub(crate) fn is_first_of(key: &ScheduleKey, horizon: u16, line: &Line) -> bool
     ensures of_key { IsTrue result → IsOfKey horizon (schedule_meant key.now) line.now }
     ensures refused { result ≡ false → ¬ IsFirstOf horizon (schedule_meant key.now) line.now }
@@ -124,7 +127,7 @@ pub(crate) fn is_first_of(key: &ScheduleKey, horizon: u16, line: &Line) -> bool
     stays(line, SCHEDULE_END_AT, horizon)
 }
 
-/// Whether a line is new and names the schedule of this key, and its first day can be read.
+/// Whether a line is new and names the schedule with this key, and its first day can be read.
 fn is_new_schedule(key: &ScheduleKey, line: &Line) -> bool
     ensures { IsTrue result ↔ (HasNewTransaction line.now
         × IsTrue (is_date (columns 10 15 line.now))
@@ -142,7 +145,7 @@ fn is_new_schedule(key: &ScheduleKey, line: &Line) -> bool
     begins_on(line, &key.runs_from)
 }
 
-/// Whether the first day of a line's schedule is this one. What cannot be read is none.
+/// Whether the first day of a line's schedule is this one. A date that can't be read is no day.
 fn begins_on(line: &Line, day: &Day) -> bool
     ensures { IsTrue result ↔ (IsTrue (is_date (columns 10 15 line.now))
         × (date_number (columns 10 15 line.now) ≡ day.now)) }

@@ -1,4 +1,4 @@
-//! Why bytes are no text of a state.
+//! Why bytes are not the text of a state.
 ghost use Rattle.std.specs.Prelude.{Some};
 ghost use Rattle.docker_parts.specs.CauseText.{cause_text};
 
@@ -20,9 +20,10 @@ pub enum StateCause {
     Floor,
     /// The tag is not 1, 2 or 3.
     Tag,
-    /// The stamp is of no file of the ledger, or its record number is none of a change.
+    /// The stamp is of no file in the ledger, or its record number can't be a change's.
     Stamp,
-    /// The key, the op or the body is not well formed, the body is of another key, or it ends before the horizon.
+    /// The key, the op or the body isn't well formed, the body has another key, or it ends before
+    /// the horizon.
     Body,
     /// The text ends before the state does.
     Short,
@@ -30,7 +31,7 @@ pub enum StateCause {
     Tail,
     /// The state needs a byte at the limit.
     Long,
-    /// A growth was refused: want of memory.
+    /// Out of memory: a growth was refused.
     Memory,
     /// The horizon is no day number: it is above 36524.
     Horizon,

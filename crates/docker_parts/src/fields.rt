@@ -1,4 +1,4 @@
-//! Numbers and texts among bytes.
+//! Numbers and texts in bytes.
 ghost use Rattle.std.specs.Prelude.{◌≡◌, ◌+◌, ◌≤◌, ◌↔◌, ◌<◌, length, slice_range, slice_index, IsTrue};
 ghost use Rattle.std.specs.List.{AllPass};
 ghost use Rattle.std.specs.Int.{w16, w32, w64, from_be_bytes};
@@ -17,7 +17,7 @@ pub(crate) fn field<const N: usize>(bytes: &[u8], at: usize) -> &[u8; N]
     }
 }
 
-/// The number that two bytes tell.
+/// The number in two bytes.
 pub(crate) fn number_16(bytes: &[u8], at: usize) -> u16
     requires { at + 2 ≤ length bytes.now }
     ensures { result ≡ from_be_bytes w16 (slice_range bytes.now at (at + 2)) }
@@ -25,7 +25,7 @@ pub(crate) fn number_16(bytes: &[u8], at: usize) -> u16
     u16::from_be_bytes(*field(bytes, at))
 }
 
-/// The number that four bytes tell.
+/// The number in four bytes.
 pub(crate) fn number_32(bytes: &[u8], at: usize) -> u32
     requires { at + 4 ≤ length bytes.now }
     ensures { result ≡ from_be_bytes w32 (slice_range bytes.now at (at + 4)) }
@@ -33,7 +33,7 @@ pub(crate) fn number_32(bytes: &[u8], at: usize) -> u32
     u32::from_be_bytes(*field(bytes, at))
 }
 
-/// The number that eight bytes tell.
+/// The number in eight bytes.
 pub(crate) fn number_64(bytes: &[u8], at: usize) -> u64
     requires { at + 8 ≤ length bytes.now }
     ensures { result ≡ from_be_bytes w64 (slice_range bytes.now at (at + 8)) }

@@ -1,4 +1,5 @@
-//! What was given so far, for proofs alone: it takes no memory, and its methods do nothing when they run.
+//! What was given so far. It is only for proofs: it takes no memory, and its methods do nothing
+//! when they run.
 ghost use Rattle.std.specs.Prelude.{◌≡◌, List, [], ◌∷◌, ◌++◌};
 ghost use Rattle.std.specs.Borrow.{ftrue};
 ghost use Rattle.docker_model.specs.file.Change as model;
@@ -10,7 +11,7 @@ use cif_file::Key;
 use docker_join::Entry;
 use std::marker::Model;
 
-/// The entries that were given, each with its key.
+/// The entries given so far, each with its key.
 #[derive(Drop)]
 pub struct Given {
     pub ghost entries: { List (model.Key × ops.Entry) },
@@ -21,14 +22,14 @@ impl Model for Given {
 }
 
 impl Given {
-    /// No entry.
+    /// No entries.
     pub fn new() -> Given
         ensures { result.entries ≡ [] }
     {
         Given {}
     }
 
-    /// An entry more.
+    /// The entries with one more.
     pub fn with(_before: &Given, _key: &Key, _entry: &Entry) -> Given
         ensures { result.entries ≡ _before.now.entries
             ++ (key_meant _key.now, entry_meant _entry.now) ∷ [] }

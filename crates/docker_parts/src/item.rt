@@ -1,4 +1,4 @@
-//! Ledger items, as they are read.
+//! Reads ledger items.
 ghost use Rattle.std.specs.Prelude.{◌≡◌, ◌↔◌, length, map, slice_range, IsTrue, MatchOption, MatchResult, IfErr, Err};
 ghost use Rattle.docker_model.specs.state.Order.{IsBelow};
 ghost use Rattle.docker_model.specs.state.Stamp.{file_stamp_cmp};
@@ -15,10 +15,10 @@ use cif_line::{Day, Extract};
 use docker_encode::format::{INDICATOR_AT, ITEM, LAST_REFERENCE_AT, MINUTE_AT, REFERENCE_AT};
 use docker_state::LedgerItem;
 
-/// The minutes of a day.
+/// The minutes in a day.
 const MINUTES: u16 = 1440;
 
-/// The ledger item that bytes tell. None where no header can give it.
+/// The ledger item in these bytes. `None` if no header can give it.
 fn item_in(bytes: &[u8]) -> Option<LedgerItem>
     requires { length bytes.now ≡ ITEM }
     ensures { MatchOption result (¬ IsGoodItem (item_in bytes.now))
@@ -47,7 +47,7 @@ fn item_in(bytes: &[u8]) -> Option<LedgerItem>
     })
 }
 
-/// Whether an item is above the last of a ledger, if it has one.
+/// Whether an item is above the last item of a ledger, if there is one.
 fn is_above(ledger: &[LedgerItem], item: &LedgerItem) -> bool
     requires { IsLedger (map item_meant ledger.now) }
     ensures { IsTrue result ↔ IsAboveItems (map item_meant ledger.now) (item_meant item.now) }
@@ -58,7 +58,7 @@ fn is_above(ledger: &[LedgerItem], item: &LedgerItem) -> bool
     }
 }
 
-/// Whether an item is a full extract above the first of a ledger.
+/// Whether an item is a full extract above the first item of a ledger.
 fn raises_floor(ledger: &[LedgerItem], item: &LedgerItem) -> bool
     ensures { IsTrue result ↔ RaisesFloor (map item_meant ledger.now) (item_meant item.now) }
 {

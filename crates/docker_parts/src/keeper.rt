@@ -1,4 +1,4 @@
-//! What the parts of a state's text are given to.
+//! What receives the parts of a state's text.
 ghost use Rattle.std.specs.Prelude.{◌≡◌, ◌-◌, ◌^◌, ◌<◌, [], ◌∷◌, ◌++◌, length, map, IsOk, IfOk};
 ghost use Rattle.std.specs.Option.{option_copied, option_map};
 ghost use Rattle.docker_model.specs.state.State.{State, IsLedger, IsOpOf, IsValid};
@@ -14,9 +14,10 @@ use cif_line::{Day, Memory};
 use docker_join::Entry;
 use docker_state::LedgerItem;
 
-/// What the parts of a state's text are given to, in their order: the ledger items, then the entries. It keeps all of them, some, or none.
+/// Receives the parts of a state's text in order: the ledger items, then the entries. It keeps all
+/// of them, some, or none.
 pub trait Keeper: Drop + Sized {
-    // the ledger items and the entries that it was given, whatever it keeps of them, as a state without a horizon
+    // the ledger items and the entries given to it, as a state without a horizon, whatever it keeps
     ghost given: { Self → State };
 
     /// Takes the next ledger item.
@@ -42,7 +43,7 @@ pub trait Keeper: Drop + Sized {
     fn len(&self) -> u64
         ensures { result ≡ length (given self.now).entries };
 
-    /// The key of the last entry that was given. None where there is none yet.
+    /// The key of the last entry given. `None` if there is none yet.
     fn last(&self) -> Option<&Key>
         ensures { option_map key_meant (option_copied result)
             ≡ last_key (given self.now).entries };
@@ -56,7 +57,7 @@ pub trait Maker: Keeper {
     // it is made of this state
     ghost makes: { Self.Made → State → Type 0 };
 
-    /// What is made of the parts, under the horizon that was read.
+    /// Makes something from the parts, under the horizon that was read.
     fn finish(self, horizon: Option<Day>) -> Result<Self::Made, Memory>
         requires { IsValid (under (horizon_meant horizon) (Self.given self)) }
         ensures { IfOk result (λ made.

@@ -1,5 +1,5 @@
-//! The parts of a state's text, as they are read: each is judged behind those before it, and what they tell is kept.
-//! States, and the text that is written of them, are handed on from the crates below.
+//! Reads the parts of a state's text. Each part is judged after the parts before it, and what it
+//! says is kept. Re-exports states, and the writing of their text, from the crates below.
 #![tactic(auto)]
 
 mod body;

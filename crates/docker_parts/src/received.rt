@@ -30,7 +30,7 @@ impl<R: Receiver> Model for Received<R> {
 }
 
 impl<R: Receiver> Received<R> {
-    /// No part yet.
+    /// No parts yet.
     pub fn new(alloc: Global, own: State) -> Received<R>
         requires valid { IsValid own }
         requires own { own ≡ R.own }
@@ -41,7 +41,8 @@ impl<R: Receiver> Received<R> {
         }
     }
 
-    /// The state that receives the parts, joined with them, and then with the horizon that was read. Want of memory leaves it as it was.
+    /// The receiving state, joined with the parts, and then with the horizon that was read. If
+    /// memory runs out, the state is as it was.
     pub(crate) fn join(self, horizon: Option<Day>) -> (State, Result<(), Memory>)
         requires { IsValid (under (horizon_meant horizon) self) }
         ensures ok { IsOk result.1
@@ -58,7 +59,7 @@ impl<R: Receiver> Received<R> {
         (joined, done)
     }
 
-    /// The state that receives the parts, as it was.
+    /// The receiving state, as it was.
     pub(crate) fn into_own(self) -> State
         ensures { result ≡ R.own }
     {

@@ -1,4 +1,4 @@
-//! What a state receives of a text: of the entries those are staged that the state is to take over.
+//! What a state receives of a text. Only the entries that the state is to take over are staged.
 ghost use Rattle.std.specs.Prelude.{◌≡◌, ◌+◌, ◌-◌, ◌^◌, ◌<◌, ℕ, [], ◌∷◌, ◌++◌, length, map, IsOk, IsErr, IsSome, None};
 ghost use Rattle.std.specs.Option.{option_copied, option_map};
 ghost use Rattle.docker_model.specs.state.State.{IsLedger, IsOpOf, IsValid, IsJoin};
@@ -19,7 +19,8 @@ use std::alloc::Global;
 use std::marker::{Brand, PhantomData};
 use std::mem;
 
-/// Names the state that receives one text's parts: a type that is bound by it holds that state, whatever is called on it.
+/// Names the state that receives the parts of one text. A type bound by it holds that state,
+/// whatever is called on it.
 pub trait Receiver {
     ghost use Rattle.docker_model.specs.state.State as states;
 
@@ -32,7 +33,8 @@ impl Receiver for Brand {
     ghost own = { record { horizon = 0; ledger = []; entries = [] } };
 }
 
-/// A state, and what it has received so far: the ledger items, and from the first entry on what is staged; the last key and the number of the entries that were given, staged or not.
+/// A state, and what it has received so far: the ledger items, and from the first entry on what is
+/// staged. It also has the last key, and the number of the entries given, staged or not.
 #[derive(Drop)]
 pub(crate) struct Receiving<R> {
     alloc: Global,
@@ -45,7 +47,7 @@ pub(crate) struct Receiving<R> {
     of: PhantomData<R>,
 }
 
-/// Offers the next entry to what is staged of those before it.
+/// Offers the next entry to what is staged of the entries before it.
 fn offer(
     own: &State,
     staging: &mut Staging,
@@ -86,7 +88,7 @@ impl<R: Receiver> Receiving<R> {
         }
     }
 
-    /// Takes the next ledger item. None comes behind an entry.
+    /// Takes the next ledger item. No item comes after an entry.
     pub(crate) fn item(&mut self, item: LedgerItem) -> Result<(), Memory>
         requires receiving { IsReceiving R.own self.old }
         requires before_entries { self.old.given.entries ≡ [] }
@@ -102,7 +104,7 @@ impl<R: Receiver> Receiving<R> {
         Ok(())
     }
 
-    /// Begins to stage: the ledger is whole.
+    /// Begins to stage: the ledger is complete.
     fn begin(&mut self) -> Result<(), Memory>
         requires receiving { IsReceiving R.own self.old }
         requires none { self.old.staging ≡ None }
@@ -158,7 +160,7 @@ impl<R: Receiver> Receiving<R> {
         self.count
     }
 
-    /// The key of the last entry given. None where there is none yet.
+    /// The key of the last entry given. `None` if there is none yet.
     pub(crate) fn last(&self) -> Option<&Key>
         requires { IsReceiving R.own self.now }
         ensures { option_map key_meant (option_copied result)
@@ -167,7 +169,7 @@ impl<R: Receiver> Receiving<R> {
         self.last.as_ref()
     }
 
-    /// The state joined with what was received. Want of memory leaves the state as it was.
+    /// The state, joined with what was received. If memory runs out, the state is as it was.
     pub(crate) fn finish(self) -> (State, Result<(), Memory>)
         requires { IsReceiving R.own self }
         ensures ok { IsOk result.1 → (horizon : ℕ) → IsValid (under horizon (told_of self))

@@ -1,4 +1,4 @@
-//! The lines of a schedule, as they are read.
+//! Reads the lines of a schedule.
 ghost use Rattle.std.specs.Prelude.{◌≡◌, ◌+◌, ◌<◌, ◌↔◌, ◌⊎◌, [], ◌∷◌, ◌++◌, length, false, IsTrue, IsOk, IfOk, IfErr};
 ghost use Rattle.cif_file.specs.JourneyRead.{HasLines};
 ghost use Rattle.docker_model.specs.file.File.{BeginsSchedule};
@@ -35,7 +35,7 @@ impl Model for Gathered {
     ghost invariant = { λ gathered. HasLines gathered.journey gathered.lines.items };
 }
 
-/// Lets go of lines, and keeps their buffer.
+/// Drops the lines, and keeps their buffer.
 fn let_go(journey: &mut Journey, lines: &mut Vec<Line>)
     ensures none { lines.new.items ≡ [] }
     ensures reader { HasLines journey.new lines.new.items }
@@ -45,7 +45,7 @@ fn let_go(journey: &mut Journey, lines: &mut Vec<Line>)
 }
 
 impl Gathered {
-    /// No line yet.
+    /// No lines yet.
     pub fn new(alloc: Global) -> Gathered
         ensures { result ≡ [] }
     {
@@ -55,7 +55,7 @@ impl Gathered {
         }
     }
 
-    /// Lets go of the lines.
+    /// Drops the lines.
     pub(crate) fn clear(&mut self)
         ensures { self.new ≡ [] }
     {
@@ -69,14 +69,14 @@ impl Gathered {
         self.lines.len()
     }
 
-    /// Whether there is none.
+    /// Whether there are no lines.
     fn is_empty(&self) -> bool
         ensures { IsTrue result ↔ (self.now ≡ []) }
     {
         self.lines.is_empty()
     }
 
-    /// Whether of so many lines more are to come behind the next one.
+    /// Whether more of `count` lines are to come after the next one.
     pub fn has_more(&self, count: u32) -> bool
         ensures { IsTrue result ↔ (length self.now + 1 < count) }
     {
@@ -95,8 +95,10 @@ impl Gathered {
         Ok(Lines::of(body))
     }
 
-    /// Takes the next of so many lines, which is judged before memory grows. `Body` where they are none of a schedule with this one. A line with which no
-    /// schedule begins leaves the lines as they were. Where the last one doesn't complete them, or memory runs out, it lets go of all.
+    /// Takes the next of `count` lines. The line is judged before memory grows. `Body` if the lines
+    /// with this one don't begin a schedule, or if they are `count` lines and don't complete one.
+    /// If they don't begin one, the lines stay as they were. If they don't complete one, or memory
+    /// runs out, all lines are dropped.
     fn take(&mut self, line: &Line, count: u32) -> Result<(), StateCause>
         requires { length self.old < count }
         ensures taken { IsOk result → self.new ≡ self.old ++ line.now ∷ [] }
@@ -121,7 +123,9 @@ impl Gathered {
     }
 }
 
-/// Whether a line may come next as far as the key and the horizon go: behind other lines, or as the first line of a new schedule of this key that has not to lapse. Its fields are judged by the reader of lines.
+/// Whether a line may come next, as far as the key and the horizon decide. It may after other
+/// lines, or as the first line of a new schedule with this key that doesn't lapse. The reader of
+/// lines judges its fields.
 fn may_follow<K: Keeper>(key: &ScheduleKey, told: &Told<K>, lines: &Gathered, line: &Line) -> bool
     ensures first { IsTrue result → lines.now ≡ [] →
         IsOfKey told.now.horizon (schedule_meant key.now) line.now }
@@ -131,7 +135,8 @@ fn may_follow<K: Keeper>(key: &ScheduleKey, told: &Told<K>, lines: &Gathered, li
     !lines.is_empty() || is_first_of(key, told.horizon(), line)
 }
 
-/// Takes the next of so many lines of this key. `Body` where it does not go on with a schedule of this key that has as many lines, or where the schedule has to lapse under the horizon that was read.
+/// Takes the next of `count` lines of this key. `Body` if the line doesn't continue a schedule with
+/// this key and `count` lines, or if the schedule lapses under the horizon that was read.
 #[inline(always)]
 pub fn judged_line<K: Keeper>(
     key: &ScheduleKey,

@@ -1,4 +1,4 @@
-//! How far a text has been read: the part that comes next.
+//! How far a text has been read: the next part.
 ghost use Rattle.std.specs.Prelude.{◌≡◌, ◌≤◌, ℕ, List};
 ghost use Rattle.docker_model.specs.state.State as states;
 ghost use Rattle.docker_model.specs.state.StatePart.{width, key_width, body_width};
@@ -15,11 +15,11 @@ use docker_join::Stamp;
 /// The kinds of keys.
 #[derive(Clone, Copy, Debug)]
 pub enum Tag {
-    /// Of a TIPLOC.
+    /// The key of a TIPLOC.
     Tiploc,
-    /// Of an association.
+    /// The key of an association.
     Assoc,
-    /// Of a schedule.
+    /// The key of a schedule.
     Schedule,
 }
 
@@ -37,7 +37,8 @@ impl Tag {
     }
 }
 
-/// The part of a text that comes next, with what is kept of the parts before it in the same entry. A count comes with each stage at which more of what it counts is to come.
+/// The next part of a text, with what is kept of the earlier parts of the same entry. A stage
+/// within the items, the entries or the lines of a schedule has their number.
 #[derive(Clone, Copy, Debug)]
 pub enum Stage {
     /// The mark of the format.
@@ -58,16 +59,16 @@ pub enum Stage {
     Stamp(u64, Key),
     /// The op of an entry.
     Op(u64, Key, Stamp),
-    /// The body of a put, or of a schedule the number of its lines.
+    /// The body of a put, or for a schedule the number of its lines.
     Body(u64, Key, Stamp),
-    /// A line of a schedule that has so many.
+    /// A line of a schedule, with the number of its lines.
     Line(u64, ScheduleKey, Stamp, u32),
     /// No part is left.
     End,
 }
 
 impl Stage {
-    /// How many bytes the part has. 0 behind the last part.
+    /// How many bytes the part has. 0 after the last part.
     pub fn width(&self) -> usize
         ensures value { (state : states.State) (lines : List (List ℕ)) →
             result ≡ width (stage_meant self.now state lines) }
@@ -101,7 +102,7 @@ impl Stage {
     }
 }
 
-/// How many bytes come behind the op of a put: the body, or of a schedule the number of its lines.
+/// How many bytes follow the op of a put: the body, or for a schedule the number of its lines.
 fn body_width(key: &Key) -> usize
     ensures value { result ≡ body_width (key_meant key.now) }
     ensures bound { result ≤ LINE }

@@ -1,4 +1,4 @@
-//! Stamps, as they are read.
+//! Reads stamps.
 ghost use Rattle.std.specs.Prelude.{◌≡◌, ◌<◌, ◌↔◌, length, map, IsTrue, MatchOption, Contains};
 ghost use Rattle.docker_model.specs.records.Date.{last_day};
 ghost use Rattle.docker_model.specs.state.State.{IsLedger, IsStampIn};
@@ -13,13 +13,13 @@ use docker_encode::format::{MINUTE_AT, NUMBER_AT, REFERENCE_AT, STAMP};
 use docker_join::{FileStamp, Stamp};
 use docker_state::LedgerItem;
 
-/// The least number of a record that makes a change.
+/// The least record number of a change.
 const FIRST_NUMBER: u32 = 2;
 
-/// The greatest number of a record that makes a change.
+/// The greatest record number of a change.
 const LAST_NUMBER: u32 = 4_294_967_294;
 
-/// The stamp that bytes tell. None where its day is past the last one.
+/// The stamp in these bytes. `None` if its day is after the last one.
 fn stamp_in(bytes: &[u8]) -> Option<Stamp>
     requires { length bytes.now ≡ STAMP }
     ensures { MatchOption result (last_day < (stamp_in bytes.now).file.moment.day)
@@ -37,7 +37,7 @@ fn stamp_in(bytes: &[u8]) -> Option<Stamp>
     Some(Stamp { file, number })
 }
 
-/// Whether a file stands in a ledger. By a binary search.
+/// Whether a file is in a ledger, by a binary search.
 fn has_file(ledger: &[LedgerItem], file: &FileStamp) -> bool
     requires { IsLedger (map item_meant ledger.now) }
     ensures { IsTrue result
@@ -49,7 +49,7 @@ fn has_file(ledger: &[LedgerItem], file: &FileStamp) -> bool
     }
 }
 
-/// The stamp of a change of a file in a ledger. None where it is none.
+/// The stamp of a change from a file in a ledger. `None` if the bytes aren't one.
 pub(crate) fn judged_stamp(ledger: &[LedgerItem], bytes: &[u8]) -> Option<Stamp>
     requires wide { length bytes.now ≡ STAMP }
     requires ledger { IsLedger (map item_meant ledger.now) }

@@ -1,4 +1,4 @@
-//! From a part of the text to the next.
+//! From one part of the text to the next.
 ghost use Rattle.std.specs.Prelude.{◌≡◌, ◌+◌, ◌<◌, ◌≤◌, ◌↔◌, ℕ, List, [], length, IsTrue, IfOk, IfErr, MatchOption};
 ghost use Rattle.std.specs.Int.{w32, from_be_bytes};
 ghost use Rattle.docker_model.specs.file.Change.{tiploc_key, association_key, schedule_key};
@@ -77,7 +77,7 @@ fn after_horizon<K: Keeper>(parts: &mut Told<K>, bytes: &[u8]) -> Result<Stage, 
     }
 }
 
-/// The stage behind the items so far, of so many.
+/// The stage after the items so far, of `count` items.
 fn stage_in_ledger<K: Keeper>(count: u64, parts: &Told<K>) -> Stage
     requires entries { parts.now.entries ≡ [] }
     ensures is { (lines : List (List ℕ)) →
@@ -92,7 +92,7 @@ fn stage_in_ledger<K: Keeper>(count: u64, parts: &Told<K>) -> Stage
     }
 }
 
-/// The stage behind the entries so far, of so many.
+/// The stage after the entries so far, of `count` entries.
 fn stage_in_entries<K: Keeper>(count: u64, parts: &Told<K>) -> Stage
     ensures is { (lines : List (List ℕ)) →
         stage_meant result parts.now lines ≡ after_entries count parts.now }
@@ -174,7 +174,7 @@ fn after_stamp<K: Keeper>(
     }
 }
 
-/// Gives an entry whose parts are all there.
+/// Gives the keeper an entry whose parts are all there.
 fn give<K: Keeper>(
     count: u64,
     parts: &mut Told<K>,
@@ -265,7 +265,7 @@ fn after_assoc_body<K: Keeper>(
     }
 }
 
-/// The number of a schedule's lines that four bytes tell. None where no schedule has so many.
+/// The number of a schedule's lines, from four bytes. `None` if no schedule can have this many.
 fn line_count(bytes: &[u8]) -> Option<u32>
     requires { length bytes.now ≡ LINE_COUNT }
     ensures { MatchOption result (¬ IsLineCount (from_be_bytes w32 bytes.now))
@@ -306,7 +306,7 @@ fn after_line_count(
     }
 }
 
-/// The lines of a schedule that is to come, or so far.
+/// The schedule whose lines are read: its key, its stamp and the number of its lines.
 #[derive(Clone, Copy)]
 struct Schedule {
     key: ScheduleKey,
@@ -337,7 +337,8 @@ fn after_last_line<K: Keeper>(
     give(count, parts, key, schedule.stamp, op)
 }
 
-/// Takes the part that comes next, which is no line with more lines to come, and tells the stage behind it, or why the part is bad.
+/// Takes the next part, which is no line with more lines to come. Returns the stage after it, or
+/// why the part is bad.
 pub fn step<K: Keeper>(
     alloc: Global,
     format: Format,

@@ -1,4 +1,4 @@
-//! What the parts of a text have told so far.
+//! What the parts of a text have said so far.
 ghost use Rattle.std.specs.Prelude.{◌≡◌, ◌-◌, ◌^◌, ◌<◌, [], ◌∷◌, ◌++◌, length, map, IsOk, IsErr, IfOk};
 ghost use Rattle.std.specs.Option.{option_copied, option_map};
 ghost use Rattle.docker_model.specs.state.State.{IsLedger, IsOpOf, IsValid, IsJoin};
@@ -18,7 +18,7 @@ use docker_join::Entry;
 use docker_state::{LedgerItem, State};
 use std::marker::Model;
 
-/// The horizon that was read, if one was, and what keeps the parts so far.
+/// The horizon, if one was read, and the keeper of the parts so far.
 #[derive(Debug, Drop)]
 pub struct Told<K: Keeper> {
     horizon: Option<Day>,
@@ -52,7 +52,7 @@ impl<K: Keeper> Told<K> {
         self.horizon = Some(day);
     }
 
-    /// The number of the horizon. 0 where none was read.
+    /// The number of the horizon. 0 if none was read.
     pub(crate) fn horizon(&self) -> u16
         ensures { result ≡ self.now.horizon }
     {
@@ -96,7 +96,7 @@ impl<K: Keeper> Told<K> {
         self.keeper.len()
     }
 
-    /// The key of the last entry. None where there is none yet.
+    /// The key of the last entry. `None` if there is none yet.
     pub(crate) fn last(&self) -> Option<&Key>
         ensures { option_map key_meant (option_copied result) ≡ last_key self.now.entries }
     {
@@ -105,7 +105,7 @@ impl<K: Keeper> Told<K> {
 }
 
 impl<K: Maker> Told<K> {
-    /// What is made of the parts, with the horizon that was read.
+    /// What the keeper makes of the parts, with the horizon that was read.
     pub fn finish(self) -> Result<K::Made, Memory>
         requires { IsValid self }
         ensures { IfOk result (λ made. K.makes made self) }
@@ -116,7 +116,8 @@ impl<K: Maker> Told<K> {
 }
 
 impl<R: Receiver> Told<Received<R>> {
-    /// The state that receives the parts, joined with them, and then with the horizon that was read. Want of memory leaves it as it was.
+    /// The receiving state, joined with the parts, and then with the horizon that was read. If
+    /// memory runs out, the state is as it was.
     pub fn join(self) -> (State, Result<(), Memory>)
         requires { IsValid self }
         ensures ok { IsOk result.1 → IsJoin R.own self result.0 }
@@ -126,7 +127,7 @@ impl<R: Receiver> Told<Received<R>> {
         keeper.join(horizon)
     }
 
-    /// The state that receives the parts, as it was.
+    /// The receiving state, as it was.
     pub fn into_own(self) -> State
         ensures { result ≡ R.own }
     {

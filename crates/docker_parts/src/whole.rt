@@ -27,7 +27,7 @@ impl Model for Whole {
 }
 
 impl Whole {
-    /// No part yet.
+    /// No parts yet.
     pub fn new(alloc: Global) -> Whole
         ensures { result ≡ record { horizon = 0; ledger = []; entries = [] } }
     {

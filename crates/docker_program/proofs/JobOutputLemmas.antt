@@ -1,10 +1,10 @@
--- How a file that is written anew ends.
+-- How writing a file anew ends.
 use Rattle.std.proofs.Common.{◌≡◌, ◌≢◌, ◌+◌, arith, refl, sym, ◌∙◌, ap, subst, Some, None, Ok, Err, ◌⊎◌, inl, inr}
 use Rattle.std.specs.Prelude.{ℕ, List, [], ◌++◌, Option, Result, ⊤}
 use Rattle.cif_line.specs.Device.{Takes}
 use Rattle.cif_file.specs.SourceRead.{Held}
-use Rattle.docker_job.specs.Words.{Text}
-use Rattle.docker_job.specs.Writes.{Output, counts_written, docker_written, files_written, state_written, output_of}
+use Rattle.docker_cmd.specs.Words.{Text}
+use Rattle.docker_cmd.specs.Writes.{Output, counts_written, docker_written, files_written, state_written, output_of}
 use Rattle.docker_cmd.specs.FaultLine.{status_of}
 use Rattle.docker_cmd.specs.Prepared.{DeviceBytes, EndsEmitting, GainsOutput, IsDocker, IsRefusedDocker, PreparedView, ReadView, file_read, office_read}
 use Rattle.docker_cmd.specs.OfficeFault.{OfficeFault}
@@ -17,14 +17,14 @@ use Rattle.docker_program.specs.Program.{EndsWriting, StoresAllOrNothing, Stores
 none_some : (name : Text) → ◌≡◌ {A = Option Text} None (Some name) → ⊥
 none_some name is = cc
 
--- what is stored is no docker
+-- an output that is stored in a file is no docker
 no_docker : (output : Output) (words : List Text) (name : Text) → file_stored output words ≡ Some name → ¬ IsDocker output
 no_docker counts_written words name is = λ docker. docker
 no_docker (docker_written place day) words name is = λ docker. absurd (none_some name is)
 no_docker files_written words name is = λ docker. docker
 no_docker state_written words name is = λ docker. docker
 
--- and so none of a day that is refused
+-- and so it is no docker of a refused day
 no_refused : (output : Output) (read : ReadView) → ¬ IsDocker output → ¬ IsRefusedDocker output read
 no_refused output (file_read file) none = λ refused. refused
 no_refused counts_written (office_read state) none = λ refused. refused
@@ -32,12 +32,12 @@ no_refused (docker_written place day) (office_read state) none = λ refused. non
 no_refused files_written (office_read state) none = λ refused. refused
 no_refused state_written (office_read state) none = λ refused. refused
 
--- a call that leaves other files as they were, behind one that leaves all
+-- a call that leaves all other files as they were still does so after one that leaves all files
 pub leaves_on : (name : Text) (one two three : Text → DeviceBytes) → two ≡ one → LeavesOtherFiles name two three → LeavesOtherFiles name one three
 leaves_on name one two three same then_on =
     λ other differs. then_on other differs ∙ ap (λ (held : Text → DeviceBytes). held other) same
 
--- files that are all as they were
+-- if no file changed, all or nothing was stored
 all_kept : (prepared : PreparedView) (name : Text) (files files_now : Text → DeviceBytes) (output : DeviceBytes) → files_now ≡ files →
     StoresAllOrNothing (written output output files files_now) prepared name
 all_kept prepared name files files_now output same = record {
@@ -45,20 +45,20 @@ all_kept prepared name files files_now output same = record {
   others = λ other differs. ap (λ (held : Text → DeviceBytes). held other) same;
 }
 
--- a job that writes a file, and leaves that as it was, or whole
+-- a job whose file is as it was, or whole, has written in part
 ends_either : (prepared : PreparedView) (name : Text) (files files_now : Text → DeviceBytes) (output : DeviceBytes) →
     stored_by prepared.job ≡ Some name → StoresAllOrNothing (written output output files files_now) prepared name →
     WritesPart (written output output files files_now) prepared
 ends_either prepared name files files_now output is either =
     subst (λ stored. WritesPartTo stored (written output output files files_now) prepared) (sym is) (either, refl)
 
--- where no draft was made, a device failed
+-- if no draft was made, the job has written in part
 pub ends_unmade : (prepared : PreparedView) (name : Text) (files files_now : Text → DeviceBytes) (output : DeviceBytes) →
     stored_by prepared.job ≡ Some name → files_now ≡ files → WritesPart (written output output files files_now) prepared
 ends_unmade prepared name files files_now output is same =
     ends_either prepared name files files_now output is (all_kept prepared name files files_now output same)
 
--- the draft of a job that writes a file isn't written whole only where it fails, once
+-- if the draft of a job that writes a file isn't written whole, the draft failed, and once
 pub fails_alone : {K : Type 0} (taken : K → DeviceBytes) (failures : K → ℕ) (old new : K) (prepared : PreparedView) (name : Text) (fault : OfficeFault) →
     stored_by prepared.job ≡ Some name → EndsEmitting taken failures (output_of prepared.job.task) prepared.read old new (Err fault) →
     (fault ≡ office.Sink) × (failures new ≡ failures old + 1)
@@ -71,7 +71,7 @@ fails_alone taken failures old new prepared name (office.File fault) is ends = e
 fails_alone taken failures old new prepared name (office.State fault) is ends = elim ends [ ]
 fails_alone taken failures old new prepared name office.Source is ends = elim ends [ ]
 
--- a draft that fails ends as a device that failed
+-- if the draft failed, the job's writing ends with a failed sink
 pub ends_in_part : (prepared : PreparedView) (name : Text) (files files_now : Text → DeviceBytes) (output : DeviceBytes) (fault : OfficeFault) →
     stored_by prepared.job ≡ Some name → files_now ≡ files → fault ≡ office.Sink →
     EndsWriting (written output output files files_now) prepared (Err fault)
@@ -79,14 +79,14 @@ ends_in_part prepared name files files_now output fault is same alone =
     subst (λ fault. EndsWriting (written output output files files_now) prepared (Err fault)) (sym alone)
     (ends_unmade prepared name files files_now output is same)
 
--- and its failure is counted
+-- and this failure is counted
 pub counted_alone : (fault : OfficeFault) (before after : ℕ) → fault ≡ office.Sink → after ≡ before + 1 →
     IsCounted (status_of (Office fault)) before after
 counted_alone fault before after alone rose =
     subst (λ fault. IsCounted (status_of (Office fault)) before after) (sym alone)
     (record { device = (λ is. rose, λ is. refl); no_device = λ differs. absurd (differs refl) })
 
--- what comes of writing to the output
+-- a job that writes no file ends as its writing to the output does
 pub ends_printed : {K : Type 0} (taken : K → DeviceBytes) (failures : K → ℕ) (old new : K) (prepared : PreparedView) (files : Text → DeviceBytes)
     (result : Result ⊤ OfficeFault) →
     stored_by prepared.job ≡ None → EndsEmitting taken failures (output_of prepared.job.task) prepared.read old new result →
@@ -101,14 +101,14 @@ ends_printed taken failures old new prepared files (Err (office.File fault)) is 
 ends_printed taken failures old new prepared files (Err (office.State fault)) is ends = ends
 ends_printed taken failures old new prepared files (Err office.Source) is ends = ends
 
--- a device that did not fail, beside a status that isn't a device's
+-- if the device did not fail and the status isn't a device's, the failures are counted
 none_failed : (status store before after : ℕ) → status ≢ 4 → after ≡ before → IsCounted status (store + before) (store + after)
 none_failed status store before after other same = record {
   device = (λ is. absurd (other is), λ rose. let never : ⊥ = omega arith in absurd never);
   no_device = λ differs. omega arith;
 }
 
--- the status of what came of it says how often the output failed
+-- the result's status says how often the output failed
 pub counted_printed : {K : Type 0} (taken : K → DeviceBytes) (failures : K → ℕ) (old new : K) (prepared : PreparedView) (store : ℕ)
     (result : Result ⊤ OfficeFault) →
     EndsEmitting taken failures (output_of prepared.job.task) prepared.read old new result →
@@ -125,13 +125,13 @@ counted_printed taken failures old new prepared store (Err (office.File fault)) 
 counted_printed taken failures old new prepared store (Err (office.State fault)) ends = elim ends [ ]
 counted_printed taken failures old new prepared store (Err office.Source) ends = elim ends [ ]
 
--- what a draft that held nothing gained is what it holds
+-- what an empty draft gained is what it holds
 holds_gained : (old new : DeviceBytes) (text : List ℕ) → Held old [] → Takes old text new → Held new text
 holds_gained None new text empty gained = subst (λ new. Held new text) (sym gained) tt
 holds_gained (Some old) new text empty gained =
     subst (λ new. Held new text) (sym gained) (ap (λ (old : List ℕ). old ++ text) empty)
 
--- a draft whose text the file holds now
+-- a file that holds what its draft took stores what the job writes
 stores_gained : (prepared : PreparedView) (name : Text) (files files_now : Text → DeviceBytes) (output before after : DeviceBytes) →
     LeavesOtherFiles name files files_now → Held before [] → GainsOutput prepared before after → files_now name ≡ after →
     StoresOutput (written output output files files_now) prepared name
@@ -142,7 +142,7 @@ stores_gained prepared name files files_now output before after others empty gai
   others = others;
 }
 
--- a draft that was put in its file's place
+-- a draft that took its file's place is written
 pub ends_stored : (prepared : PreparedView) (name : Text) (files files_now : Text → DeviceBytes) (output before after : DeviceBytes) →
     stored_by prepared.job ≡ Some name → LeavesOtherFiles name files files_now → Held before [] →
     GainsOutput prepared before after → files_now name ≡ after → Writes (written output output files files_now) prepared
@@ -150,7 +150,8 @@ ends_stored prepared name files files_now output before after is others empty ga
     subst (λ stored. WritesTo stored (written output output files files_now) prepared) (sym is)
     (stores_gained prepared name files files_now output before after others empty gains held, refl)
 
--- one that was written whole, and may not have come there
+-- if a draft was written whole, but may not have taken its file's place, the job has written in
+-- part
 pub ends_incomplete : (prepared : PreparedView) (name : Text) (files made files_now : Text → DeviceBytes) (output before after : DeviceBytes) →
     stored_by prepared.job ≡ Some name → made ≡ files → LeavesOtherFiles name made files_now → Held before [] →
     GainsOutput prepared before after → IsEither (made name) after (files_now name) → WritesPart (written output output files files_now) prepared

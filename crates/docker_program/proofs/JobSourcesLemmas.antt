@@ -1,18 +1,18 @@
--- What was read of files that were opened is what was read of the sources of a job.
+-- What was read from opened files is what was read from the sources of a job.
 use Rattle.std.proofs.Common.{◌≡◌, ◌≢◌, ◌+◌, ℕ, arith, refl, sym, ◌∙◌, subst, inl, inr, Ok, Err, Bor}
 use Rattle.std.specs.Prelude.{Result, ◌⊎◌, ⊤}
-use Rattle.docker_job.specs.Job.{JobView}
+use Rattle.docker_cmd.specs.Job.{JobView}
 use Rattle.docker_cmd.specs.Prepared.{CountsSources, DeviceBytes, PreparedView, ReadsInOrder}
 use Rattle.docker_cmd.specs.OfficeFault.{OfficeFault}
 use Rattle.docker_cmd.specs.OfficeFault.TheVariants as office
 use Rattle.docker_program.specs.Devices.{AreOpened, AreThere, FileDevice, Given, IsCounted, LeavesOthers, first_held, first_left, given, second_held, second_left}
-use Rattle.docker_job.specs.Words.{Text}
+use Rattle.docker_cmd.specs.Words.{Text}
 use Rattle.docker_program.specs.declared.names.Names as declared
 use Rattle.docker_program.specs.declared.names.Names.TheVariants as code
 use Rattle.docker_program.specs.Names.{Names, no_source, standard_input, one_file, file_and_input, two_files, names_meant, names_of}
 use Rattle.docker_program.specs.Program.{IsOpened, ReadsNamed, result_status}
 
--- the devices, with so much left in each
+-- the devices with this much left in each
 abbrev now : DeviceBytes → DeviceBytes → FileDevice → DeviceBytes → FileDevice → DeviceBytes → Given
 now input left first first_now second second_now =
     given input left (record first { left = first_now }) (record second { left = second_now })
@@ -26,7 +26,7 @@ same_first (one_file name) rest input before left first second one two = refl
 same_first (file_and_input name) rest input before left first second one two = refl
 same_first (two_files name other) rest input before left first second one two = refl
 
--- nor what the second held
+-- nor does what the second source held
 same_second : (names : Names) (rest input before left : DeviceBytes) (first second : FileDevice) (one two : DeviceBytes) →
     second_held names rest (given input before first second) ≡ second_held names rest (now input left first one second two)
 same_second no_source rest input before left first second one two = refl
@@ -35,7 +35,7 @@ same_second (one_file name) rest input before left first second one two = refl
 same_second (file_and_input name) rest input before left first second one two = refl
 same_second (two_files name other) rest input before left first second one two = refl
 
--- nor which files are there
+-- nor does which files are there
 still_there : (names : Names) (input before left : DeviceBytes) (first second : FileDevice) (one two : DeviceBytes) →
     AreThere names (given input before first second) → AreThere names (now input left first one second two)
 still_there no_source input before left first second one two there = tt
@@ -44,7 +44,7 @@ still_there (one_file name) input before left first second one two there = there
 still_there (file_and_input name) input before left first second one two there = there
 still_there (two_files name other) input before left first second one two there = there
 
--- sources of these names are there, and were read in order
+-- the sources of these names are there, and were read in order
 record AreRead (names : Names) (given : Given) (job : JobView) (rest : DeviceBytes) (result : Result PreparedView OfficeFault) : Type 0 where
   there : AreThere names given
   others : LeavesOthers names rest given
@@ -60,7 +60,7 @@ opened_by given job rest result read = record {
   second_few = read.reads.second_few;
 }
 
--- by what the result is
+-- so the result of reading them means what it should
 by_result : (given : Given) (job : JobView) (rest : DeviceBytes) (result : Result PreparedView OfficeFault) →
     AreRead (names_of job) given job rest result → ReadsNamed given job rest result
 by_result given job rest (Ok prepared) read = record {
@@ -76,7 +76,8 @@ by_result given job rest (Err office.Memory) read = inr (opened_by given job res
 by_result given job rest (Err office.Lapsed) read = read.reads.ends
 by_result given job rest (Err office.Sink) read = read.reads.ends
 
--- of files that were opened, what was read of them is what was read of the sources of the job with these names
+-- if the files of a job's names were opened and read in order, the job's sources were read with
+-- this result
 pub reads_named : (job : JobView) (names : Names) → names ≡ names_of job →
     (rest input before left : DeviceBytes) (first second : FileDevice) (one two : DeviceBytes) (result : Result PreparedView OfficeFault) →
     AreOpened names rest (given input before first second) → LeavesOthers names rest (now input left first one second two) →
@@ -104,7 +105,7 @@ AreFiles (one_file name) = ⊤
 AreFiles (file_and_input name) = ⊥
 AreFiles (two_files name other) = ⊤
 
--- the same of files alone, where standard input is left as it was
+-- like `reads_named`, for files only: standard input is left as it was
 pub reads_files : (job : JobView) (names : Names) → names ≡ names_of job → AreFiles names →
     (rest input : DeviceBytes) (first second : FileDevice) (one two : DeviceBytes) (result : Result PreparedView OfficeFault) →
     AreOpened names rest (given input rest first second) → ReadsInOrder job first.left one second.left two result →
@@ -118,7 +119,7 @@ reads_files job (file_and_input name) is files rest input first second one two r
 reads_files job (two_files name other) is files rest input first second one two result opened reads =
     reads_named job (two_files name other) is rest input rest rest first second one two result opened refl reads
 
--- the names of an arm for files
+-- if the names are none, one file or two files, no source is standard input
 pub are_files : (names : declared.Names) →
     (names ≡ code.None) ⊎ (((name : Bor Text) × (names ≡ code.File name)) ⊎ ((name : Bor Text) × (other : Bor Text) × (names ≡ code.Files name other))) →
     AreFiles (names_meant names)
@@ -126,14 +127,14 @@ are_files names (inl is) = subst (λ names. AreFiles (names_meant names)) (sym i
 are_files names (inr (inl (name, is))) = subst (λ names. AreFiles (names_meant names)) (sym is) tt
 are_files names (inr (inr (name, other, is))) = subst (λ names. AreFiles (names_meant names)) (sym is) tt
 
--- two sources that did not fail, beside a status that isn't a device's
+-- if two sources did not fail and the status isn't a device's, the failures are counted
 none_failed : (status one one_now two two_now : ℕ) → status ≢ 4 → one_now ≡ one → two_now ≡ two → IsCounted status (one + two) (one_now + two_now)
 none_failed status one one_now two two_now other first second = record {
   device = (λ is. absurd (other is), λ rose. let never : ⊥ = omega arith in absurd never);
   no_device = λ differs. omega arith;
 }
 
--- the status of what came of it says how often two sources that were read failed
+-- the result's status says how often the two sources that were read failed
 pub counted_together : {A : Type 0} (result : Result A OfficeFault) (one one_now two two_now : ℕ) → CountsSources result one one_now two two_now →
     IsCounted (result_status result) (one + two) (one_now + two_now)
 counted_together (Ok made) one one_now two two_now counts = none_failed 0 one one_now two two_now (λ is. omega arith) counts.0 counts.1
@@ -147,7 +148,7 @@ counted_together (Err office.Memory) one one_now two two_now counts = none_faile
 counted_together (Err office.Lapsed) one one_now two two_now counts = elim counts [ ]
 counted_together (Err office.Sink) one one_now two two_now counts = elim counts [ ]
 
--- beside devices that failed as often as this says, some that did not fail
+-- devices that did not fail can be counted beside others
 pub counted_beside : (status before after more all all_now : ℕ) → IsCounted status before after → all ≡ before + more → all_now ≡ after + more →
     IsCounted status all all_now
 counted_beside status before after more all all_now counts is is_now = record {

@@ -1,17 +1,18 @@
-//! Drafts that lie beside the files whose places they are to take. A draft is locked for as long as its command is at work, and marked until it has taken
-//! its file's place: one that is marked and not locked was left by a command that was ended, and the next one takes it away.
+//! Drafts beside the files whose places they are to take. A draft is locked while its command is at
+//! work, and marked until it has taken its file's place. So a draft that is marked and not locked
+//! was left by a command that was ended, and the next command removes it.
 use crate::files::OpenFault;
 use std::fs::{File, Metadata, Permissions, TryLockError};
 use std::os::unix::fs::{MetadataExt, OpenOptionsExt, PermissionsExt};
 use std::{fs, io};
 
-/// What stands behind a file's name in that of its draft.
+/// What a draft's name has after the name of its file.
 const BESIDE: &str = ".new";
 
-/// The permission bit that marks a draft, the sticky bit. Of a regular file it says nothing else.
+/// The permission bit that marks a draft: the sticky bit. On a regular file it means nothing else.
 const MARK: u32 = 0o1000;
 
-/// The permissions of a new file, of which the user's mask takes some.
+/// The permissions of a new file, before the user's mask takes some away.
 const NEW_FILE: u32 = 0o666;
 
 /// A draft beside its file.
@@ -23,8 +24,9 @@ pub(crate) struct Beside {
 }
 
 impl Beside {
-    /// Makes an empty draft beside the file of this path, which this command alone holds, with the permissions of the old file where there is one. One that
-    /// can't be given them is taken away again; if that fails too, the device failed.
+    /// Makes an empty draft beside the file of this path, held only by this command, with the old
+    /// file's permissions if there is an old file. A draft that can't be given them is removed
+    /// again. If that fails too, the device failed.
     pub(crate) fn make(
         rt: &HostRuntime,
         file: String,
@@ -58,7 +60,7 @@ impl Beside {
         }
     }
 
-    /// Writes the draft to the disk, renames it over the file, and only then takes its mark away.
+    /// Writes the draft to the disk, renames it over the file, and only then removes its mark.
     pub(crate) fn replace(&self, rt: &HostRuntime, made: &File) -> io::Result<()> {
         made.sync_all()?;
         fs::rename(rt, self.draft.as_str(), self.file.as_str())?;
@@ -66,14 +68,14 @@ impl Beside {
         Ok(())
     }
 
-    /// Takes the draft away, as far as that can be done. Whoever calls it has counted a failure.
+    /// Removes the draft, as far as possible. The caller has counted a failure.
     pub(crate) fn remove(&self, rt: &HostRuntime) {
         let _ = fs::remove_file(rt, self.draft.as_str());
     }
 }
 
-/// The mark of a draft beside the file of this path. A file that is itself named as a draft has unmarked ones, for once it is in its place it could be taken
-/// for a draft of another file.
+/// The mark of a draft beside the file of this path. If the file is itself named like a draft, its
+/// draft has no mark. Otherwise, once in its place, it could be taken for a draft of another file.
 fn mark_beside(file: &str) -> u32 {
     if file.ends_with(BESIDE) { 0 } else { MARK }
 }
@@ -83,7 +85,7 @@ fn is_marked(file: &Metadata) -> bool {
     file.is_file() && file.permissions().mode() & MARK != 0
 }
 
-/// Whether an open file is the one that stands under this name.
+/// Whether an open file is the one under this name.
 fn stands_under(rt: &HostRuntime, file: &File, name: &str) -> bool {
     let (Ok(held), Ok(there)) = (file.metadata(), fs::symlink_metadata(rt, name)) else {
         return false;
@@ -91,7 +93,8 @@ fn stands_under(rt: &HostRuntime, file: &File, name: &str) -> bool {
     held.dev() == there.dev() && held.ino() == there.ino()
 }
 
-/// Takes away what stands under the name of a draft, if a command that was ended has left it. Everything else stays.
+/// Removes the file under the name of a draft, if a command that was ended left it there.
+/// Everything else stays.
 fn remove_left_over(rt: &HostRuntime, name: &str) {
     let Ok(there) = fs::symlink_metadata(rt, name) else {
         return;
@@ -107,7 +110,8 @@ fn remove_left_over(rt: &HostRuntime, name: &str) {
     }
 }
 
-/// Whether a file that is locked by this command is still a marked draft under this name, and not the one of a command that came to its end meanwhile.
+/// Whether a file that this command has locked is still a marked draft under this name, and not the
+/// draft of a command that ended meanwhile.
 fn is_left_over(rt: &HostRuntime, left: &File, name: &str) -> bool {
     let Ok(held) = left.metadata() else {
         return false;
@@ -115,7 +119,8 @@ fn is_left_over(rt: &HostRuntime, left: &File, name: &str) -> bool {
     is_marked(&held) && stands_under(rt, left, name)
 }
 
-/// Locks a draft that was just made; refused where another command took it for one that was left. Where files can't be locked none is taken for that.
+/// Locks a draft that was just made. Refuses if another command took it for a draft that was left
+/// over. Where files can't be locked, no draft is taken for one.
 fn hold(rt: &HostRuntime, made: &File, name: &str) -> Result<(), OpenFault> {
     if let Err(TryLockError::WouldBlock) = made.try_lock() {
         return Err(OpenFault::Failed);
@@ -126,7 +131,8 @@ fn hold(rt: &HostRuntime, made: &File, name: &str) -> Result<(), OpenFault> {
     Ok(())
 }
 
-/// Gives a draft the permissions of the old file, where there is one, beside its mark; answers those that it is to have in the end.
+/// Gives a draft the permissions of the old file, if there is one, together with the draft's mark.
+/// Returns the permissions that the draft is to have in the end.
 fn give_permissions(made: &File, old: Option<Metadata>, mark: u32) -> io::Result<u32> {
     let Some(file) = old else {
         return Ok(made.metadata()?.permissions().mode() & !MARK);

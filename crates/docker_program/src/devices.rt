@@ -1,4 +1,5 @@
-//! The real devices: standard input, a file that is opened, standard output and standard error. They can't tell their bytes.
+//! The real devices: standard input, an opened file, standard output and standard error. Their
+//! bytes can't be named in a contract.
 ghost use Rattle.std.specs.Prelude.{◌≡◌, ◌<◌, ◌≤◌, ◌^◌, ◌-◌, None, IfSome, false, length};
 
 use crate::files::{Files, OpenFault};
@@ -21,6 +22,8 @@ pub(crate) struct Input {
     rt: HostRuntime,
     from: From,
     pub(crate) failures: u64,
+    pub(crate) ended: bool,
+    pub(crate) passed: bool,
 }
 
 impl Input {
@@ -32,6 +35,8 @@ impl Input {
             rt: *rt,
             from: From::Stdin(rt.stdin()),
             failures: 0,
+            ended: false,
+            passed: false,
         }
     }
 
@@ -43,6 +48,8 @@ impl Input {
             rt: *rt,
             from: From::Closed,
             failures: 0,
+            ended: false,
+            passed: false,
         }
     }
 }
@@ -52,6 +59,10 @@ impl Source for Input {
 
     ghost failures = { λ input. input.failures };
 
+    ghost ended = { λ input. input.ended };
+
+    ghost passed = { λ input. input.passed };
+
     fn read(&mut self, into: &mut [u8]) -> Result<usize, Failed> {
         let read = match &mut self.from {
             From::Stdin(stdin) => read_some(stdin, into),
@@ -59,7 +70,11 @@ impl Source for Input {
             From::Closed => None,
         };
         match read {
-            Some(n) => Ok(n),
+            Some(n) => {
+                self.passed = self.passed || self.ended;
+                self.ended = self.ended || n == 0 && !into.is_empty();
+                Ok(n)
+            }
             None => {
                 self.failures += 1;
                 Err(Failed)
@@ -81,6 +96,8 @@ impl Files for Input {
         match File::open(&self.rt, name) {
             Ok(file) => {
                 self.from = From::File(file);
+                self.ended = false;
+                self.passed = false;
                 Ok(())
             }
             Err(error) if error.kind() == ErrorKind::OutOfMemory => Err(OpenFault::Memory),
@@ -92,7 +109,7 @@ impl Files for Input {
     }
 }
 
-/// Reads once, and again where a signal interrupts that; none where the device fails.
+/// Reads once, and again if a signal interrupts it. Returns `None` if the device fails.
 fn read_some<R: Read>(from: &mut R, into: &mut [u8]) -> Option<usize>
     ensures { IfSome result (λ n. n ≤ length into.new) }
 {
@@ -166,14 +183,15 @@ impl Sink for Output {
     }
 }
 
-/// Writes once, and again where a signal interrupts that; none where the device fails, or takes nothing.
+/// Writes once, and again if a signal interrupts it. Returns `None` if the device fails, or takes
+/// nothing.
 pub(crate) fn write_some<W: Write>(to: &mut W, piece: &[u8]) -> Option<usize>
     ensures within { IfSome result (λ n. n ≤ length piece.now) }
-    ensures progress { IfSome result (λ n. 0 < length piece.now → 0 < n) }
+    ensures progress { IfSome result (λ n. 0 < n) }
 {
     for _ in 0..u64::MAX {
         match to.write(piece) {
-            Ok(n) if n > 0 || piece.is_empty() => return Some(n),
+            Ok(n) if n > 0 => return Some(n),
             Err(error) if error.kind() == ErrorKind::Interrupted => {}
             _ => return None,
         }

@@ -7,9 +7,9 @@ use docker_cmd::OfficeFault;
 /// Why a file isn't opened.
 #[derive(Clone, Copy, PartialEq, Eq, Debug)]
 pub enum OpenFault {
-    /// It isn't there, it may not be opened so, or its device failed.
+    /// It isn't there, it may not be opened this way, or its device failed.
     Failed,
-    /// A growth was refused: want of memory.
+    /// Out of memory: an allocation was refused.
     Memory,
 }
 
@@ -29,18 +29,21 @@ impl From<OpenFault> for OfficeFault {
 
 /// A source that reads a file, once one is opened.
 pub trait Files: Source {
-    // The bytes that the file of a name holds, or None where they can't be told.
+    // The bytes that the file of a name holds, or None if they can't be known.
     ghost held: { Self → List ℕ → Option (List ℕ) };
 
-    // There is no file of a name to be opened, as far as that can be told.
+    // Whether there is no file of a name to be opened, as far as that can be known.
     ghost is_missing: { Self → List ℕ → Bool };
 
-    /// Opens the file of this name, to be read from its first byte. A device that fails counts it; want of memory is no failure of a device.
-    /// One that isn't opened leaves the source as it was.
+    /// Opens the file of this name, to be read from its first byte. If the device fails, the
+    /// failure is counted. Running out of memory is no failure of a device. If the file isn't
+    /// opened, the source is as it was; a file that is opened has not reported its end.
     fn open(&mut self, name: &str) -> Result<(), OpenFault>
         requires { Self.failures self.old < 2 ^ 64 - 1 }
         ensures opened { OnOk result (Self.left self.new ≡ held self.old name.now) }
         ensures there { OnOk result (is_missing self.old name.now ≡ false) }
+        ensures fresh { OnOk result
+            ((Self.ended self.new ≡ false) × (Self.passed self.new ≡ false)) }
         ensures unopened { OnErr result (Self.left self.new ≡ Self.left self.old) }
         ensures counted { (result ≡ Err OpenFault.Failed)
             ↔ (Self.failures self.new ≡ Self.failures self.old + 1) }

@@ -1,5 +1,6 @@
-//! The real files that are written anew. A regular file is written beside its place, and then renamed over it: whenever that ends, the file is whole, as it was
-//! or as it is to be. A pipe or a device is written where it stands.
+//! The real files that are written anew. A regular file is written beside its place, and then
+//! renamed over it. Whenever that ends, the file is whole, as it was or as it is to be. A pipe or a
+//! device is written in its place.
 ghost use Rattle.std.specs.Prelude.{◌≡◌, ◌≢◌, ◌↔◌, ◌<◌, ◌^◌, ◌-◌, ◌+◌, None, Some, Err, IfOk, OnOk, OnErr, is_some, option_map, string_bytes};
 
 use crate::beside::Beside;
@@ -13,7 +14,7 @@ use std::io::ErrorKind;
 use std::os::unix::fs::MetadataExt;
 use std::{fs, io};
 
-/// Which file stood under a name, and when it was written last.
+/// Which file was under a name, and when it was last written.
 #[derive(Clone, Copy, PartialEq, Eq)]
 pub(crate) struct Seen {
     device: u64,
@@ -36,7 +37,7 @@ impl Seen {
     }
 }
 
-/// The file of a name that is written anew.
+/// A file that is written anew, by its name.
 #[derive(Drop)]
 pub(crate) struct Folder {
     rt: HostRuntime,
@@ -113,14 +114,15 @@ impl Folder {
         }
     }
 
-    /// Which file stands under a name, if one does.
+    /// Which file is under a name, if there is one.
     fn look_under(&self, name: &str) -> Option<Seen> {
         fs::metadata(&self.rt, name)
             .ok()
             .map(|file| Seen::of(&file))
     }
 
-    /// Opens a draft of the file that was looked at. A file that isn't there yet is written beside its place too, but a link that leads nowhere is followed.
+    /// Opens a draft of the file that was looked at. A file that isn't there yet is written beside
+    /// its place too, but a link that leads nowhere is followed.
     fn open(&self, looked: &Looked<'_, Option<Seen>>) -> Result<(File, Option<Beside>), OpenFault> {
         let name = looked.name;
         match fs::metadata(&self.rt, name) {
@@ -140,7 +142,7 @@ impl Folder {
         }
     }
 
-    /// Opens a draft beside a file that is still the one that was looked at.
+    /// Opens a draft beside a file, if the file is still the one that was looked at.
     fn open_beside(
         &self,
         looked: &Looked<'_, Option<Seen>>,

@@ -1,6 +1,6 @@
 //! The program on the real devices.
 ghost use Rattle.std.specs.Prelude.{◌≤◌};
-ghost use Rattle.docker_job.specs.Words.{texts};
+ghost use Rattle.docker_cmd.specs.Words.{texts};
 ghost use Rattle.docker_program.specs.Program.{IsUsageStatus};
 
 use crate::devices::{Input, Output};
@@ -13,13 +13,13 @@ use std::env;
 use std::io::ErrorKind;
 use std::process::ExitCode;
 
-/// Runs the program with its words, standard input, output and error, and answers its exit status.
+/// Runs the program with its words, standard input, output and error, and returns its exit status.
 pub fn run(rt: &HostRuntime) -> ExitCode {
     let _standard = hold_standard(rt);
     ExitCode::from(run_own_words(rt))
 }
 
-/// Runs the program with these words in place of its own.
+/// Runs the program with these words instead of its own.
 pub fn run_words(rt: &HostRuntime, words: &[&str]) -> u8
     ensures usage { IsUsageStatus (texts words.now) result }
     ensures status { result ≤ 4 }
@@ -36,7 +36,7 @@ pub fn run_words(rt: &HostRuntime, words: &[&str]) -> u8
     )
 }
 
-/// Does what the program's own words ask for, where they can be had.
+/// Does what the program's own words ask for, if they can be had.
 fn run_own_words(rt: &HostRuntime) -> u8 {
     match own_words(rt).and_then(|words| run_strings(rt, words.as_slice())) {
         Ok(status) => status,
@@ -44,13 +44,13 @@ fn run_own_words(rt: &HostRuntime) -> u8 {
     }
 }
 
-/// Runs the program with these words; want of memory where they can't be passed on.
+/// Runs the program with these words. Returns `Memory` if there is no room to pass them on.
 fn run_strings(rt: &HostRuntime, words: &[String]) -> Result<u8, JobFault> {
     let words: Vec<&str> = words.iter().map(|word| word.as_str()).collect(rt.alloc())?;
     Ok(run_words(rt, words.as_slice()))
 }
 
-/// The words behind the program's name. A word that is no text is a usage fault.
+/// The words after the program's name. A word that is no text is a usage fault.
 fn own_words(rt: &HostRuntime) -> Result<Vec<String>, JobFault> {
     let all = match env::args(rt) {
         Ok(all) => all,

@@ -19,7 +19,7 @@ pub(crate) fn names(job: &Job) -> Names<'_>
     }
 }
 
-/// The name of the file that a job writes, where it writes one.
+/// The name of the file that a job writes, if it writes one.
 pub(crate) fn stored_name(job: &Job) -> Option<&str>
     ensures { option_map (λ name. name.now) result ≡ stored_by job.now }
 {
@@ -29,7 +29,7 @@ pub(crate) fn stored_name(job: &Job) -> Option<&str>
     }
 }
 
-/// A source that may be standard input.
+/// The source of a word that may name standard input.
 fn file_or_input(word: &str) -> Names<'_>
     ensures { names_meant result ≡ file_or_input word.now }
 {
@@ -39,7 +39,7 @@ fn file_or_input(word: &str) -> Names<'_>
     Names::File(word)
 }
 
-/// The same behind a file.
+/// The sources of a file's name and a second word that may name standard input.
 fn behind_file<'a>(name: &'a str, word: &'a str) -> Names<'a>
     ensures { names_meant result ≡ behind_file name.now word.now }
 {
@@ -49,7 +49,7 @@ fn behind_file<'a>(name: &'a str, word: &'a str) -> Names<'a>
     Names::Files(name, word)
 }
 
-/// The first word behind the subcommand.
+/// The first word after the subcommand.
 fn first_word(job: &Job) -> &str
     ensures { result.now ≡ first_word job.now.words }
 {
@@ -59,7 +59,7 @@ fn first_word(job: &Job) -> &str
     }
 }
 
-/// The second word behind the subcommand.
+/// The second word after the subcommand.
 fn second_word(job: &Job) -> &str
     ensures { result.now ≡ second_word job.now.words }
 {

@@ -11,7 +11,8 @@ use crate::stores::{Looked, Stores};
 use cif_line::Sink;
 use docker_cmd::{OfficeFault, Prepared, emit};
 
-/// Writes what a job has read: to the file that was looked at for it, or, where it writes none, to the output.
+/// Writes what a job has read: to the file that was looked at for it or, if it writes no file, to
+/// the output.
 pub(crate) fn write_output<W: Stores, K: Sink>(
     looked: Option<Looked<'_, W::Seen>>,
     prepared: &Prepared<'_>,

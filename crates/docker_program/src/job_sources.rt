@@ -13,7 +13,7 @@ use cif_line::Source;
 use docker_cmd::{Job, OfficeFault, Prepared, prepare};
 use std::alloc::Global;
 
-/// Opens the files of these names, each before anything is read of one.
+/// Opens the files of these names, all before anything is read from one.
 fn open_files<F: Files>(names: &Names<'_>, first: &mut F, second: &mut F) -> Result<(), OpenFault>
     requires first { F.failures first.old < 2 ^ 64 - 1 }
     requires second { F.failures second.old < 2 ^ 64 - 1 }
@@ -43,8 +43,9 @@ fn open_files<F: Files>(names: &Names<'_>, first: &mut F, second: &mut F) -> Res
     }
 }
 
-/// Opens the files that a job reads, in the order of its words, and then reads its sources. One of them may be what is left of standard input. What the store
-/// saw of the file that the job writes is asked for, so that none is read for a job whose file wasn't looked at before.
+/// Opens the files that a job reads, in the order of its words, and then reads its sources. One of
+/// them may be what is left of standard input. The caller passes what the store saw of the file
+/// that the job writes. So nothing is read for a job whose file wasn't looked at before.
 pub(crate) fn read_sources<'a, W: Stores, S: Source, F: Files>(
     alloc: Global,
     job: &'a Job,

@@ -1,6 +1,6 @@
 //! The order of the program's work.
 ghost use Rattle.std.specs.Prelude.{◌≡◌, ◌≢◌, ◌+◌, ◌-◌, ◌^◌, ◌<◌, ◌↔◌, IfSome, None, Some, option_map};
-ghost use Rattle.docker_job.specs.Words.{texts};
+ghost use Rattle.docker_cmd.specs.Words.{texts};
 ghost use Rattle.docker_program.specs.Devices.{IsCounted, LeavesNoDraft, device_of, given, written};
 ghost use Rattle.docker_program.specs.Names.{stored_by};
 ghost use Rattle.docker_program.specs.Past.{with_look_at};
@@ -69,14 +69,16 @@ fn do_job<S: Source, F: Files, W: Stores, K: Sink>(
     let looked = look_at_stored(&job, store);
     let prepared = read_sources(alloc, &job, &looked, store, stdin, first, second)?;
     let done = write_output(looked, &prepared, store, output);
-    // The program ends here: what it has read is left to the system, not freed piece by piece.
+    // The program ends here, so what it has read is left to the system and not freed piece by
+    // piece.
     mem::forget(prepared);
     Ok(done?)
 }
 
-/// Does what the words ask for, and answers the exit status. With no words at all the job is on the first line of standard input. All files that the job
-/// reads are opened first, in the order of the words, and nothing is written, or made to be written, before all is read; no draft is left; a fault is one
-/// line on the sink of faults.
+/// Does what the words ask for, and returns the exit status. If there are no words, the job is on
+/// the first line of standard input. All files that the job reads are opened first, in the order of
+/// the words. Nothing is written, and no draft is made, before all is read. No draft is left. A
+/// fault is one line on the sink of faults.
 pub fn perform<S: Source, F: Files, W: Stores, K: Sink, L: Sink>(
     alloc: Global,
     words: &[&str],

@@ -1,14 +1,14 @@
 //! The job that the program is asked for.
 ghost use Rattle.std.specs.Prelude.{◌≡◌, ◌≢◌, ◌+◌, ◌-◌, ◌^◌, ◌<◌, ◌↔◌, [], IfOk, Err};
-ghost use Rattle.docker_job.specs.Job.{IsJobOf, NameNoJob};
-ghost use Rattle.docker_job.specs.Words.{texts};
+ghost use Rattle.docker_cmd.specs.Job.{IsJobOf, NameNoJob};
+ghost use Rattle.docker_cmd.specs.Words.{texts};
 ghost use Rattle.docker_program.specs.Program.{AskForNone, AskForSome, AsksAtMost, AsksFor};
 
 use cif_line::Source;
 use docker_cmd::{Job, JobFault, job, job_line};
 use std::alloc::Global;
 
-/// The job that some words name.
+/// The job that these words name.
 fn named_job(alloc: Global, words: &[&str]) -> Result<Job, JobFault>
     ensures job { IfOk result (λ job. IsJobOf (texts words.now) job) }
     ensures usage { (result ≡ Err JobFault.Usage) ↔ NameNoJob (texts words.now) }
@@ -17,7 +17,7 @@ fn named_job(alloc: Global, words: &[&str]) -> Result<Job, JobFault>
     job(alloc, words)
 }
 
-/// The job that the words name, or where there are none the first line of standard input.
+/// The job that the words name or, if there are none, the first line of standard input.
 pub(crate) fn requested_job<S: Source>(
     alloc: Global,
     words: &[&str],

@@ -12,39 +12,41 @@ use cif_line::{Failed, Sink};
 pub struct Looked<'a, T> {
     /// The name.
     pub name: &'a str,
-    /// What stood under it.
+    /// What was under it.
     pub seen: T,
 }
 
-/// Where files are written anew. The new text of one is a draft, which takes the file's place once it is complete. A draft is made from a look alone, so
-/// that none is made for a file that wasn't looked at.
+/// Where files are written anew. The new text of a file is a draft, which takes the file's place
+/// once it is complete. A draft is made only from a look, so none is made for a file that wasn't
+/// looked at.
 pub trait Stores {
     /// A new text, as far as it is written.
     type Draft: Sink + Drop;
 
-    /// What is seen of a file, which tells it from one that came in its place since.
+    /// What is seen of a file. It distinguishes the file from one that took its place since.
     type Seen: Drop;
 
-    // The bytes that the file of a name holds, or None where they can't be told.
+    // The bytes that the file of a name holds, or None if they can't be known.
     ghost held: { Self → List ℕ → Option (List ℕ) };
 
     // The name of the file that a draft was made for.
     ghost target: { Self → Option (List ℕ) };
 
-    // Whether there is a draft that was neither put in the place of its file nor taken back. One that can't be taken back is a failure.
+    // Whether there is a draft that was neither put in the place of its file nor removed. Failing
+    // to remove a draft is a failure.
     ghost has_draft: { Self → Bool };
 
-    // How often it has failed so far, together with the drafts that it took back.
+    // How often it has failed so far, with the failures of the drafts that were given back to it.
     ghost failures: { Self → ℕ };
 
-    // What was asked of it so far, or None where it can't tell that.
+    // What was asked of it so far, or None if that can't be known.
     ghost past: { Self → Option Past };
 
-    // The number of the look by which this was seen, counted from 0.
+    // The number of the look that saw this, counted from 0.
     ghost number: { Self.Seen → ℕ };
 
-    /// Looks at the file of this name before it is read, so that a draft made from what it held then never takes the place of a text
-    /// that came since.
+    /// Looks at the file of this name before it is read. So a draft made from what the file held
+    /// then never takes the place of a text that came since.
     fn look<'a>(&mut self, name: &'a str) -> Looked<'a, Self::Seen>
         ensures name { result.name.now ≡ name.now }
         ensures number { IfSome (past self.old) (λ asked. number result.seen ≡ asked.looks) }
@@ -53,8 +55,9 @@ pub trait Stores {
         ensures no_draft { has_draft self.new ≡ has_draft self.old }
         ensures no_failure { failures self.new ≡ failures self.old };
 
-    /// An empty draft for the file that was looked at; none for a device that fails, for a text that came since, or for want of memory. Every file that can
-    /// be told is as it was. Where none is made nothing of it is left, or the device fails.
+    /// An empty draft for the file that was looked at. None is made if a device fails, if another
+    /// text came since, or if memory runs out. Every file whose bytes are known is as it was. If no
+    /// draft is made, nothing of it is left, or the device fails.
     fn create(&mut self, looked: Looked<'_, Self::Seen>) -> Result<Self::Draft, OpenFault>
         requires { failures self.old < 2 ^ 64 - 1 }
         ensures target { OnOk result (target self.new ≡ Some looked.entry.name.now) }
@@ -69,8 +72,8 @@ pub trait Stores {
         ensures asked { past self.new
             ≡ option_map (with_draft (number looked.entry.seen)) (past self.old) };
 
-    /// Puts a draft in the place of its file, which then holds what the draft took. Where that fails, the file holds that too, or what it held before, and
-    /// the draft is taken back.
+    /// Puts a draft in the place of its file, which then holds what the draft took. If that fails,
+    /// the file holds either that or what it held before, and the draft is removed.
     fn complete(&mut self, draft: Self::Draft) -> Result<(), Failed>
         requires { failures self.old + Self.Draft.failures draft < 2 ^ 64 - 1 }
         ensures held { OnOk result ((name : List ℕ) → target self.old ≡ Some name
@@ -86,8 +89,8 @@ pub trait Stores {
             (failures self.new ≡ failures self.old + Self.Draft.failures draft + 1) }
         ensures asked { past self.new ≡ past self.old };
 
-    /// Takes a draft back that failed. Every file that can be told is as it was. Where it can't be taken back no further failure is counted, for the draft's
-    /// own is.
+    /// Removes a draft that failed. Every file whose bytes are known is as it was. If the draft
+    /// can't be removed, no further failure is counted, because its own failure is.
     fn discard(&mut self, draft: Self::Draft)
         requires failed { 0 < Self.Draft.failures draft }
         requires few { failures self.old + Self.Draft.failures draft < 2 ^ 64 }

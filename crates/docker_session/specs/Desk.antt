@@ -11,17 +11,18 @@ use Rattle.docker_office.specs.Office.{TakesFile}
 use Rattle.docker_cmd.specs.OfficeFault.{OfficeFault}
 use Rattle.docker_cmd.specs.OfficeFault.TheVariants as office
 use Rattle.docker_cmd.specs.Prepared.{DeviceBytes, most_bytes}
-use Rattle.docker_job.specs.Words.{Text}
+use Rattle.docker_cmd.specs.Words.{Text}
 use Rattle.docker_program.specs.Devices.{LeavesOtherFiles}
 use Rattle.docker_program.specs.Past.{Past, with_draft, with_look}
 use Rattle.docker_session.specs.Replies.{AnswerView, done_with, refused_for, no_request}
 
--- the state that a desk knows, and whether something was taken, merged or set since it was last saved
+-- the state that a desk knows, and whether something was taken, merged or set since it was last
+-- saved
 pub record DeskView : Type 0 where
   pub state : State
   pub unsaved : Bool
 
--- a docker is refused for its day, or because memory ran out
+-- a docker is refused for its day or, if not for its day, because memory ran out
 abbrev pub IsDockerRefused : State → ℕ → OfficeFault → Type 0
 IsDockerRefused state day office.Lapsed = IsDayRefused state.horizon day
 IsDockerRefused state day office.Memory = ¬ IsDayRefused state.horizon day
@@ -30,19 +31,19 @@ IsDockerRefused state day (office.State fault) = ⊥
 IsDockerRefused state day office.Source = ⊥
 IsDockerRefused state day office.Sink = ⊥
 
--- the answer to the request for a docker
+-- the answer to a request for a docker
 abbrev pub IsDockerAnswer : State → List ℕ → ℕ → AnswerView → Type 0
 IsDockerAnswer state place day (done_with text) = IsDockerText (live_table state) place day text × (¬ IsDayRefused state.horizon day)
 IsDockerAnswer state place day (refused_for fault) = IsDockerRefused state day fault
 IsDockerAnswer state place day no_request = ⊥
 
--- the answer to the request for the files
+-- the answer to a request for the files
 abbrev pub IsFilesAnswer : State → AnswerView → Type 0
 IsFilesAnswer state (done_with text) = text ≡ files_text state.ledger
 IsFilesAnswer state (refused_for fault) = fault ≡ office.Memory
 IsFilesAnswer state no_request = ⊥
 
--- why a file isn't taken that held this: it is no file, its device failed, or memory ran out
+-- why a file that held this isn't taken: it is no file, its device failed, or memory ran out
 abbrev pub RefusesToTake : DeviceBytes → OfficeFault → Type 0
 RefusesToTake held (office.File fault) = RefusesText most_records held fault
 RefusesToTake held office.Source = ⊤
@@ -51,7 +52,8 @@ RefusesToTake held (office.State fault) = ⊥
 RefusesToTake held office.Lapsed = ⊥
 RefusesToTake held office.Sink = ⊥
 
--- why no state is received from what held this
+-- why no state is received from a file that held this: it is no state, its device failed, or memory
+-- ran out
 abbrev pub RefusesToReceive : DeviceBytes → OfficeFault → Type 0
 RefusesToReceive held (office.State fault) = RefusesState dks_2 most_bytes held fault
 RefusesToReceive held office.Source = ⊤
@@ -60,27 +62,29 @@ RefusesToReceive held (office.File fault) = ⊥
 RefusesToReceive held office.Lapsed = ⊥
 RefusesToReceive held office.Sink = ⊥
 
--- the state after a file that held this was taken, or the same state if it was refused
+-- the state after taking a file that held this, or the same state if the file was refused
 abbrev pub EndsTaking : DeviceBytes → State → State → Result ⊤ OfficeFault → Type 0
 EndsTaking held old new (Ok done) = TakesFile most_records held old new
 EndsTaking held old new (Err fault) = RefusesToTake held fault × (new ≡ old)
 
--- the state after the state that was held was received, or the same state if that was refused
+-- the state after receiving from a file that held this, or the same state if the file was refused
 abbrev pub EndsReceiving : DeviceBytes → State → State → Result ⊤ OfficeFault → Type 0
 EndsReceiving held old new (Ok done) = JoinsState dks_2 most_bytes held old new
 EndsReceiving held old new (Err fault) = RefusesToReceive held fault × (new ≡ old)
 
--- the file of this name holds the text of the state, and each other is as it was
+-- the file of this name holds the text of the state, and each other file is as it was
 pub record StoresState (name : Text) (state : State) (files files_now : Text → DeviceBytes) : Type 0 where
   pub held : Held (files_now name) (state_text dks_2 state)
   pub others : LeavesOtherFiles name files files_now
 
--- the file of this name is as it was, or holds the whole text of the state, and each other is as it was
+-- the file of this name is as it was, or holds the whole text of the state; each other file is as
+-- it was
 pub record StoresAllOrNothing (name : Text) (state : State) (files files_now : Text → DeviceBytes) : Type 0 where
   pub either : (files_now name ≡ files name) ⊎ Held (files_now name) (state_text dks_2 state)
   pub others : LeavesOtherFiles name files files_now
 
--- how the saving of a state ends: it is stored; the device failed, or the file isn't the one that was seen; or memory ran out
+-- how saving a state ends: it is stored; or the device failed or the file isn't the one that was
+-- seen; or memory ran out
 abbrev pub EndsSaving : Text → State → (Text → DeviceBytes) → (Text → DeviceBytes) → Result ⊤ OfficeFault → Type 0
 EndsSaving name state files files_now (Ok done) = StoresState name state files files_now
 EndsSaving name state files files_now (Err office.Sink) = StoresAllOrNothing name state files files_now
@@ -90,7 +94,8 @@ EndsSaving name state files files_now (Err office.Lapsed) = ⊥
 EndsSaving name state files files_now (Err (office.File fault)) = ⊥
 EndsSaving name state files files_now (Err (office.State fault)) = ⊥
 
--- what was asked of the store then: a draft from the look of this number, and, once it is in its place, one more look
+-- what was asked of the store after a saving: a draft from the look of this number and, if the
+-- draft took its file's place, one more look
 abbrev pub past_of_saving : ℕ → Option Past → Result ⊤ OfficeFault → Option Past
 past_of_saving number past (Ok done) = option_map (λ asked. with_look (with_draft number asked)) past
 past_of_saving number past (Err fault) = option_map (with_draft number) past

@@ -1,4 +1,4 @@
-//! A desk, and what is asked of it.
+//! A desk, and what it can be asked for.
 ghost use Rattle.std.specs.Prelude.{◌≡◌, ◌-◌, ◌^◌, ◌<◌, false, IfSome, OnErr, OnOk, option_map};
 ghost use Rattle.docker_model.specs.state.State.{raise_horizon};
 ghost use Rattle.docker_program.specs.Devices.{IsCounted, LeavesNoDraft};
@@ -56,7 +56,7 @@ impl Desk {
         self.unsaved
     }
 
-    /// The docker of a timing point on a day. It is whole before it is answered.
+    /// The docker of a timing point on a day. The docker is whole before it is returned.
     pub fn print(&self, place: &Tiploc, day: Day) -> Answer
         ensures { IsDockerAnswer self.now.state place.now day (answer_meant result) }
     {
@@ -68,7 +68,7 @@ impl Desk {
         }
     }
 
-    /// The files that it knows.
+    /// The files that the desk knows.
     pub fn files(&self) -> Answer
         ensures { IsFilesAnswer self.now.state (answer_meant result) }
     {
@@ -91,7 +91,7 @@ impl Desk {
         self.office.take(files, MOST_RECORDS)
     }
 
-    /// Joins what it knows with the state that the file of a name holds.
+    /// Joins what the desk knows with the state that the file of a name holds.
     pub fn receive<F: Files>(&mut self, name: &str, files: &mut F) -> Result<(), OfficeFault>
         requires { F.failures files.old < 2 ^ 64 - 1 }
         ensures ends { EndsReceiving (F.held files.old name.now) self.old.state self.new.state
@@ -104,7 +104,7 @@ impl Desk {
         self.office.receive(files, MOST_BYTES)
     }
 
-    /// Sets a horizon, which may be later than its own. It is never refused.
+    /// Sets a horizon, which may be later than the desk's own. It is never refused.
     pub fn set_horizon(&mut self, day: Day)
         ensures state { self.new.state ≡ raise_horizon day self.old.state }
         ensures unsaved { self.new.unsaved ≡ self.old.unsaved }
@@ -119,7 +119,8 @@ impl Desk {
         self.unsaved = unsaved;
     }
 
-    /// Joins what it knows with what the file of a name holds now, and notes what is seen of that file.
+    /// Joins what the desk knows with what the file of a name holds now, and notes what is seen of
+    /// that file.
     pub fn renew<F: Files, W: Stores>(
         &mut self,
         name: &str,
@@ -149,7 +150,8 @@ impl Desk {
         Ok(())
     }
 
-    /// Stores the text of its state in the file of a name, which has to be the one that was seen, and notes what is seen of it then.
+    /// Stores the text of the desk's state in the file of a name, which has to be the one that was
+    /// seen. Then notes what is seen of that file.
     pub fn save<W: Stores>(
         &mut self,
         name: &str,

@@ -1,4 +1,4 @@
-//! The desk: a state that is kept in memory, and what it is asked, line by line.
+//! The desk: a state that is kept in memory, and what it can be asked, line by line.
 #![tactic(auto)]
 
 mod desk;

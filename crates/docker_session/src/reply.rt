@@ -1,4 +1,4 @@
-//! What a request is answered.
+//! The answers to requests.
 ghost use Rattle.std.specs.Prelude.{◌≡◌, ◌+◌, ◌-◌, ◌^◌, ◌<◌, OnOk, OnErr};
 ghost use Rattle.cif_line.specs.Device.{Takes, TakesPart};
 ghost use Rattle.docker_desk.specs.Answers.{answer_text};
@@ -10,25 +10,25 @@ use cif_line::{Failed, Sink};
 use docker_cmd::{Fault, OfficeFault, fault_text, status};
 use docker_desk::{Page, write_answer};
 
-/// The line for a line that asks for nothing.
+/// The line that answers a line that asks for nothing.
 const USAGE: &[u8] =
     b"desk: usage: [--write] STATE, and then a line for each request: print TIPLOC DATE | train UID DATE | files | renew | with --write take FILE | merge OTHER | horizon DATE | save\n";
 
-/// What a request is answered.
+/// The answer to a request.
 #[derive(Debug, Drop)]
 pub enum Answer {
-    /// It is done, and this is its text.
+    /// The request was done, and this is its text.
     Text(Page),
-    /// It is done, and has no text.
+    /// The request was done, and has no text.
     Done,
-    /// It is refused, and changed nothing.
+    /// The request was refused, and changed nothing.
     Refused(OfficeFault),
     /// The line asks for nothing.
     Usage,
 }
 
-/// Writes an answer: its header, and the text of what was asked or the line of its fault. A write that fails leaves the sink with a
-/// beginning of the answer, and not all of it.
+/// Writes an answer: its header, and then the text that was asked for, or the line of the fault. If
+/// a write fails, the sink has gained a proper beginning of the answer.
 pub fn write_reply<K: Sink>(answer: &Answer, sink: &mut K) -> Result<(), Failed>
     requires { K.failures sink.old < 2 ^ 64 - 1 }
     ensures whole { OnOk result (Takes (K.taken sink.old) (bytes_told (answer_meant answer.now))

@@ -1,4 +1,4 @@
-//! The saving of a state.
+//! How a state is saved.
 ghost use Rattle.std.specs.Prelude.{◌≡◌, ◌-◌, ◌^◌, ◌<◌, option_map};
 ghost use Rattle.docker_program.specs.Devices.{IsCounted, LeavesNoDraft};
 ghost use Rattle.docker_program.specs.Past.{with_draft};
@@ -9,7 +9,8 @@ use docker_cmd::OfficeFault;
 use docker_office::Office;
 use docker_program::{Looked, OpenFault, Stores};
 
-/// Writes the text of an office's state to a draft of the file that was looked at, and puts the draft in the place of that file.
+/// Writes the text of an office's state to a draft of the file that was looked at, and puts the
+/// draft in the place of that file.
 pub(crate) fn store_office<W: Stores>(
     office: &Office,
     looked: Looked<'_, W::Seen>,

@@ -1,4 +1,4 @@
--- The state of one file, from its ledger item and the greatest of its rows.
+-- The state of one file, made from its ledger item and the greatest of its rows.
 use Rattle.std.proofs.Common.{◌≡◌, ℕ, ◌≤◌, List, [], ◌∷◌, ◌++◌, map, length, refl, ap, sym, ◌∙◌, subst, inl, inr, ◌⊎◌, Contains, All, Bool, true, false, Some, None, arith}
 use Rattle.std.specs.Prelude.{Option, ◌↔◌, slice_index_or, ◌==◌}
 use Rattle.std.specs.Cmp.{tied_itself}
@@ -36,12 +36,12 @@ use Rattle.docker_state.specs.Rows.{made_by}
 use Rattle.docker_join.proofs.MeantOrder.{ascending_meant}
 use Rattle.docker_state.proofs.StateJoin.{op_records}
 
--- the first of some lines, however it is named
+-- two ways to take the first of some lines are one
 pub first_is : (lines : List (List ℕ)) → slice_index_or lines 0 [] ≡ first_record lines
 first_is [] = refl
 first_is (line ∷ lines) = refl
 
--- the one element of a list
+-- a list of one element has only that element
 pub only : {A : Type 0} (x z : A) → Contains (x ∷ []) z → x ≡ z
 only x z among = by (Contains-cons x [] z among)
   where
@@ -49,7 +49,7 @@ only x z among = by (Contains-cons x [] z among)
     by (inl same) = same
     by (inr none) = absurd (nil-Contains z none)
 
--- nothing is above itself
+-- no stamp is above itself
 not_above_itself : (stamp : FileStamp) → IsAtMost file_stamp_cmp stamp stamp
 not_above_itself stamp above = let tied = tied_itself file_stamp_total stamp in cc
 
@@ -75,10 +75,10 @@ one_floor item = by (item.indicator == 70) (eqb_tells item.indicator 70)
     )
     by b (inr update) = (None, λ other among is_full. update.1 (subst (λ (i : stamps.LedgerItem). IsFull i) (sym (only item other among)) is_full), tt)
 
--- the rows that the changes of a file make are of records
+-- the rows that the changes of a file make have records
 module _ (file : List (List ℕ)) (is_file : IsFile file) (few : length file ≤ most_records) (made : List (Key × Entry))
     (made_is : map row_meant made ≡ map (made_by (file_stamp_of file)) (changes file)) where
-  -- the rows made have records
+  -- the rows that are made have records
   pub made_records : All (λ (row : Key × Entry). HasRecords (op_meant row.1.op)) made
   made_records = all_members (λ (row : Key × Entry). HasRecords (op_meant row.1.op)) made (λ row among.
       let found = Contains-map (made_by (file_stamp_of file)) (changes file) (row_meant row)
@@ -140,7 +140,7 @@ module _ (file : List (List ℕ)) (ledger : List LedgerItem) (ledger_is : map it
   pub file_summary : IsSummary (file ∷ []) 0 (state_meant 0 ledger rows)
   file_summary = let told = one_floor (ledger_item_of file) in summary_under told.0 told.1 told.2
 
-  -- and valid
+  -- the state of the file is valid
   pub file_valid : IsFile file → length file ≤ most_records → IsValid (state_meant 0 ledger rows)
   file_valid is_file few =
       summary_is_valid (file ∷ []) 0 (state_meant 0 ledger rows) (omega arith)
@@ -148,21 +148,21 @@ module _ (file : List (List ℕ)) (ledger : List LedgerItem) (ledger_is : map it
       (all_members (λ f. length f ≤ most_records) (file ∷ []) (λ f among. subst (λ (x : List (List ℕ)). length x ≤ most_records) (only file f among) few))
       file_summary
 
--- what the steps of the code tell: the ledger item and the rows made are those of the file
+-- what the steps of the code give: the ledger item and the rows of the file
 module _ (file : FileRead) (head : List ℕ) (head_is : head ≡ file.header_line) (item : LedgerItem)
     (item_is : (lines : List (List ℕ)) → head ≡ first_record lines → item_meant item ≡ ledger_item_of lines)
     (lines : List (List ℕ)) (of : IsOfRecords file lines) where
-  -- the item is that of the file
+  -- the item is the item of the file
   pub item_of_file : item_meant item ≡ ledger_item_of lines
   item_of_file = item_is lines (head_is ∙ of.header_is ∙ first_is lines)
 
-  -- and it is the whole ledger
+  -- the item is the whole ledger
   pub ledger_of_file : (before ledger : List LedgerItem) → before ≡ [] → ledger ≡ before ++ item ∷ [] → map item_meant ledger ≡ ledger_item_of lines ∷ []
   ledger_of_file before ledger none pushed =
       let all : ledger ≡ item ∷ [] = pushed ∙ ap (λ (xs : List LedgerItem). xs ++ item ∷ []) none in
       ap (map item_meant) all ∙ ap (λ (i : stamps.LedgerItem). i ∷ []) item_of_file
 
-  -- the rows are those that its changes make
+  -- the rows are the rows that the changes of the file make
   pub made_of_file : (stamp : code.FileStamp) → file_stamp_meant stamp ≡ (item_meant item).stamp → (moved : List change.Change)
       → map change_meant moved ≡ file.changes_made
       → (made : List (Key × Entry)) → map row_meant made ≡ map (made_by (file_stamp_meant stamp)) (map change_meant moved)
@@ -175,7 +175,7 @@ module _ (file : FileRead) (head : List ℕ) (head_is : head ≡ file.header_lin
 pub changes_are : (file : FileRead) (parts : FileParts) → file_of_parts parts ≡ file → map change_meant parts.changes.items ≡ file.changes_made
 changes_are file parts same = ap (λ (f : FileRead). f.changes_made) same
 
--- each row with a greatest entry is one that a change makes
+-- each row with a greatest entry is a row that a change makes
 pub rows_made_by : (file : FileStamp) (all : List model.Change) (made rows : List (Key × Entry)) → map row_meant made ≡ map (made_by file) all
     → ((key : model.Key) (entry : ops.Entry) → Contains (map row_meant rows) (key, entry) ↔ IsGreatestAmong (map row_meant made) key entry)
     → AreMadeBy all (map row_meant rows)

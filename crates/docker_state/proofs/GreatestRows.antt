@@ -1,4 +1,4 @@
--- The last rows of each key of sorted rows have the greatest entries.
+-- The last row of each key, among sorted rows, has the greatest entry of the key.
 use Rattle.std.proofs.Common.{◌≡◌, List, [], ◌∷◌, map, refl, ap, sym, ◌∙◌, subst, inl, inr, ◌⊎◌, Contains, Bool, true, false, cond}
 use Rattle.std.specs.declared.cmp.Ordering.{Ordering}
 use Rattle.std.specs.declared.cmp.Ordering.TheVariants.{Less, Equal, Greater}
@@ -76,7 +76,7 @@ module _ (rows : List (Key × Entry)) (sorted : AreSorted rows) (records : (row 
             (subst (λ e. IsAtMost entry_cmp e (entry_meant z.0.1)) (λ i. (w.2 i).1) (lasts_top rows sorted z.0 z.1 w.0 w.1 tied));
       }
 
-  -- and each greatest entry is that of a last row
+  -- each greatest entry is the entry of a last row
   pub greatest_is_last : (key : model.Key) (entry : ops.Entry) → IsGreatestAmong (map row_meant rows) key entry
       → Contains (map row_meant (last_rows rows)) (key, entry)
   greatest_is_last key entry best =

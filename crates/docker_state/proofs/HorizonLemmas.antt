@@ -1,4 +1,4 @@
--- A horizon that is set on a state: its rows lapse, or it changes nothing.
+-- A horizon that is set on a state: its rows lapse, or nothing changes.
 use Rattle.std.proofs.Common.{◌≡◌, ℕ, ◌≤◌, List, map, ap, sym, ◌∙◌, subst}
 use Rattle.std.proofs.Math.Nat.{max-eq_right}
 use Rattle.docker_model.specs.state.Lapse.{lapse_entries}
@@ -16,17 +16,17 @@ use Rattle.docker_state.specs.Meaning.{item_meant, row_meant, state_meant}
 
 module _ (own day : ℕ) (low : own ≤ day) (ledger : List LedgerItem) (rows after : List (Key × Entry))
     (lapsed : map row_meant after ≡ lapse_entries day (map row_meant rows)) where
-  -- the rows lapsed under a day that is no lower are the state with it set
+  -- the rows, lapsed under a day that is no lower, are the state with that day as its horizon
   pub rows_raised : state_meant day ledger after ≡ raise_horizon day (state_meant own ledger rows)
   rows_raised =
       (λ i. record { horizon = day; ledger = map item_meant ledger; entries = lapsed i })
       ∙ ap (λ h. lapse_state h (state_meant own ledger rows)) (sym (max-eq_right low))
 
-  -- and it is valid
+  -- that state is valid
   pub raised_valid : IsDay day → IsValid (state_meant own ledger rows) → IsValid (state_meant day ledger after)
   raised_valid within valid = subst IsValid (sym rows_raised) (raised_is_valid day (state_meant own ledger rows) within valid)
 
--- the index after the rows have lapsed is that of the rows
+-- after rows have lapsed, the index is the index of the lapsed rows
 pub lapsed_index : (rows after : List (Key × Entry)) (horizon : ℕ) → map row_meant after ≡ lapse_entries horizon (map row_meant rows)
     → (slice : List (Key × Entry)) → slice ≡ after → (index later : Index) → IsIndexOf (map row_meant rows) index
     → ((before : List (model.Key × ops.Entry)) (h : ℕ) → map row_meant slice ≡ lapse_entries h before → IsIndexOf before index

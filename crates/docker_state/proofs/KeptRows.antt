@@ -22,7 +22,7 @@ use Rattle.docker_state.specs.Rows.{LapsesTo}
 use Rattle.cif_laws.proofs.lists.FilteredMembers.{filter_back, filter_forth}
 use Rattle.docker_state.proofs.FloorTest.{filter-map, filter_ascends, keeps, keeps_is, is_keeps}
 
--- a key with its entry, as it is meant
+-- a key with its entry, in the words of the definitions
 abbrev pub Keyed : Type 0
 Keyed = model.Key × ops.Entry
 
@@ -30,11 +30,11 @@ Keyed = model.Key × ops.Entry
 abbrev pub keeps_entry : Option FileStamp → Keyed → Bool
 keeps_entry floor pair = keeps floor pair.1.stamp.file
 
--- these entries that are kept under a floor, each lapsed
+-- the entries that are kept under a floor, each lapsed
 abbrev pub kept_lapsed : Option FileStamp → ℕ → List Keyed → List Keyed
 kept_lapsed floor horizon entries = lapse_entries horizon (filter (keeps_entry floor) entries)
 
--- what a test that changes what it keeps, and stays as it is, leaves of a list
+-- what a test leaves of a list, if it changes what it keeps and doesn't change itself
 module _ {S X B : Type 0} (R : S → X → Bool → S → X → Type 0) (f : X → B) (test : B → Bool) (change : B → B) (s : S)
     (says : (x : X) (b : Bool) (t : S) (y : X) → R s x b t y → (b ≡ test (f x)) × (t ≡ s) × (b ≡ true → f y ≡ change (f x))) where
   changed_in_turn : (t : S) → t ≡ s → (xs ys : List X) → RetainsInTurn R t xs ys → map f ys ≡ map change (filter test (map f xs))
@@ -49,7 +49,7 @@ module _ {S X B : Type 0} (R : S → X → Bool → S → X → Type 0) (f : X �
           (λ i. changed refl i ∷ rest i) ∙ (λ i. map change (cond (passes i) (f x ∷ filter test (map f xs)) (filter test (map f xs))))
       step false y zs fails changed rest = rest ∙ (λ i. map change (cond (fails i) (f x ∷ filter test (map f xs)) (filter test (map f xs))))
 
-  -- in the order of the list
+  -- it is in the order of the list
   pub changed_by : (xs ys : List X) → RetainsInTurn R s xs ys → map f ys ≡ map change (filter test (map f xs))
   changed_by xs ys = changed_in_turn s refl xs ys
 
@@ -57,7 +57,7 @@ module _ {S X B : Type 0} (R : S → X → Bool → S → X → Type 0) (f : X �
 none_lapse : (entries : List Keyed) → lapse_entries 0 entries ≡ entries
 none_lapse entries = entries_stay 0 entries (recursion_from_All (λ (entry : Keyed). HasNotToLapse 0 entry.1.op) entries (none_to_lapse entries))
 
--- rows that were kept, without a horizon
+-- rows that are kept under a floor, without a horizon
 pub kept_alone : (floor : Option FileStamp) (horizon : ℕ) (rows after : List (Key × Entry)) → horizon ≡ 0
     → after ≡ filter (λ (row : Key × Entry). keeps_entry floor (row_meant row)) rows
     → map row_meant after ≡ kept_lapsed floor horizon (map row_meant rows)
@@ -79,7 +79,7 @@ module _ (floor : Option FileStamp) (horizon : ℕ) (rows after : List (Key × E
       (lapse_ascends horizon (filter (keeps_entry floor) (map row_meant rows))
       (filter_ascends by_key (keeps_entry floor) (map row_meant rows) (ascending_meant row_meant by_key rows up))))
 
-  -- and have what is kept, lapsed
+  -- they are the rows that are kept, lapsed
   pub kept_lapsed_members : (key : model.Key) (entry : ops.Entry)
       → Contains (map row_meant after) (key, entry) ↔ LapsesTo (map row_meant rows) floor horizon key entry
   kept_lapsed_members key entry = (

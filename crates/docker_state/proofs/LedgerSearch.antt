@@ -1,4 +1,4 @@
--- What a ledger has of the items of a list.
+-- Which items of a list a ledger has.
 use Rattle.std.proofs.Common.{◌≡◌, ◌+◌, ℕ, ◌<◌, ◌≤◌, List, map, Bool, true, length, get_or, ◌∙◌, subst, arith}
 use Rattle.std.specs.Prelude.{Option, ◌↔◌, IsTrue}
 use Rattle.std.specs.List.{AllWithin}
@@ -18,7 +18,7 @@ module _ {A : Type 0} (f : A → LedgerItem) (ledger : List LedgerItem) (floor :
       subst (λ (v : A). HasIfKept ledger (f v) floor) found.1.2 (each found.1.0 found.0 (omega arith) (let within = found.1.1 in omega arith)) in
       subst (λ (v : LedgerItem). HasIfKept ledger v floor) found.2 here kept
 
-  -- and one more, where it has the next
+  -- if it has the next one, it has one more
   pub one_more_has : (at : ℕ) (item : A) → at < length items → item ≡ get_or items at item → (b : Bool) → IsTrue b ↔ HasIfKept ledger (f item) floor → b ≡ true
       → AllWithin (λ v. HasIfKept ledger (f v) floor) items 0 at → AllWithin (λ v. HasIfKept ledger (f v) floor) items 0 (at + 1)
   one_more_has at item within is b tells has before =

@@ -19,7 +19,7 @@ use Rattle.docker_state.proofs.StagingLemmas.{join_of_nothing_new}
 pub not_kept : (stamp floor : FileStamp) → IsBelow file_stamp_cmp stamp floor → ¬ IsAtMost file_stamp_cmp floor stamp
 not_kept stamp floor below kept = kept (file_stamp_total.antisymm floor stamp ∙ ap ordering_reverse below)
 
--- of a state whose files all are below the floor nothing is to be staged
+-- if all files of a state are below the floor, nothing of it has to be staged
 pub below_brings_none : (own other : State) → IsValid other → (floor : Option FileStamp)
     → ((item : LedgerItem) → Contains other.ledger item → ¬ IsKept floor item.stamp) → HasNoneToStage own floor other.entries
 below_brings_none own other valid floor below key entry among to =
@@ -27,13 +27,13 @@ below_brings_none own other valid floor below key entry among to =
     let item = Contains-map (λ (item : LedgerItem). item.stamp) other.ledger entry.stamp.file good.stamp.in_ledger in
     below item.0 item.1 (subst (IsKept floor) (sym item.2) to.kept)
 
--- of no row nothing is
+-- if there are no rows, none has to be staged
 pub none_of_no_row : {A : Type 0} (meant : A → Key × Entry) (own : State) (floor : Option FileStamp) (rows : List A) → length rows ≡ 0
     → HasNoneToStage own floor (map meant rows)
 none_of_no_row meant own floor [] none = λ key entry among. absurd (nil-Contains (key, entry) among)
 none_of_no_row meant own floor (row ∷ rows) some = absurd (omega arith)
 
--- and of a row that isn't and others of which nothing is
+-- if a row doesn't have to be staged, and none of the others does, none of all does
 pub none_of_more : (own : State) (floor : Option FileStamp) (row : Key × Entry) (rows : List (Key × Entry)) → ¬ IsToStage own floor row.0 row.1
     → HasNoneToStage own floor rows → HasNoneToStage own floor (row ∷ rows)
 none_of_more own floor row rows first others key entry among = by (Contains-cons row rows (key, entry) among)
@@ -42,17 +42,18 @@ none_of_more own floor row rows first others key entry among = by (Contains-cons
     by (inl same) = subst (λ (it : Key × Entry). ¬ IsToStage own floor it.0 it.1) same first
     by (inr behind) = others key entry behind
 
--- and of rows of the code that begin with one
+-- like `none_of_more`, for rows of the code
 pub none_of_rest : {A : Type 0} (meant : A → Key × Entry) (own : State) (floor : Option FileStamp) (rows behind : List A) (row : A) → rows ≡ row ∷ behind
     → ¬ IsToStage own floor (meant row).0 (meant row).1 → HasNoneToStage own floor (map meant behind) → HasNoneToStage own floor (map meant rows)
 none_of_rest meant own floor rows behind row is first others =
     subst (λ xs. HasNoneToStage own floor (map meant xs)) (sym is) (none_of_more own floor (meant row) (map meant behind) first others)
 
--- what a test that fails tells
+-- if a test fails, what it tests doesn't hold
 pub untold : {P : Type 0} (b : Bool) → b ≡ false → IsTrue b ↔ P → ¬ P
 untold b fails tells holds = let bad : false ≡ true = sym fails ∙ tells.1 holds in cc
 
--- a state that has each item that is kept, and for which nothing is to be staged, is the join under the greater horizon
+-- if a state has each item that is kept, and nothing has to be staged for it, it is the join under
+-- the greater horizon
 pub covered : (own other : State) → IsValid own → IsValid other → (floor : Option FileStamp) → IsFloor (own.ledger ++ other.ledger) floor
     → HasKeptItems own.ledger other.ledger floor → HasNoneToStage own floor other.entries → IsJoin own other (raise_horizon other.horizon own)
 covered own other valid valid_too floor is_floor has none =

@@ -1,4 +1,4 @@
--- A valid state to which a good entry was given is valid.
+-- A valid state with one more good entry is valid.
 use Rattle.std.proofs.Common.{◌≡◌, List, [], ◌∷◌, ◌++◌, map, ap, sym, ◌∙◌, subst}
 use Rattle.std.proofs.lemmas.List.{map-append}
 use Rattle.docker_model.specs.file.Change as model
@@ -16,7 +16,7 @@ use Rattle.docker_index.specs.Noted.{Item, HasNoted, items_of}
 use Rattle.docker_state.specs.declared.item.LedgerItem.{LedgerItem}
 use Rattle.docker_state.specs.Meaning.{item_meant, row_meant, state_meant}
 
--- the state of the parts with a good entry more is valid
+-- the state of the parts with one more good entry is valid
 pub valid_with_entry : (ledger : List LedgerItem) (rows : List (Key × Entry)) (state : State) → state_meant 0 ledger rows ≡ state
     → IsValid (state_meant 0 ledger rows)
     → (key : Key) (entry : Entry) → IsStampHere state (key_meant key) (entry_meant entry).stamp → IsOpOf (key_meant key) (entry_meant entry).op
@@ -27,7 +27,7 @@ valid_with_entry ledger rows state view valid key entry here of after pushed =
     (valid_more (state_meant 0 ledger rows) (key_meant key) (entry_meant entry).stamp (entry_meant entry).op valid
     (subst (λ (s : State). IsStampHere s (key_meant key) (entry_meant entry).stamp) (sym view) here) of (none_has_to (entry_meant entry).op))
 
--- and what its rows name is noted, where that of the entry is
+-- what its rows name is noted, if what the entry names is noted
 pub noted_with_entry : (rows after : List (Key × Entry)) (key : Key) (entry : Entry) (notes : Notes) → after ≡ rows ++ (key, entry) ∷ []
     → HasNoted (items_of (map row_meant rows) ++ (key_meant key, op_meant entry.op) ∷ []) notes → HasNoted (items_of (map row_meant after)) notes
 noted_with_entry rows after key entry notes pushed has =

@@ -29,17 +29,17 @@ use Rattle.docker_join.proofs.MergedRows.{walk, walk_joins}
 use Rattle.docker_join.proofs.MeantOrder.{ascending_meant, meant_ascending}
 use Rattle.docker_state.proofs.TableJoin.{higher, joined_greatest, greatest_joined}
 
--- the items are those of both ledgers
+-- the items are the items of both ledgers
 abbrev pub HasUnion : List LedgerItem → List LedgerItem → List LedgerItem → Type 0
 HasUnion union first second =
     (item : stamps.LedgerItem) → Contains (map item_meant union) item ↔ Contains (map item_meant first ++ map item_meant second) item
 
--- the rows are those of a table that are kept under the floor, each lapsed
+-- the rows are the rows of a table that are kept under the floor, each lapsed
 abbrev pub HasLapsedRows : List (Key × Entry) → List (Key × Entry) → Option stamps.FileStamp → ℕ → Type 0
 HasLapsedRows rows joined floor horizon =
     (key : model.Key) (entry : ops.Entry) → Contains (map row_meant rows) (key, entry) ↔ LapsesTo (map row_meant joined) floor horizon key entry
 
--- an op that agrees with a key is of records
+-- an op that agrees with a key has records
 pub op_records : (key : model.Key) (op : ops.Op) → IsOpOf key op → HasRecords op
 op_records key deleted good = tt
 op_records key lapsed good = tt
@@ -127,7 +127,8 @@ module _ (g h : ℕ) (items others : List LedgerItem) (first second : List (Key 
           → lapse_entry horizon pair.1 ≡ lapse_entry lapsing pair.1
       under_both pair among = ap (λ n. lapse_entry n pair.1) horizon_is ∙ as_if_all pair among ∙ sym (ap (λ n. lapse_entry n pair.1) lapsing_is)
 
-  -- the entries of the join are those of the tables' join that are kept under the floor, each lapsed
+  -- the entries of the join are the entries of the tables' join that are kept under the floor, each
+  -- lapsed
   pub rows_joined : (floor : Option stamps.FileStamp) → IsFloor (map item_meant items ++ map item_meant others) floor → (horizon : ℕ) → horizon ≡ max g h
       → (joined : State) → IsJoin (state_meant g items first) (state_meant h others second) joined → AreJoined first second floor horizon joined.entries
   rows_joined floor is_floor horizon horizon_is joined is = record {

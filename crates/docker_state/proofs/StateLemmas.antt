@@ -1,4 +1,4 @@
--- What a state's fields say of the state that they mean.
+-- What the fields of a state say about the state that they mean.
 use Rattle.std.proofs.Common.{◌≡◌, ℕ, List, [], ◌∷◌, map, refl, ap, sym, ◌∙◌, subst, Bool, true, false, cond, Some, None, arith}
 use Rattle.std.specs.Prelude.{Option, find, option_and_then, ◌==◌}
 use Rattle.std.specs.Option.{option_map}
@@ -32,7 +32,7 @@ entry_of_rows horizon ledger (row ∷ rows) key = by (is_eq (key_cmp (key_meant 
     by true same = refl
     by false same = same
 
--- the first full item of a ledger, as it is meant
+-- the first full item of a ledger, and what it means
 pub find_meant : (items : List item.LedgerItem)
     → find (λ (i : LedgerItem). i.indicator == 70) (map item_meant items) ≡ option_map item_meant
     (find (λ (i : item.LedgerItem). (item_meant i).indicator == 70) items)
@@ -46,7 +46,7 @@ find_meant (head ∷ items) = by ((item_meant head).indicator == 70) (find_meant
     by true same = refl
     by false same = same
 
--- the floor of a ledger, by the first full item that was found
+-- the floor of a ledger, from the first full item that was found
 pub floor_found : (items : List item.LedgerItem) → IsLedger (map item_meant items)
     → (found : Option item.LedgerItem) → found ≡ find (λ (i : item.LedgerItem). (item_meant i).indicator == 70) items
     → (floor : Option FileStamp) → floor ≡ option_map (λ (i : item.LedgerItem). (item_meant i).stamp) found → IsFloor (map item_meant items) floor

@@ -26,7 +26,7 @@ use Rattle.docker_state.specs.Meaning.{row_meant}
 abbrev Rows : Type 0
 Rows = List (Key × Entry)
 
--- what rows have at a key, as it is meant
+-- what rows have at a key, in the words of the definitions
 abbrev pub ValueMeant : List (Key × Entry) → model.Key → ops.Entry → Type 0
 ValueMeant rows key entry = (value : Entry) × (value_at rows key ≡ Some value) × (entry_meant value ≡ entry)
 
@@ -37,7 +37,7 @@ value_in rows up key entry among =
     let found = Contains-map row_meant rows (key, entry) among in
     (found.0.1, subst (λ k. value_at rows k ≡ Some found.0.1) (λ i. (found.2 i).0) (value_of rows found.0 up found.1), λ i. (found.2 i).1)
 
--- and what they have at a key is among them
+-- what rows have at a key is among them
 pub in_rows : (rows : List (Key × Entry)) (key : model.Key) (value : Entry) → value_at rows key ≡ Some value
     → Contains (map row_meant rows) (key, entry_meant value)
 in_rows rows key value found =
@@ -121,7 +121,7 @@ module _ (first second joined : List (Key × Entry)) (up_first : AreAscending fi
       let there = value_in joined is.ascends key entry among in
       subst (IsGreatestAmong Both key) there.2 (up key (value_at first key) (value_at second key) refl refl there.0 (sym (is.values key) ∙ there.1))
 
-  -- the join has something where one of the two has
+  -- the join has something at a key if one of the two tables has
   some_left : (v : Entry) (b : Option Entry) → (m : Entry) × (picked_value higher (Some v) b ≡ Some m)
   some_left v None = (v, refl)
   some_left v (Some w) = (higher v w, refl)
@@ -130,7 +130,7 @@ module _ (first second joined : List (Key × Entry)) (up_first : AreAscending fi
   some_right None w = (w, refl)
   some_right (Some v) w = (higher v w, refl)
 
-  -- the greatest of a key, of records, stands in the join
+  -- the greatest entry of a key is in the join, if the entries have records
   pub greatest_joined : ((pair : model.Key × ops.Entry) → Contains Both pair → HasRecords pair.1.op) → (key : model.Key) (entry : ops.Entry)
       → IsGreatestAmong Both key entry → Contains (map row_meant joined) (key, entry)
   greatest_joined records key entry best = by (Contains-append_cases (map row_meant first) (map row_meant second) (key, entry) best.among)

@@ -1,4 +1,5 @@
--- The rows of a UID's schedules are one piece of the rows, and what is live of it are the live schedules of the UID.
+-- The rows of a UID's schedules are one piece of the rows. The live rows of the piece are the live
+-- schedules of the UID.
 use Rattle.std.proofs.Common.{◌≡◌, ℕ, zero, suc, ◌-◌, ◌<◌, ◌≤◌, List, [], ◌∷◌, ◌++◌, map, take, drop, length, get_or, refl, ap, sym, ◌∙◌, subst, inl, inr, ◌⊎◌, Bool, true, false, not, cond, nat_lt, Contains, Some, None, arith}
 use Rattle.std.specs.List.{AllByRecursion, AllPairs, position, position_or_len}
 use Rattle.std.specs.List.Sorted.{IsPartitionedBy, IsPartitionPoint}
@@ -31,9 +32,9 @@ use Rattle.docker_state.specs.Meaning.{row_meant}
 use Rattle.docker_state.specs.UidPiece.{to_uid, is_before, AreTo, IsBeginning, IsPieceOfUid}
 use Rattle.docker_state.proofs.LiveTable.{PutThere, from_live, to_live, live_has, live_put, ascends}
 
--- ---- a test that holds of keys up to some
+-- ---- a test that holds up to some key
 
--- tests that hold of what is below something that they hold of
+-- a test that holds of what is less, if it holds of what is equal, and of nothing that is greater
 abbrev GoesDown : (Ordering → Bool) → Type 0
 GoesDown test = (test Greater ≡ false) × (test Equal ≡ true → test Less ≡ true)
 
@@ -76,21 +77,21 @@ module _ (test : Ordering → Bool) (down : GoesDown test) (least : test Less �
           let same : j ≡ i = omega arith in
           subst (λ k. test (to_uid (key_meant (get_or rows k d).0) uid) ≡ true) same passes
 
--- the key of a row is not above those of the UID's schedules
+-- whether the key of a row isn't above the UID's schedules
 abbrev pub is_up_to : List ℕ → Key × Entry → Bool
 is_up_to uid row = is_le (to_uid (key_meant row.0) uid)
 
--- the rows are parted by each of the two tests
+-- the first test cuts the rows in two
 pub parted_before : (uid : List ℕ) (rows : List (Key × Entry)) → AreAscending rows → IsPartitionedBy (is_before uid) rows
 parted_before uid rows up = parted is_lt (refl, λ same. refl) refl uid rows up
 
--- and by the second
+-- the second test cuts the rows in two
 pub parted_up_to : (uid : List ℕ) (rows : List (Key × Entry)) → AreAscending rows → IsPartitionedBy (is_up_to uid) rows
 parted_up_to uid rows up = parted is_le (refl, λ same. refl) refl uid rows up
 
--- ---- the beginning, by a walk back
+-- ---- the beginning, found by a walk back
 
--- what is behind a row that is not before the UID's schedules isn't either
+-- what comes after a row that isn't before the UID's schedules isn't before them either
 module _ (uid : List ℕ) (rows : List (Key × Entry)) (up : AreAscending rows) (first : ℕ) (within : first < length rows)
     (here : (d : Key × Entry) → is_before uid (get_or rows first d) ≡ false) where
   rest_behind : (k : ℕ) (d : Key × Entry) → first ≤ k → k < length rows → is_before uid (get_or rows k d) ≡ false
@@ -104,11 +105,11 @@ module _ (uid : List ℕ) (rows : List (Key × Entry)) (up : AreAscending rows) 
   pub begins_at_front : first ≡ 0 → IsBeginning uid rows first
   begins_at_front zero_is = (λ k d low high. absurd (let none : k < 0 = subst (λ n. k < n) zero_is high in omega arith), rest_behind)
 
-  -- or behind one that is before them
+  -- or it ends after a row that is before the UID's schedules
   pub begins_behind : (0 < first) → ((d : Key × Entry) → is_before uid (get_or rows (first - 1) d) ≡ true) → IsBeginning uid rows first
   begins_behind above before = (λ k d low high. parted_before uid rows up k (first - 1) d (omega arith) (omega arith) (before d), rest_behind)
 
--- where the second test fails of no row, the walk goes over all
+-- if the second test fails for no row, the walk goes over all
 pub walk_of_all : (uid : List ℕ) (rows : List (Key × Entry)) → position (λ row. not (is_up_to uid row)) rows ≡ None
     → length rows ≡ position_or_len (λ row. not (is_up_to uid row)) rows
 walk_of_all uid rows none =
@@ -127,7 +128,7 @@ walk_of_all uid rows none =
 pub walk_within : (uid : List ℕ) (rows : List (Key × Entry)) (end : ℕ) → end ≡ position_or_len (λ row. not (is_up_to uid row)) rows → end ≤ length rows
 walk_within uid rows end end_is = subst (λ n. n ≤ length rows) (sym end_is) (prefix_len-le-length (λ row. not (not (is_up_to uid row))) rows)
 
--- the walk ends where the second test has its place
+-- the walk ends where the second test begins to fail
 pub walk_parts : (uid : List ℕ) (rows : List (Key × Entry)) (end : ℕ) → AreAscending rows → end ≡ position_or_len (λ row. not (is_up_to uid row)) rows
     → IsPartitionPoint (λ row. is_up_to uid row ≡ true) (λ row. is_up_to uid row ≡ false) rows end
 walk_parts uid rows end up end_is = (front, back)
@@ -159,7 +160,7 @@ walk_parts uid rows end up end_is = (front, back)
     back : (k : ℕ) (d : Key × Entry) → end ≤ k → k < length rows → is_up_to uid (get_or rows k d) ≡ false
     back k d low high = by k d (is_up_to uid (get_or rows k d)) refl low high
 
--- what is behind a front ascends
+-- what is left after a front ascends
 pub behind_ascends : (rows : List (Key × Entry)) (n : ℕ) → AreAscending rows → AreAscending (drop n rows)
 behind_ascends rows zero up = up
 behind_ascends [] (suc n) up = tt
@@ -168,7 +169,7 @@ behind_ascends (row ∷ rows) (suc n) up = behind_ascends rows n up.1
 -- ---- the piece
 
 module _ {A : Type 0} (P : A → Type 0) where
-  -- what holds of the first elements holds of a front
+  -- what holds of the first elements holds of the front
   front_all : (xs : List A) (n : ℕ) → n ≤ length xs → ((k : ℕ) (d : A) → 0 ≤ k → k < n → P (get_or xs k d)) → (z : A) → Contains (take n xs) z → P z
   front_all xs zero bound all z among = absurd (nil-Contains z among)
   front_all [] (suc n) bound all z among = absurd (let none : suc n ≤ 0 = bound in omega arith)
@@ -179,7 +180,7 @@ module _ {A : Type 0} (P : A → Type 0) where
       by rest (inl same) = subst P same (all 0 x (omega arith) (omega arith))
       by rest (inr inside) = rest inside
 
-  -- and what holds of the others of what is behind it
+  -- what holds of the other elements holds of the rest
   back_all : (xs : List A) (n : ℕ) → n ≤ length xs → ((k : ℕ) (d : A) → n ≤ k → k < length xs → P (get_or xs k d)) → (z : A) → Contains (drop n xs) z → P z
   back_all [] zero bound all z among = absurd (nil-Contains z among)
   back_all [] (suc n) bound all z among = absurd (let none : suc n ≤ 0 = bound in omega arith)
@@ -206,7 +207,7 @@ greater_of Less h = absurd (let bad : true ≡ false = h in cc)
 greater_of Equal h = absurd (let bad : true ≡ false = h in cc)
 greater_of Greater h = refl
 
--- what stands between the two places of the search is the piece
+-- the rows between the two ends of the search are the piece
 pub piece_is : (uid : List ℕ) (rows rest here : List (Key × Entry)) (n m : ℕ) → n ≤ length rows → rest ≡ drop n rows → m ≤ length rest → here ≡ take m rest
     → IsPartitionPoint (λ row. is_before uid row ≡ true) (λ row. is_before uid row ≡ false) rows n
     → IsPartitionPoint (λ row. is_up_to uid row ≡ true) (λ row. is_up_to uid row ≡ false) rest m → IsPieceOfUid uid rows here
@@ -227,7 +228,7 @@ piece_is uid rows rest here n m bound rest_is bound_too here_is first second = r
   above = λ row among. greater_of (to_uid (key_meant row.0) uid) (back_all (λ r. is_up_to uid r ≡ false) rest m bound_too second.1 row among);
 }
 
--- ---- what is live of it
+-- ---- the live rows of the piece
 
 -- a key of the UID's schedules
 of_uid_is : (key : model.Key) (uid : List ℕ) → to_uid key uid ≡ Equal → (schedule : ScheduleKey) × (key ≡ schedule_key schedule) × (schedule.uid ≡ uid)
@@ -271,7 +272,7 @@ module _ (state : State) (valid : IsValid state) (uid : List ℕ) (rows piece : 
       (Contains-append_left (map row_meant is.before ++ map row_meant piece) (map row_meant is.behind) pair
       (Contains-append_right (map row_meant is.before) (map row_meant piece) pair among))
 
-  -- how a key that stands among some rows stands to the UID
+  -- how a key of some rows compares with the UID
   stands : (order : Ordering) (some : List (Key × Entry)) → AreTo order uid some → (pair : model.Key × ops.Entry) → Contains (map row_meant some) pair
       → to_uid pair.0 uid ≡ order
   stands order some all pair among =
@@ -313,7 +314,7 @@ module _ (state : State) (valid : IsValid state) (uid : List ℕ) (rows piece : 
       ap (λ (k : model.Key). to_uid k uid) made.2 ∙ ap (λ (u : List ℕ). bytes_cmp u uid) made.5 ∙ tied_itself nat_list_cmp_total uid in
       to_live (map row_meant piece) key put.0 body put.2 (in_piece (key, put.0) put.1 tied)
 
-  -- they are the live schedules of the UID
+  -- the live rows of the piece are the live schedules of the UID
   pub live_of_uid : (walked : List (model.Key × Body)) → walked ≡ live_rows (map row_meant piece) → AreOfUid (live_table state) uid walked
   unfolding Told
   live_of_uid walked walked_is = subst (AreOfUid (live_table state) uid) (sym walked_is) (record {

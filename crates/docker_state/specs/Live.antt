@@ -5,17 +5,17 @@ use Rattle.std.specs.Ordering.{on}
 use Rattle.docker_model.specs.state.Order.{IsStrictlyAscending}
 use Rattle.docker_model.specs.state.Op.{Op, deleted, lapsed, put_with, Entry, key_cmp}
 
--- a key with its body where the op is a put, before further ones
+-- a key with its body, if the op is a put, before the rest
 abbrev pub put_before : Key → Op → List (Key × Body) → List (Key × Body)
 put_before key deleted rest = rest
 put_before key lapsed rest = rest
 put_before key (put_with body) rest = (key, body) ∷ rest
 
--- of entries in key order, the keys that are put, in key order, each with its body
+-- the keys of these entries that are put, each with its body; entries and keys are in key order
 abbrev pub live_rows : List (Key × Entry) → List (Key × Body)
 live_rows [] = []
 live_rows (entry ∷ entries) = put_before entry.0 entry.1.op (live_rows entries)
 
--- each key is below those behind it
+-- each key is below the keys after it
 abbrev pub AreInKeyOrder : List (Key × Body) → Type 0
 AreInKeyOrder rows = IsStrictlyAscending (on (λ (row : Key × Body). row.0) key_cmp) rows

@@ -1,4 +1,4 @@
--- What the parts of a state tell.
+-- What the parts of a state mean.
 use Rattle.std.specs.Prelude.{List, map, length, ◌-◌, slice_get, Option}
 use Rattle.std.specs.Option.{option_map}
 use Rattle.docker_model.specs.file.Change.{Key}

@@ -16,17 +16,17 @@ use Rattle.docker_index.specs.Noted.{Item}
 abbrev pub made_by : FileStamp → model.Change → model.Key × ops.Entry
 made_by file change = (change.key, record { stamp = record { file = file; number = change.number }; op = op_of change.act })
 
--- there is a row, and it is of this key
+-- whether there is a row, and it is of this key
 abbrev pub is_of_key : Option (Key × Entry) → model.Key → Bool
 is_of_key None key = false
 is_of_key (Some row) key = is_eq (key_cmp (key_meant row.0) key)
 
--- a row, unless the next one is of its key, before the rest
+-- a row before the rest, unless the next row is of its key
 abbrev pub last_or : Key × Entry → List (Key × Entry) → List (Key × Entry) → List (Key × Entry)
 last_or row [] rest = row ∷ rest
 last_or row (next ∷ rows) rest = if is_of_key (Some next) (key_meant row.0) then rest else row ∷ rest
 
--- of each run of rows of one key the last
+-- the last row of each run of rows of one key
 abbrev pub last_rows : List (Key × Entry) → List (Key × Entry)
 last_rows [] = []
 last_rows (row ∷ rows) = last_or row rows (last_rows rows)
@@ -35,29 +35,29 @@ last_rows (row ∷ rows) = last_or row rows (last_rows rows)
 abbrev pub Made : Type 0
 Made = (Key × Entry) × ℕ
 
--- the rows of those
+-- the rows of these
 abbrev pub rows_in : List Made → List (Key × Entry)
 rows_in made = map (λ (m : Made). m.0) made
 
--- their numbers
+-- the numbers of these
 abbrev pub numbers_in : List Made → List ℕ
 numbers_in made = map (λ (m : Made). m.1) made
 
--- at the number of each row its key stands with its op
+-- the item at the number of each row is the row's key with its op
 abbrev pub AreNumbered : List Item → List Made → Type 0
 AreNumbered items made = (m : Made) → Contains made m → slice_get items m.1 ≡ Some ((row_meant m.0).0, (row_meant m.0).1.op)
 
--- there is one, and its row is of this key
+-- whether there is one, and its row is of this key
 abbrev pub is_made_of_key : Option Made → model.Key → Bool
 is_made_of_key None key = false
 is_made_of_key (Some made) key = is_eq (key_cmp (key_meant made.0.0) key)
 
--- one, unless the next one's row is of its key, before the rest
+-- one before the rest, unless the next one's row is of its key
 abbrev pub last_made_or : Made → List Made → List Made → List Made
 last_made_or made [] rest = made ∷ rest
 last_made_or made (next ∷ more) rest = if is_made_of_key (Some next) (key_meant made.0.0) then rest else made ∷ rest
 
--- of each run of rows of one key the last
+-- the last one of each run of rows of one key
 abbrev pub last_made : List Made → List Made
 last_made [] = []
 last_made (made ∷ more) = last_made_or made more (last_made more)

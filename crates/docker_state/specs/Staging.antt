@@ -1,4 +1,4 @@
--- What a state has received of another, before it is committed.
+-- What a state has received from another, before it is committed.
 use Rattle.std.specs.Prelude.{◌≡◌, List, ◌++◌, ◌∷◌, [], map, Option, Contains, ◌⊎◌}
 use Rattle.std.specs.declared.cmp.Ordering.TheVariants.{Less}
 use Rattle.docker_model.specs.file.Change as model
@@ -14,13 +14,13 @@ use Rattle.docker_join.specs.declared.entry.Entry.{Entry}
 use Rattle.docker_state.specs.declared.item.LedgerItem.{LedgerItem}
 use Rattle.docker_state.specs.Meaning.{floor_meant, item_meant, row_meant}
 
--- the floor of the union, the ledger items received, and of the entries received those that are staged
+-- the floor of the union, the ledger items received, and the received entries that are staged
 pub record Staging : Type 0 where
   pub floor : Option stamps.FileStamp
   pub items : List stamps.LedgerItem
   pub staged : List (model.Key × ops.Entry)
 
--- what is received of a floor, a ledger and rows
+-- what was received, as the code has it: a floor, a ledger and rows
 abbrev pub staging_meant : Option FileStamp → List LedgerItem → List (Key × Entry) → Staging
 staging_meant floor items rows = record {
   floor = floor_meant floor;
@@ -28,7 +28,7 @@ staging_meant floor items rows = record {
   staged = map row_meant rows;
 }
 
--- what is received, with an entry staged behind the others
+-- what was received, with one more entry staged after the others
 abbrev pub with_staged : Staging → model.Key → ops.Entry → Staging
 with_staged staging key entry = record {
   floor = staging.floor;
@@ -36,27 +36,27 @@ with_staged staging key entry = record {
   staged = staging.staged ++ (key, entry) ∷ [];
 }
 
--- an offered entry is staged where it is to be, and left out where it isn't
+-- an offered entry is staged if it has to be, and left out if not
 abbrev pub IsOffered : State → Staging → model.Key → ops.Entry → Staging → Type 0
 IsOffered own before key entry after =
     (IsToStage own before.floor key entry × (after ≡ with_staged before key entry))
     ⊎ (¬ IsToStage own before.floor key entry × (after ≡ before))
 
--- none of the entries is to be staged for a state
+-- none of the entries has to be staged for a state
 abbrev pub HasNoneToStage : State → Option stamps.FileStamp → List (model.Key × ops.Entry) → Type 0
 HasNoneToStage own floor entries =
     (key : model.Key) (entry : ops.Entry) → Contains entries (key, entry) → ¬ IsToStage own floor key entry
 
--- the key is above those of the staged entries
+-- the key is above the keys of the staged entries
 abbrev pub IsAboveStaged : List (model.Key × ops.Entry) → model.Key → Type 0
 IsAboveStaged staged key =
     (other : model.Key × ops.Entry) → Contains staged other → key_cmp other.0 key ≡ Less
 
--- the ledger has the item, if that is kept under the floor
+-- the ledger has the item, if the item is kept under the floor
 abbrev pub HasIfKept : List stamps.LedgerItem → stamps.LedgerItem → Option stamps.FileStamp → Type 0
 HasIfKept ledger item floor = IsKept floor item.stamp → Contains ledger item
 
--- the ledger has each of the items that is kept under the floor
+-- the ledger has each of these items that is kept under the floor
 abbrev pub HasKeptItems : List stamps.LedgerItem → List stamps.LedgerItem → Option stamps.FileStamp → Type 0
 HasKeptItems ledger items floor =
     (item : stamps.LedgerItem) → Contains items item → HasIfKept ledger item floor

@@ -1,4 +1,4 @@
--- The rows of the schedules of a UID, which are one piece of rows in key order.
+-- The rows of the schedules of a UID: they are one piece of rows in key order.
 use Rattle.std.specs.Prelude.{◌≡◌, ℕ, List, ◌++◌, Bool, true, false, Contains}
 use Rattle.std.specs.List.{slice_get}
 use Rattle.std.specs.List.Sorted.{IsPartitionPoint}
@@ -13,32 +13,33 @@ use Rattle.cif_change.specs.declared.key.Key.{Key}
 use Rattle.cif_file.specs.Meaning.{key_meant}
 use Rattle.docker_join.specs.declared.entry.Entry.{Entry}
 
--- how a key stands to the schedules of a UID: all other kinds of key are below them
+-- how a key compares with the schedules of a UID; all other kinds of key are below them
 abbrev pub to_uid : model.Key → List ℕ → Ordering
 to_uid (tiploc_key code) uid = Less
 to_uid (association_key key) uid = Less
 to_uid (schedule_key key) uid = bytes_cmp key.uid uid
 
--- the key of a row is below the schedules of a UID
+-- whether the key of a row is below the schedules of a UID
 abbrev pub is_before : List ℕ → Key × Entry → Bool
 is_before uid row = is_lt (to_uid (key_meant row.0) uid)
 
--- the row with an index is of a schedule of a UID
+-- whether the row with this index is of a schedule of a UID
 abbrev pub is_of_uid_at : List ℕ → List (Key × Entry) → ℕ → Bool
 is_of_uid_at uid rows at =
     option_map_or (λ row. is_eq (to_uid (key_meant row.0) uid)) (slice_get rows at) false
 
--- so many rows are before the schedules of a UID
+-- this many rows are before the schedules of a UID
 abbrev pub IsBeginning : List ℕ → List (Key × Entry) → ℕ → Type 0
 IsBeginning uid rows count =
     IsPartitionPoint (λ row. is_before uid row ≡ true) (λ row. is_before uid row ≡ false) rows count
 
--- the rows stand so to the schedules of a UID
+-- the keys of the rows compare with the schedules of a UID like this
 abbrev pub AreTo : Ordering → List ℕ → List (Key × Entry) → Type 0
 AreTo order uid rows =
     (row : Key × Entry) → Contains rows row → to_uid (key_meant row.0) uid ≡ order
 
--- the rows of the schedules of a UID: those before them are below it, and those behind them above it
+-- the rows of the schedules of a UID; the rows before them are below the UID, and the rows after
+-- them above it
 pub record IsPieceOfUid (uid : List ℕ) (rows piece : List (Key × Entry)) : Type 0 where
   pub before : List (Key × Entry)
   pub behind : List (Key × Entry)

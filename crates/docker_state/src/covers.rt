@@ -1,4 +1,5 @@
-//! Whether a state has all that another would bring: the join with it is then this state, under the greater horizon.
+//! Whether a state has all that another would bring. If so, the join with the other is this state,
+//! under the greater horizon.
 ghost use Rattle.std.specs.Prelude.{◌≡◌, map, IsTrue, Contains};
 ghost use Rattle.docker_model.specs.state.Stamp.{ledger_item_cmp, IsKept};
 ghost use Rattle.docker_model.specs.state.Order.{IsStrictlyAscending};
@@ -25,7 +26,7 @@ fn are_below(ledger: &[LedgerItem], floor: &Option<FileStamp>) -> bool
     }
 }
 
-/// Whether none of these rows, whose keys ascend, is to be staged for a state.
+/// Whether none of these rows has to be staged for a state. Their keys ascend.
 fn none_to_stage(own: &State, rows: &[(Key, Entry)], floor: &Option<FileStamp>) -> bool
     ensures { IsTrue result
         → HasNoneToStage own.now (floor_meant floor.now) (map row_meant rows.now) }
@@ -41,7 +42,8 @@ fn none_to_stage(own: &State, rows: &[(Key, Entry)], floor: &Option<FileStamp>) 
     true
 }
 
-/// Whether nothing of a state is to be staged for another. Where all its files are below the floor of both, none of its rows is looked at.
+/// Whether nothing of the other state has to be staged for the own one. If all files of the other
+/// are below the floor of both, none of its rows is looked at.
 fn brings_none(own: &State, other: &State, floor: &Option<FileStamp>) -> bool
     ensures { IsTrue result → HasNoneToStage own.now (floor_meant floor.now) other.now.entries }
 {
@@ -49,8 +51,9 @@ fn brings_none(own: &State, other: &State, floor: &Option<FileStamp>) -> bool
 }
 
 impl State {
-    /// Whether the join with another state is this one under the greater horizon: each item and each entry of the other is below the floor of both, or this state
-    /// has it, or an entry of its key that is greater.
+    /// Whether the join with another state is this one under the greater horizon. That is so if
+    /// each item and each entry of the other is below the floor of both, or this state has it, or
+    /// this state has a greater entry of its key.
     pub(crate) fn covers(&self, other: &State) -> bool
         ensures { IsTrue result
             → IsJoin self.now other.now (raise_horizon other.now.horizon self.now) }

@@ -16,7 +16,8 @@ fn first_full(items: &[LedgerItem]) -> Option<&LedgerItem>
     items.iter().find(|item| item.is_full())
 }
 
-/// The floor of a ledger: the file stamp of its first full extract, for the others are kept under the same floor.
+/// The floor of a ledger: the file stamp of its first full extract, because the other items are
+/// kept under the same floor.
 pub(crate) fn floor_of(items: &[LedgerItem]) -> Option<FileStamp>
     requires { IsLedger (map item_meant items.now) }
     ensures { IsFloor (map item_meant items.now) (floor_meant result) }
@@ -27,7 +28,7 @@ pub(crate) fn floor_of(items: &[LedgerItem]) -> Option<FileStamp>
     }
 }
 
-/// The floor of two ledgers together, of the floor of each.
+/// The floor of two ledgers together, from the floor of each.
 pub(crate) fn common_floor(first: Option<FileStamp>, second: Option<FileStamp>) -> Option<FileStamp>
     ensures { (left right : _) → IsFloor left (floor_meant first)
         → IsFloor right (floor_meant second) → IsFloor (left ++ right) (floor_meant result) }

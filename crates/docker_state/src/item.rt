@@ -13,7 +13,8 @@ use cif_line::{Day, Extract, Header};
 use docker_join::FileStamp;
 use std::cmp::Ordering;
 
-/// What a state keeps of a file. Ordered by file stamp, then by update indicator, then by last reference.
+/// What a state keeps of a file. Ordered by file stamp, then by update indicator, then by last file
+/// reference.
 #[derive(Clone, Copy, Debug)]
 pub struct LedgerItem {
     /// The day of extract.

@@ -1,4 +1,4 @@
-//! The union of two ledgers, and what is kept of it.
+//! The union of two ledgers, and which of its items are kept.
 ghost use Rattle.std.specs.Prelude.{◌≡◌, ◌+◌, ◌≤◌, ◌↔◌, ◌++◌, [], length, map, vec_len, vec_capacity, IfSome, IsTrue, Contains};
 ghost use Rattle.docker_model.specs.state.Stamp.{file_stamp_cmp, ledger_item_cmp, IsKept};
 ghost use Rattle.docker_model.specs.state.Order.{IsBelow, IsStrictlyAscending};
@@ -12,7 +12,7 @@ use docker_join::FileStamp;
 use std::alloc::Global;
 use std::cmp::Ordering;
 
-/// An empty vector with room for the items of two ledgers. None where memory is wanting.
+/// An empty vector with room for the items of two ledgers. None if memory runs out.
 pub(crate) fn room_for(alloc: Global, first: usize, second: usize) -> Option<Vec<LedgerItem>>
     ensures empty { IfSome result (λ items. (items.items ≡ []) × (vec_len items ≡ 0)) }
     ensures room { IfSome result (λ items. first + second ≤ vec_capacity items) }
@@ -20,7 +20,7 @@ pub(crate) fn room_for(alloc: Global, first: usize, second: usize) -> Option<Vec
     Vec::with_capacity(alloc, first.checked_add(second)?).ok()
 }
 
-/// The items of two ledgers, each once and ascending, in a vector that has room for the items of both.
+/// The items of two ledgers, each once and ascending. The vector has room for the items of both.
 pub(crate) fn union_of(
     mut first: &[LedgerItem],
     mut second: &[LedgerItem],
@@ -104,7 +104,7 @@ pub(crate) fn has_kept_items(
     true
 }
 
-/// Whether a ledger has an item, if that is kept under a floor.
+/// Whether a ledger has an item, if the item is kept under a floor.
 fn has_if_kept(ledger: &[LedgerItem], item: &LedgerItem, floor: &Option<FileStamp>) -> bool
     requires { IsStrictlyAscending ledger_item_cmp (map item_meant ledger.now) }
     ensures { IsTrue result
@@ -113,7 +113,7 @@ fn has_if_kept(ledger: &[LedgerItem], item: &LedgerItem, floor: &Option<FileStam
     !is_kept_item(floor, item) || has_item(ledger, item)
 }
 
-/// Whether an item is among those of a ledger. By a binary search.
+/// Whether a ledger has an item. It is found by a binary search.
 fn has_item(ledger: &[LedgerItem], item: &LedgerItem) -> bool
     requires { IsStrictlyAscending ledger_item_cmp (map item_meant ledger.now) }
     ensures { IsTrue result ↔ Contains (map item_meant ledger.now) (item_meant item.now) }
@@ -121,7 +121,8 @@ fn has_item(ledger: &[LedgerItem], item: &LedgerItem) -> bool
     ledger.binary_search(item).is_ok()
 }
 
-/// Whether a file stamp is above that of each item of a ledger: of the last one.
+/// Whether a file stamp is above the stamps of all items of a ledger. Only the last item is looked
+/// at.
 pub(crate) fn is_above_all(ledger: &[LedgerItem], stamp: &FileStamp) -> bool
     requires { IsStrictlyAscending ledger_item_cmp (map item_meant ledger.now) }
     ensures { IsTrue result → (item : _) → Contains (map item_meant ledger.now) item

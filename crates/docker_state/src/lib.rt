@@ -1,4 +1,5 @@
-//! The state of what files say: which files are known, and of each key the greatest entry, lapsed under a horizon. States are joined in any order and however often.
+//! The state of what files say: which files are known, and for each key the greatest entry, lapsed
+//! under a horizon. States are joined in any order, and however often.
 #![tactic(auto)]
 
 mod covers;

@@ -1,4 +1,4 @@
-//! An entry looked for where it is likely to stand.
+//! Finds an entry where it is likely to stand.
 ghost use Rattle.std.specs.Prelude.{◌≡◌};
 ghost use Rattle.std.specs.Option.{option_copied};
 ghost use Rattle.cif_file.specs.Meaning.{key_meant};
@@ -7,8 +7,9 @@ ghost use Rattle.docker_join.specs.Rows.{AreAscending, value_at};
 use cif_file::Key;
 use docker_join::Entry;
 
-/// The entry of a key. None where no row is of the key. It is looked for at the row with an index, and else by a binary search. Where it was found the index
-/// is then that of the row behind it, where the next key in order is likely to stand.
+/// The entry of a key. None if no row is of the key. The row with this index is looked at first,
+/// and then comes a binary search. If the entry is found, the index becomes the index of the next
+/// row, where the next key in order is likely to stand.
 pub(crate) fn entry_near<'a>(
     rows: &'a [(Key, Entry)],
     key: &Key,

@@ -17,7 +17,8 @@ use docker_join::Entry;
 use std::alloc::Global;
 use std::marker::Model;
 
-/// The parts of a state that have been given so far: first its ledger items, then its entries, both in their order. What was given is a valid state as it stands.
+/// The parts of a state that were given so far: first its ledger items, then its entries, both in
+/// order. What was given is always a valid state.
 #[derive(Debug, Drop)]
 pub struct Parts {
     ledger: Vec<LedgerItem>,
@@ -39,7 +40,7 @@ impl Model for Parts {
 }
 
 impl Parts {
-    /// No part yet.
+    /// No parts yet.
     pub fn new(alloc: Global) -> Parts
         ensures { result ≡ record { horizon = 0; ledger = []; entries = [] } }
     {
@@ -50,7 +51,7 @@ impl Parts {
         }
     }
 
-    /// Gives the next ledger item. Want of memory leaves the parts as they were.
+    /// Gives the next ledger item. If memory runs out, the parts stay as they were.
     pub fn item(&mut self, item: LedgerItem) -> Result<(), Memory>
         requires before_entries { self.old.entries ≡ [] }
         requires ledger { IsLedger (self.old.ledger ++ item_meant item ∷ []) }
@@ -62,7 +63,8 @@ impl Parts {
         Ok(())
     }
 
-    /// Gives the next entry, with its key. Want of memory leaves the parts as they were, without the entry.
+    /// Gives the next entry, with its key. If memory runs out, the parts stay as they were, without
+    /// the entry.
     pub fn entry(&mut self, key: Key, entry: Entry) -> Result<(), Memory>
         requires here { IsStampHere self.old (key_meant key) (entry_meant entry).stamp }
         requires op { IsOpOf (key_meant key) (entry_meant entry).op }
@@ -94,7 +96,7 @@ impl Parts {
         self.entries.as_slice()
     }
 
-    /// The key of the last entry given. None where there is none yet.
+    /// The key of the last entry given. None if there is none yet.
     pub fn last(&self) -> Option<&Key>
         ensures { option_map key_meant (option_copied result) ≡ last_key self.now.entries }
     {
@@ -104,7 +106,8 @@ impl Parts {
         }
     }
 
-    /// The state of the parts. Out of memory lets go of them; so do more than 4,294,967,295 entries or places, which are numbered in 32 bits.
+    /// The state of the parts. If memory runs out, the parts are dropped. They are also dropped if
+    /// there are more than 4,294,967,295 entries or places, which are numbered in 32 bits.
     pub fn finish(self) -> Result<State, Memory>
         ensures { IfOk result (λ state. state ≡ self) }
     {

@@ -1,4 +1,5 @@
-//! Receiving a state entry by entry: what is to be kept of it is staged, and then committed at once.
+//! Receives a state entry by entry. What has to be kept of it is staged, and then committed at
+//! once.
 ghost use Rattle.std.specs.Prelude.{◌≡◌, ◌==◌, ◌↔◌, ◌++◌, [], List, length, map, IsTrue, IsOk, IsErr, IfOk};
 ghost use Rattle.docker_model.specs.file.Change as model;
 ghost use Rattle.docker_model.specs.state.Op as ops;
@@ -23,13 +24,15 @@ use std::alloc::Global;
 use std::marker::Model;
 use std::mem;
 
-/// What a state has received of another: its ledger, and of its entries those that the state is to take over. The state has nothing of it before the commit.
+/// What a state has received from another: the other's ledger, and the entries that the state will
+/// take over. The state has nothing of it before the commit.
 #[derive(Debug, Drop)]
 pub struct Staging {
     floor: Option<FileStamp>,
     items: Vec<LedgerItem>,
     staged: Vec<(Key, Entry)>,
-    // the index in the state's entries at which that of the next key is looked for first: keys are offered in order
+    // the index in the state's entries where the next key is looked for first: keys are offered in
+    // order
     near: usize,
 }
 
@@ -48,7 +51,8 @@ impl Model for Staging {
 }
 
 impl Staging {
-    /// Nothing staged yet of a state with this ledger, which is valid. It takes no memory.
+    /// Staging for a state, with the ledger received, which is valid, and no entry yet. It takes no
+    /// memory.
     pub fn new(alloc: Global, state: &State, items: Vec<LedgerItem>) -> Result<Staging, Memory>
         requires { IsLedger (map item_meant items.items) }
         ensures ok { IsOk result }
@@ -74,7 +78,8 @@ impl Staging {
         self.items.as_slice()
     }
 
-    /// The floor of the ledger received and that of the state together: the file stamp of the newest full extract in either. None where there is none.
+    /// The floor of the received ledger and the state's ledger together: the file stamp of the
+    /// newest full extract in either. None if there is none.
     pub fn floor(&self) -> Option<FileStamp>
         ensures { floor_meant result ≡ self.now.floor }
     {
@@ -95,7 +100,9 @@ impl Staging {
         self.staged.is_empty()
     }
 
-    /// Offers the next entry received, with its key. It is staged where it is kept under the floor and greater than the state's own entry of the key, or there is none. Want of memory leaves all as it was, without the entry.
+    /// Offers the next entry received, with its key. It is staged if it is kept under the floor,
+    /// and the state has no entry of the key or a lesser one. If memory runs out, all stays as it
+    /// was, without the entry.
     pub fn offer(&mut self, state: &State, key: Key, entry: Entry) -> Result<(), Memory>
         requires floor { IsFloor (state.now.ledger ++ self.old.items) self.old.floor }
         requires above { IsAboveStaged self.old.staged (key_meant key) }
@@ -124,7 +131,8 @@ impl Staging {
     }
 }
 
-/// Whether an entry is kept under a floor and greater than the state's own of its key, if there is one. The own one is looked for at an index first.
+/// Whether an entry is kept under a floor and greater than the state's own entry of its key, if
+/// there is one. The own entry is looked for at an index first.
 pub(crate) fn is_to_stage(
     state: &State,
     floor: &Option<FileStamp>,
@@ -135,7 +143,8 @@ pub(crate) fn is_to_stage(
     ensures { IsTrue result
         ↔ IsToStage state.now (floor_meant floor.now) (key_meant key.now) (entry_meant entry.now) }
 {
-    // An entry of a file newer than each that is known is greater than the own one, which is not searched for then.
+    // An entry of a file that is newer than each known file is greater than the own entry, which
+    // need not be searched for then.
     if is_above_all(state.ledger(), &entry.stamp.file) {
         return is_kept(floor, &entry.stamp.file);
     }
@@ -146,10 +155,12 @@ pub(crate) fn is_to_stage(
 }
 
 impl State {
-    /// Takes over what was received: the union of the ledgers kept under its floor, and the own entries that are kept, with each staged entry at its key, lapsed
-    /// under the own horizon. That is the join with the state of what was received. If the entries were offered to another state with the same floor, it is that
-    /// join too, and a greater own entry stays. If nothing is staged and no item is new it does nothing. Out of memory leaves the state as it was, and drops what
-    /// was received.
+    /// Takes over what was received: the union of the ledgers, kept under its floor, and the own
+    /// entries that are kept, with each staged entry at its key, lapsed under the own horizon. That
+    /// is the join with the state of what was received. If the entries were offered to another
+    /// state with the same floor, it is the join all the same, and a greater own entry stays. If
+    /// nothing is staged and no item is new, it does nothing. If memory runs out, the state stays
+    /// as it was, and what was received is dropped.
     pub fn commit(&mut self, staging: Staging) -> Result<(), Memory>
         requires floor { IsFloor (self.old.ledger ++ staging.items) staging.floor }
         ensures join { IsOk result

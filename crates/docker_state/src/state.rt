@@ -34,7 +34,8 @@ use docker_join::{Entry, FileStamp, Merge, Table};
 use std::alloc::Global;
 use std::marker::Model;
 
-/// What files say: the ledger of those that are known, and of each key the greatest entry, from the newest full extract on. Always valid.
+/// What files say, from the newest full extract on: the ledger of the known files, and for each key
+/// the greatest entry. Always valid.
 #[derive(Debug, Drop)]
 pub struct State {
     horizon: u16,
@@ -57,7 +58,8 @@ impl Model for State {
 }
 
 impl State {
-    /// The state of ledger items and rows that are valid, without a horizon, by what was noted of the rows, in room for their index.
+    /// The state of ledger items and rows, which are valid, without a horizon. Its index is made
+    /// from what was noted of the rows, in the room for it.
     pub(crate) fn of_rows(
         ledger: Vec<LedgerItem>,
         rows: Vec<(Key, Entry)>,
@@ -79,7 +81,7 @@ impl State {
         }
     }
 
-    /// The state of no file.
+    /// The state of no files.
     pub fn empty(alloc: Global) -> State
         ensures empty { result ≡ record { horizon = 0; ledger = []; entries = [] } }
         ensures summary { IsSummary [] 0 result }
@@ -92,8 +94,9 @@ impl State {
         }
     }
 
-    /// The state of the one file. Out of memory, before a change was moved, hands it back as it was; so does a file of more than 4,294,967,295 changes or places,
-    /// which are numbered in 32 bits.
+    /// The state of one file. If memory runs out, no change was moved yet, and the file comes back
+    /// as it was. A file of more than 4,294,967,295 changes or places, which are numbered in 32
+    /// bits, also comes back.
     pub fn of_file(alloc: Global, file: CifFile) -> Result<State, CifFile>
         ensures ok { (records : List (List ℕ)) → IsOfRecords file records
             → IfOk result (IsSummary (records ∷ []) 0) }
@@ -131,7 +134,8 @@ impl State {
         Ok(State::of_rows(ledger, rows, notes, room))
     }
 
-    /// The horizon, a day number from 0 for 1960-01-01: nothing that is put ends before that day. 0 where none was set.
+    /// The horizon: a day number from 0 for 1960-01-01. Nothing that is put ends before that day. 0
+    /// if none was set.
     pub fn horizon(&self) -> u16
         ensures horizon { result ≡ self.now.horizon }
         ensures day { IsDay result }
@@ -139,7 +143,9 @@ impl State {
         self.horizon
     }
 
-    /// Sets a horizon: what is put and ends before this day lapses. Its body goes and its stamp stays, so that no older file brings it back. A day that is not after the horizon changes nothing.
+    /// Sets a horizon: what is put and ends before this day lapses. Its body goes, and its stamp
+    /// stays, so that no older file brings it back. A day that isn't after the horizon changes
+    /// nothing.
     pub fn set_horizon(&mut self, day: Day)
         ensures raised { self.new ≡ raise_horizon day self.old }
         ensures summary { (files : List (List (List ℕ))) (horizon : ℕ)
@@ -148,7 +154,7 @@ impl State {
         self.raise(day.number());
     }
 
-    /// Raises the horizon to a day number: the same.
+    /// Like `set_horizon`, for a day number.
     fn raise(&mut self, horizon: u16)
         requires { IsDay horizon }
         ensures { self.new ≡ raise_horizon horizon self.old }
@@ -185,7 +191,7 @@ impl State {
         self.entries.as_slice()
     }
 
-    /// The entry of a key. None where the state does not have the key. By a binary search.
+    /// The entry of a key. None if the state doesn't have the key. It is found by a binary search.
     pub fn get(&self, key: &Key) -> Option<&Entry>
         ensures entry { option_map entry_meant (option_copied result)
             ≡ entry_at self.now (key_meant key.now) }
@@ -194,7 +200,8 @@ impl State {
         self.entries.get(key)
     }
 
-    /// The same. Where the row with this index is that of the key, nothing is searched. The index is then that of the row behind it.
+    /// Like `get`, but the row with this index is looked at first. If that row has the key, nothing
+    /// is searched. If the entry is found, the index becomes the index of the next row.
     pub(crate) fn get_near(&self, key: &Key, near: &mut usize) -> Option<&Entry>
         ensures entry { option_map entry_meant (option_copied result)
             ≡ entry_at self.now (key_meant key.now) }
@@ -218,35 +225,41 @@ impl State {
         Live::of(self.entries.as_slice())
     }
 
-    /// The live schedules that call at a TIPLOC, by an LO, an LI or an LT, each once with its lines, in the order of the keys. By a binary search, without memory.
+    /// The live schedules that call at a TIPLOC, by an LO, an LI or an LT: each once, with its
+    /// lines, in the order of the keys. They are found by a binary search, without memory.
     pub fn calling(&self, tiploc: &Tiploc) -> Standing<'_>
         ensures { AreCalling (live_table self.now) tiploc.now result }
     {
         self.index.calling(self.entries.as_slice(), tiploc)
     }
 
-    /// The live associations at a location, each with its line, in the order of the keys. By a binary search, without memory.
+    /// The live associations at a location: each with its line, in the order of the keys. They are
+    /// found by a binary search, without memory.
     pub fn linked(&self, tiploc: &Tiploc) -> Standing<'_>
         ensures { AreLinked (live_table self.now) tiploc.now result }
     {
         self.index.linked(self.entries.as_slice(), tiploc)
     }
 
-    /// The live schedules of a UID, each with its lines, in the order of the keys. By a binary search, without memory.
+    /// The live schedules of a UID: each with its lines, in the order of the keys. They are found
+    /// by a binary search, without memory.
     pub fn of_uid(&self, uid: &Uid) -> Live<'_>
         ensures { AreOfUid (live_table self.now) uid.now result }
     {
         self.of_uid_near(uid, 0)
     }
 
-    /// The same. Where the row with this index, as `Standing::numbered` tells it, is of the UID, a few rows beside it are looked at, and nothing is searched.
+    /// Like `of_uid`, but the row with this index is looked at first; `Standing::numbered` gives
+    /// such an index. If that row is of the UID, a few rows beside it are looked at, and nothing is
+    /// searched.
     pub fn of_uid_near(&self, uid: &Uid, near: usize) -> Live<'_>
         ensures { AreOfUid (live_table self.now) uid.now result }
     {
         Live::of(rows_of_uid(self.entries.as_slice(), uid, near))
     }
 
-    /// The index of the rows of the join with another state, made before a row is moved. None where memory is wanting.
+    /// The index of the rows of the join with another state. It is made before a row is moved. None
+    /// if memory runs out.
     fn index_of_join(&self, alloc: Global, other: &State) -> Option<Index>
         ensures { IfSome result (λ index. (joined : states.State) → IsJoin self.now other.now joined
             → IsIndexOf joined.entries index) }
@@ -262,7 +275,7 @@ impl State {
         }
     }
 
-    /// The join of two states, row by row, whichever they are.
+    /// The join of any two states, row by row.
     fn join_rows(self, alloc: Global, other: State) -> Result<State, (State, State)>
         ensures ok { IfOk result (IsJoin self other) }
         ensures err { IfErr result (λ both. (both.0 ≡ self) × (both.1 ≡ other)) }
@@ -289,7 +302,8 @@ impl State {
             entries: right,
             index: their_index,
         } = other;
-        // Given back before the rows' room is written, so that the three are never there at once.
+        // The indexes are dropped before the rows' room is written, so that the three are never in
+        // memory at once.
         drop(own_index);
         drop(their_index);
         let joined = left.join_in(right, rows);
@@ -305,14 +319,14 @@ impl State {
         })
     }
 
-    /// The file stamp of the newest full extract among the files that are known. None where there is none.
+    /// The file stamp of the newest full extract among the known files. None if there is none.
     pub fn floor(&self) -> Option<FileStamp>
         ensures { IsFloor self.now.ledger (option_map file_stamp_meant result) }
     {
         floor_of(self.ledger.as_slice())
     }
 
-    /// The floor of this ledger and that of another state together.
+    /// The floor of this ledger and another state's ledger together.
     pub(crate) fn floor_with(&self, other: &State) -> Option<FileStamp>
         ensures { IsFloor (self.now.ledger ++ other.now.ledger) (floor_meant result) }
     {
@@ -339,10 +353,13 @@ impl Merge for State {
 
     ghost idempotent = { join_idempotent };
 
-    /// The join of two states: the union of their ledgers kept under its floor, and of each key the greater entry kept under the same floor and lapsed under the
-    /// greater horizon. If one of them has all that the other would bring, it is that state under the greater horizon, and the other's memory is given back: so it
-    /// is of a full extract that is newer than each file of the other, and then no row of the other is looked at. Out of memory, before anything was moved, hands
-    /// both back as they were; so do two states with more than 4,294,967,295 rows or places together, which are numbered in 32 bits.
+    /// The join of two states: the union of their ledgers, kept under its floor, and for each key
+    /// the greater entry, kept under the same floor and lapsed under the greater horizon. If one
+    /// state has all that the other would bring, the join is that state under the greater horizon,
+    /// and the other's memory is freed. A full extract that is newer than each file of the other is
+    /// such a state, and then no row of the other is looked at. If memory runs out, nothing was
+    /// moved yet, and both states come back as they were. Two states with more than 4,294,967,295
+    /// rows or places together, which are numbered in 32 bits, also come back.
     fn join(self, alloc: Global, other: State) -> Result<State, (State, State)>
         ensures ok { IfOk result (IsJoin self other) }
         ensures err { IfErr result (λ both. (both.0 ≡ self) × (both.1 ≡ other)) }
@@ -362,7 +379,8 @@ impl Merge for State {
     }
 }
 
-/// The horizon under which entries of states with these two have yet to lapse: the greater, or none where both are one.
+/// The horizon under which entries of two states have yet to lapse, from the horizons of both: the
+/// greater one, or none if they are equal.
 fn yet_to_lapse(own: u16, theirs: u16) -> u16
     ensures { result ≡ (if own == theirs then 0 else max own theirs) }
 {

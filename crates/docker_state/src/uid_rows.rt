@@ -11,8 +11,9 @@ use cif_line::Uid;
 use docker_join::Entry;
 use std::cmp::Ordering;
 
-/// The rows of the schedules of a UID, one piece of rows in the order of their keys. Its end by a walk: a UID has few schedules, which stand together, and a
-/// search would look at rows far behind them.
+/// The rows of the schedules of a UID: one piece of rows in the order of their keys. A walk finds
+/// its end: a UID has few schedules, which stand together, and a search would look at rows far
+/// after them.
 pub(crate) fn rows_of_uid<'a>(
     rows: &'a [(Key, Entry)],
     uid: &Uid,
@@ -26,7 +27,8 @@ pub(crate) fn rows_of_uid<'a>(
     here
 }
 
-/// How many rows are before the schedules of a UID: by a walk where the row with an index is of one of them, and else by a binary search.
+/// How many rows are before the schedules of a UID. If the row with this index is of one of them, a
+/// walk back finds the first, else a binary search does.
 fn rows_before(rows: &[(Key, Entry)], uid: &Uid, near: usize) -> usize
     requires { AreAscending rows.now }
     ensures within { result ≤ length rows.now }
@@ -39,7 +41,7 @@ fn rows_before(rows: &[(Key, Entry)], uid: &Uid, near: usize) -> usize
     }
 }
 
-/// Whether the row with an index is of a schedule of a UID.
+/// Whether the row with this index is of a schedule of a UID.
 fn is_of_uid_at(rows: &[(Key, Entry)], uid: &Uid, at: usize) -> bool
     ensures { result ≡ is_of_uid_at uid.now rows.now at }
 {
@@ -49,7 +51,7 @@ fn is_of_uid_at(rows: &[(Key, Entry)], uid: &Uid, at: usize) -> bool
     }
 }
 
-/// The first row of the schedules of a UID, by a walk back from one of them.
+/// The first row of the schedules of a UID. A walk back from one of them finds it.
 fn first_back(rows: &[(Key, Entry)], uid: &Uid, from: usize) -> usize
     requires up { AreAscending rows.now }
     requires here { is_of_uid_at uid.now rows.now from ≡ true }
@@ -63,7 +65,7 @@ fn first_back(rows: &[(Key, Entry)], uid: &Uid, from: usize) -> usize
     first
 }
 
-/// How many rows from the front on aren't behind the schedules of a UID.
+/// How many rows at the front are not after the schedules of a UID.
 fn rows_up_to(rows: &[(Key, Entry)], uid: &Uid) -> usize
     ensures { result
         ≡ position_or_len (λ row. not (is_le (to_uid (key_meant row.0) uid.now))) rows.now }
@@ -74,7 +76,7 @@ fn rows_up_to(rows: &[(Key, Entry)], uid: &Uid) -> usize
     }
 }
 
-/// Where the first row stands that is behind the schedules of a UID.
+/// Where the first row is that comes after the schedules of a UID.
 fn first_behind(rows: &[(Key, Entry)], uid: &Uid) -> Option<usize>
     ensures { result
         ≡ position (λ row. not (is_le (to_uid (key_meant row.0) uid.now))) rows.now }
@@ -82,7 +84,7 @@ fn first_behind(rows: &[(Key, Entry)], uid: &Uid) -> Option<usize>
     rows.iter().position(|row| !to_uid(&row.0, uid).is_le())
 }
 
-/// How a key stands to those of the schedules of a UID.
+/// How a key compares with the schedules of a UID.
 fn to_uid(key: &Key, uid: &Uid) -> Ordering
     ensures { result ≡ to_uid (key_meant key.now) uid.now }
 {

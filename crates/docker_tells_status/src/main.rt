@@ -1,4 +1,5 @@
-//! The program, run with one row of words after the other: behind what each writes stands its status.
+//! The program, run with one row of words after another. After what each run writes, its status is
+//! printed.
 #![tactic(auto)]
 
 use docker_program::run_words;

@@ -1,4 +1,4 @@
--- The best along the rows of a walk is what is chosen.
+-- The best along the rows of a walk is the chosen one.
 use Rattle.std.proofs.Common.{◌≡◌, ℕ, Bool, true, false, cond, List, [], ◌∷◌, ◌++◌, refl, ap, sym, ◌∙◌, subst, inl, inr, ◌⊎◌, Some, None, Contains, append_assoc, append-nil}
 use Rattle.std.specs.Prelude.{Option, ◌&&◌}
 use Rattle.std.specs.declared.cmp.Ordering.{Ordering}
@@ -40,27 +40,27 @@ link_behind group day front (row ∷ rows) found best =
     subst (λ (rs : List Row). IsLinkSoFar group day rs (link_along group day found (row ∷ rows))) (append_assoc front (row ∷ []) rows)
     (link_behind group day (front ++ row ∷ []) rows _ (link_more group day front row.0 row.1 found best))
 
--- along rows with each schedule of a UID it is the chosen one
+-- along rows that have each schedule of a UID, the best is the chosen one
 pub chosen_of_uid : (live : Table) (uid : List ℕ) (day : ℕ) (rows : List Row) (found : Option Train) → HasSchedulesOf live uid rows
     → found ≡ chosen_along uid day None rows → IsChosenOn live uid day found
 chosen_of_uid live uid day rows found has is =
     best_is_chosen live rows uid has day found
     (subst (IsChosenSoFar uid day rows) (sym is) (chosen_behind uid day [] rows None (none_chosen uid day)))
 
--- along rows with each association of a group it is the one that counts
+-- along rows that have each association of a group, the best is the one that counts
 pub link_of_group : (live : Table) (group : Group) (day : ℕ) (rows : List Row) (found : Option Link) → HasAssociationsOf live group rows
     → found ≡ link_along group day None rows → IsLinkOn live group day found
 link_of_group live group day rows found has is =
     best_is_link live rows group has day found
     (subst (IsLinkSoFar group day rows) (sym is) (link_behind group day [] rows None (none_linked group day)))
 
--- it is that of the rows of the table
+-- the chosen schedule, unless it is a cancellation, is the train found in the rows of the table
 pub train_of_rows : (live : Table) (rows : List Row) (uid : List ℕ) (day : ℕ) (found : Option Train) → AreRowsOf live rows
     → IsChosenOn live uid day found → unless_cancelled found ≡ train_in rows uid day
 train_of_rows live rows uid day found are chosen =
     ap unless_cancelled (one_answer live uid day found _ chosen (chosen_tells live rows uid (rows_have live rows are uid) day))
 
--- and so of an association
+-- the association that counts is the one found in the rows of the table
 pub link_of_rows : (live : Table) (rows : List Row) (group : Group) (day : ℕ) (found : Option Link) → AreRowsOf live rows
     → IsLinkOn live group day found → found ≡ link_in rows group day
 link_of_rows live rows group day found are is = one_link_answer live group day found (link_in rows group day) is (links_tell live rows are group day)
@@ -75,11 +75,11 @@ good_rows live (row ∷ rows) good each = (
       (λ key body among. each key body (cons-Contains row rows (key, body) among)),
 )
 
--- so are those of the schedules of a UID
+-- the bodies of the schedules of a UID are good
 pub good_of_uid : (live : Table) (uid : List ℕ) (rows : List Row) → HasGoodBodies live → AreOfUid live uid rows → AreGoodRows rows
 good_of_uid live uid rows good are = good_rows live rows good (λ key body among. ((are.members key body).0 among).4)
 
--- rows each of which is live
+-- rows are live if each of them is
 live_rows : (live : Table) (rows : List Row) → ((key : Key) (body : Body) → Contains rows (key, body) → live key ≡ Some body) → AreLive live rows
 live_rows live [] each = tt
 live_rows live (row ∷ rows) each = (
@@ -88,29 +88,29 @@ live_rows live (row ∷ rows) each = (
       (λ key body among. each key body (cons-Contains row rows (key, body) among)),
 )
 
--- the associations at a place are
+-- each association at a place is live
 linked_each : (live : Table) (place : List ℕ) (rows : List Row) → AreLinked live place rows
     → (key : Key) (body : Body) → Contains rows (key, body) → live key ≡ Some body
 linked_each live place rows are key body among = let one = (are.members key body).0 among in ap live one.2 ∙ one.4.is_live ∙ ap Some (sym one.3)
 
--- so they are live
+-- the associations at a place are live
 pub live_linked : (live : Table) (place : List ℕ) (rows : List Row) → AreLinked live place rows → AreLive live rows
 live_linked live place rows are = live_rows live rows (linked_each live place rows are)
 
--- and their lines are good
+-- their bodies are good
 pub good_linked : (live : Table) (place : List ℕ) (rows : List Row) → HasGoodBodies live → AreLinked live place rows → AreGoodRows rows
 good_linked live place rows good are = good_rows live rows good (linked_each live place rows are)
 
--- and the schedules that call there
+-- each schedule that calls at a place is live
 calling_each : (live : Table) (place : List ℕ) (rows : List Row) → AreCalling live place rows
     → (key : Key) (body : Body) → Contains rows (key, body) → live key ≡ Some body
 calling_each live place rows are key body among = let one = (are.members key body).0 among in ap live one.2 ∙ one.4.is_live ∙ ap Some (sym one.3)
 
--- so they are live
+-- the schedules that call at a place are live
 pub live_calling : (live : Table) (place : List ℕ) (rows : List Row) → AreCalling live place rows → AreLive live rows
 live_calling live place rows are = live_rows live rows (calling_each live place rows are)
 
--- and their lines are good
+-- their bodies are good
 pub good_calling : (live : Table) (place : List ℕ) (rows : List Row) → HasGoodBodies live → AreCalling live place rows → AreGoodRows rows
 good_calling live place rows good are = good_rows live rows good (calling_each live place rows are)
 
@@ -128,7 +128,7 @@ next_is_one uid day found (schedule_key key) (association_body line) train is = 
 next_is_one uid day found (tiploc_key code) body train is = absurd (no_train train is)
 next_is_one uid day found (association_key key) body train is = absurd (no_train train is)
 
--- and of an association one more association
+-- one more row of an association is one more association
 pub next_link_is_one : (group : Group) (day : ℕ) (found : Option Link) (key : Key) (body : Body) (link : Link) → association_of key body ≡ Some link
     → with_one_more (on (λ (l : Link). l.key) association_choice_cmp) (is_linked group day) found link ≡ next_link group day found key body
 next_link_is_one group day found (association_key key) (association_body line) link is =
@@ -142,7 +142,7 @@ next_link_is_one group day found (association_key key) (schedule_body lines) lin
 next_link_is_one group day found (tiploc_key code) body link is = absurd (no_link link is)
 next_link_is_one group day found (schedule_key key) body link is = absurd (no_link link is)
 
--- and a row that is of none changes nothing
+-- a row that isn't an association's changes nothing
 pub next_link_is_none : (group : Group) (day : ℕ) (found : Option Link) (key : Key) (body : Body) → association_of key body ≡ None
     → found ≡ next_link group day found key body
 next_link_is_none group day found (association_key key) (association_body line) none = absurd (no_link (record { key = key; line = line }) (sym none))
@@ -151,7 +151,7 @@ next_link_is_none group day found (association_key key) (schedule_body lines) no
 next_link_is_none group day found (tiploc_key code) body none = refl
 next_link_is_none group day found (schedule_key key) body none = refl
 
--- the best so far stays where one more does not come before it, whether that passes the test or not
+-- the best so far stays if one more doesn't come before it, whether or not that one passes the test
 pub not_before : {A : Type 0} (cmp : A → A → Ordering) (test : A → Bool) (best more : A) → is_lt (cmp more best) ≡ false
     → Some best ≡ with_one_more cmp test (Some best) more
 not_before {A} cmp test best more not_first = by (test more)
@@ -164,7 +164,7 @@ not_before {A} cmp test best more not_first = by (test more)
 abbrev row_of : Train → Row
 row_of train = (schedule_key train.key, schedule_body train.lines)
 
--- a live schedule that runs may stand in front of the rows that it is chosen among
+-- rows that have each schedule of a UID still do with a live one of these put in front
 has_in_front : (live : Table) (train : Train) (rows : List Row) → IsLiveTrain live train → HasSchedulesOf live train.key.uid rows
     → HasSchedulesOf live train.key.uid (row_of train ∷ rows)
 has_in_front live train rows is_live has = record {
@@ -176,7 +176,7 @@ has_in_front live train rows is_live has = record {
     by key body (inl same) = subst (λ (row : Row). live row.0 ≡ Some row.1) same is_live
     by key body (inr among) = has.each key body among
 
--- it is the best of itself
+-- a schedule that runs is the best of its own row
 best_alone : (train : Train) (day : ℕ) → schedule_runs (first_record train.lines) day ≡ true
     → IsChosenSoFar train.key.uid day (row_of train ∷ []) (Some train)
 best_alone train day runs =
@@ -186,7 +186,8 @@ best_alone train day runs =
     running : is_running train.key.uid day train ≡ true
     running = λ i. (bytes_eq-Decides train.key.uid train.key.uid).1 refl i && runs i
 
--- the best along the rows of its UID from it on is the train of the day, unless it is a cancellation
+-- the best along the rows of its UID, starting from it, is the train of the day, unless it is a
+-- cancellation
 train_from_it : (live : Table) (rows : List Row) (train : Train) (day : ℕ) (walk : List Row) (found : Option Train) → AreRowsOf live rows
     → IsLiveTrain live train → schedule_runs (first_record train.lines) day ≡ true → HasSchedulesOf live train.key.uid walk
     → found ≡ chosen_along train.key.uid day (Some train) walk → unless_cancelled found ≡ train_in rows train.key.uid day
@@ -196,7 +197,7 @@ train_from_it live rows train day walk found are is_live runs has is =
     (subst (IsChosenSoFar train.key.uid day (row_of train ∷ walk)) (sym is)
     (chosen_behind train.key.uid day (row_of train ∷ []) walk (Some train) (best_alone train day runs))))
 
--- and so what is found from it on
+-- what is found when starting from it is the train of the day
 pub train_from_told : (live : Table) (rows : List Row) (train : Train) (key : ScheduleKey) (day : ℕ) (walk : List Row) (best found : Option Train)
     → key ≡ train.key → AreRowsOf live rows → IsLiveTrain live train → schedule_runs (first_record train.lines) day ≡ true → HasSchedulesOf live key.uid walk
     → best ≡ chosen_along key.uid day (Some train) walk → found ≡ unless_cancelled best → found ≡ train_in rows train.key.uid day

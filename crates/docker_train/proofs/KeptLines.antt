@@ -1,4 +1,4 @@
--- What is known of the lines that are kept under the key of a schedule.
+-- What is known of the lines kept under the key of a schedule.
 use Rattle.std.proofs.Common.{◌≡◌, ℕ, ◌<◌, ◌≤◌, ◌^◌, true, false, List, ◌∷◌, ◌++◌, length, ap, sym, ◌∙◌, subst, inl, inr, ◌⊎◌, All, arith}
 use Rattle.std.specs.Prelude.{IsTrue, ◌==◌, ◌&&◌, nat_le}
 use Rattle.std.specs.List.{AllByRecursion}
@@ -17,23 +17,23 @@ use Rattle.docker_laws.proofs.dockers.FewMidnights.{few_midnights, falls_below}
 use Rattle.docker_train.specs.Runs.{runs_until}
 use Rattle.docker_train.proofs.RunFields.{three_tests}
 
--- the first is a basic schedule
+-- the first line is a basic schedule
 pub first_kind : (key : ScheduleKey) (lines : List (List ℕ)) → IsScheduleOf key lines → HasKind basic_schedule (first_record lines)
 first_kind key lines of = subst (λ (ls : List (List ℕ)). HasKind basic_schedule (first_record ls)) (sym of.schedule.whole) of.schedule.kind
 
--- with good fields
+-- its fields are good
 pub first_good : (key : ScheduleKey) (lines : List (List ℕ)) → IsScheduleOf key lines → HasGoodFields (first_record lines)
 first_good key lines of = subst (λ (ls : List (List ℕ)). HasGoodFields (first_record ls)) (sym of.schedule.whole) of.schedule.fields
 
--- and no deletion
+-- it is no deletion
 pub first_stays : (key : ScheduleKey) (lines : List (List ℕ)) → IsScheduleOf key lines → is_deletion (first_record lines) ≡ false
 first_stays key lines of = ap (λ (n : ℕ). n == 68) of.new
 
--- there is one
+-- there is a first line
 pub first_there : (key : ScheduleKey) (lines : List (List ℕ)) → IsScheduleOf key lines → 0 < length lines
 first_there key lines of = subst (λ (ls : List (List ℕ)). 0 < length ls) (sym of.schedule.whole) (omega arith)
 
--- they can be counted
+-- the lines can be counted
 pub lines_few : (key : ScheduleKey) (lines : List (List ℕ)) → IsScheduleOf key lines → length lines < 2 ^ 32
 lines_few key lines of = let few = of.few in omega arith
 
@@ -41,7 +41,7 @@ details_good : (extra : List (List ℕ)) → AreExtraDetails extra → AllByRecu
 details_good extra (inl none) = subst (AllByRecursion HasGoodFields) (sym none) tt
 details_good extra (inr (line, is, kind)) = subst (AllByRecursion HasGoodFields) (sym is) (fields_good extra_details line kind tt, tt)
 
--- the fields of each are good
+-- the fields of each line are good
 pub lines_good : (key : ScheduleKey) (lines : List (List ℕ)) → IsScheduleOf key lines → All HasGoodFields lines
 lines_good key lines of =
     subst (All HasGoodFields) (sym of.schedule.whole)
@@ -58,7 +58,7 @@ lines_good key lines of =
         let bad : true ≡ false = sym deletion ∙ stays in cc
     journey (inr sound) = recursion_from_All HasGoodFields of.schedule.journey sound.fields
 
--- they pass midnight at most twice
+-- the train passes midnight at most twice
 pub falls_few : (key : ScheduleKey) (lines : List (List ℕ)) (number : ℕ) → IsScheduleOf key lines → falls_to lines number ≤ 2
 falls_few key lines number of = let all = few_midnights key lines of in let some = falls_below lines number in omega arith
 
@@ -67,7 +67,7 @@ falls_few key lines number of = let all = few_midnights key lines of in let some
 same_key : (a b : ScheduleKey) → schedule_key a ≡ schedule_key b → a ≡ b
 same_key a b h = cc
 
--- its own days, by the first one in its key and its other two fields
+-- its days, by the first day in its key and the other two fields
 pub runs_by_key : (key : ScheduleKey) (lines : List (List ℕ)) (day : ℕ) → IsScheduleOf key lines
     → (nat_le key.runs_from day && runs_until (columns 16 21 (first_record lines)) (columns 22 28 (first_record lines)) day)
     ≡ schedule_runs (first_record lines) day

@@ -1,4 +1,4 @@
--- What is kept is right, and stays so with one more.
+-- What is kept is right, and stays right with one more.
 use Rattle.std.proofs.Common.{◌≡◌, ℕ, Bool, true, false, cond, List, refl, ap, sym, ◌∙◌, subst, Some, None}
 use Rattle.std.specs.Prelude.{Option, ◌&&◌, ◌==◌, not}
 use Rattle.std.specs.declared.cmp.Ordering.{Ordering}
@@ -24,7 +24,7 @@ use Rattle.docker_train.specs.Known.{uid_day_cmp, AreIdentities, group_cmp, Grou
 
 -- ---- identities
 
--- with one more that is right, all are
+-- identities that are right stay so with one more that is right
 pub one_more_identity : (live : Table) (before after : BTreeMap (List ℕ × ℕ) (List ℕ)) (uid : List ℕ) (day : ℕ) (identity : List ℕ)
     → AreIdentities live before → Updates uid_day_cmp before after (uid, day) (Some identity)
     → ((rows : List Row) → AreRowsOf live rows → identity ≡ identity_of (train_in rows uid day)) → AreIdentities live after
@@ -45,7 +45,7 @@ one_more_identity live before after uid day identity are updates right = λ othe
 
 -- ---- groups
 
--- the order tells different groups apart
+-- groups that compare as equal are the same group
 exact_group : (a b : Group) → group_cmp a b ≡ Equal → a ≡ b
 exact_group a b e =
     let p = then_equal (bytes_cmp a.base b.base) _ e in
@@ -64,7 +64,7 @@ regrouped true true false d = refl
 regrouped true false c d = refl
 regrouped false b c d = refl
 
--- a group is found by an association of it
+-- a group is found by the key of an association in it
 at_group : (key : AssociationKey) (group : Group) → is_eq (group_cmp (group_of key) group) ≡ is_of_group group key
 at_group key group =
     sym (tied_then (bytes_cmp key.base group.base) (ordering_then (bytes_cmp key.associated group.associated) rest))
@@ -81,7 +81,7 @@ at_group key group =
 own_group : (key : AssociationKey) (group : Group) → is_of_group group key ≡ true → group_of key ≡ group
 own_group key group is = exact_group (group_of key) group (eq_is (group_cmp (group_of key) group) (at_group key group ∙ is))
 
--- the association of a group that is kept tells which one counts
+-- the association kept for a group decides which one counts
 pub counts_told : (live : Table) (place : List ℕ) (day : ℕ) (best : GroupLinks) (key : AssociationKey) (link : Link) (answer : Bool)
     → AreDayLinks live place day best → key.location ≡ place → Some link ≡ get group_cmp best (group_of key)
     → answer ≡ is_eq (association_key_cmp link.key key)
@@ -112,7 +112,7 @@ module _ (day : ℕ) (link : Link) where
       by true is = refl
       by false is = cc
 
-  -- an association that does not run then changes nothing
+  -- an association that doesn't run on the day changes nothing
   pub not_running : (before : GroupLinks) → association_runs link.line day ≡ false → HasOneMore day before link before
   not_running before idle = λ group. by (get group_cmp before group) (is_of_group group link.key)
     where
@@ -120,7 +120,7 @@ module _ (day : ℕ) (link : Link) where
       by found true = λ i. cond (sym idle i) (better by_key found link) found
       by found false = refl
 
-  -- nor does one whose group has a better one
+  -- an association whose group has a better one changes nothing
   pub better_there : (before : GroupLinks) → stays (get group_cmp before (group_of link.key)) link ≡ true → HasOneMore day before link before
   better_there before is = λ group. by group (is_of_group group link.key) refl
     where
@@ -135,7 +135,7 @@ module _ (day : ℕ) (link : Link) where
           (better_stays (get group_cmp before group) (subst (λ (g : Group). stays (get group_cmp before g) link ≡ true) (own_group link.key group own) is))
       by group false other = refl
 
-  -- and else it is the best of its group
+  -- otherwise the association becomes the best of its group
   pub best_of_group : (before after : GroupLinks) → association_runs link.line day ≡ true
       → stays (get group_cmp before (group_of link.key)) link ≡ false → Updates group_cmp before after (group_of link.key) (Some link)
       → HasOneMore day before link after

@@ -11,7 +11,7 @@ use Rattle.cif_laws.proofs.records.ScheduledTimes.{time_there}
 pub origin_departure : (line : List ℕ) → HasKind origin_location line → HasGoodFields line → is_present_time (columns 11 15 line) ≡ true
 origin_departure line is good = (good_fields origin_location line is good).1.0
 
--- the arrival at an intermediate location is one, or blank
+-- the arrival at an intermediate location is a time or blank
 pub call_arrival : (line : List ℕ) → HasKind intermediate_location line → HasGoodFields line → is_scheduled_time (columns 11 15 line) ≡ true
 call_arrival line is good = (good_fields intermediate_location line is good).1.0
 
@@ -19,7 +19,7 @@ call_arrival line is good = (good_fields intermediate_location line is good).1.0
 pub call_departure : (line : List ℕ) → HasKind intermediate_location line → HasGoodFields line → is_scheduled_time (columns 16 20 line) ≡ true
 call_departure line is good = (good_fields intermediate_location line is good).1.1.0
 
--- and its pass
+-- so is its pass
 pub call_pass : (line : List ℕ) → HasKind intermediate_location line → HasGoodFields line → is_scheduled_time (columns 21 25 line) ≡ true
 call_pass line is good = (good_fields intermediate_location line is good).1.1.1.0
 
@@ -27,14 +27,14 @@ call_pass line is good = (good_fields intermediate_location line is good).1.1.1.
 pub terminus_arrival : (line : List ℕ) → HasKind terminating_location line → HasGoodFields line → is_present_time (columns 11 15 line) ≡ true
 terminus_arrival line is good = (good_fields terminating_location line is good).1.0
 
--- an origin has its departure
+-- an origin has only its departure
 pub origin_time : (line : List ℕ) → HasKind origin_location line → HasGoodFields line
     → timed departure (Some (half_minutes (columns 11 15 line))) ≡ times_of line
 origin_time line is good =
     ap (timed departure) (sym (time_there (columns 11 15 line) (origin_departure line is good)))
     ∙ (λ i. times_by_kind (sym is i) line)
 
--- a terminus has its arrival
+-- a terminus has only its arrival
 pub terminus_time : (line : List ℕ) → HasKind terminating_location line → HasGoodFields line
     → timed arrival (Some (half_minutes (columns 11 15 line))) ≡ times_of line
 terminus_time line is good =

@@ -1,4 +1,4 @@
--- The fields by which a basic schedule or an association runs, where they are good.
+-- The fields that say when a basic schedule or an association runs, if its fields are good.
 use Rattle.std.proofs.Common.{◌≡◌, ℕ, List, true, false, Bool, cond, [], ◌∷◌, ◌++◌, subst, refl}
 use Rattle.std.specs.Prelude.{ℕ, ◌&&◌}
 use Rattle.std.specs.List.{AllByRecursion}
@@ -7,16 +7,16 @@ use Rattle.docker_model.specs.records.Date.{is_date, is_end_date, is_days}
 use Rattle.docker_model.specs.records.Field.{CheckedField, checked, HasGoodFields, is_deletion, is_tiploc, is_stp_indicator}
 use Rattle.cif_laws.proofs.records.Columns.{good_fields, IsGoodIn}
 
--- the last two of three tests together
+-- three tests, with the first two together
 pub three_tests : (a b c : Bool) → (a && (b && c)) ≡ ((a && b) && c)
 three_tests true b c = refl
 three_tests false b c = refl
 
--- a basic schedule's first day
+-- a basic schedule's first day is a date
 pub schedule_first : (line : List ℕ) → HasKind basic_schedule line → HasGoodFields line → is_date (columns 10 15 line) ≡ true
 schedule_first line is good = (good_fields basic_schedule line is good).1.0
 
--- the fields behind it
+-- the checked fields after it
 schedule_later : Bool → List CheckedField
 schedule_later deletion = cond deletion [] (checked 16 21 is_end_date ∷ checked 22 28 is_days ∷ []) ++ checked 80 80 is_stp_indicator ∷ []
 
@@ -26,23 +26,23 @@ unfolding schedule_later
 schedule_behind line is good stays =
     subst (λ b. AllByRecursion (IsGoodIn line) (schedule_later b)) stays (good_fields basic_schedule line is good).1.1
 
--- its last day
+-- its last day is good
 pub schedule_last : (line : List ℕ) → HasKind basic_schedule line → HasGoodFields line → is_deletion line ≡ false → is_end_date (columns 16 21 line) ≡ true
 unfolding schedule_later
 schedule_last line is good stays = (schedule_behind line is good stays).0
 
--- its weekdays
+-- its weekdays are good
 pub schedule_days : (line : List ℕ) → HasKind basic_schedule line → HasGoodFields line → is_deletion line ≡ false → is_days (columns 22 28 line) ≡ true
 unfolding schedule_later
 schedule_days line is good stays = (schedule_behind line is good stays).1.0
 
 pub ruleset schedule_fields = (schedule_first, schedule_last, schedule_days, three_tests)
 
--- an association's first day
+-- an association's first day is a date
 pub association_first : (line : List ℕ) → HasKind association line → HasGoodFields line → is_date (columns 16 21 line) ≡ true
 association_first line is good = (good_fields association line is good).1.0
 
--- the fields behind it
+-- the checked fields after it
 association_later : Bool → List CheckedField
 association_later deletion =
     cond deletion [] (checked 22 27 is_end_date ∷ checked 28 34 is_days ∷ []) ++ checked 38 44 is_tiploc ∷ checked 80 80 is_stp_indicator ∷ []
@@ -53,12 +53,12 @@ unfolding association_later
 association_behind line is good stays =
     subst (λ b. AllByRecursion (IsGoodIn line) (association_later b)) stays (good_fields association line is good).1.1
 
--- its last day
+-- its last day is good
 pub association_last : (line : List ℕ) → HasKind association line → HasGoodFields line → is_deletion line ≡ false → is_end_date (columns 22 27 line) ≡ true
 unfolding association_later
 association_last line is good stays = (association_behind line is good stays).0
 
--- its weekdays
+-- its weekdays are good
 pub association_days : (line : List ℕ) → HasKind association line → HasGoodFields line → is_deletion line ≡ false → is_days (columns 28 34 line) ≡ true
 unfolding association_later
 association_days line is good stays = (association_behind line is good stays).1.0

@@ -1,4 +1,4 @@
--- A walk that goes on from one line to the next.
+-- A walk that advances from one line to the next.
 use Rattle.std.proofs.Common.{◌≡◌, ℕ, ◌+◌, ◌*◌, ◌≤◌, List, [], ◌∷◌, ◌++◌, length, ap, sym, ◌∙◌, subst, refl, All, arith}
 use Rattle.std.proofs.lemmas.List.Elements.{All-from_recursion, recursion_from_All}
 use Rattle.docker_model.specs.records.Field.{HasGoodFields}
@@ -16,7 +16,8 @@ no_times p line (time ∷ times) none = absurd (let bad : occurrences_at p line 
 pub next_good : (walk : Walk) (lines rest : List (List ℕ)) (line : List ℕ) → lines ≡ line ∷ rest → CanWalk walk lines → HasGoodFields line
 next_good walk lines rest line is can = (recursion_from_All HasGoodFields (line ∷ rest) (subst (All HasGoodFields) is can.good)).0
 
--- the events that were to come behind the line before are those of the next and behind it
+-- once a line has no more events, the remaining events are the events of the next line and of the
+-- lines after it
 pub goes_on : (before ended after : Walk) (lines rest : List (List ℕ)) (line : List ℕ) → lines ≡ line ∷ rest → events_here before ≡ [] → events_here ended ≡ []
     → behind_line ended ≡ behind_line before → after.line.now ≡ line → times_meant after.times ≡ times_of line → progress_of after ≡ turned
     (progress_of ended) line
@@ -26,7 +27,7 @@ goes_on before ended after lines rest line is none_before none behind at times p
     ∙ (λ i. occurrences_from (past_times (progress_of ended) (no_times (progress_of ended) ended.line.now (times_meant ended.times) none i)) (line ∷ rest))
     ∙ (λ i. occurrences_at (sym progress i) (sym at i) (sym times i) ++ occurrences_from (past_times (sym progress i) (sym times i)) rest)
 
--- and it can go on
+-- the walk can go on
 pub still_can : (before ended after : Walk) (lines rest : List (List ℕ)) (line : List ℕ) → lines ≡ line ∷ rest → CanWalk before lines
     → ((more : ℕ) → HasRoom before more → HasRoom ended more) → length (times_meant after.times) ≤ 3 → progress_of after ≡ turned (progress_of ended) line
     → CanWalk after rest

@@ -1,4 +1,5 @@
--- The choice of a schedule and of an association along rows, and rows that are live and whose bodies are good.
+-- The choice of a schedule and of an association along rows. Rows that are live, and rows whose
+-- bodies are good.
 use Rattle.std.specs.Prelude.{◌≡◌, ℕ, List, [], ◌∷◌, Option, Some, ⊤}
 use Rattle.docker_model.specs.file.Change.{schedule_key, schedule_body, association_key, association_body}
 use Rattle.docker_model.specs.state.Table.{Table}
@@ -32,6 +33,6 @@ AreLive live (row ∷ rows) = (live row.0 ≡ Some row.1) × AreLive live rows
 abbrev pub IsLiveTrain : Table → Train → Type 0
 IsLiveTrain live train = live (schedule_key train.key) ≡ Some (schedule_body train.lines)
 
--- and so is the association
+-- the association is one of the live table
 abbrev pub IsLiveLink : Table → Link → Type 0
 IsLiveLink live link = live (association_key link.key) ≡ Some (association_body link.line)

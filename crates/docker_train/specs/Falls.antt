@@ -1,4 +1,4 @@
--- The falls up to an event, looked for by its number.
+-- The falls up to an event, found by its number.
 use Rattle.std.specs.Prelude.{ℕ, ◌==◌, List, Option, option_map, find}
 use Rattle.docker_train.specs.Occurrences.{Occurrence}
 

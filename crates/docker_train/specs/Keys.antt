@@ -1,4 +1,4 @@
--- What keys of the code mean, as the definitions name them.
+-- What keys of the code mean, in the definitions' terms.
 use Rattle.docker_model.specs.file.Change as model
 use Rattle.cif_line.specs.Letter.{stp_letter}
 use Rattle.cif_change.specs.declared.key.ScheduleKey.{ScheduleKey}

@@ -1,4 +1,5 @@
--- What is kept of the trains that start on a day, of the identities of trains, and of the associations at a place that count on a day.
+-- What is kept: the trains that start on a day, the identities of trains, and the associations at a
+-- place that count on a day.
 use Rattle.std.specs.Prelude.{◌≡◌, ℕ, Bool, false, not, List, Option, Some, None, ⊤}
 use Rattle.std.specs.BTreeMap.{BTreeMap, get}
 use Rattle.std.specs.declared.cmp.Ordering.{Ordering}
@@ -24,42 +25,43 @@ pub record PlaceDay : Type 0 where
   pub place : List ℕ
   pub day : ℕ
 
--- the train that is kept, if one is, is that of its UID on the day
+-- the kept train, if there is one, is the train of its UID on the day
 abbrev pub IsKnownTrain : Table → ℕ → Option UidTrain → Type 0
 IsKnownTrain live day None = ⊤
 IsKnownTrain live day (Some known) = (rows : List Row) → AreRowsOf live rows → known.train ≡ train_in rows known.uid day
 
--- by UID, then by day
+-- the order by UID, then by day
 abbrev pub uid_day_cmp : List ℕ × ℕ → List ℕ × ℕ → Ordering
 uid_day_cmp a b = ordering_then (bytes_cmp a.0 b.0) (nat_cmp a.1 b.1)
 
--- each identity that is kept is that of the train of its UID on its day
+-- each kept identity belongs to the train of its UID on its day
 abbrev pub AreIdentities : Table → BTreeMap (List ℕ × ℕ) (List ℕ) → Type 0
 AreIdentities live known =
     (uid : List ℕ) (day : ℕ) (identity : List ℕ) → get uid_day_cmp known (uid, day) ≡ Some identity
     → (rows : List Row) → AreRowsOf live rows → identity ≡ identity_of (train_in rows uid day)
 
--- by base, associated train, location and suffix
+-- the order by base, associated train, location and suffix
 abbrev pub group_cmp : Group → Group → Ordering
 group_cmp a b =
     ordering_then (bytes_cmp a.base b.base) (ordering_then (bytes_cmp a.associated b.associated)
     (ordering_then (bytes_cmp a.location b.location) (nat_cmp a.suffix b.suffix)))
 
--- one association of each group, at most
+-- at most one association of each group
 abbrev pub GroupLinks : Type 0
 GroupLinks = BTreeMap Group Link
 
--- what is kept of each group at the place is the association that counts on the day
+-- the association kept for each group at the place is the one that counts on the day
 abbrev pub AreDayLinks : Table → List ℕ → ℕ → GroupLinks → Type 0
 AreDayLinks live place day best =
     (group : Group) → group.location ≡ place → (rows : List Row) → AreRowsOf live rows → get group_cmp best group ≡ link_in rows group day
 
--- the best so far, if there is one, stays when the association is seen
+-- there is a best so far, and it stays the best with this association
 abbrev pub stays : Option Link → Link → Bool
 stays None link = false
 stays (Some best) link = not (is_lt (association_choice_cmp link.key best.key))
 
--- each group has the best with one more association, and the others are as they were
+-- one more association was considered: its group has the best with it, and the other groups are as
+-- they were
 abbrev pub HasOneMore : ℕ → GroupLinks → Link → GroupLinks → Type 0
 HasOneMore day before link after =
     (group : Group) → get group_cmp after group

@@ -1,4 +1,4 @@
--- What occasions and times of the code mean, as the definitions name them.
+-- What occasions and times of the code mean, in the definitions' terms.
 use Rattle.std.specs.Prelude.{ℕ, List, ◌++◌}
 use Rattle.docker_model.specs.file.Journey.{timed}
 use Rattle.docker_model.specs.file.Journey as journey
@@ -15,6 +15,6 @@ occasion_meant Dividing = journey.dividing
 occasion_meant NextWorking = journey.next_working
 occasion_meant Departure = journey.departure
 
--- the times of a line that are there, in their order
+-- the times that a line has, in order
 abbrev pub times_meant : Times → List (journey.Occasion × ℕ)
 times_meant times = timed journey.arrival times.arrival ++ timed journey.pass times.pass ++ timed journey.departure times.departure

@@ -1,11 +1,13 @@
--- The events of a schedule as a walk over its lines meets them, each with what the walk carries along.
+-- The events of a schedule as a walk over its lines meets them, each with what the walk carries
+-- from line to line.
 use Rattle.std.specs.Prelude.{ℕ, ◌+◌, if◌then◌else◌, List, [], ◌∷◌, ◌++◌, map, Option, Some, None, codes}
 use Rattle.docker_model.specs.records.Record.{columns}
 use Rattle.docker_model.specs.file.Journey.{Occasion, times_of}
 use Rattle.docker_model.specs.docker.Event.{Event, events_of, falls_to, event_line, event_identity, has_identity}
 use Rattle.docker_model.specs.docker.EventWalk.{fall_at}
 
--- an event: its number, what happens and when, the falls up to it, its line, and the identity of the train there
+-- an event: its number, what happens and when, the falls up to it, its line, and the identity of
+-- the train there
 pub record Occurrence : Type 0 where
   pub number : ℕ
   pub occasion : Occasion
@@ -29,7 +31,8 @@ occurrence_of lines event = record {
 abbrev pub occurrences : List (List ℕ) → List Occurrence
 occurrences lines = map (occurrence_of lines) (events_of lines)
 
--- how far a walk has come: the number of the next event, the falls so far, the last time and the identity
+-- how far a walk has come: the number of the next event, the falls so far, the last time and the
+-- identity
 pub record Progress : Type 0 where
   pub number : ℕ
   pub falls : ℕ
@@ -51,7 +54,7 @@ occurrence_at p line time = record {
   identity = p.identity;
 }
 
--- behind that time
+-- after that time
 abbrev pub past_time : Progress → Occasion × ℕ → Progress
 past_time p time = record {
   number = p.number + 1;
@@ -65,12 +68,12 @@ abbrev pub occurrences_at : Progress → List ℕ → List (Occasion × ℕ) →
 occurrences_at p line [] = []
 occurrences_at p line (time ∷ times) = occurrence_at p line time ∷ occurrences_at (past_time p time) line times
 
--- behind those times
+-- after those times
 abbrev pub past_times : Progress → List (Occasion × ℕ) → Progress
 past_times p [] = p
 past_times p (time ∷ times) = past_times (past_time p time) times
 
--- the identity behind a line: that of a change en route, and else the one before
+-- the identity after a line: a change en route sets it, and any other line leaves it as it was
 abbrev pub identity_behind : List ℕ → List ℕ → List ℕ
 identity_behind line identity = if has_identity (codes "CR") line then columns 13 16 line else identity
 

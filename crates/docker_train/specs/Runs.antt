@@ -2,6 +2,7 @@
 use Rattle.std.specs.Prelude.{ℕ, Bool, ◌&&◌, List, nat_le}
 use Rattle.docker_model.specs.records.Date.{end_number, runs_on_weekday, weekday_of}
 
--- the day is not after the last one, and its weekday is marked: of fields of six and seven bytes
+-- the day is not after the last day, and its weekday is marked; the two fields have six and seven
+-- bytes
 abbrev pub runs_until : List ℕ → List ℕ → ℕ → Bool
 runs_until last days day = nat_le day (end_number last) && runs_on_weekday days (weekday_of day)

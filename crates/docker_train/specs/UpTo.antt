@@ -1,4 +1,4 @@
--- The lines of a schedule up to its last one at a place, and the events of these.
+-- The lines of a schedule up to its last one at a place, and their events.
 use Rattle.std.specs.Prelude.{Bool, if◌then◌else◌, List, [], ◌∷◌, ℕ}
 use Rattle.std.specs.Str.{bytes_eq}
 use Rattle.docker_model.specs.records.Record.{columns}
@@ -9,7 +9,7 @@ use Rattle.docker_train.specs.Occurrences.{Occurrence, before_all, occurrences_f
 abbrev pub names_place : List ℕ → List ℕ → Bool
 names_place place line = bytes_eq (columns 3 9 line) place
 
--- a line before others, left out where it does not name the place and no other is there
+-- a line before others; it is left out if it doesn't name the place and no line follows
 abbrev pub before_named : Bool → List ℕ → List (List ℕ) → List (List ℕ)
 before_named named line [] = if named then line ∷ [] else []
 before_named named line (next ∷ rest) = line ∷ next ∷ rest

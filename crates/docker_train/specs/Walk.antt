@@ -1,4 +1,4 @@
--- How far a walk over a schedule's lines has come, and which events are to come.
+-- How far a walk over a schedule's lines has come, and which events remain.
 use Rattle.std.specs.Prelude.{ℕ, ◌+◌, ◌*◌, ◌^◌, ◌≤◌, List, ◌++◌, length, All}
 use Rattle.docker_model.specs.records.Field.{HasGoodFields}
 use Rattle.docker_train.specs.Meaning.{occasion_meant, times_meant}
@@ -22,20 +22,20 @@ occurrence_meant event = record {
 abbrev pub progress_of : Walk → Progress
 progress_of walk = record { number = walk.number; falls = walk.falls; last = walk.last; identity = walk.identity.now }
 
--- the events of the line that are to come
+-- the remaining events of the line
 abbrev pub events_here : Walk → List model.Occurrence
 events_here walk = occurrences_at (progress_of walk) walk.line.now (times_meant walk.times)
 
--- how far the walk will have come behind the line
+-- how far the walk will have come after the line
 abbrev pub behind_line : Walk → Progress
 behind_line walk = past_times (progress_of walk) (times_meant walk.times)
 
--- the numbers of the times of the line and of so many more can be counted
+-- the times of the line and `more` others can still be numbered
 pub record HasRoom (walk : Walk) (more : ℕ) : Type 0 where
   pub bound : walk.number + length (times_meant walk.times) + more ≤ 2 ^ 40
   pub few : walk.falls ≤ walk.number
 
--- the events of the line and of these behind it
+-- the remaining events of the line, and the events of the lines after it
 abbrev pub events_left : Walk → List (List ℕ) → List model.Occurrence
 events_left walk lines = events_here walk ++ occurrences_from (behind_line walk) lines
 

@@ -1,4 +1,4 @@
-//! Which schedule of a train counts on a day.
+//! Chooses the schedule of a train that counts on a day.
 ghost use Rattle.std.specs.Prelude.{◌≡◌, ◌==◌, ℕ, true, List, None, Some};
 ghost use Rattle.std.specs.Ordering.{on, is_lt};
 ghost use Rattle.cif_file.specs.Meaning.{key_meant, body_meant};
@@ -19,15 +19,17 @@ use cif_file::{Body, Key, ScheduleKey};
 use cif_line::{Day, Stp, Uid};
 use docker_state::{Live, State};
 
-/// The schedule of a UID that is chosen for a day: of the live ones that run then that with the least STP indicator, and of several such that with the latest
-/// first day. It may be a cancellation. None where none runs.
+/// The schedule chosen for a UID and a day. Of the live schedules of the UID that run on the day,
+/// it is the one with the least STP indicator; of several of these, the one with the latest first
+/// day. It may be a cancellation. `None` if no schedule runs.
 pub fn chosen<'a>(state: &'a State, uid: &Uid, day: Day) -> Option<ScheduleView<'a>>
     ensures { IsChosenOn (live_table state.now) uid.now day result }
 {
     best_of(None, schedules_of(&Near::none(state), uid), uid, day)
 }
 
-/// The train of a UID that starts on a day, if it runs: the chosen schedule, unless that is a cancellation.
+/// The train of a UID that starts on a day: the chosen schedule, unless it is a cancellation.
+/// `None` if the train doesn't run.
 pub fn train_on<'a>(state: &'a State, uid: &Uid, day: Day) -> Option<ScheduleView<'a>>
     ensures { (rows : List Row) → AreRowsOf (live_table state.now) rows
         → result ≡ train_in rows uid.now day }
@@ -47,7 +49,8 @@ fn unless_cancelled(found: Option<ScheduleView<'_>>) -> Option<ScheduleView<'_>>
     }
 }
 
-/// The train of a schedule's UID that starts on a day on which the schedule runs. The schedule is the best so far before a row is looked at.
+/// Like `train_on`, for the UID of a schedule that runs on the day. That schedule is the best so
+/// far before any row is read.
 pub(crate) fn train_from<'a>(
     near: &Near<'a>,
     train: &ScheduleView<'a>,
@@ -62,7 +65,7 @@ pub(crate) fn train_from<'a>(
     unless_cancelled(best_of(Some(train.again()), schedules_of(near, uid), uid, day))
 }
 
-/// The best along rows, where that so far is known.
+/// The best of the best so far and the schedules of these rows.
 fn best_of<'a>(
     so_far: Option<ScheduleView<'a>>,
     rows: Live<'a>,
@@ -79,7 +82,7 @@ fn best_of<'a>(
     found
 }
 
-/// The best with one more row.
+/// The best so far, with one more row considered.
 fn with_row<'a>(
     found: Option<ScheduleView<'a>>,
     key: &'a Key,
@@ -97,7 +100,7 @@ fn with_row<'a>(
     }
 }
 
-/// The schedule of a row, if it is of one.
+/// The schedule of a row. `None` if the row isn't a schedule's.
 pub fn schedule_of<'a>(key: &'a Key, body: &'a Body) -> Option<ScheduleView<'a>>
     requires { IsBodyOf (key_meant key.now) (body_meant body.now) }
     ensures { result ≡ schedule_of (key_meant key.entry.now) (body_meant body.entry.now) }
@@ -108,7 +111,7 @@ pub fn schedule_of<'a>(key: &'a Key, body: &'a Body) -> Option<ScheduleView<'a>>
     }
 }
 
-/// The best with one more schedule.
+/// The best so far, with one more schedule considered.
 fn with_one<'a>(
     found: Option<ScheduleView<'a>>,
     view: ScheduleView<'a>,
@@ -130,7 +133,8 @@ fn with_one<'a>(
     }
 }
 
-/// The better of the best so far and one more. Where that does not come before it, it is not asked whether it runs.
+/// The better of the best so far and one more schedule. Whether that one runs is checked only if it
+/// comes before the best.
 fn better_of<'a>(
     best: ScheduleView<'a>,
     view: ScheduleView<'a>,
@@ -150,7 +154,7 @@ fn better_of<'a>(
     }
 }
 
-/// Whether a schedule is of the UID and runs on the day.
+/// Whether a schedule has this UID and runs on the day.
 fn is_running(view: &ScheduleView<'_>, uid: &Uid, day: Day) -> bool
     ensures { result ≡ is_running uid.now day view.now }
 {
@@ -169,7 +173,7 @@ fn comes_before(key: &ScheduleKey, other: &ScheduleKey) -> bool
         .is_lt()
 }
 
-/// Whether it is that of a cancellation.
+/// Whether a schedule is a cancellation, by its key.
 fn is_cancellation(key: &ScheduleKey) -> bool
     ensures { result ≡ ((schedule_key_meant key.now).indicator == 67) }
 {

@@ -23,8 +23,9 @@ use std::alloc::Global;
 use std::collections::BTreeMap;
 use std::marker::Model;
 
-/// The associations at a place that count on a start day of their base trains: of those of a group that run then the one with the least STP indicator, and of several
-/// such the one with the latest first day. They are found by one walk over the associations at the place.
+/// The associations at a place that count on a start day of their base trains. In each group, it is
+/// the association that runs on the day and has the least STP indicator; of several of these, the
+/// one with the latest first day. One walk over the associations at the place finds them.
 #[derive(Debug, Drop)]
 pub struct DayLinks<'a> {
     state: &'a State,
@@ -50,7 +51,8 @@ impl<'a> Model for DayLinks<'a> {
 }
 
 impl<'a> DayLinks<'a> {
-    /// The associations at a place that count on a start day. `Memory` if there is no room for them.
+    /// The associations at a place that count on a start day. `Memory` if there is no room for
+    /// them.
     pub fn at(
         alloc: Global,
         state: &'a State,
@@ -69,7 +71,7 @@ impl<'a> DayLinks<'a> {
         })
     }
 
-    /// Whether an association at the place is the one of its group that counts.
+    /// Whether this association at the place is the one that counts in its group.
     pub fn counts(&self, key: &AssocKey) -> bool
         requires { key.now.location ≡ self.now.place }
         ensures { (rows : List Row) → AreRowsOf (live_table self.now.state) rows → result
@@ -83,7 +85,7 @@ impl<'a> DayLinks<'a> {
     }
 }
 
-/// The best of each group along rows.
+/// The best association of each group along rows.
 fn best_of<'a>(
     alloc: Global,
     rows: Standing<'a>,
@@ -100,7 +102,7 @@ fn best_of<'a>(
     Ok(best)
 }
 
-/// Takes one more row into the best.
+/// Updates the best associations with one more row.
 fn add_row<'a>(
     best: &mut BTreeMap<LinkGroup, LinkView<'a>>,
     key: &'a Key,
@@ -118,7 +120,7 @@ fn add_row<'a>(
     }
 }
 
-/// Takes one more association into the best.
+/// Updates the best associations with one more association.
 fn add<'a>(
     best: &mut BTreeMap<LinkGroup, LinkView<'a>>,
     link: LinkView<'a>,
@@ -136,7 +138,7 @@ fn add<'a>(
     Ok(())
 }
 
-/// Whether the best so far of an association's group stays when the association is seen.
+/// Whether the best so far in an association's group stays the best with this association.
 fn stays(best: &BTreeMap<LinkGroup, LinkView<'_>>, link: &LinkView<'_>) -> bool
     ensures { result ≡ stays (get group_cmp best.now (group_of link.now.key)) link.now }
 {

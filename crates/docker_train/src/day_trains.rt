@@ -1,4 +1,4 @@
-//! The trains that start on a day, of which the last one asked for is kept.
+//! The trains that start on a day. The last one looked up is kept.
 ghost use Rattle.std.specs.Prelude.{◌≡◌, true, List, IfSome};
 ghost use Rattle.docker_model.specs.file.File.{first_record};
 ghost use Rattle.docker_model.specs.state.State.{live_table};
@@ -18,8 +18,8 @@ use cif_line::Day;
 use docker_state::State;
 use std::marker::Model;
 
-/// The trains that start on a day. The train of the UID that was asked for last is kept: the schedules of a UID come one after the other in a walk, so the schedules
-/// of each UID are looked at once.
+/// The trains that start on a day. The train of the UID asked for last is kept. A walk meets the
+/// schedules of a UID one after the other, so the schedules of each UID are searched once.
 #[derive(Debug, Drop)]
 pub struct DayTrains<'a> {
     state: &'a State,
@@ -40,7 +40,7 @@ impl<'a> Model for DayTrains<'a> {
 }
 
 impl<'a> DayTrains<'a> {
-    /// The trains of a state that start on a day, none of which was asked for yet.
+    /// The trains of a state that start on a day, none asked for yet.
     pub fn of(state: &'a State, day: Day) -> DayTrains<'a>
         ensures { result ≡ record { state = state.entry.now; day = day } }
     {
@@ -51,8 +51,9 @@ impl<'a> DayTrains<'a> {
         }
     }
 
-    /// Whether the train of a schedule's UID that starts on the day, on which the schedule runs, runs by it. The index of its row is where to look for the schedules
-    /// of the UID: the index of another row costs a search, and changes no answer.
+    /// Whether the train of a schedule's UID that starts on the day runs by this schedule. The
+    /// schedule runs on the day. The index of its row is where the search for the schedules of the
+    /// UID begins. It is a hint: a wrong index costs a search and changes no answer.
     pub fn runs_by(&mut self, row: usize, train: &ScheduleView<'a>) -> bool
         requires live { IsLiveTrain (live_table self.old.state) train.now }
         requires runs { schedule_runs (first_record train.now.lines) self.old.day ≡ true }
@@ -66,7 +67,8 @@ impl<'a> DayTrains<'a> {
         }
     }
 
-    /// Whether the train that is kept runs by a schedule. None if none is kept, or the train of another UID.
+    /// Whether the kept train runs by a schedule. `None` if no train is kept, or the train of
+    /// another UID.
     fn known(&self, key: &ScheduleKey) -> Option<bool>
         ensures { IfSome result (λ answer. (rows : List Row)
             → AreRowsOf (live_table self.now.state) rows
@@ -79,7 +81,7 @@ impl<'a> DayTrains<'a> {
         }
     }
 
-    /// The same by a walk over the schedules of the UID. Its train is kept.
+    /// Like `runs_by`, by a walk over the schedules of the UID. The train found is kept.
     fn look_up(&mut self, row: usize, train: &ScheduleView<'a>) -> bool
         requires live { IsLiveTrain (live_table self.old.state) train.now }
         requires runs { schedule_runs (first_record train.now.lines) self.old.day ≡ true }

@@ -9,7 +9,8 @@ ghost use Rattle.docker_train.specs.Runs.{runs_until};
 
 use cif_line::{Day, Kind, Line, kind};
 
-/// Whether a basic schedule (BS) or an association (AA) runs on a day: it is not before its first day and not after its last, and its weekday is marked.
+/// Whether a basic schedule (BS) or an association (AA) runs on a day. It does if the day is not
+/// before its first day and not after its last, and the weekday is marked.
 pub fn runs(line: &Line, day: Day) -> bool
     requires kind { HasKind basic_schedule line.now ⊎ HasKind association line.now }
     requires good { HasGoodFields line.now }
@@ -45,7 +46,7 @@ pub(crate) fn schedule_runs_on(line: &Line, day: Day) -> bool
     runs_until(line, 16, 22, day)
 }
 
-/// Whether an association runs on a day, a start day of its base train.
+/// Whether an association runs on a start day of its base train.
 #[tactic(auto, using(crate::proofs::RunFields::association_fields))]
 pub(crate) fn association_runs(line: &Line, day: Day) -> bool
     requires kind { HasKind association line.now }
@@ -56,7 +57,8 @@ pub(crate) fn association_runs(line: &Line, day: Day) -> bool
     (line.day(16).number() <= day.number()) & runs_until(line, 22, 28, day)
 }
 
-/// Whether the weekday of a day is marked and it is not after the last one: by the columns from which these two fields stand.
+/// Whether a day is not after the last day, and its weekday is marked. `last` and `days` are the
+/// first columns of these two fields.
 fn runs_until(line: &Line, last: usize, days: usize, day: Day) -> bool
     requires last_from { 0 < last }
     requires last_within { last ≤ 75 }

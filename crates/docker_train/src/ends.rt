@@ -7,7 +7,7 @@ ghost use Rattle.docker_train.specs.Occurrences.{occurrences};
 use crate::schedule_view::ScheduleView;
 use cif_line::Line;
 
-/// The lines at which a train begins and ends. None of a schedule without a journey.
+/// The lines at which a train begins and ends. `None` if the schedule has no journey.
 pub fn ends_of<'a>(train: &ScheduleView<'a>) -> Option<(&'a Line, &'a Line)>
     ensures origin { IfSome result (λ ends.
         find (λ line. has_identity (codes "LO") line) train.now.lines ≡ Some ends.0.now) }
@@ -21,7 +21,7 @@ pub fn ends_of<'a>(train: &ScheduleView<'a>) -> Option<(&'a Line, &'a Line)>
     Some((origin, terminus))
 }
 
-/// The first of some lines that has this record identity.
+/// The first line that has this record identity.
 fn first_of<'a>(lines: &'a [Line], identity: &[u8; 2]) -> Option<&'a Line>
     ensures { option_copied result ≡ find (λ line. has_identity identity.now line) lines.entry.now }
 {

@@ -1,4 +1,4 @@
-//! The events of a schedule, in their order.
+//! The events of a schedule, in order.
 ghost use Rattle.std.specs.Prelude.{◌≡◌, ◌+◌, ◌≤◌, ◌^◌, ◌<◌, None, All, length};
 ghost use Rattle.std.specs.Iterator.{YieldsFirstBy, item_count};
 ghost use Rattle.docker_model.specs.records.Field.{HasGoodFields};
@@ -9,7 +9,7 @@ use crate::walk::{Occurrence, Walk};
 use cif_line::Line;
 use std::marker::Model;
 
-/// Walks the events of a schedule.
+/// An iterator over the events of a schedule.
 #[derive(Debug, Drop)]
 pub struct Events<'a> {
     walk: Walk<'a>,
@@ -29,7 +29,8 @@ impl<'a> Model for Events<'a> {
 }
 
 impl<'a> Events<'a> {
-    /// The events of the lines of a schedule, of which this one is the first, and in which the train has this identity.
+    /// The events of these lines of a schedule. `basic` is the schedule's first line, and
+    /// `identity` is the train's identity in it.
     pub(crate) fn of(basic: &'a Line, identity: &'a [u8; 4], lines: &'a [Line]) -> Events<'a>
         requires good { All HasGoodFields lines.now }
         requires few { length lines.now < 2 ^ 32 }

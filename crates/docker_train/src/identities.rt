@@ -1,4 +1,4 @@
-//! The identities of trains, each kept from when it was first asked for.
+//! The identities of trains. Each is kept once it has been looked up.
 ghost use Rattle.std.specs.Prelude.{◌≡◌, List, IfOk};
 ghost use Rattle.docker_model.specs.state.State.{live_table};
 ghost use Rattle.docker_model.specs.state.Row.{Row, AreRowsOf};
@@ -13,7 +13,8 @@ use std::alloc::Global;
 use std::collections::BTreeMap;
 use std::marker::Model;
 
-/// The identities of trains by UID and start day. Each is kept from when it was first asked for, so the schedules of a UID are looked at once for each day.
+/// The identities of trains by UID and start day. Each is kept once it has been looked up, so the
+/// schedules of a UID are searched once for each day.
 #[derive(Debug, Drop)]
 pub struct Identities<'a> {
     state: &'a State,
@@ -33,7 +34,7 @@ impl<'a> Model for Identities<'a> {
 }
 
 impl<'a> Identities<'a> {
-    /// The identities of the trains of a state, none of which was asked for yet.
+    /// The identities of the trains of a state, none asked for yet.
     pub fn of(alloc: Global, state: &'a State) -> Identities<'a>
         ensures { result ≡ state.entry.now }
     {
@@ -43,8 +44,8 @@ impl<'a> Identities<'a> {
         }
     }
 
-    /// The identity, in its basic schedule, of the train of a UID that starts on a day, and question marks if it does not run then. `Memory` if there is no room to
-    /// keep it.
+    /// The identity, in its basic schedule, of the train of a UID that starts on a day. Question
+    /// marks if the train doesn't run then. `Memory` if there is no room to keep the identity.
     pub fn identity(&mut self, uid: &Uid, day: Day) -> Result<[u8; 4], Memory>
         ensures same { self.new ≡ self.old }
         ensures identity { IfOk result (λ identity. (rows : List Row)
@@ -58,7 +59,7 @@ impl<'a> Identities<'a> {
         }
     }
 
-    /// The same by a walk over the schedules of the UID. The identity is kept.
+    /// Like `identity`, by a walk over the schedules of the UID. The identity found is kept.
     fn look_up(&mut self, uid: &Uid, day: Day) -> Result<[u8; 4], Memory>
         ensures same { self.new ≡ self.old }
         ensures identity { IfOk result (λ identity. (rows : List Row)
@@ -71,7 +72,7 @@ impl<'a> Identities<'a> {
     }
 }
 
-/// The identity of a train in its basic schedule, and question marks if there is none.
+/// The identity of a train in its basic schedule. Question marks if there is no train.
 fn identity_of(train: Option<ScheduleView<'_>>) -> [u8; 4]
     ensures { result ≡ identity_of train.entry }
 {

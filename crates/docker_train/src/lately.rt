@@ -1,4 +1,5 @@
-//! On which of a day and the two days before it a schedule runs: its train can be somewhere on the day that starts on one of them.
+//! On which of a day and the two days before it a schedule runs. A train that starts on one of
+//! these three days can be somewhere on the day.
 ghost use Rattle.std.specs.Prelude.{◌≡◌, ◌≤◌, ◌||◌, ◌-◌, false};
 ghost use Rattle.std.specs.Option.{SomeIff};
 ghost use Rattle.docker_model.specs.records.Record.{HasKind, basic_schedule, columns};
@@ -19,7 +20,7 @@ pub struct Lately {
 }
 
 impl Lately {
-    /// On none of them.
+    /// It runs on none of the three days.
     pub(crate) fn never() -> Lately
         ensures { AreLately (λ back. false) result }
     {
@@ -30,7 +31,7 @@ impl Lately {
         }
     }
 
-    /// Whether it runs on some of them.
+    /// Whether it runs on any of the three days.
     pub fn is_some(&self) -> bool
         ensures { result ≡ (self.now.today || self.now.day_before || self.now.two_before) }
     {
@@ -38,7 +39,7 @@ impl Lately {
     }
 }
 
-/// The day so many days before. None where there is no such day.
+/// The day `back` days before. `None` if there is no such day.
 pub fn day_back(day: Day, back: u16) -> Option<Day>
     ensures { SomeIff result (back ≤ day) (day - back) }
 {
@@ -46,7 +47,8 @@ pub fn day_back(day: Day, back: u16) -> Option<Day>
     Day::from_number(number)
 }
 
-/// On which of a day and the two days before it what begins on a first day runs, by the fields of a basic schedule. The end date is read only where it may count.
+/// On which of a day and the two days before it a schedule runs that begins on `first`. The other
+/// fields come from its basic schedule. The end date is read only if it can matter.
 #[tactic(auto, using(crate::proofs::RunFields::schedule_fields))]
 pub(crate) fn days_lately(line: &Line, first: Day, day: Day) -> Lately
     requires kind { HasKind basic_schedule line.now }
@@ -76,7 +78,8 @@ pub(crate) fn days_lately(line: &Line, first: Day, day: Day) -> Lately
     }
 }
 
-/// Whether what begins on a first day has begun by the day so many days before, and its weekday is marked.
+/// Whether there is a day `back` days before, it is not before the first day, and its weekday is
+/// marked.
 fn begun_back(days: &Days, first: Day, day: Day, back: u16) -> bool
     ensures { result ≡ begun_back days.now first day back }
 {
@@ -86,14 +89,14 @@ fn begun_back(days: &Days, first: Day, day: Day, back: u16) -> bool
     }
 }
 
-/// Whether the day so many days before is not after the last one.
+/// Whether the day `back` days before is not after the last day.
 fn lasts_back(last: u16, day: Day, back: u16) -> bool
     ensures { result ≡ lasts_back last day back }
 {
     day.number().saturating_sub(back) <= last
 }
 
-/// Whether the weekday of a day, or of one of the two before it, is marked in a basic schedule.
+/// Whether a basic schedule marks the weekday of a day, or of one of the two days before it.
 pub(crate) fn is_marked_lately(line: &Line, day: Day) -> bool
     ensures { result ≡ (marked_back (columns 22 28 line.now) day 0
         || marked_back (columns 22 28 line.now) day 1 || marked_back (columns 22 28 line.now) day 2) }
@@ -101,7 +104,7 @@ pub(crate) fn is_marked_lately(line: &Line, day: Day) -> bool
     is_marked_back(line, day, 0) | is_marked_back(line, day, 1) | is_marked_back(line, day, 2)
 }
 
-/// Whether the weekday of the day so many days before is marked in a basic schedule.
+/// Whether a basic schedule marks the weekday of the day `back` days before.
 fn is_marked_back(line: &Line, day: Day, back: u16) -> bool
     ensures { result ≡ marked_back (columns 22 28 line.now) day back }
 {

@@ -1,4 +1,5 @@
-//! Which schedule of a train and which association counts on a day, and where the events of a train stand.
+//! Which schedule of a train and which association counts on a day, and where the events of a train
+//! are.
 #![tactic(auto)]
 
 mod choice;

@@ -1,4 +1,4 @@
-//! What associations are chosen among.
+//! The groups in which associations are chosen.
 ghost use Rattle.std.specs.Prelude.{◌≡◌};
 ghost use Rattle.docker_model.specs.docker.Choice.{group_of};
 ghost use Rattle.docker_train.specs.Keys.{association_key_meant};
@@ -7,7 +7,8 @@ use cif_file::AssocKey;
 use cif_line::{Tiploc, Uid};
 use std::marker::Model;
 
-/// The group of an association: two trains, and where they meet. On each start day of the base train one association of a group counts, or none.
+/// The group of an association: its two trains, and where they meet. On each start day of the base
+/// train, at most one association of a group counts.
 #[derive(Clone, Copy, PartialEq, Eq, PartialOrd, Ord, Debug)]
 pub(crate) struct LinkGroup {
     base: Uid,
@@ -37,7 +38,7 @@ impl Model for LinkGroup {
 }
 
 impl LinkGroup {
-    /// The group of the association of this key.
+    /// The group of the association with this key.
     pub(crate) fn of(key: &AssocKey) -> LinkGroup
         ensures { result ≡ group_of (association_key_meant key.now) }
     {

@@ -11,7 +11,7 @@ ghost use Rattle.docker_train.specs.Keys.{association_key_meant};
 use crate::link_view::LinkView;
 use cif_file::{AssocKey, Body, Key};
 
-/// The association of a row, if it is of one.
+/// The association of a row. `None` if the row isn't an association's.
 pub fn association_of<'a>(key: &'a Key, body: &'a Body) -> Option<LinkView<'a>>
     requires { IsBodyOf (key_meant key.now) (body_meant body.now) }
     ensures { result ≡ association_of (key_meant key.entry.now) (body_meant body.entry.now) }
@@ -22,7 +22,7 @@ pub fn association_of<'a>(key: &'a Key, body: &'a Body) -> Option<LinkView<'a>>
     }
 }
 
-/// Whether two keys are one.
+/// Whether two keys are equal.
 pub(crate) fn is_same(key: &AssocKey, other: &AssocKey) -> bool
     ensures { result ≡ is_eq
         (association_key_cmp (association_key_meant key.now) (association_key_meant other.now)) }

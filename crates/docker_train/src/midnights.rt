@@ -12,7 +12,8 @@ use crate::schedule_view::ScheduleView;
 use crate::times::Times;
 use cif_line::{Line, Tiploc, kind};
 
-/// How many midnights lie between the start of a train and an event of its schedule, which is numbered from 1: 0 to 2. None where there is no such event.
+/// How many midnights lie between the start of a train and an event of its schedule: 0 to 2. Events
+/// are numbered from 1. `None` if there is no such event.
 #[tactic(auto, using(crate::proofs::FallsTold::falls_there, crate::proofs::FallsTold::falls_are))]
 pub fn falls(view: &ScheduleView<'_>, event: u64) -> Option<u8>
     ensures there { IsSome result ↔
@@ -24,7 +25,7 @@ pub fn falls(view: &ScheduleView<'_>, event: u64) -> Option<u8>
     Some(falls as u8)
 }
 
-/// The falls up to the event of this number, if it is among these.
+/// The falls up to the event with this number. `None` if it isn't among these events.
 fn falls_among(events: Events<'_>, event: u64) -> Option<u64>
     ensures { result ≡ falls_among event events.entry }
 {
@@ -36,14 +37,15 @@ fn falls_among(events: Events<'_>, event: u64) -> Option<u64>
     None
 }
 
-/// Whether some event of a train, up to its last one at a place, is behind a midnight. By the times of its lines alone, which takes less than a walk over its events.
+/// Whether some event of a train, up to its last one at a place, is after a midnight. This reads
+/// only the times of the lines, which costs less than a walk over the events.
 pub fn passes_midnight(view: &ScheduleView<'_>, place: &Tiploc) -> bool
     ensures { result ≡ some_late (occurrences_to place.now view.now.lines) }
 {
     falls_along(view.lines_to(place))
 }
 
-/// Whether some time of some lines is below the one before.
+/// Whether in these lines some time is below the time before it.
 fn falls_along(lines: &[Line]) -> bool
     requires good { All HasGoodFields lines.now }
     ensures { result ≡ falls_along 0 lines.now }
@@ -60,7 +62,8 @@ fn falls_along(lines: &[Line]) -> bool
     false
 }
 
-/// The last time of a line in half minutes, the one before where it has none. None where one is below the one before.
+/// The last time of a line in half minutes, or `before` if the line has none. `None` if a time is
+/// below the one before it.
 fn ascending_to(line: &Line, before: u16) -> Option<u16>
     requires good { HasGoodFields line.now }
     ensures { result ≡ ascends before (times_of line.now) }

@@ -7,8 +7,8 @@ use cif_line::Uid;
 use docker_state::{Live, State};
 use std::marker::Model;
 
-/// A state, and the index of a row of it, beside which the schedules of a UID are looked for first. Of an index nothing is promised: that of another row costs a
-/// search, and changes no answer.
+/// A state, and the index of one of its rows. The schedules of a UID are looked for near that row
+/// first. The index is a hint: a wrong one costs a search and changes no answer.
 #[derive(Debug, Drop)]
 pub(crate) struct Near<'a> {
     state: &'a State,
@@ -24,14 +24,14 @@ impl<'a> Model for Near<'a> {
 }
 
 impl<'a> Near<'a> {
-    /// A state, and the index of a row, as a walk over the rows at a place tells it.
+    /// A state, and the index of a row, as a walk over the rows at a place gives it.
     pub(crate) fn row(state: &'a State, row: usize) -> Near<'a>
         ensures { result ≡ state.entry.now }
     {
         Near { state, row }
     }
 
-    /// A state, and no row that is nearer than others.
+    /// A state, without a hint of where to look.
     pub(crate) fn none(state: &'a State) -> Near<'a>
         ensures { result ≡ state.entry.now }
     {
@@ -45,7 +45,7 @@ impl<'a> Near<'a> {
         self.state
     }
 
-    /// The live schedules of a UID, each with its lines, in the order of the keys.
+    /// The live schedules of a UID, each with its lines, in key order.
     pub(crate) fn of_uid(&self, uid: &Uid) -> Live<'a>
         ensures { AreOfUid (live_table self.now) uid.now result }
     {

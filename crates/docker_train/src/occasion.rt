@@ -4,20 +4,21 @@ ghost use Rattle.docker_model.specs.docker.DockerLine.{occasion_rank};
 ghost use Rattle.docker_model.specs.docker.DockerText.{occasion_text};
 ghost use Rattle.docker_train.specs.Meaning.{occasion_meant};
 
-/// What happens at a line: an event of a train, or an association of its train with another. At one time they stand in this order.
+/// What happens at a line: an event of a train, or an association of its train with another. Lines
+/// of the same time come in this order.
 #[derive(Clone, Copy, PartialEq, Eq, Debug)]
 pub enum Occasion {
-    /// The train comes.
+    /// The train arrives.
     Arrival,
-    /// The train runs through.
+    /// The train passes.
     Pass,
     /// Another train joins it (category `JJ`).
     Joining,
     /// Another train divides from it (category `VV`).
     Dividing,
-    /// It works on as another train (category `NP`).
+    /// The train works on as another train (category `NP`).
     NextWorking,
-    /// The train leaves.
+    /// The train departs.
     Departure,
 }
 
@@ -36,7 +37,7 @@ impl Occasion {
         }
     }
 
-    /// Its place among the lines of one time.
+    /// Its rank among lines of the same time.
     pub fn rank(&self) -> u8
         ensures { result ≡ occasion_rank (occasion_meant self.now) }
     {

@@ -68,7 +68,7 @@ impl<'a> ScheduleView<'a> {
         self.key
     }
 
-    /// The lines, of which the first is the basic schedule (BS), its transaction `N`.
+    /// The lines. The first is the basic schedule (BS), with transaction `N`.
     pub fn lines(&self) -> &'a [Line]
         ensures lines { result.now ≡ self.now.lines }
         ensures kept { IsScheduleOf self.now.key self.now.lines }
@@ -89,14 +89,15 @@ impl<'a> ScheduleView<'a> {
         }
     }
 
-    /// Whether it runs on a day. Where it begins later, its lines are not looked at.
+    /// Whether it runs on a day. If it begins later, its lines aren't read.
     pub fn runs_on(&self, day: Day) -> bool
         ensures { result ≡ schedule_runs (first_record self.now.lines) day }
     {
         (self.key.runs_from.number() <= day.number()) && schedule_runs_on(self.first(), day)
     }
 
-    /// On which of a day and the two days before it it runs. Where it begins later, its lines are not looked at.
+    /// On which of a day and the two days before it it runs. If it begins later, its lines aren't
+    /// read.
     pub fn runs_lately(&self, day: Day) -> Lately
         ensures { AreLately (runs_back self.now.lines day) result }
     {
@@ -106,8 +107,9 @@ impl<'a> ScheduleView<'a> {
         days_lately(self.first(), self.key.runs_from, day)
     }
 
-    /// Whether it has begun by a day, and the weekday of it or of one of the two before it is marked: else it runs on none of the three. By the first day in its key and
-    /// three marks, which takes less than to ask on which of them it runs.
+    /// Whether it has begun by a day, and the weekday of that day or of one of the two days before
+    /// it is marked. If not, it runs on none of the three. This reads the first day in its key and
+    /// three marks, which costs less than `runs_lately`.
     pub fn may_run_lately(&self, day: Day) -> bool
         ensures { result ≡ may_run_lately self.now.key self.now.lines day }
     {
@@ -121,7 +123,7 @@ impl<'a> ScheduleView<'a> {
         self.first().field(33)
     }
 
-    /// The events, in their order.
+    /// The events, in order.
     pub fn events(&self) -> Events<'a>
         ensures events { result ≡ occurrences self.now.lines }
         ensures few { (number : ℕ) → falls_to self.now.lines number ≤ 2 }
@@ -129,7 +131,7 @@ impl<'a> ScheduleView<'a> {
         Events::of(self.first(), self.identity(), self.lines.as_slice())
     }
 
-    /// The events up to the last one at a place, in their order.
+    /// The events up to the last one at a place, in order.
     pub fn events_to(&self, place: &Tiploc) -> Events<'a>
         ensures { result ≡ occurrences_to place.now self.now.lines }
     {
@@ -146,7 +148,7 @@ impl<'a> ScheduleView<'a> {
     }
 }
 
-/// Whether a schedule begins behind a day.
+/// Whether a schedule begins after a day.
 fn begins_behind(key: &ScheduleKey, day: Day) -> bool
     ensures { result ≡ nat_lt day (schedule_key_meant key.now).runs_from }
 {

@@ -10,7 +10,7 @@ ghost use Rattle.docker_train.specs.Meaning.{occasion_meant, times_meant};
 use crate::occasion::Occasion;
 use cif_line::{Kind, Line, Time};
 
-/// The times of a line, in their order: an arrival, a pass and a departure, those that are there.
+/// The times of a line, in order: an arrival, a pass and a departure, each if there is one.
 #[derive(Clone, Copy, Debug)]
 pub(crate) struct Times {
     arrival: Option<Time>,
@@ -30,7 +30,7 @@ impl Times {
         }
     }
 
-    /// The times of a line of a kind.
+    /// The times of a line of this kind.
     pub(crate) fn of(kind: Option<Kind>, line: &Line) -> Times
         requires kind { option_map meaning kind ≡ kind_of line.now }
         requires good { HasGoodFields line.now }
@@ -79,7 +79,7 @@ fn origin_times(line: &Line) -> Times
     }
 }
 
-/// The arrival, the pass and the departure at an intermediate location, those that are there.
+/// The arrival, the pass and the departure at an intermediate location, each if there is one.
 #[tactic(auto, using(crate::proofs::LineTimes::line_times))]
 fn call_times(line: &Line) -> Times
     requires kind { HasKind intermediate_location line.now }

@@ -10,7 +10,8 @@ use crate::schedule_view::ScheduleView;
 use cif_file::ScheduleKey;
 use cif_line::Uid;
 
-/// A UID, and the schedule by which its train runs on some start day. None if it does not run then.
+/// A UID, and the schedule by which its train runs on some start day. `None` if it doesn't run
+/// then.
 #[derive(Debug, Drop)]
 pub(crate) struct UidTrain<'a> {
     pub(crate) uid: Uid,
@@ -18,7 +19,7 @@ pub(crate) struct UidTrain<'a> {
 }
 
 impl<'a> UidTrain<'a> {
-    /// Whether the train runs by a schedule. None if the schedule is of another UID.
+    /// Whether the train runs by a schedule. `None` if the schedule has another UID.
     pub(crate) fn asked(&self, key: &ScheduleKey) -> Option<bool>
         ensures { result ≡ (if bytes_eq self.now.uid key.now.uid
             then Some (runs_by self.now.train (schedule_key_meant key.now)) else None) }
@@ -30,7 +31,7 @@ impl<'a> UidTrain<'a> {
         }
     }
 
-    /// Whether the train runs by the schedule of this key.
+    /// Whether the train runs by the schedule with this key.
     pub(crate) fn runs_by(&self, key: &ScheduleKey) -> bool
         ensures { result ≡ runs_by self.now.train (schedule_key_meant key.now) }
     {
@@ -41,7 +42,7 @@ impl<'a> UidTrain<'a> {
     }
 }
 
-/// Whether two keys are one.
+/// Whether two keys are equal.
 fn is_same(key: &ScheduleKey, other: &ScheduleKey) -> bool
     ensures { result ≡ is_eq
         (schedule_key_cmp (schedule_key_meant key.now) (schedule_key_meant other.now)) }

@@ -31,7 +31,7 @@ pub struct Occurrence<'a> {
     pub identity: &'a [u8; 4],
 }
 
-/// How far a walk has come: a line, its times that are to come, and what is carried along.
+/// How far a walk has come: a line, its remaining times, and what is carried from line to line.
 #[derive(Clone, Copy, Debug)]
 pub(crate) struct Walk<'a> {
     line: &'a Line,
@@ -43,7 +43,7 @@ pub(crate) struct Walk<'a> {
 }
 
 impl<'a> Walk<'a> {
-    /// Before the first line of a schedule, in which the train has this identity.
+    /// A walk before the first line of a schedule, in which the train has this identity.
     pub(crate) fn new(basic: &'a Line, identity: &'a [u8; 4]) -> Walk<'a>
         ensures times { times_meant result.times ≡ [] }
         ensures progress { progress_of result
@@ -59,7 +59,7 @@ impl<'a> Walk<'a> {
         }
     }
 
-    /// Goes on to the next line.
+    /// Advances to the next line.
     pub(crate) fn advance(&mut self, line: &'a Line)
         requires good { HasGoodFields line.now }
         ensures line { self.new.line ≡ line.entry }
@@ -97,7 +97,7 @@ impl<'a> Walk<'a> {
     }
 }
 
-/// 1 where a time is below the last one before it, for a midnight lies between them, and 0 otherwise.
+/// 1 if a time is below the last one before it, because a midnight lies between them. Otherwise 0.
 fn fall(last: Option<Time>, time: Time) -> u64
     ensures value { result ≡ fall_at last time }
     ensures few { result ≤ 1 }
@@ -108,7 +108,8 @@ fn fall(last: Option<Time>, time: Time) -> u64
     }
 }
 
-/// The identity of a train behind a line of a kind: that of a change en route (CR), and else the one before.
+/// The identity of a train after a line of this kind. A change en route (CR) sets a new one. Any
+/// other line leaves it as it was.
 fn identity_behind<'a>(kind: Option<Kind>, line: &'a Line, identity: &'a [u8; 4]) -> &'a [u8; 4]
     requires { option_map meaning kind ≡ kind_of line.now }
     ensures { result.now ≡ identity_behind line.entry.now identity.entry.now }

@@ -1,4 +1,4 @@
-//! The rows of a state that a docker is made of.
+//! The rows of a state from which a docker is made.
 ghost use Rattle.std.specs.Prelude.{◌≡◌};
 ghost use Rattle.docker_model.specs.state.State.{live_table, HasGoodBodies};
 ghost use Rattle.docker_model.specs.docker.Choice.{Group};
@@ -16,7 +16,7 @@ pub fn rows_of(state: &State) -> Live<'_>
     ensures rows { AreRowsOf (live_table state.now) result }
     ensures bodies { HasGoodBodies (live_table state.now) }
 {
-    // That a state is valid is a clause of its entries.
+    // Called for its contract: the state is valid.
     let _entries = state.entries();
     state.live()
 }
@@ -26,7 +26,7 @@ pub(crate) fn schedules_of<'a>(near: &Near<'a>, uid: &Uid) -> Live<'a>
     ensures has { HasSchedulesOf (live_table near.now) uid.now result }
     ensures good { AreGoodRows result }
 {
-    // That the bodies are those of their keys is a clause of the rows.
+    // Called for its contract: the bodies of the rows agree with their keys.
     let _rows = rows_of(near.state());
     near.of_uid(uid)
 }
@@ -39,7 +39,7 @@ pub fn associations_at<'a>(state: &'a State, place: &Tiploc) -> Standing<'a>
     ensures good { AreGoodRows result }
     ensures live { AreLive (live_table state.now) result }
 {
-    // That the bodies are those of their keys is a clause of the rows.
+    // Called for its contract: the bodies of the rows agree with their keys.
     let _rows = rows_of(state);
     state.linked(place)
 }
@@ -50,7 +50,7 @@ pub fn schedules_at<'a>(state: &'a State, place: &Tiploc) -> Standing<'a>
     ensures good { AreGoodRows result }
     ensures live { AreLive (live_table state.now) result }
 {
-    // That the bodies are those of their keys is a clause of the rows.
+    // Called for its contract: the bodies of the rows agree with their keys.
     let _rows = rows_of(state);
     state.calling(place)
 }

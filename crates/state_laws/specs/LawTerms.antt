@@ -10,7 +10,8 @@ use Rattle.docker_model.specs.state.Staging.{IsStaged, IsCommit}
 abbrev pub first_full_stamp : List LedgerItem → Option FileStamp
 first_full_stamp ledger = option_map (λ (item : LedgerItem). item.stamp) (find (λ (item : LedgerItem). item.indicator == 70) ledger)
 
--- it holds of valid states where each entry of the one received was staged under the floor of the union, and then committed
+-- a fact that holds for valid states once each entry of the received one was staged under the floor
+-- of the union, and then committed
 abbrev pub HoldsOnceCommitted : State → State → Option FileStamp → List (Key × Entry) → State → Type 0 → Type 0
 HoldsOnceCommitted own received floor staged after Fact =
     IsValid own → IsValid received → IsFloor (own.ledger ++ received.ledger) floor → IsStaged own floor received.entries staged

@@ -1,4 +1,5 @@
-//! Laws of the two indexes of a live table. Each is the contract of a function with no body: it holds of all that it names.
+//! Laws of the two indexes of a live table. Each is the contract of a function with an empty body,
+//! so it holds for all values of its variables.
 ghost use Rattle.std.specs.Prelude.{◌≡◌, ℕ, List, ◌↔◌, Contains};
 ghost use Rattle.std.specs.List.{flat_map};
 ghost use Rattle.docker_model.specs.state.Order.{IsStrictlyAscending};
@@ -8,7 +9,8 @@ ghost use Rattle.docker_model.specs.state.Lapse.{lapse_table};
 ghost use Rattle.docker_model.specs.state.Row.{Row, AreRowsOf};
 ghost use Rattle.docker_model.specs.state.Index.{CallingRow, LinkedRow, calling_cmp, linked_cmp, calls_of, links_of, IsCallingIndex, IsLinkedIndex, IsFromEither, IsCallingFromEither, IsLinkedFromEither, AreCalling, AreLinked, AreOfUid};
 
-/// A live table has one index of each kind, and one list of each walk. What its rows give, sorted and each once, are the indexes.
+/// A live table has one index of each kind, and one list of rows for each walk. What its rows give,
+/// sorted and without duplicates, makes the indexes.
 pub fn one_index()
     ensures calling { (live : Table) (first second : List CallingRow)
         → IsCallingIndex live first → IsCallingIndex live second → first ≡ second }
@@ -31,7 +33,9 @@ pub fn one_index()
         ↔ Contains (flat_map (λ (r : Row). links_of r.0 r.1) rows) row) → IsLinkedIndex live index }
 {}
 
-/// The indexes of a join from those of the two states: the rows of either whose keys have in the join what they have there. After a horizon was set they are those rows whose keys have what they had.
+/// The indexes of a join, made from the indexes of the two states. They have the index rows of
+/// either state whose keys have the same body in the join as in that state. After a horizon is set,
+/// the indexes have the rows whose keys keep their bodies.
 pub fn index_of_join()
     ensures either { (own other joined : State) → AreAscending own.entries
         → AreAscending other.entries → IsJoin own other joined → IsFromEither (live_table own)

@@ -1,4 +1,5 @@
-//! Laws of receiving from the stream: what is staged, and what a commit leaves. Each is the contract of a function with no body: it holds of all that it names.
+//! Laws of receiving from the stream: what is staged, and what a commit leaves. Each is the
+//! contract of a function with an empty body, so it holds for all values of its variables.
 ghost use Rattle.std.specs.Prelude.{◌≡◌, ◌+◌, List, [], ◌∷◌, ◌++◌, ◌↔◌, Contains, Option, Some};
 ghost use Rattle.docker_model.specs.file.Change.{Key};
 ghost use Rattle.docker_model.specs.state.Stamp.{LedgerItem, FileStamp, IsFloor, IsKept};
@@ -8,7 +9,9 @@ ghost use Rattle.std.specs.declared.cmp.Ordering.TheVariants.{Less};
 ghost use Rattle.docker_model.specs.state.Staging.{IsGreaterThan, IsToStage, IsStaged, IsCommit, staged_state};
 ghost use Rattle.state_laws.specs.LawTerms.{HoldsOnceCommitted};
 
-/// Staging all entries of a received state under the floor of the union, then committing, and then setting its horizon leaves the join. The commit itself is the join with the state of the items and what is staged, without a horizon.
+/// Stage all entries of a received state under the floor of the union, commit, and then set the
+/// received horizon: this leaves the join. The commit itself leaves the join with the state that
+/// has the received items, the staged entries and no horizon.
 pub fn staging_and_commit_is_join()
     ensures join { (own received : State) (floor : Option FileStamp) (staged : List (Key × Entry))
         (after : State)
@@ -37,7 +40,8 @@ pub fn staging_and_commit_is_join()
         → first ≡ second }
 {}
 
-/// The horizon of a state that is read may be set last: on the state without it, or on the join with that.
+/// The horizon of a state that is read may be set last: on the state read without it, or on the
+/// join with that state.
 pub fn horizon_is_set_last()
     ensures state { (state : State) → IsValid state
         → raise_horizon state.horizon (without_horizon state) ≡ state }
@@ -45,7 +49,8 @@ pub fn horizon_is_set_last()
         → IsJoin own received (raise_horizon received.horizon joined) }
 {}
 
-/// What is staged, offer by offer: none at first, and an offered entry where it is kept and greater than what the state has at its key.
+/// What is staged, offer by offer. At first nothing is. An offered entry is staged if it is kept
+/// and is greater than what the state has at its key.
 pub fn offers_are_staged()
     ensures none { (own : State) (floor : Option FileStamp) → IsStaged own floor [] [] }
     ensures test { (own : State) → AreAscending own.entries → (floor : Option FileStamp) (key : Key)

@@ -1,4 +1,5 @@
-//! Laws of states: summaries, joins, horizons, and the table of a summary. Each is the contract of a function with no body: it holds of all that it names.
+//! Laws of states: summaries, joins, horizons, and the table of a summary. Each is the contract of
+//! a function with an empty body, so it holds for all values of its variables.
 ghost use Rattle.std.specs.Prelude.{◌≡◌, ℕ, ◌+◌, List, ◌++◌, ◌↔◌, ◌≤◌, All, Contains, Option, length, map, max};
 ghost use Rattle.docker_model.specs.file.Change.{Key};
 ghost use Rattle.docker_model.specs.state.Stamp.{FileStamp, IsFloor};
@@ -12,21 +13,23 @@ ghost use Rattle.docker_model.specs.state.Table.{Table, IsPlainTable};
 ghost use Rattle.docker_model.specs.file.File.{IsFile, most_records};
 ghost use Rattle.state_laws.specs.LawTerms.{first_full_stamp};
 
-/// A set of files has under each horizon at most one summary, whatever list the set is given as.
+/// A set of files has at most one summary under each horizon, whichever list gives the set.
 pub fn one_summary()
     ensures { (files others : List (List (List ℕ)))
         → ((file : List (List ℕ)) → Contains files file ↔ Contains others file) → (horizon : ℕ)
         (one two : State) → IsSummary files horizon one → IsSummary others horizon two → one ≡ two }
 {}
 
-/// The join of the summaries of two sets of files, each under a horizon, is the summary of their union under the greater.
+/// Take the summaries of two sets of files, each under a horizon of its own. Their join is the
+/// summary of the union under the greater horizon.
 pub fn join_of_summaries()
     ensures { (files others : List (List (List ℕ))) (g h : ℕ) (one two joined : State)
         → IsSummary files g one → IsSummary others h two → IsJoin one two joined
         → IsSummary (files ++ others) (max g h) joined }
 {}
 
-/// Where the files of a set have distinct moments, the live table of its summary is its plain table, lapsed under the horizon.
+/// If the files of a set have distinct moments, the live table of the set's summary is its plain
+/// table, lapsed under the horizon.
 pub fn live_table_of_summary()
     ensures none { (files : List (List (List ℕ))) (state : State)
         → IsSummary files 0 state → HaveDistinctMoments files
@@ -36,7 +39,7 @@ pub fn live_table_of_summary()
         → live_table state ≡ lapse_table horizon table }
 {}
 
-/// A set of files with distinct moments has one plain table.
+/// A set of files with distinct moments has exactly one plain table.
 pub fn one_plain_table()
     ensures some { (files : List (List (List ℕ))) → HaveDistinctMoments files
         → (table : Table) × IsPlainTable files table }
@@ -44,7 +47,8 @@ pub fn one_plain_table()
         → IsPlainTable files one → IsPlainTable files two → one ≡ two }
 {}
 
-/// The join of states with horizons is commutative and associative, and idempotent on valid states; two states have at most one.
+/// The join of states with horizons is commutative, associative, and idempotent on valid states.
+/// Two states have at most one join.
 pub fn laws_of_join()
     ensures commutative { (a b c : State) → IsJoin a b c → IsJoin b a c }
     ensures associative { (a b c ab bc left right : State) → IsJoin a b ab → IsJoin ab c left
@@ -59,7 +63,8 @@ pub fn join_is_valid()
         → IsJoin first second joined → IsValid joined }
 {}
 
-/// The ledger of a valid state has one floor: the file stamp of its first full item, or none where no item is full.
+/// The ledger of a valid state has one floor: the file stamp of its first full item, or none if no
+/// item is full.
 pub fn floor_of_ledger()
     ensures one { (state : State) (first second : Option FileStamp)
         → IsValid state → IsFloor state.ledger first → IsFloor state.ledger second
@@ -68,14 +73,17 @@ pub fn floor_of_ledger()
         → IsFloor state.ledger (first_full_stamp state.ledger) }
 {}
 
-/// The summary of files under a horizon is a valid state, where each file has at most 4,294,967,294 records.
+/// The summary of files under a horizon is a valid state if each file has at most 4,294,967,294
+/// records.
 pub fn summary_is_valid()
     ensures { (files : List (List (List ℕ))) (horizon : ℕ) (state : State)
         → IsDay horizon → All IsFile files → All (λ file. length file ≤ most_records) files
         → IsSummary files horizon state → IsValid state }
 {}
 
-/// The lapse keeps the order of ops, so that the lapse of the greatest is the greatest of the lapses. Lapsing again changes nothing, lapsing under two horizons is lapsing under the greater, and without a horizon nothing lapses.
+/// The lapse keeps the order of ops, so the lapse of the greatest op is the greatest of the lapses.
+/// Lapsing again under the same horizon changes nothing. Lapsing under two horizons is lapsing
+/// under the greater. Without a horizon nothing lapses.
 pub fn laws_of_lapse()
     ensures order { (horizon : ℕ) (first second : Op) → IsAtMost op_cmp first second
         → IsAtMost op_cmp (lapse horizon first) (lapse horizon second) }
@@ -93,7 +101,8 @@ pub fn laws_of_lapse()
         → IsGreatestAmong (lapse_entries horizon entries) key (lapse_entry horizon entry) }
 {}
 
-/// A valid state with a greater horizon set is valid, and one that is not greater changes nothing: no entry of a valid state lapses under its own horizon.
+/// A valid state stays valid when a greater horizon is set. Setting one that is not greater changes
+/// nothing: no entry of a valid state lapses under the state's own horizon.
 pub fn laws_of_setting()
     ensures valid { (horizon : ℕ) (state : State) → IsDay horizon → IsValid state
         → IsValid (raise_horizon horizon state) }
@@ -104,7 +113,7 @@ pub fn laws_of_setting()
         → lapse_entry state.horizon entry ≡ entry }
 {}
 
-/// A horizon set on a summary gives the summary under the greater horizon.
+/// Setting a horizon on a summary gives the summary under the greater of the two horizons.
 pub fn setting_on_summary()
     ensures { (files : List (List (List ℕ))) (g h : ℕ) (state : State)
         → IsSummary files g state → IsSummary files (max g h) (raise_horizon h state) }

@@ -1,4 +1,5 @@
-// What moves on the page of a docker: the clock, the trains that are past, and each minute the docker itself, if another came.
+// What moves on the page of a docker: the clock, the trains that are past, and each minute the
+// docker itself, if another came.
 "use strict";
 const page = document.documentElement;
 const london = new Intl.DateTimeFormat("sv-SE", {timeZone: "Europe/London", dateStyle: "short", timeStyle: "medium"});
@@ -18,7 +19,8 @@ function halfMinutes(time) {
   return hours * 120 + minutes * 2;
 }
 
-// Folds the trains of the minutes before this one away; of another day than today none, unless the day has just ended.
+// Folds away the trains of the minutes before this one. Of another day than today it folds none,
+// unless the day has just ended.
 function fold() {
   const [date, time] = now();
   const table = document.getElementById("docker");
@@ -37,7 +39,7 @@ function fold() {
   document.getElementById("no-more").hidden = isUnfolded || past < table.tBodies[0].rows.length;
 }
 
-// How old what is known is, where it is older than a day and a half.
+// How old what is known is, if it is older than a day and a half.
 function age() {
   if (!page.dataset.newest) return;
   const days = (Date.parse(now().join("T")) - Date.parse(page.dataset.newest)) / 86400000;
@@ -87,7 +89,7 @@ function show(text) {
   if (platforms && isOpen) platforms.open = true;
 }
 
-// Asks whether another docker came; the old one stays where there is no answer.
+// Asks whether another docker came; the old one stays if there is no answer.
 async function renew() {
   let trouble = "";
   try {

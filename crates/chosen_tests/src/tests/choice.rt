@@ -9,7 +9,8 @@ use docker_state::State;
 use std::alloc::Global;
 use std::process::Abort;
 
-/// A file of a permanent schedule of C10001, its overlay, its cancellation, a new one and a permanent one that begins later, and of one of C10002.
+/// A file of a permanent schedule of C10001, its overlay, its cancellation, a new schedule and a
+/// second permanent one that begins later, and of a schedule of C10002.
 const TRAINS: &[&[u8]] = &[
     HD,
     BS_C10002,
@@ -31,39 +32,39 @@ const TRAINS: &[&[u8]] = &[
     ZZ,
 ];
 
-/// By the permanent schedule, record 5 of the file.
+/// C10001 runs by its permanent schedule, record 5 of the file.
 const PERMANENT: &[u8] =
     b"TRAIN  C10001  2024-06-10 P RUNS      2024-06-09 2100 DFROC1A          5        ";
 
-/// By the overlay, record 8.
+/// C10001 runs by the overlay, record 8.
 const OVERLAY: &[u8] =
     b"TRAIN  C10001  2024-06-11 O RUNS      2024-06-09 2100 DFROC1A          8        ";
 
-/// By the new schedule, record 12, which counts before the overlay.
+/// C10001 runs by the new schedule, record 12, which takes precedence over the overlay.
 const NEW: &[u8] =
     b"TRAIN  C10001  2024-06-13 N RUNS      2024-06-09 2100 DFROC1A         12        ";
 
-/// Cancelled, by record 11.
+/// C10001 is cancelled by record 11.
 const CANCELLED: &[u8] =
     b"TRAIN  C10001  2024-06-14 C CANCELLED 2024-06-09 2100 DFROC1A         11        ";
 
-/// By the permanent schedule that begins on that day, record 15.
+/// C10001 runs by the permanent schedule that begins on that day, record 15.
 const SUNDAY: &[u8] =
     b"TRAIN  C10001  2024-06-16 P RUNS      2024-06-09 2100 DFROC1A         15        ";
 
-/// Of the other train, record 2.
+/// C10002 runs by record 2.
 const OTHER: &[u8] =
     b"TRAIN  C10002  2024-06-14 P RUNS      2024-06-09 2100 DFROC1A          2        ";
 
-/// On no day after 16 June.
+/// No schedule of C10001 runs after 16 June.
 const NONE: &[u8] =
     b"TRAIN  C10001  2024-06-17   NONE                                                ";
 
-/// On no day before 10 June.
+/// No schedule of C10001 runs before 10 June.
 const NONE_BEFORE: &[u8] =
     b"TRAIN  C10001  2024-06-09   NONE                                                ";
 
-/// A UID that the file does not have.
+/// A UID that isn't in the file.
 const NOBODY: &[u8] =
     b"TRAIN  C10003  2024-06-10   NONE                                                ";
 
@@ -92,7 +93,7 @@ fn cancellation(rt: HostRuntime) {
     says(&rt, rt.alloc(), &state, "C10002", "2024-06-14", other);
 }
 
-/// A new schedule counts before an overlay, and of two permanent ones that which begins later.
+/// A new schedule takes precedence over an overlay. Of two permanent schedules, the later one does.
 #[test]
 fn new_and_later(rt: HostRuntime) {
     let state = trains(&rt, rt.alloc());
@@ -102,7 +103,7 @@ fn new_and_later(rt: HostRuntime) {
     says(&rt, rt.alloc(), &state, "C10001", "2024-06-16", sunday);
 }
 
-/// Days on which none runs, and a UID that has none.
+/// Days on which no schedule runs, and a UID without schedules.
 #[test]
 fn none(rt: HostRuntime) {
     let state = trains(&rt, rt.alloc());

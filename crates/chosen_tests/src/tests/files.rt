@@ -21,49 +21,49 @@ const FIRST: &[&[u8]] = &[
     ZZ,
 ];
 
-/// A later file that deletes the permanent one.
+/// A later file that deletes the permanent schedule.
 const DELETES: &[&[u8]] = &[HD_10, BS_DELETED, ZZ];
 
 /// A later file that deletes the cancellation.
 const RESTORES: &[&[u8]] = &[HD_10, BS_CANCELLED_DELETED, ZZ];
 
-/// A later file that revises the permanent one.
+/// A later file that revises the permanent schedule.
 const REVISES: &[&[u8]] = &[HD_10, BS_REVISED, LO_0920, LT, ZZ];
 
-/// By the overlay, record 5 of the first file.
+/// C10001 runs by the overlay, record 5 of the first file.
 const OVERLAY: &[u8] =
     b"TRAIN  C10001  2024-06-11 O RUNS      2024-06-09 2100 DFROC1A          5        ";
 
-/// By the permanent schedule, record 2 of the first file.
+/// C10001 runs by the permanent schedule, record 2 of the first file.
 const RESTORED: &[u8] =
     b"TRAIN  C10001  2024-06-14 P RUNS      2024-06-09 2100 DFROC1A          2        ";
 
-/// By the revision, record 2 of the second file.
+/// C10001 runs by the revision, record 2 of the second file.
 const REVISED: &[u8] =
     b"TRAIN  C10001  2024-06-12 P RUNS      2024-06-10 0605 DFROC1B          2        ";
 
-/// By nothing.
+/// C10001 doesn't run.
 const NONE: &[u8] =
     b"TRAIN  C10001  2024-06-12   NONE                                                ";
 
-/// By nothing, for the revision ends on 13 June.
-const NONE_BEHIND: &[u8] =
+/// C10001 doesn't run, because the revision ends on 13 June.
+const NONE_AFTER: &[u8] =
     b"TRAIN  C10001  2024-06-15   NONE                                                ";
 
-/// That some files, joined in this order, say these lines of C10001 on a day.
-fn tell(rt: &impl Abort, alloc: Global, files: &[&[&[u8]]], on: &str, wanted: &[&[u8]]) {
+/// Asserts that these files, joined in this order, give these lines for C10001 on a day.
+fn files_say(rt: &impl Abort, alloc: Global, files: &[&[&[u8]]], on: &str, wanted: &[&[u8]]) {
     let state = joined(rt, alloc, files);
     says(rt, alloc, &state, "C10001", on, wanted);
 }
 
-/// A schedule that a later file deletes is there no more; its overlay is.
+/// A later file deletes a schedule, and its overlay stays.
 #[test]
 fn deleted(rt: HostRuntime) {
     let overlay: &[&[u8]] = &[OVERLAY, BS_OVERLAY, LO_0915, LT, END];
     let files: &[&[&[u8]]] = &[FIRST, DELETES];
-    tell(&rt, rt.alloc(), files, "2024-06-12", &[NONE, END]);
-    tell(&rt, rt.alloc(), files, "2024-06-11", overlay);
-    tell(
+    files_say(&rt, rt.alloc(), files, "2024-06-12", &[NONE, END]);
+    files_say(&rt, rt.alloc(), files, "2024-06-11", overlay);
+    files_say(
         &rt,
         rt.alloc(),
         &[DELETES, FIRST],
@@ -72,20 +72,20 @@ fn deleted(rt: HostRuntime) {
     );
 }
 
-/// A train whose cancellation a later file deletes runs again, by the schedule of the first file.
+/// A later file deletes a cancellation, and the train runs again by the schedule of the first file.
 #[test]
 fn restored(rt: HostRuntime) {
     let restored: &[&[u8]] = &[RESTORED, BS_WEEK, LO, LT, END];
-    tell(&rt, rt.alloc(), &[FIRST, RESTORES], "2024-06-14", restored);
-    tell(&rt, rt.alloc(), &[RESTORES, FIRST], "2024-06-14", restored);
+    files_say(&rt, rt.alloc(), &[FIRST, RESTORES], "2024-06-14", restored);
+    files_say(&rt, rt.alloc(), &[RESTORES, FIRST], "2024-06-14", restored);
 }
 
-/// A revision takes the place of what it revises. It is kept with the transaction `N`.
+/// A revision replaces the schedule that it revises. It is kept with the transaction `N`.
 #[test]
 fn revised(rt: HostRuntime) {
     let revised: &[&[u8]] = &[REVISED, BS_REVISED_KEPT, LO_0920, LT, END];
     let files: &[&[&[u8]]] = &[FIRST, REVISES];
-    tell(&rt, rt.alloc(), files, "2024-06-12", revised);
-    tell(&rt, rt.alloc(), files, "2024-06-15", &[NONE_BEHIND, END]);
-    tell(&rt, rt.alloc(), &[REVISES, FIRST], "2024-06-12", revised);
+    files_say(&rt, rt.alloc(), files, "2024-06-12", revised);
+    files_say(&rt, rt.alloc(), files, "2024-06-15", &[NONE_AFTER, END]);
+    files_say(&rt, rt.alloc(), &[REVISES, FIRST], "2024-06-12", revised);
 }

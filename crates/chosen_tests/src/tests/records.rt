@@ -28,7 +28,7 @@ pub(crate) const LT: &[u8] =
 pub(crate) const BS_OVERLAY: &[u8] =
     b"BSNC100012406112406130101000 POO1A10                                           O";
 
-/// It leaves Ashfeld at 09:15.
+/// C10001 leaves Ashfeld at 09:15.
 pub(crate) const LO_0915: &[u8] =
     b"LOASHFELD 0915 09151  SL                                                        ";
 
@@ -36,7 +36,7 @@ pub(crate) const LO_0915: &[u8] =
 pub(crate) const BS_CANCELLED: &[u8] =
     b"BSNC100012406142406140000100 POO1A10                                           C";
 
-/// A new schedule of it on 13 and 15 June.
+/// A new schedule of C10001 on 13 and 15 June.
 pub(crate) const BS_NEW: &[u8] =
     b"BSNC100012406132406150001010 POO1A10                                           N";
 
@@ -56,15 +56,15 @@ pub(crate) const LO_0940: &[u8] =
 pub(crate) const BS_C10002: &[u8] =
     b"BSNC100022406102406161111111 POO1A20                                           P";
 
-/// The revision of C10001 from 10 June on, up to 13 June.
+/// The revision of C10001 from 10 June, up to 13 June.
 pub(crate) const BS_REVISED: &[u8] =
     b"BSRC100012406102406131111111 POO1A10                                           P";
 
-/// The same as a state keeps it.
+/// The revision as a state keeps it.
 pub(crate) const BS_REVISED_KEPT: &[u8] =
     b"BSNC100012406102406131111111 POO1A10                                           P";
 
-/// The deletion of C10001 from 10 June on.
+/// The deletion of C10001 from 10 June.
 pub(crate) const BS_DELETED: &[u8] =
     b"BSDC10001240610                                                                P";
 

@@ -1,4 +1,4 @@
-//! What is refused: days under a horizon, words that name no UID, and a sink that is full.
+//! What is refused: days before the horizon, words that name no UID, and a full sink.
 
 use super::records::{BS_WEEK, END, HD, LO, LT, ZZ};
 use super::{day, joined, same, says, text, uid};
@@ -11,19 +11,19 @@ use std::process::Abort;
 /// A permanent schedule of C10001 from 10 to 16 June.
 const WEEK: &[&[u8]] = &[HD, BS_WEEK, LO, LT, ZZ];
 
-/// Of 13 June.
+/// The answer for 13 June.
 const THURSDAY: &[u8] =
     b"TRAIN  C10001  2024-06-13 P RUNS      2024-06-09 2100 DFROC1A          2        ";
 
-/// Of 17 June.
+/// The answer for 17 June.
 const NONE: &[u8] =
     b"TRAIN  C10001  2024-06-17   NONE                                                ";
 
-/// Of 10 June.
+/// The answer for 10 June.
 const MONDAY: &[u8] =
     b"TRAIN  C10001  2024-06-10 P RUNS      2024-06-09 2100 DFROC1A          2        ";
 
-/// That a day of C10001 is refused, and nothing is written.
+/// Asserts that a day is refused for C10001, and nothing is written.
 fn is_refused(rt: &impl Abort, alloc: Global, state: &State, on: &str) {
     let mut kept = Kept::new(alloc, 1000).expect(rt, "room");
     let (uid, day) = (uid(rt, "C10001"), day(rt, on));
@@ -37,7 +37,7 @@ fn is_refused(rt: &impl Abort, alloc: Global, state: &State, on: &str) {
     );
 }
 
-/// A day before the horizon is refused, and the horizon itself is not.
+/// A day before the horizon is refused. The horizon itself isn't.
 #[test]
 fn before_the_horizon(rt: HostRuntime) {
     let thursday: &[&[u8]] = &[THURSDAY, BS_WEEK, LO, LT, END];
@@ -48,7 +48,7 @@ fn before_the_horizon(rt: HostRuntime) {
     says(&rt, rt.alloc(), &state, "C10001", "2024-06-13", thursday);
 }
 
-/// What has lapsed is refused before the horizon, and isn't there from then on.
+/// A lapsed schedule is refused before the horizon, and doesn't exist from then on.
 #[test]
 fn lapsed(rt: HostRuntime) {
     let mut state = joined(&rt, rt.alloc(), &[WEEK]);
@@ -64,7 +64,7 @@ fn lapsed(rt: HostRuntime) {
     );
 }
 
-/// What a sink with so much room takes of C10001 on 10 June, and whether that is all.
+/// Prints C10001 on 10 June to a sink with this room, and asserts what it answers.
 fn takes(rt: &impl Abort, alloc: Global, state: &State, room: usize, wanted: Option<TrainFault>) {
     let mut kept = Kept::new(alloc, room).expect(rt, "room");
     let all = text(alloc, &[MONDAY, BS_WEEK, LO, LT, END]).expect(rt, "a text");
@@ -77,7 +77,7 @@ fn takes(rt: &impl Abort, alloc: Global, state: &State, room: usize, wanted: Opt
     );
 }
 
-/// Five lines of 81 bytes need 405 bytes; a sink without room has a beginning of them.
+/// Five lines of 81 bytes need 405 bytes. A sink with less room receives the first bytes of them.
 #[test]
 fn full_sink(rt: HostRuntime) {
     let state = joined(&rt, rt.alloc(), &[WEEK]);
@@ -87,12 +87,12 @@ fn full_sink(rt: HostRuntime) {
     takes(&rt, rt.alloc(), &state, 0, Some(TrainFault::Sink));
 }
 
-/// Whether a word names a UID.
+/// Asserts whether a word names a UID.
 fn is_uid(rt: &impl Abort, word: &str, wanted: bool) {
     same(rt, uid_of_word(word).is_some(), wanted);
 }
 
-/// Words of six printable bytes name a UID, and no others.
+/// Words of six printable bytes name a UID. Other words don't.
 #[test]
 fn words(rt: HostRuntime) {
     is_uid(&rt, "C10001", true);

@@ -1,4 +1,4 @@
--- The worked file is a file, and its text a text of it; files at fault.
+-- The worked file is a file, and its text is a text of it; files at fault.
 use Rattle.std.proofs.Common.{◌≡◌, ℕ, List, [], ◌∷◌, ◌++◌, refl, inl, inr, lit≤, ◌<◌, arith, ap, sym, ◌∙◌}
 use Rattle.std.proofs.lemmas.List.Elements.{All-from_recursion}
 use Rattle.docker_model.specs.records.Record.{HasKind, header, kind_of}
@@ -8,7 +8,7 @@ use Rattle.docker_model.specs.file.FileFault.{IsFileText, IsFileFault, IsOutOfPl
 use Rattle.cif_laws.proofs.records.Builders.{f2, f2_header, f2_basic, f2_origin, f2_terminus, f2_schedule, zz}
 use Rattle.cif_laws.proofs.schedules.WorkedSchedule.{record_by_test, f2_is_schedule}
 
--- the worked file is one
+-- the worked file is a file
 pub f2_is_file : IsFile f2
 f2_is_file = record {
   first = f2_header;
@@ -23,30 +23,30 @@ f2_is_file = record {
   trailer_kind = refl;
 }
 
--- each record with a line feed behind
+-- each record with a line feed after it
 abbrev pub f2_text : List ℕ
 f2_text = f2_header ++ 10 ∷ f2_basic ++ 10 ∷ f2_origin ++ 10 ∷ f2_terminus ++ 10 ∷ zz ++ 10 ∷ []
 
 lines_of_f2 : lines_of f2_text ≡ f2
 lines_of_f2 = refl
 
--- the worked text is that of the worked file
+-- the worked text is the text of the worked file
 pub f2_text_is : IsFileText 5 f2_text f2
 f2_text_is = record { lines = refl; is = f2_is_file; within = lit≤ tt }
 
--- an empty text ends where a header should stand
+-- an empty text ends where a header should follow
 pub empty_begins : BeginsFile []
 empty_begins = (f2, f2_is_file)
 
--- no records are no file
+-- a list without records isn't a file
 pub empty_is_no_file : ¬ IsFile []
 empty_is_no_file file = let whole = file.whole in cc
 
--- the empty text wants its end at record 1
+-- the empty text ends too early, at record 1
 pub empty_text_unended : IsFileFault 10 [] (record { number = 1; cause = no_end })
 empty_text_unended = inr (record { within = lit≤ tt; begin = empty_begins; unended = empty_is_no_file; number = refl; cause = refl })
 
--- a file begins with a header
+-- the first of some records, or another one if there are none
 first_or : List ℕ → List (List ℕ) → List ℕ
 first_or default [] = default
 first_or default (line ∷ lines) = line
@@ -56,7 +56,7 @@ pub file_begins : (line : List ℕ) (rest : List (List ℕ)) → IsFile (line �
 unfolding first_or
 file_begins line rest file = ap kind_of (ap (first_or line) file.whole) ∙ file.header_kind
 
--- a basic schedule in its place is out of place
+-- a basic schedule in the header's place is out of place
 basic_begins_none : ¬ BeginsFile (f2_basic ∷ [])
 basic_begins_none begins = let kind = file_begins f2_basic begins.0 begins.1 in cc
 

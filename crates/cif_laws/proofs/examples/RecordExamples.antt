@@ -54,7 +54,7 @@ bad_departure = refl
 bad_runs_from : leftmost_bad_field (bs (codes "N") (codes "C10001") (codes "230229") (codes "240614") (codes "1111100") (codes "1A10") (codes "P")) ≡ Some 10
 bad_runs_from = refl
 
--- of a deletion the end date and the days do not count
+-- a deletion's end date and days run don't count
 good_deletion : leftmost_bad_field (bs (codes "D") (codes "C10001") (codes "240610") no_text no_text no_text (codes "P")) ≡ None
 good_deletion = refl
 
@@ -113,7 +113,7 @@ changes_of_rename : changes rename
     ∷ record { number = 2; key = tiploc_key (codes "ASHFLDN"); act = put (tiploc_body (columns 10 72 rename_amend)) } ∷ []
 changes_of_rename = refl
 
--- an amendment that gives the code again is one put
+-- an amendment that gives the same code again is one put
 changes_of_same_code : changes (f2_header ∷ ta (codes "ASHFELD") (codes "ASHFIELD CENTRAL") (codes "ASHFELD") ∷ zz ∷ [])
     ≡ record {
       number = 2;
@@ -122,7 +122,7 @@ changes_of_same_code : changes (f2_header ∷ ta (codes "ASHFELD") (codes "ASHFI
     } ∷ []
 changes_of_same_code = refl
 
--- two amendments round a schedule of three lines: a unit is numbered as its first record
+-- two amendments before and after a schedule of three lines: a unit has its first record's number
 numbers_of_units : map (λ (change : Change). change.number) (changes_of_units 2 ((rename_amend ∷ []) ∷ f2_schedule ∷ (rename_amend ∷ []) ∷ []))
     ≡ 2 ∷ 2 ∷ 3 ∷ 6 ∷ 6 ∷ []
 numbers_of_units = refl
@@ -135,7 +135,7 @@ change_of_deletion : changes_of_unit 2 (bs (codes "D") (codes "C10001") (codes "
     ≡ record { number = 2; key = schedule_named f2_basic; act = delete } ∷ []
 change_of_deletion = refl
 
--- the falls of a journey by its last arrival: a third one at 00:01, and none at 00:06
+-- the falls of a journey, by its last arrival: a third fall at 00:01, none at 00:06
 abbrev late_schedule : List ℕ → List (List ℕ)
 late_schedule arrives =
     bs (codes "N") (codes "C20001") (codes "240610") (codes "240610") (codes "1000000") (codes "2B20") (codes "P")

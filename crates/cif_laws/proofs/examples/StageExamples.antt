@@ -22,7 +22,7 @@ no_header = refl
 whole_schedule : stage_of f2_schedule ≡ Some after_journey
 whole_schedule = refl
 
--- the causes, of which the first is told
+-- the causes; the first that holds is reported
 over_limit : cause_of 5 5 after_end zz ≡ too_many
 over_limit = refl
 
@@ -47,7 +47,7 @@ trailer_early = refl
 bad_time : cause_of 6 2 (in_schedule after_basic (f2_basic ∷ [])) (lo (codes "ASHFELD") no_text (codes "2400") no_text no_text no_text) ≡ bad_field 11
 bad_time = refl
 
--- a deletion's journey is read for kind and place alone, and it may lack its journey
+-- a deletion's journey is read only for kind and place, and a deletion may lack its journey
 abbrev deleted_basic : List ℕ
 deleted_basic = bs (codes "D") (codes "C10001") (codes "240610") no_text no_text no_text (codes "P")
 

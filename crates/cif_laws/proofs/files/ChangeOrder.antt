@@ -1,4 +1,5 @@
--- Of two changes of a file with one key the later record's is later: two changes of one record have different keys.
+-- Of two changes of a file with one key, the second belongs to a later record: two changes of one
+-- record have different keys.
 use Rattle.std.proofs.Common.{◌≡◌, ℕ, ◌+◌, ◌<◌, ◌≤◌, List, [], ◌∷◌, map, inl, inr, ◌⊎◌, refl, arith, ap, sym, Bool, true, false, Some}
 use Rattle.std.specs.Prelude.{Option, ◌||◌}
 use Rattle.std.specs.List.{AllByRecursion, AllPairs}
@@ -9,7 +10,7 @@ use Rattle.docker_model.specs.file.Change.{Key, tiploc_key, Act, Change, tiploc_
 use Rattle.cif_laws.proofs.lists.Later.{AllLater, later_append_all, later_weaker_always, pairs_from_later}
 use Rattle.cif_laws.proofs.lists.AllOf.{all_append, all_weaker}
 
--- the later one has a higher number, or another key
+-- the later change has a higher number, or another key
 abbrev pub Apart : Change → Change → Type 0
 Apart first second = (first.number < second.number) ⊎ ¬ (first.key ≡ second.key)
 
@@ -29,7 +30,7 @@ number_from n (line ∷ lines) =
     (all_weaker (λ (c : Change). n + 1 ≤ c.number) (λ (c : Change). n ≤ c.number) (λ c more. omega arith) (changes_from (n + 1) lines)
     (number_from (n + 1) lines))
 
--- a code that is given up differs from the new one
+-- a code that an amendment gives up differs from the new code
 second_of : (a b : Bool) → (a || b) ≡ false → b ≡ false
 second_of true b h = cc
 second_of false b h = h
@@ -43,7 +44,7 @@ unfolding code_of
 codes_differ line h same =
     other_text (columns 73 79 line) (columns 3 9 line) (sym (second_of (is_blank (columns 73 79 line)) _ h)) (sym (ap code_of same))
 
--- their keys differ
+-- two changes have different keys
 abbrev KeysDiffer : Change → Change → Type 0
 KeysDiffer first second = ¬ (first.key ≡ second.key)
 
@@ -65,7 +66,7 @@ acts_apart n kind line following =
     later_weaker_always KeysDiffer Apart (λ first second differ. inr differ)
     (changes_of_acts n (acts_by_kind kind line following)) (acts_differ n kind line following)
 
--- the changes of records, each against those behind it: another key, or a later record
+-- the changes of records: each later change has another key, or belongs to a later record
 pub changes_apart : (n : ℕ) (lines : List (List ℕ)) → AllLater Apart (changes_from n lines)
 changes_apart n [] = tt
 changes_apart n (line ∷ lines) =
@@ -80,7 +81,7 @@ pub record_keys_differ : (number : ℕ) (line : List ℕ) (following : List (Lis
 record_keys_differ number line following =
     pairs_from_later KeysDiffer (changes_of_record number line following) (acts_differ number (kind_of line) line following)
 
--- and so have two changes of a file that are of one record
+-- two changes of a file that belong to one record have different keys
 pub file_keys_differ : (file : List (List ℕ)) → AllPairs (λ (first second : Change). first.number ≡ second.number → ¬ (first.key ≡ second.key)) (changes file)
 file_keys_differ file = pairs_from_later _ (changes file) (later_weaker_always Apart _ by (changes file) (changes_apart 1 file))
   where

@@ -11,7 +11,7 @@ use Rattle.cif_laws.proofs.lists.Membership.{below_by_recursion}
 use Rattle.cif_laws.proofs.lists.AllOf.{all_append, all_weaker}
 use Rattle.cif_laws.proofs.files.GoodChanges.{IsGoodChange, units_changes}
 
--- changes are numbered within their records
+-- a change has the number of one of these records
 abbrev IsNumbered : ℕ → ℕ → Change → Type 0
 IsNumbered first count change = (first ≤ change.number) × (change.number < first + count)
 
@@ -29,7 +29,8 @@ numbers_within n (line ∷ lines) =
     (all_weaker (IsNumbered (n + 1) (length lines)) (IsNumbered n (length (line ∷ lines))) (λ c inside. (omega arith, omega arith)) (changes_from (n + 1) lines)
     (numbers_within (n + 1) lines))
 
--- a change of a file within the limit: well formed, and its number that of a record behind the header
+-- a change of a file within the limit is well formed, and its number is the number of a record
+-- after the header
 pub record IsFileChange (change : Change) : Type 0 where
   pub good : IsGoodChange change
   pub low : 2 ≤ change.number

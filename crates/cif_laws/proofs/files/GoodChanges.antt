@@ -1,4 +1,5 @@
--- The changes of a file within the limit: their keys and bodies are well formed. A schedule's lines as kept are a schedule again.
+-- The changes of a file within the limit have well formed keys and bodies. A schedule's lines, as
+-- they are kept, are a schedule again.
 use Rattle.std.proofs.Common.{◌≡◌, ℕ, ◌+◌, ◌-◌, ◌^◌, ◌<◌, ◌⊎◌, inl, inr, List, [], ◌∷◌, ◌++◌, length, take, All, subst, refl, ap, sym, ◌∙◌, Bool, true, false, cond, Some, arith, append_assoc, length-append}
 use Rattle.std.specs.Prelude.{Option, ⊤, ◌||◌, ◌==◌}
 use Rattle.std.specs.List.{AllByRecursion, flat_map, prefix_len}
@@ -203,7 +204,7 @@ single_acts line following is (inr (inr (inr kind))) good =
 
 -- ---- schedules
 
--- a schedule that is no deletion is a schedule again with its transaction set to N
+-- a schedule that isn't a deletion is still a schedule with its transaction set to N
 pub new_is_schedule : (lines : List (List ℕ)) (schedule : IsSchedule lines) → is_deletion schedule.basic ≡ false
     → IsSchedule (as_new schedule.basic ∷ schedule.extra ++ schedule.journey)
 new_is_schedule lines schedule kept =
@@ -235,12 +236,12 @@ new_is_schedule lines schedule kept =
     sound (inl deletion) = let bad : false ≡ true = sym kept ∙ deletion in cc
     sound (inr good) = inr good
 
--- a record behind which no schedule goes on
+-- no schedule continues into these records
 abbrev pub StopsHere : List (List ℕ) → Type 0
 StopsHere [] = ⊤
 StopsHere (line ∷ lines) = follows_basic (kind_of line) ≡ false
 
--- the record stands in a schedule behind its basic schedule
+-- the record stands in a schedule after its basic schedule
 abbrev pub Follows : List ℕ → Type 0
 Follows line = follows_basic (kind_of line) ≡ true
 
@@ -251,7 +252,8 @@ prefix_is [] (line ∷ rest) all stops = λ i. cond (stops i) (1 + prefix_len (�
 prefix_is (line ∷ lines) rest all stops =
     (λ i. cond (all.0 i) (1 + prefix_len (λ line. follows_basic (kind_of line)) (lines ++ rest)) 0) ∙ (let e = prefix_is lines rest all.1 stops in omega arith)
 
--- the rest of a schedule is the lines that follow, up to a record that begins anew
+-- the rest of a schedule is the lines that follow, up to a record that can't follow a basic
+-- schedule
 pub rest_is : (lines rest : List (List ℕ)) → AllByRecursion Follows lines → StopsHere rest → schedule_rest (lines ++ rest) ≡ lines
 rest_is lines rest all stops = ap (λ n. take n (lines ++ rest)) (prefix_is lines rest all stops) ∙ take-append_seam lines rest
 
@@ -273,7 +275,7 @@ journey_follows lines journey =
     within line (inl call) = follows_by intermediate_location line call refl
     within line (inr change) = follows_by change_en_route line change refl
 
--- each line behind a schedule's basic schedule follows one
+-- each line after the first of a schedule is one that follows a basic schedule
 pub schedule_follows : (lines : List (List ℕ)) (schedule : IsSchedule lines) → AllByRecursion Follows (schedule.extra ++ schedule.journey)
 schedule_follows lines schedule = all_append Follows schedule.extra schedule.journey (details schedule.details) (journey schedule.journey_or_none)
   where
@@ -370,7 +372,7 @@ unit_stops unit rest (inl single) = subst (λ u. StopsHere (u ++ rest)) (sym sin
     by (inr (inr (inr kind))) = stops_by association single.0 kind refl
 unit_stops unit rest (inr schedule) = subst (λ u. StopsHere (u ++ rest)) (sym schedule.whole) (stops_by basic_schedule schedule.basic schedule.kind refl)
 
--- units and a trailer begin anew
+-- no schedule continues into these units and the trailer
 pub units_stop : (units : List (List (List ℕ))) (last : List ℕ) → AllByRecursion IsUnit units → HasKind trailer last
     → StopsHere (flat_map (λ unit. unit) units ++ last ∷ [])
 units_stop [] last all end = stops_by trailer last end refl

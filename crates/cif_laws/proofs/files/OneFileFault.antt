@@ -1,4 +1,4 @@
--- A text has one fault at most, and none where it is a file's.
+-- A text has at most one fault, and none if it is the text of a file.
 use Rattle.std.proofs.Common.{ℕ, List, [], ◌∷◌, ◌≡◌, ◌+◌, ◌++◌, ◌⊎◌, inl, inr, refl, ap, sym, subst, append_assoc, ◌≤◌, length, arith, length-append, ◌∙◌, ◌<◌, append-nil}
 use Rattle.std.specs.Prelude.{◌==◌, if◌then◌else◌, unwrap_or}
 use Rattle.std.proofs.lemmas.Bool.{cases_order}
@@ -8,7 +8,7 @@ use Rattle.docker_model.specs.file.File.{IsFile, BeginsFile}
 use Rattle.docker_model.specs.file.Text.{lines_of}
 use Rattle.docker_model.specs.file.FileFault.{FileFault, IsRecordFault, FileCause, bad_byte, bad_field, too_many, after_trailer, bad_length, bad_kind, bad_place, third_midnight, no_end, cause_rank, HoldsOf, IsCause, IsUnended, IsFileFault, IsFileText}
 
--- two ways to name a record of a list: it is the same one, or one stands before the other
+-- two ways to point at a record of a list point at the same one, or one is before the other
 head_or : List ℕ → Lines → List ℕ
 head_or line [] = line
 head_or line (first ∷ rest) = first
@@ -36,7 +36,7 @@ same_place (first ∷ firsts) (second ∷ seconds) line other rest more e =
     by heads (inr (inl told)) = inr (inl (told.0, λ i. sym heads i ∷ told.1 i))
     by heads (inr (inr told)) = inr (inr (told.0, λ i. heads i ∷ told.1 i))
 
--- what begins a file has only fronts that do
+-- a file begins with each front of records with which a file begins
 pub begins_front : (front rest : Lines) → BeginsFile (front ++ rest) → BeginsFile front
 begins_front front rest begins = (rest ++ begins.0, subst IsFile (append_assoc front rest begins.0) begins.1)
 
@@ -49,7 +49,7 @@ not_within limit records fault is more begins within = by is.here
     by (inl over) = let size = length-append is.earlier (is.line ∷ more) in omega arith
     by (inr none) = none (begins_front (is.earlier ++ is.line ∷ []) more (subst BeginsFile (sym (append_assoc is.earlier (is.line ∷ []) more)) begins))
 
--- a cause is known by its rank and its column
+-- a cause is determined by its rank and its column
 unfoldable pub column_of : FileCause → ℕ
 column_of (bad_byte at) = at
 column_of (bad_field at) = at
@@ -73,11 +73,11 @@ cause_again (bad_field at) = refl
 cause_again third_midnight = refl
 cause_again no_end = refl
 
--- causes of one rank and one column are one
+-- causes with the same rank and column are equal
 pub same_cause : (first second : FileCause) → cause_rank first ≡ cause_rank second → column_of first ≡ column_of second → first ≡ second
 same_cause first second same columns = sym (cause_again first) ∙ (λ i. cause_at (same i) (columns i)) ∙ cause_again second
 
--- the column that a line tells at a rank
+-- the column that a line gives for a rank
 unfoldable pub column_told : ℕ → List ℕ → ℕ
 column_told rank line = if rank == 3 then unwrap_or (leftmost_bad_byte line) 0 else (if rank == 6 then unwrap_or (leftmost_bad_field line) 0 else 0)
 
@@ -94,7 +94,7 @@ column_is limit earlier line (bad_field at) holds = ap (λ o. unwrap_or o 0) hol
 column_is limit earlier line third_midnight holds = refl
 column_is limit earlier line no_end holds = refl
 
--- a record has one cause at most
+-- a record has at most one cause
 pub one_cause : (limit : ℕ) (earlier : Lines) (line : List ℕ) (first second : FileCause) → IsCause limit earlier line first → IsCause limit earlier line second
     → first ≡ second
 one_cause limit earlier line first second is_first is_second = by (cases_order (cause_rank first) (cause_rank second))
@@ -107,7 +107,7 @@ one_cause limit earlier line first second is_first is_second = by (cases_order (
     by (inr (inl below)) = absurd (is_second.first first below is_first.holds)
     by (inr (inr above)) = absurd (is_first.first second above is_second.holds)
 
--- two record faults of one list are one
+-- two record faults of one list are equal
 record_fault_unique : (limit : ℕ) (records : Lines) (first second : FileFault) → IsRecordFault limit records first → IsRecordFault limit records second
     → first ≡ second
 record_fault_unique limit records first second one two =
@@ -131,7 +131,7 @@ not_both_faults : (limit : ℕ) (records : Lines) (first second : FileFault) →
 not_both_faults limit records first second one two =
     not_within limit records first one one.later (subst BeginsFile one.whole two.begin) (subst (λ lines. length lines ≤ limit) one.whole two.within)
 
--- a text has one fault at most
+-- a text has at most one fault
 pub one_fault : (limit : ℕ) (text : List ℕ) (first second : FileFault) → IsFileFault limit text first → IsFileFault limit text second → first ≡ second
 one_fault limit text first second (inl one) (inl two) = record_fault_unique limit (lines_of text) first second one two
 one_fault limit text first second (inl one) (inr two) = absurd (not_both_faults limit (lines_of text) first second one two)

@@ -1,4 +1,4 @@
--- A text is one of these records exactly where splitting it gives them.
+-- A text is a text of these records if and only if splitting it gives them.
 use Rattle.std.proofs.Common.{◌≡◌, ℕ, suc, ◌-◌, ◌<◌, ◌≤◌, ◌⊎◌, List, [], ◌∷◌, ◌++◌, length, map, take, refl, ap, sym, ◌∙◌, subst, inl, inr, Bool, true, false, cond, arith, All, eqb-true, append_assoc, append-nil, length-append}
 use Rattle.std.specs.Prelude.{◌↔◌, ◌==◌, slice_index, ◌≢◌, nat_le, ◌&&◌}
 use Rattle.std.specs.List.{slice_split, join_with_byte, AllByRecursion, AllPass}
@@ -11,7 +11,7 @@ use Rattle.std.proofs.Math.Seq.{take-append_seam, get_or-append_seam}
 use Rattle.docker_model.specs.records.Record.{is_printable, IsRecord}
 use Rattle.docker_model.specs.file.Text.{IsLineEnd, IsLastLineEnd, IsTextOf, without_empty_last, lines_of}
 
--- a list whose last byte is 13 is what stands before it, and 13
+-- a list whose last byte is 13 is the bytes before it, and 13
 last_is : (bytes : List ℕ) → slice_index bytes (length bytes - 1) ≡ 13 → bytes ≡ take (length bytes - 1) bytes ++ 13 ∷ []
 last_is [] h = absurd (omega arith)
 last_is (x ∷ []) h = λ i. h i ∷ []
@@ -24,7 +24,7 @@ last_is (x ∷ y ∷ bytes) h =
     (last_is (y ∷ bytes) inner) in
     subst (λ k. (x ∷ y ∷ bytes) ≡ take k (x ∷ y ∷ bytes) ++ 13 ∷ []) (sym less) (ap (λ zs. x ∷ zs) rest)
 
--- a piece is its line, and perhaps a carriage return
+-- a piece is its line, perhaps with a carriage return
 piece_is : (piece : List ℕ) → (piece ≡ strip_carriage_return piece) ⊎ (piece ≡ strip_carriage_return piece ++ 13 ∷ [])
 piece_is piece = by (slice_index piece (length piece - 1) == 13) refl
   where
@@ -33,7 +33,7 @@ piece_is piece = by (slice_index piece (length piece - 1) == 13) refl
     by true h = inr (last_is piece (eqb-true _ _ h) ∙ (λ i. cond (sym h i) (take (length piece - 1) piece) piece ++ 13 ∷ []))
     by false h = inl (λ i. cond (sym h i) (take (length piece - 1) piece) piece)
 
--- a piece, a line feed and a text of the rest are a text with one line more
+-- a piece, a line feed and a text of the rest make a text with one more line
 one_more : (piece : List ℕ) (lines : List (List ℕ)) (rest : List ℕ) → IsTextOf lines rest → IsTextOf (strip_carriage_return piece ∷ lines) (piece ++ 10 ∷ rest)
 one_more piece [] rest told = by (piece_is piece)
   where
@@ -72,7 +72,7 @@ pieces_text (piece ∷ next ∷ pieces) =
 pub text_of_lines : (text : List ℕ) → IsTextOf (lines_of text) text
 text_of_lines text = subst (IsTextOf (lines_of text)) (join_with_byte-slice_split 10 text) (pieces_text (slice_split (λ b. b == 10) text))
 
--- what a record is, as far as line ends go
+-- what matters about a record for line ends
 pub record IsPlain (line : List ℕ) : Type 0 where
   pub some : 0 < length line
   pub no_feed : All (λ b. (b == 10) ≡ false) line
@@ -181,7 +181,7 @@ records_plain : (lines : List (List ℕ)) → AllByRecursion IsRecord lines → 
 records_plain [] all = tt
 records_plain (line ∷ lines) all = (IsRecord-IsPlain line all.0, records_plain lines all.1)
 
--- for records, being a text of them and being split into them is one thing
+-- for records, being a text of them is the same as being split into them
 pub text_iff_lines : (records : List (List ℕ)) (text : List ℕ) → All IsRecord records → IsTextOf records text ↔ (lines_of text ≡ records)
 text_iff_lines records text all = (
   lines_of_text records text (records_plain records (recursion_from_All IsRecord records all)),

@@ -1,4 +1,5 @@
--- The fault that a text tells before its end: it stays the fault of every longer text, and where there is none the lines that are told begin a file.
+-- The fault that a text shows before its end stays the fault of every longer text. If it shows
+-- none, some file begins with its complete lines.
 use Rattle.std.proofs.Common.{ℕ, ◌+◌, ◌-◌, ◌≤◌, List, take, length, Bool, true, false, cond, arith, ◌≡◌, refl, Some, None, [], ◌∷◌, ◌++◌, ◌<◌, sym, ◌∙◌, append_assoc, ◌⊎◌, inl, inr, map, subst, length-append, ap}
 use Rattle.std.specs.Prelude.{◌==◌, slice_index, ◌≢◌, Option, nat_le}
 use Rattle.std.specs.List.{slice_split}
@@ -18,9 +19,9 @@ use Rattle.cif_laws.proofs.files.FileStages.{next_by_test, begins_iff_place, beg
 use Rattle.cif_laws.proofs.files.FileCauses.{Pass, HasRecordFault, pass_or_fault, record_fault}
 use Rattle.cif_laws.proofs.files.ToldLines.{GoesOn, goes_on, lines_of_told, lines_of_open, lines_told_is, lines_told_grow, told_lines_cut}
 
--- ---- a piece of more than 81 bytes is no record
+-- ---- a piece of more than 81 bytes is not a record
 
--- a carriage return taken away is one byte at most
+-- taking a carriage return away removes at most one byte
 pub strip_long : (piece : List ℕ) → length piece ≤ length (strip_carriage_return piece) + 1
 strip_long piece = by (slice_index piece (length piece - 1) == 13)
   where
@@ -28,11 +29,11 @@ strip_long piece = by (slice_index piece (length piece - 1) == 13)
     by true = let size = length-take-le (length piece - 1) piece (omega arith) in omega arith
     by false = omega arith
 
--- a piece of more than 81 bytes is no line of 80
+-- a piece of more than 81 bytes is not a line of 80
 pub not_80 : (piece : List ℕ) → 82 ≤ length piece → length (strip_carriage_return piece) ≢ 80
 not_80 piece long is = let most = strip_long piece in absurd (omega arith)
 
--- a line of another length is no next record
+-- a line that doesn't have 80 bytes is not a next record
 pub no_next_place : (place : Place) (line : List ℕ) → length line ≢ 80 → next_place place line ≡ None
 no_next_place place line apart = by (next_place place line) refl
   where
@@ -48,7 +49,7 @@ no_begin earlier line apart begins =
 
 -- ---- parts of lists
 
--- what stands before the end of a front stands in it
+-- an element before the end of a front is in the front
 within_front : (front more earlier : Lines) (line : List ℕ) (later : Lines) → front ++ more ≡ earlier ++ line ∷ later → length earlier < length front
     → (rest : Lines) × (front ≡ earlier ++ line ∷ rest)
 within_front [] more earlier line later e below = absurd (omega arith)
@@ -61,7 +62,7 @@ within_front (first ∷ front) more (second ∷ earlier) line later e below =
     let rest = within_front front more earlier line later tails (omega arith) in
     (rest.0, λ i. heads i ∷ rest.1 i)
 
--- what stands behind a whole front is what follows it
+-- the element after a whole front is the one that follows it
 behind_front : (front : Lines) (last : List ℕ) (earlier : Lines) (line : List ℕ) (later : Lines) → front ++ last ∷ [] ≡ earlier ++ line ∷ later
     → length earlier ≡ length front
     → (earlier ≡ front) × (line ≡ last)
@@ -75,9 +76,9 @@ behind_front (first ∷ front) last (second ∷ earlier) line later e same =
     let rest = behind_front front last earlier line later tails (omega arith) in
     (λ i. sym heads i ∷ rest.0 i, rest.1)
 
--- ---- a told fault stays
+-- ---- a fault that is shown stays
 
--- a cause that is told of a line of another length is told of each such line
+-- a cause of one line that doesn't have 80 bytes is a cause of each such line
 cause_stays : (limit : ℕ) (earlier : Lines) (line other : List ℕ) (cause : FileCause) → length line ≢ 80 → length other ≢ 80 → IsCause limit earlier line cause
     → IsCause limit earlier other cause
 cause_stays limit earlier line other cause one two is = by cause is
@@ -107,7 +108,7 @@ cause_stays limit earlier line other cause one two is = by cause is
     by third_midnight told = absurd (above third_midnight told (omega arith))
     by no_end told = absurd told.holds
 
--- a record at fault among the first of some records is at fault among those that begin with them
+-- a fault among the first of some records is a fault of all the records
 fault_in_front : (limit : ℕ) (front records more : Lines) (fault : FileFault) → records ≡ front ++ more → IsRecordFault limit front fault
     → IsRecordFault limit records fault
 fault_in_front limit front records more fault whole is = record {
@@ -122,13 +123,13 @@ fault_in_front limit front records more fault whole is = record {
   cause = is.cause;
 }
 
--- the first line of pieces of which the first isn't empty
+-- if the first piece isn't empty, it is the first line
 first_left : (piece : List ℕ) (pieces : Lines) → 0 < length piece → (others : Lines) × (without_empty_last (piece ∷ pieces) ≡ piece ∷ others)
 first_left [] [] some = absurd (omega arith)
 first_left (b ∷ bytes) [] some = ([], refl)
 first_left piece (next ∷ pieces) some = (without_empty_last (next ∷ pieces), refl)
 
--- a fault that a text tells stays the one of every longer text
+-- a fault that a text shows stays the fault of every longer text
 pub fault_stays : (limit : ℕ) (text more : List ℕ) (fault : FileFault) → IsFaultSoFar limit text fault → IsFaultSoFar limit (text ++ more) fault
 fault_stays limit text more fault told =
     record {
@@ -189,32 +190,34 @@ fault_stays limit text more fault told =
           cause = cause_stays limit told.is.earlier told.is.line (strip_carriage_return (open_line text ++ on.first)) fault.cause short longer told.is.cause;
         }
 
--- and is the fault of the whole text
+-- a fault that the beginning of a text shows is the fault of the text
 pub fault_in_the_end : (limit : ℕ) (text more : List ℕ) (fault : FileFault) → IsFaultSoFar limit text fault → IsFileFault limit (text ++ more) fault
 fault_in_the_end limit text more fault told = inl (fault_stays limit text more fault told).is
 
--- a text tells one fault at most
+-- a text shows at most one fault
 pub one_fault_so_far : (limit : ℕ) (text : List ℕ) (first second : FileFault) → IsFaultSoFar limit text first → IsFaultSoFar limit text second → first ≡ second
 one_fault_so_far limit text first second one two = one_fault limit text first second (inl one.is) (inl two.is)
 
--- ---- a fault, or none among the told lines
+-- ---- a fault, or none among the complete lines
 
--- the lines that are told of a text with at most 81 bytes behind its last line feed
+-- if at most 81 bytes follow the last line feed, only the lines whose line feed came are complete
 pub lines_told_short : (text : List ℕ) → length (open_line text) ≤ 81 → lines_told text ≡ length (told_lines text)
 lines_told_short text short =
     lines_told_is text ∙ ap (λ b. length (told_lines text) + cond b 1 0) (lt-leb 82 (length (open_line text)) (omega arith)) ∙ omega arith
 
--- an open line of more than 81 bytes is told too
+-- an unfinished line of more than 81 bytes counts as complete too
 pub lines_told_long : (text : List ℕ) → 82 ≤ length (open_line text) → lines_told text ≡ length (told_lines text) + 1
 lines_told_long text long = lines_told_is text ∙ ap (λ b. length (told_lines text) + cond b 1 0) (le-leb 82 (length (open_line text)) long)
 
--- where the open line is shorter, what is told is the lines whose line feed came
+-- if the unfinished line is shorter, the first `lines_told` lines are the lines whose line feed
+-- came
 pub take_told : (text : List ℕ) → length (open_line text) ≤ 81 → take (lines_told text) (lines_of text) ≡ told_lines text
 take_told text short =
     ap (λ lines. take (lines_told text) lines) (lines_of_told text) ∙ take_at (told_lines text) (line_left (open_line text)) (lines_told text)
     (sym (lines_told_short text short))
 
--- no line that is told is at fault: some file begins with them, they are within the limit, and the open line has at most 81 bytes
+-- no complete line is at fault: some file begins with the complete lines, they are within the
+-- limit, and the unfinished line has at most 81 bytes
 pub record TellsNoFault (limit : ℕ) (text : List ℕ) : Type 0 where
   pub begin : BeginsFile (told_lines text)
   pub within : length (told_lines text) ≤ limit
@@ -223,7 +226,7 @@ pub record TellsNoFault (limit : ℕ) (text : List ℕ) : Type 0 where
 number_within : (limit : ℕ) (records : Lines) (fault : FileFault) → IsRecordFault limit records fault → fault.number ≤ length records
 number_within limit records fault is = let size = ap length is.whole ∙ length-append is.earlier (is.line ∷ is.later) in let number = is.number in omega arith
 
--- a text tells a fault, or none of its told records is at fault
+-- a text shows a fault, or none of its complete lines is at fault
 pub fault_so_far_or_none : (limit : ℕ) (text : List ℕ) → ((fault : FileFault) × IsFaultSoFar limit text fault) ⊎ TellsNoFault limit text
 fault_so_far_or_none limit text = by (cases_lt (length (open_line text)) 82)
   where
@@ -256,19 +259,20 @@ fault_so_far_or_none limit text = by (cases_lt (length (open_line text)) 82)
     by (inl short) = told (pass_or_fault limit (told_lines text)) (omega arith)
     by (inr long) = opened (pass_or_fault limit (lines_of text)) long
 
--- the same in the words of the definitions
+-- like `TellsNoFault`, in the words of the definitions
 abbrev pub PassesSoFar : ℕ → List ℕ → Type 0
 PassesSoFar limit text =
     BeginsFile (take (lines_told text) (lines_of text)) × (lines_told text ≤ limit) × (length (last_of (slice_split (λ b. b == 10) text)) ≤ 81)
 
--- where no told record is at fault, the told lines begin a file within the limit
+-- if no complete line is at fault, some file begins with the complete lines, and they are within
+-- the limit
 pub passes_so_far : (limit : ℕ) (text : List ℕ) → TellsNoFault limit text → PassesSoFar limit text
 passes_so_far limit text none =
     let same = lines_told_short text none.short in
     let within = none.within in
     (subst BeginsFile (sym (take_told text none.short)) none.begin, omega arith, none.short)
 
--- a text tells a fault, or its told lines begin a file within the limit
+-- a text shows a fault, or some file begins with its complete lines, and they are within the limit
 pub fault_so_far_or_passes : (limit : ℕ) (text : List ℕ) → ((fault : FileFault) × IsFaultSoFar limit text fault) ⊎ PassesSoFar limit text
 fault_so_far_or_passes limit text = by (fault_so_far_or_none limit text)
   where
@@ -277,7 +281,7 @@ fault_so_far_or_passes limit text = by (fault_so_far_or_none limit text)
     by (inl fault) = inl fault
     by (inr none) = inr (passes_so_far limit text none)
 
--- and not both
+-- never both
 pub passes_no_fault : (limit : ℕ) (text : List ℕ) (fault : FileFault) → PassesSoFar limit text → ¬ IsFaultSoFar limit text fault
 passes_no_fault limit text fault passes told = by told.is.here
   where
@@ -299,13 +303,13 @@ passes_no_fault limit text fault passes told = by told.is.here
 
 -- ---- for a reader of pieces
 
--- of a line of another length the cause does not look at its bytes
+-- if a line doesn't have 80 bytes, its cause doesn't depend on its bytes
 pub cause_of_length : (limit count : ℕ) (place : Place) (line : List ℕ) → length line ≢ 80 → cause_of limit count place line ≡ cause_of_long limit count place
 cause_of_length limit count place line apart =
     λ i. cond (nat_le limit count) too_many
     (cond (is_after_end place) after_trailer (cond (ne_eqb (length line) 80 apart i) (byte_cause place line) bad_length))
 
--- where the lines that are told lead to a place, none is at fault
+-- if the complete lines lead to a place, none is at fault
 pub no_fault_told : (limit : ℕ) (text : List ℕ) (place : Place) → IsPlaceOf (told_lines text) place → length (told_lines text) ≤ limit
     → length (open_line text) ≤ 81
     → (fault : FileFault) → ¬ IsFaultSoFar limit text fault
@@ -340,7 +344,7 @@ fault_at_feed limit text front rest place plain found within here = record {
       omega arith;
 }
 
--- an open line of more than 81 bytes is at fault, whatever follows it
+-- an unfinished line of more than 81 bytes is at fault, whatever follows it
 pub fault_at_long : (limit : ℕ) (text : List ℕ) (place : Place) → IsPlaceOf (told_lines text) place → length (told_lines text) ≤ limit
     → 82 ≤ length (open_line text)
     → IsFaultSoFar limit text (record { number = length (told_lines text) + 1; cause = cause_of_long limit (length (told_lines text)) place })
@@ -356,7 +360,7 @@ fault_at_long limit text place found within long =
       told = omega arith;
     })
 
--- at the end the open line is a line too, if it isn't empty
+-- at the end of the text the unfinished line is a line too, if it isn't empty
 pub fault_at_end : (limit : ℕ) (text : List ℕ) (place : Place) → IsPlaceOf (told_lines text) place → length (told_lines text) ≤ limit
     → 0 < length (open_line text)
     → (limit ≤ length (told_lines text)) ⊎ (next_place place (strip_carriage_return (open_line text)) ≡ None)
@@ -368,6 +372,6 @@ pub fault_at_end : (limit : ℕ) (text : List ℕ) (place : Place) → IsPlaceOf
 fault_at_end limit text place found within some here =
     inl (record_fault limit (told_lines text) place (strip_carriage_return (open_line text)) found (lines_of text) [] (lines_of_open text some) within here)
 
--- an open line with bytes is one line more
+-- an unfinished line with bytes counts as one more line
 pub length_at_end : (text : List ℕ) → 0 < length (open_line text) → length (lines_of text) ≡ length (told_lines text) + 1
 length_at_end text some = ap length (lines_of_open text some) ∙ length-append (told_lines text) (strip_carriage_return (open_line text) ∷ [])

@@ -1,23 +1,23 @@
--- Tests, and values that may be there.
+-- Tests and optional values.
 use Rattle.std.proofs.Common.{◌≡◌, refl, Bool, true, false, ◌⊎◌, inl, inr, Some, None}
 use Rattle.std.specs.Prelude.{◌&&◌, ◌||◌, not, Option, is_none, option_and_then, is_some}
 
--- both of two tests are passed where the two together are
+-- if two tests pass together, each passes
 pub both : (a b : Bool) → (a && b) ≡ true → (a ≡ true) × (b ≡ true)
 both true b h = (refl, h)
 both false b h = (cc, cc)
 
--- one of two tests is passed where one of the two is
+-- if one of two tests passes, the first or the second does
 pub either : (a b : Bool) → (a || b) ≡ true → (a ≡ true) ⊎ (b ≡ true)
 either true b h = inl refl
 either false b h = inr h
 
--- a test is failed where its contrary is passed
+-- if a test's negation passes, the test fails
 pub not_true : (b : Bool) → not b ≡ true → b ≡ false
 not_true true h = cc
 not_true false h = refl
 
--- what is tested to be none is none
+-- a value that is tested to be none is none
 pub none_by_test : {A : Type 0} (o : Option A) → is_none o ≡ true → o ≡ None
 none_by_test None h = refl
 none_by_test (Some x) h = cc
@@ -26,22 +26,22 @@ none_by_test (Some x) h = cc
 pub test_by_none : {A : Type 0} (o : Option A) → o ≡ None → is_none o ≡ true
 test_by_none o none = λ i. is_none (none i)
 
--- two tests that are passed are passed together
+-- if each of two tests passes, they pass together
 pub and_true : (a b : Bool) → a ≡ true → b ≡ true → (a && b) ≡ true
 and_true true b h g = g
 and_true false b h g = h
 
--- what option_and_then gives, it gives of something
+-- a result of option_and_then comes from some value
 pub then_some : {A B : Type 0} (f : A → Option B) (o : Option A) (y : B) → option_and_then f o ≡ Some y → (x : A) × (o ≡ Some x) × (f x ≡ Some y)
 then_some f None y found = cc
 then_some f (Some x) y found = (x, refl, found)
 
--- going on with the value itself changes nothing
+-- option_and_then with the value itself changes nothing
 pub some_then : {A : Type 0} (o : Option A) → option_and_then (λ x. Some x) o ≡ o
 some_then None = refl
 some_then (Some x) = refl
 
--- what is tested to be there is some value
+-- a value that is tested to be some is some value
 pub some_by_test : {A : Type 0} (o : Option A) → is_some o ≡ true → (x : A) × (o ≡ Some x)
 some_by_test None h = cc
 some_by_test (Some x) h = (x, refl)
@@ -50,6 +50,6 @@ some_by_test (Some x) h = (x, refl)
 pub true_is_not : true ≡ false → ⊥
 true_is_not same = cc
 
--- none is nothing that is there
+-- none is not some value
 pub none_some : {A B : Type 0} (x : A) → None ≡ Some x → B
 none_some x same = absurd cc

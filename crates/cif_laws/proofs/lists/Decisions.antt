@@ -1,4 +1,4 @@
--- Facts that are decided: they hold, or they don't.
+-- Facts that are decided: each holds, or it doesn't.
 use Rattle.std.proofs.Common.{◌≡◌, ℕ, suc, ◌<◌, ◌≤◌, List, [], ◌∷◌, length, refl, ap, sym, ◌∙◌, subst, inl, inr, ◌⊎◌, arith, Bool, true, false, nat_le, ◌==◌, ◌≢◌, if◌then◌else◌, All, Some, None}
 use Rattle.std.specs.Prelude.{Option}
 use Rattle.std.specs.List.{AllByRecursion}
@@ -10,7 +10,7 @@ use Rattle.std.proofs.lemmas.List.Elements.{All-from_recursion, recursion_from_A
 use Rattle.std.proofs.lemmas.Map.Lookups.{CmpEqualImpliesEq}
 use Rattle.docker_model.specs.records.Record.{Kind, header, tiploc_insert, tiploc_amend, tiploc_delete, association, basic_schedule, extra_details, origin_location, intermediate_location, terminating_location, change_en_route, trailer}
 
--- it holds, or it doesn't
+-- the fact holds, or it doesn't
 abbrev pub Decided : Type 0 → Type 0
 Decided P = P ⊎ ¬ P
 
@@ -30,17 +30,17 @@ either_decided {P} {Q} (inr never) (inr none) = inr by
     by (inl p) = never p
     by (inr q) = none q
 
--- the contrary of a decided fact
+-- the negation of a decided fact
 pub not_decided : {P : Type 0} → Decided P → Decided (¬ P)
 not_decided (inl p) = inr (λ none. none p)
 not_decided (inr none) = inl none
 
--- a fact that holds exactly where a decided one does
+-- a fact that is equivalent to a decided one
 pub decided_along : {P Q : Type 0} → (P → Q) → (Q → P) → Decided P → Decided Q
 decided_along to back (inl p) = inl (to p)
 decided_along to back (inr none) = inr (λ q. none (back q))
 
--- a test is passed or not
+-- a test passes or not
 pub bool_decided : (b : Bool) → Decided (b ≡ true)
 bool_decided true = inl refl
 bool_decided false = inr (λ e. cc)
@@ -74,24 +74,24 @@ all_decided P test (x ∷ xs) = both_decided (test x) (all_decided P test xs)
 pub All_decided : {A : Type 0} (P : A → Type 0) → ((x : A) → Decided (P x)) → (xs : List A) → Decided (All P xs)
 All_decided P test xs = decided_along (All-from_recursion P xs) (recursion_from_All P xs) (all_decided P test xs)
 
--- the answer of an order is Less or not
+-- an order's answer is Less or not
 pub less_decided : (o : Ordering) → Decided (o ≡ Less)
 less_decided Less = inl refl
 less_decided Equal = inr (λ e. cc)
 less_decided Greater = inr (λ e. cc)
 
--- the answer of an order is Equal or not
+-- an order's answer is Equal or not
 pub equal_decided : (o : Ordering) → Decided (o ≡ Equal)
 equal_decided Less = inr (λ e. cc)
 equal_decided Equal = inl refl
 equal_decided Greater = inr (λ e. cc)
 
--- where an order tells values apart, two are equal or not
+-- if an order distinguishes values, any two are equal or not
 pub same_decided : {A : Type 0} {cmp : A → A → Ordering} → IsTotalOrder cmp → CmpEqualImpliesEq cmp → (a b : A) → Decided (a ≡ b)
 same_decided {A} {cmp} total exact a b =
     decided_along (exact a b) (λ same. subst (λ x. cmp a x ≡ Equal) same (tied_itself total a)) (equal_decided (cmp a b))
 
--- a value is there or not
+-- an optional value is some or none
 pub none_decided : {A : Type 0} (o : Option A) → Decided (o ≡ None)
 none_decided None = inl refl
 none_decided (Some x) = inr (λ e. cc)

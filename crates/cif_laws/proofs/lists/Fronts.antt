@@ -1,7 +1,7 @@
--- Two lists that begin one list, and are as long, are one.
+-- Two lists of the same length that begin one list are equal.
 use Rattle.std.proofs.Common.{◌≡◌, ℕ, List, ◌++◌, length, [], ◌∷◌, ap, refl, arith}
 
--- fronts of one length
+-- fronts of the same length are equal
 pub same_front : (xs ys more rest : List ℕ) → length xs ≡ length ys → xs ++ more ≡ ys ++ rest → (xs ≡ ys) × (more ≡ rest)
 same_front [] [] more rest size same = (refl, same)
 same_front [] (y ∷ ys) more rest size same = absurd (omega arith)

@@ -1,4 +1,4 @@
--- What is at most another value in a total order.
+-- The relation "at most" of a total order.
 use Rattle.std.proofs.Common.{◌≡◌, refl, true, inl, inr, ◌⊎◌, ap, ◌∙◌, sym}
 use Rattle.std.specs.Cmp.{IsTotalOrder, tied_itself}
 use Rattle.std.specs.Ordering.{is_eq, ordering_reverse}
@@ -16,7 +16,7 @@ eq_is Greater h = cc
 pub less_not_greater : (o : Ordering) → o ≡ Less → ¬ (o ≡ Greater)
 less_not_greater o less greater = cc
 
--- of two values neither of which is above the other, the order does not tell which is which
+-- if neither of two values is above the other, the order doesn't distinguish them
 pub level : {A : Type 0} {cmp : A → A → Ordering} → IsTotalOrder cmp → (a b : A) → IsAtMost cmp a b → IsAtMost cmp b a → cmp a b ≡ Equal
 level {A} {cmp} total a b up down = by (cmp a b) (cmp b a) (total.antisymm a b) up down
   where
@@ -27,7 +27,7 @@ level {A} {cmp} total a b up down = by (cmp a b) (cmp b a) (total.antisymm a b) 
     by Less Equal e high low = cc
     by Less Greater e high low = absurd (low refl)
 
--- a value is at most itself, and below means at most
+-- a value is at most itself
 pub at_most_itself : {A : Type 0} {cmp : A → A → Ordering} → IsTotalOrder cmp → (a : A) → IsAtMost cmp a a
 at_most_itself total a greater = let tied = tied_itself total a in cc
 
@@ -35,7 +35,7 @@ at_most_itself total a greater = let tied = tied_itself total a in cc
 pub at_most_below : {A : Type 0} (cmp : A → A → Ordering) (a b : A) → IsBelow cmp a b → IsAtMost cmp a b
 at_most_below cmp a b below greater = cc
 
--- of two values the first is at most the second, or the second is below the first
+-- the first of two values is at most the second, or the second is below the first
 pub at_most_or : {A : Type 0} {cmp : A → A → Ordering} → IsTotalOrder cmp → (a b : A) → IsAtMost cmp a b ⊎ IsBelow cmp b a
 at_most_or {A} {cmp} total a b = by (cmp a b) refl
   where

@@ -1,4 +1,5 @@
--- The orders are total. All but those of bodies, ops and entries tell different values apart, and these tell apart what has records as its lines.
+-- The orders are total. All orders but the ones of bodies, ops and entries distinguish different
+-- values. These three distinguish values whose lines are records.
 use mathlib.Core.Path.{fun_ext}
 use Rattle.std.proofs.Common.{◌≡◌, subst, sym, refl, ℕ, List, [], ap, true, false}
 use Rattle.std.specs.declared.cmp.Ordering.{Ordering}
@@ -14,7 +15,7 @@ use Rattle.docker_model.specs.state.Op.{association_key_cmp, schedule_key_cmp, k
 use Rattle.docker_model.specs.docker.DockerLine.{docker_line_cmp, occasion_rank, associated_uid}
 use Rattle.cif_laws.proofs.orders.AtMost.{eq_is}
 
--- an order that answers as a total one does is total
+-- an order that agrees with a total order is total
 pub total_along : {K : Type 0} {R S : K → K → Ordering} → ((a b : K) → R a b ≡ S a b) → IsTotalOrder S → IsTotalOrder R
 total_along same total = subst IsTotalOrder (sym (fun_ext (λ a. fun_ext (λ b. same a b)))) total
 
@@ -36,7 +37,7 @@ ledger_item_total =
     then_total (on_total (λ i. i.stamp) file_stamp_total)
     (then_total (on_total (λ i. i.indicator) nat_cmp_total) (on_total (λ i. i.last_reference) nat_list_cmp_total))
 
--- where the first order decides nothing, the second does
+-- if two orders combined decide nothing, each decides nothing
 pub then_equal : (a b : Ordering) → ordering_then a b ≡ Equal → (a ≡ Equal) × (b ≡ Equal)
 then_equal Less b e = (e, absurd (less_is_not_equal e))
   where
@@ -48,25 +49,25 @@ then_equal Greater b e = (e, absurd (greater_is_not_equal e))
     greater_is_not_equal : Greater ≡ Equal → ⊥
     greater_is_not_equal h = cc
 
--- the order tells different moments apart
+-- the order distinguishes different moments
 pub exact_moment : CmpEqualImpliesEq moment_cmp
 exact_moment a b e =
     let parts = then_equal (nat_cmp a.day b.day) (nat_cmp a.minute b.minute) e in
     λ i. record { day = exact_unsigned a.day b.day parts.0 i; minute = exact_unsigned a.minute b.minute parts.1 i }
 
--- the order tells different file stamps apart
+-- the order distinguishes different file stamps
 pub exact_file_stamp : CmpEqualImpliesEq file_stamp_cmp
 exact_file_stamp a b e =
     let parts = then_equal (moment_cmp a.moment b.moment) (bytes_cmp a.reference b.reference) e in
     λ i. record { moment = exact_moment a.moment b.moment parts.0 i; reference = exact_bytes a.reference b.reference parts.1 i }
 
--- the order tells different stamps apart
+-- the order distinguishes different stamps
 pub exact_stamp : CmpEqualImpliesEq stamp_cmp
 exact_stamp a b e =
     let parts = then_equal (file_stamp_cmp a.file b.file) (nat_cmp a.number b.number) e in
     λ i. record { file = exact_file_stamp a.file b.file parts.0 i; number = exact_unsigned a.number b.number parts.1 i }
 
--- the order tells different ledger items apart
+-- the order distinguishes different ledger items
 pub exact_ledger_item : CmpEqualImpliesEq ledger_item_cmp
 exact_ledger_item a b e =
     let parts = then_equal (file_stamp_cmp a.stamp b.stamp) _ e in
@@ -90,7 +91,7 @@ schedule_key_total =
     then_total (on_total (λ k. k.uid) nat_list_cmp_total)
     (then_total (on_total (λ k. k.runs_from) nat_cmp_total) (on_total (λ k. k.indicator) nat_cmp_total))
 
--- the order tells different associations' keys apart
+-- the order distinguishes different associations' keys
 pub exact_association_key : CmpEqualImpliesEq association_key_cmp
 exact_association_key a b e =
     let p = then_equal (bytes_cmp a.base b.base) _ e in
@@ -107,7 +108,7 @@ exact_association_key a b e =
       indicator = exact_unsigned a.indicator b.indicator t.1 i;
     }
 
--- the order tells different schedules' keys apart
+-- the order distinguishes different schedules' keys
 pub exact_schedule_key : CmpEqualImpliesEq schedule_key_cmp
 exact_schedule_key a b e =
     let p = then_equal (bytes_cmp a.uid b.uid) _ e in
@@ -118,7 +119,7 @@ exact_schedule_key a b e =
       indicator = exact_unsigned a.indicator b.indicator q.1 i;
     }
 
--- the parts of a key, where the other tags have none
+-- the parts of a key; keys of the other tags give empty parts
 abbrev code_in : Key → List ℕ
 code_in (tiploc_key code) = code
 code_in _ = []
@@ -134,7 +135,7 @@ schedule_in _ = record { uid = []; runs_from = 0; indicator = 0 }
 abbrev by_parts : Key → Key → Ordering
 by_parts = then_cmp (on key_tag nat_cmp) (then_cmp (on code_in bytes_cmp) (then_cmp (on association_in association_key_cmp) (on schedule_in schedule_key_cmp)))
 
--- an order, and behind it one that decides nothing
+-- an order followed by one that decides nothing
 pub then_equal_right : (a : Ordering) → ordering_then a Equal ≡ a
 then_equal_right Less = refl
 then_equal_right Equal = refl
@@ -158,7 +159,7 @@ key_total =
     (then_total (on_total key_tag nat_cmp_total) (then_total (on_total code_in nat_list_cmp_total)
     (then_total (on_total association_in association_key_total) (on_total schedule_in schedule_key_total))))
 
--- the order tells different keys apart
+-- the order distinguishes different keys
 pub exact_key : CmpEqualImpliesEq key_cmp
 exact_key (tiploc_key a) (tiploc_key b) e = ap tiploc_key (exact_bytes a b e)
 exact_key (tiploc_key a) (association_key b) e = cc
@@ -170,7 +171,8 @@ exact_key (schedule_key a) (tiploc_key b) e = cc
 exact_key (schedule_key a) (association_key b) e = cc
 exact_key (schedule_key a) (schedule_key b) e = ap schedule_key (exact_schedule_key a b e)
 
--- bodies: the order does not tell apart schedules whose lines differ but join to the same bytes
+-- the order of bodies is total. It doesn't distinguish schedules whose lines differ but join to the
+-- same bytes
 pub body_total : IsTotalOrder body_cmp
 body_total = then_total (on_total body_end nat_cmp_total) (then_total (on_total body_bytes nat_list_cmp_total) (on_total body_tag nat_cmp_total))
 
@@ -226,11 +228,11 @@ key_tied key = ap is_eq (tied_itself key_total key)
 pub same_key : (a b : Key) → is_eq (key_cmp a b) ≡ true → a ≡ b
 same_key a b h = exact_key a b (eq_is (key_cmp a b) h)
 
--- keys that do not tie are different
+-- keys that don't tie are different
 pub other_key : (a b : Key) → is_eq (key_cmp a b) ≡ false → ¬ (a ≡ b)
 other_key a b h same = let tied : is_eq (key_cmp a b) ≡ true = subst (λ k. is_eq (key_cmp a k) ≡ true) same (key_tied a) in cc
 
--- the docker list is fixed by its lines
+-- the order of docker lines is total, so their list is determined by its lines
 pub docker_line_total : IsTotalOrder docker_line_cmp
 docker_line_total =
     then_total (on_total (λ l. l.time) nat_cmp_total) (then_total (on_total (λ l. occasion_rank l.occasion) nat_cmp_total)

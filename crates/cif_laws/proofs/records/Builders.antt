@@ -1,4 +1,5 @@
--- Builders of 80-character records for the examples. Each argument is padded with spaces to its field's width.
+-- Builders of 80-character records for the examples. Each argument is padded with spaces to its
+-- field's width.
 use Rattle.std.proofs.Common.{ℕ, ◌-◌, List, [], ◌∷◌, ◌++◌, length, replicate}
 use Rattle.std.specs.Prelude.{codes}
 
@@ -49,7 +50,7 @@ lt code suffix arrives public platform path =
 abbrev pub zz : List ℕ
 zz = wide 80 (codes "ZZ")
 
--- a file of one schedule
+-- the header of a file with one schedule
 abbrev pub f2_header : List ℕ
 f2_header = hd (codes "090624") (codes "2100") (codes "DFROC1A") (codes "DFROC1Z") (codes "U")
 
@@ -57,11 +58,11 @@ f2_header = hd (codes "090624") (codes "2100") (codes "DFROC1A") (codes "DFROC1Z
 abbrev pub f2_basic : List ℕ
 f2_basic = bs (codes "N") (codes "C10001") (codes "240610") (codes "240614") (codes "1111100") (codes "1A10") (codes "P")
 
--- its origin
+-- the origin of the worked file
 abbrev pub f2_origin : List ℕ
 f2_origin = lo (codes "ASHFELD") no_text (codes "0900") (codes "0900") (codes "1") (codes "SL")
 
--- its terminus
+-- the terminus of the worked file
 abbrev pub f2_terminus : List ℕ
 f2_terminus = lt (codes "BRAYTON") no_text (codes "0930") (codes "0932") (codes "2") (codes "FL")
 
@@ -79,11 +80,11 @@ aa transaction base associated first last days category indicator location base_
 abbrev pub cr : List ℕ → List ℕ → List ℕ → List ℕ
 cr code suffix identity = wide 80 (codes "CR" ++ wide 7 code ++ wide 1 suffix ++ codes "OO" ++ wide 4 identity)
 
--- the schedule of that file
+-- the schedule of the worked file
 abbrev pub f2_schedule : List (List ℕ)
 f2_schedule = f2_basic ∷ f2_origin ∷ f2_terminus ∷ []
 
--- the file that renames a TIPLOC
+-- the header of the file that renames a TIPLOC
 abbrev pub rename_header : List ℕ
 rename_header = hd (codes "100624") (codes "2100") (codes "DFROC1B") (codes "DFROC1A") (codes "U")
 
@@ -91,7 +92,7 @@ rename_header = hd (codes "100624") (codes "2100") (codes "DFROC1B") (codes "DFR
 abbrev pub rename_amend : List ℕ
 rename_amend = ta (codes "ASHFELD") (codes "ASHFIELD NEW") (codes "ASHFLDN")
 
--- the file of that amendment
+-- the file with that amendment
 abbrev pub rename : List (List ℕ)
 rename = rename_header ∷ rename_amend ∷ zz ∷ []
 

@@ -1,4 +1,4 @@
--- The parts that good fields give: days, minutes, TIPLOCs, letters, keys and bodies.
+-- The values that good fields give: days, minutes, TIPLOCs, letters, keys and bodies.
 use Rattle.std.proofs.Common.{◌≡◌, ℕ, zero, suc, ◌≤◌, List, [], ◌∷◌, true, arith, ◌+◌, refl, Bool, false, cond, pos, ◌<◌, take, sym, ◌∙◌, ◌⊎◌, inl, inr, eqb-true}
 use Rattle.std.specs.Prelude.{slice_index, nat_le, ◌&&◌, nat_lt, not, ◌==◌, ◌||◌}
 use Rattle.std.specs.List.{list_all}
@@ -61,9 +61,9 @@ date_day_first_is_day field is =
     let year = year_is (two_digits field 4) (pair_below field 4 parts.0) in
     day_within (full_year (two_digits field 4)) (two_digits field 2) (two_digits field 0) year.0 year.1 parts.1
 
--- ---- times, TIPLOCs
+-- ---- times and TIPLOCs
 
--- a good clock tells a minute of the day
+-- a good clock gives a minute of the day
 pub clock_minute : (field : List ℕ) → is_clock field ≡ true → minute_of field < 1440
 clock_minute field is =
     let parts = both (list_all is_ascii_digit (take 4 field) && nat_lt (two_digits field 0) 24) _ is in
@@ -72,11 +72,11 @@ clock_minute field is =
     let minutes = ltb-true (two_digits field 2) 60 parts.1 in
     omega arith
 
--- a good TIPLOC starts with no space
+-- a good TIPLOC doesn't start with a space
 pub tiploc_starts : (field : List ℕ) → is_tiploc field ≡ true → ¬ (slice_index field 0 ≡ 32)
 tiploc_starts field is same = let bad : false ≡ true = sym (λ i. not (same i == 32)) ∙ is in cc
 
--- a good new TIPLOC that is not blank starts with no space
+-- a good new TIPLOC that isn't blank doesn't start with a space
 pub new_tiploc_starts : (field : List ℕ) → is_new_tiploc field ≡ true → is_blank field ≡ false → ¬ (slice_index field 0 ≡ 32)
 new_tiploc_starts field is some = by (either (is_blank field) (is_tiploc field) is)
   where

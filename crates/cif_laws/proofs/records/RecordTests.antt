@@ -39,7 +39,7 @@ bad_byte_by : (bytes : List ℕ) (t : Bool) → nat_lt (printable_front bytes) (
     (cond t (Some (printable_front bytes)) None)
 bad_byte_by bytes t h = λ i. option_map (λ (k : ℕ). k + 1) (cond (h i) (Some (printable_front bytes)) None)
 
--- printable bytes have no bad one
+-- printable bytes have no bad byte
 pub no_bad_byte : (bytes : List ℕ) → AllPass is_printable bytes → leftmost_bad_byte bytes ≡ None
 no_bad_byte bytes all = by (nat_lt (printable_front bytes) (length bytes)) refl
   where
@@ -49,7 +49,7 @@ no_bad_byte bytes all = by (nat_lt (printable_front bytes) (length bytes)) refl
         (length bytes) h in absurd (omega arith)
     by false h = bad_byte_by bytes false h
 
--- bytes without a bad one are printable
+-- bytes without a bad byte are printable
 pub printable_by_none : (bytes : List ℕ) → leftmost_bad_byte bytes ≡ None → AllPass is_printable bytes
 printable_by_none bytes none = by (nat_lt (printable_front bytes) (length bytes)) refl
   where
@@ -58,7 +58,7 @@ printable_by_none bytes none = by (nat_lt (printable_front bytes) (length bytes)
     by false h =
         let most = ltb-false (printable_front bytes) (length bytes) h in All-from_recursion (λ b. is_printable b ≡ true) bytes (whole_front bytes (omega arith))
 
--- bytes are a record exactly where they pass the test
+-- bytes are a record if and only if they pass the test
 pub record_iff_test : (line : List ℕ) → IsRecord line ↔ (is_record line ≡ true)
 record_iff_test line = (
   λ is. and_true (length line == 80) _ (ap (λ n. n == 80) is.0) (test_by_none (leftmost_bad_byte line) (no_bad_byte line is.1)),
@@ -75,12 +75,12 @@ fall_count-append [] later = omega arith
 fall_count-append (time ∷ []) later = omega arith
 fall_count-append (time ∷ next ∷ times) later = let rest = fall_count-append (next ∷ times) later in omega arith
 
--- times that go on fall no less often, from a first one on
+-- more times make no fewer falls, if there is a first time
 pub fall_count_behind : (time : ℕ) (times later : List ℕ) → fall_count (time ∷ times) ≤ fall_count ((time ∷ times) ++ later)
 fall_count_behind time [] later = omega arith
 fall_count_behind time (next ∷ times) later = let rest = fall_count_behind next times later in omega arith
 
--- times that go on fall no less often
+-- more times make no fewer falls
 pub fewer_falls : (times later : List ℕ) → fall_count times ≤ fall_count (times ++ later)
 fewer_falls [] later = omega arith
 fewer_falls (time ∷ times) later = fall_count_behind time times later
@@ -100,7 +100,7 @@ last_of-append (time ∷ []) (next ∷ later) = by next later
     by first (second ∷ rest) = by second rest
 last_of-append (time ∷ next ∷ times) later = last_of-append (next ∷ times) later
 
--- a time that none is above adds no fall
+-- the last half minute of a day
 abbrev pub last_time : ℕ
 last_time = 2879
 
@@ -113,7 +113,7 @@ no_fall_behind time [] all = by (nat_lt last_time time) refl
     by false h = λ i. cond (h i) 1 0 + 0
 no_fall_behind time (next ∷ times) all = ap (λ n. cond (nat_lt next time) 1 0 + n) (no_fall_behind next times all.1)
 
--- a time that none is above adds no fall
+-- the last half minute of a day adds no fall
 pub no_fall_last : (times : List ℕ) → AllByRecursion (λ t. t ≤ last_time) times → fall_count (times ++ last_time ∷ []) ≡ fall_count times
 no_fall_last [] all = refl
 no_fall_last (time ∷ times) all = no_fall_behind time times all
@@ -124,12 +124,13 @@ times_append lines more =
     ap (map (λ (time : Occasion × ℕ). time.1)) (flat_map-append times_of lines more) ∙ map-append (λ (time : Occasion × ℕ). time.1) (flat_map times_of lines)
     (flat_map times_of more)
 
--- lines that go on pass midnight no less often
+-- more lines pass midnight no less often
 pub fewer_midnights : (lines more : List (List ℕ)) → midnights lines ≤ midnights (lines ++ more)
 fewer_midnights lines more =
     subst (λ times. midnights lines ≤ fall_count times) (sym (times_append lines more)) (fewer_falls (times_along lines) (times_along more))
 
--- the midnights with one more record: those so far, and the falls of its times behind the last time so far
+-- the midnights with one more record: the midnights so far, and the falls of its times after the
+-- last time so far
 pub midnights_step : (lines : List (List ℕ)) (line : List ℕ) → midnights (lines ++ line ∷ []) ≡ midnights lines + falls_after (last_of (times_along lines))
     (times_along (line ∷ []))
 midnights_step lines line = ap fall_count (times_append lines (line ∷ [])) ∙ fall_count-append (times_along lines) (times_along (line ∷ []))
@@ -139,15 +140,15 @@ pub last_time_step : (lines : List (List ℕ)) (line : List ℕ) → last_of (ti
     (last_of (times_along lines))
 last_time_step lines line = ap last_of (times_append lines (line ∷ [])) ∙ last_of-append (times_along lines) (times_along (line ∷ []))
 
--- a line without times
+-- a line of a kind without times has no times
 pub no_times : (kind : Kind) (line : List ℕ) → HasKind kind line → times_by_kind (Some kind) line ≡ [] → times_of line ≡ []
 no_times kind line is none = ap (λ k. times_by_kind k line) is ∙ none
 
--- a line without times adds none
+-- a line without times adds no times
 pub no_times_before : (line : List ℕ) (lines : List (List ℕ)) → times_of line ≡ [] → times_along (line ∷ lines) ≡ times_along lines
 no_times_before line lines none = ap (λ times. map (λ (time : Occasion × ℕ). time.1) (times ++ flat_map times_of lines)) none
 
--- the times of good fields are within the day
+-- the times of a record with good fields are within the day
 abbrev IsWithinDay : Occasion × ℕ → Type 0
 IsWithinDay time = time.1 ≤ last_time
 

@@ -1,4 +1,4 @@
--- Whether lines are a schedule, and whether some schedule begins with them, is decided.
+-- It is decided whether lines are a schedule, and whether some schedule begins with them.
 use Rattle.std.proofs.Common.{◌≡◌, ℕ, List, length, true, Some, [], ◌∷◌, ◌⊎◌, inr, inl, ◌+◌, ◌++◌, ap, refl, sym, subst, ◌≤◌, IsTrue, All, Bool, false, arith, if◌then◌else◌, nat_lt, map, ◌||◌, None, cond, not, find, ◌∙◌, codes, append-nil, lit≤}
 use Rattle.std.specs.Prelude.{⊤, slice_index, ◌==◌, option_map, Option}
 use Rattle.std.specs.List.{AllByRecursion, flat_map}
@@ -36,7 +36,7 @@ good_fields_decided line = none_decided (leftmost_bad_field line)
 within_decided : (line : List ℕ) → Decided (IsWithinJourney line)
 within_decided line = either_decided (has_kind_decided intermediate_location line) (has_kind_decided change_en_route line)
 
--- calls up to a terminus, and a front of such
+-- calls up to a terminus, and a front of such calls
 abbrev WholeCalls : Lines → Type 0
 WholeCalls [] = ⊥
 WholeCalls (line ∷ lines) = (HasKind terminating_location line × (lines ≡ [])) ⊎ (IsWithinJourney line × WholeCalls lines)
@@ -254,7 +254,7 @@ scheduled_from_present field present = by (is_blank field)
 some_is_not_none : (n : ℕ) → Some n ≡ None → ⊥
 some_is_not_none n h = cc
 
--- fields none of which is the leftmost bad one are good
+-- if none of some fields is the leftmost bad one, they are good
 all_good : (line : List ℕ) (fields : List CheckedField)
     → option_map (λ (field : CheckedField). field.first) (find (λ field. not (field.is_good (columns field.first field.last line))) fields) ≡ None
     → AllByRecursion (λ (field : CheckedField). field.is_good (columns field.first field.last line) ≡ true) fields
@@ -322,7 +322,7 @@ small_along (line ∷ lines) good =
     times_of-times : List ℕ → List ℕ
     times_of-times l = times_in (times_of l)
 
--- falls of a front, and behind a last time
+-- a front of times has no more falls than all of them, and the day's last half minute adds none
 falls_front : (times more : List ℕ) → fall_count times ≤ fall_count (times ++ more)
 falls_front [] more = omega arith
 falls_front (time ∷ []) more = omega arith
@@ -337,7 +337,7 @@ midnights_front : (lines more : Lines) → midnights lines ≤ midnights (lines 
 midnights_front lines more =
     subst (λ times. midnights lines ≤ fall_count times) (sym (times_along-append lines more)) (falls_front (times_along lines) (times_along more))
 
--- a terminus in the last half minute
+-- a terminus in the day's last half minute
 abbrev last_terminus : List ℕ
 last_terminus = lt (codes "BRAYTON") no_text (codes "2359H") no_text no_text no_text
 
@@ -373,7 +373,7 @@ front_here_decided (basic ∷ lines) =
     both_decided (both_decided (records_decided (basic ∷ lines)) (basic_decided basic))
     (either_decided (front_part_decided basic lines) (extra_and_front_decided basic lines))
 
--- what a schedule begins with is a front
+-- the lines that begin a schedule are a front of one
 front_of_whole : (lines rest : Lines) → WholeCalls (lines ++ rest) → FrontOfCalls lines
 front_of_whole [] rest calls = tt
 front_of_whole (line ∷ lines) rest (inl told) = inl (told.0, nothing lines told.1)
@@ -405,7 +405,7 @@ front_of_schedule (basic ∷ lines) rest here = ((all_front IsRecord (basic ∷ 
     by [] (inr part) = inl tt
     by (extra ∷ others) (inr part) = inr (part.0, front_of_part basic others rest part.1)
 
--- and a front is completed
+-- a front can be completed to a schedule
 record Ending (basic : List ℕ) (lines : Lines) : Type 0 where
   rest : Lines
   records : AreRecords rest
@@ -459,7 +459,7 @@ begins_of_front (basic ∷ lines) here = by lines here.0.0 here.1
           ),
         )
 
--- some schedule begins with lines or none does
+-- some schedule begins with the lines, or none does
 pub begins_decided : (lines : Lines) → Decided (BeginsSchedule lines)
 begins_decided lines =
     decided_along (begins_of_front lines) (λ begins. front_of_schedule lines begins.0 (is_schedule (lines ++ begins.0) begins.1)) (front_here_decided lines)

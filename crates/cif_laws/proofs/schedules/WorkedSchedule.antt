@@ -8,11 +8,11 @@ use Rattle.docker_model.specs.records.Field.{HasGoodFields}
 use Rattle.docker_model.specs.file.File.{IsSchedule, IsJourney, IsWithinJourney}
 use Rattle.cif_laws.proofs.records.Builders.{f2_basic, f2_origin, f2_terminus, f2_schedule}
 
--- a record whose bytes compute
+-- bytes that pass both tests are a record
 pub record_by_test : (bytes : List ℕ) → length bytes ≡ 80 → list_all is_printable bytes ≡ true → IsRecord bytes
 record_by_test bytes size printable = (size, AllPass-from_list_all is_printable bytes printable)
 
--- the worked journey is one
+-- the worked journey is a journey
 pub f2_journey : IsJourney (f2_origin ∷ f2_terminus ∷ [])
 f2_journey = record {
   first = f2_origin;
@@ -24,7 +24,7 @@ f2_journey = record {
   terminus = refl;
 }
 
--- the worked schedule is one
+-- the worked schedule is a schedule
 pub f2_is_schedule : IsSchedule f2_schedule
 f2_is_schedule = record {
   basic = f2_basic;

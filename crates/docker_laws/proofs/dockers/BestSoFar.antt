@@ -1,4 +1,4 @@
--- The best so far of a walk: after each element, and at the end.
+-- The best so far in a walk: after each element, and at the end.
 use Rattle.std.proofs.Common.{◌≡◌, List, [], ◌∷◌, ◌++◌, refl, ap, sym, ◌∙◌, subst, inl, inr, ◌⊎◌, Some, None, Bool, true, false, cond, Contains}
 use Rattle.std.specs.Prelude.{Option}
 use Rattle.std.specs.declared.cmp.Ordering.{Ordering}
@@ -12,7 +12,7 @@ use Rattle.cif_laws.proofs.lists.Membership.{nil-Contains, Contains-single, sing
 use Rattle.cif_laws.proofs.orders.AtMost.{at_most_trans, at_most_itself, at_most_below}
 
 module _ {A : Type 0} {cmp : A → A → Ordering} (total : IsTotalOrder cmp) (test : A → Bool) where
-  -- of no elements none is the best
+  -- without elements there is no best
   pub best_of_none : IsBest cmp test [] None
   best_of_none = λ z among. absurd (nil-Contains z among)
 
@@ -33,7 +33,7 @@ module _ {A : Type 0} {cmp : A → A → Ordering} (total : IsTotalOrder cmp) (t
       by z passes (inl here) = best.2 z here passes
       by z passes (inr last) = absurd (let bad : true ≡ false = sym passes ∙ ap test (sym (Contains-single x z last)) ∙ h in cc)
 
-  -- one that passes it, and is the first
+  -- an element that passes it and is the first to do so
   first_one : (xs : List A) (x : A) → test x ≡ true → IsBest cmp test xs None → IsBest cmp test (xs ++ x ∷ []) (Some x)
   first_one xs x h none =
       (Contains-append_right xs (x ∷ []) x (single-Contains x x refl), h, λ z among passes. by z passes (Contains-append_cases xs (x ∷ []) z among))
@@ -51,7 +51,7 @@ module _ {A : Type 0} {cmp : A → A → Ordering} (total : IsTotalOrder cmp) (t
       by z passes (inl here) = at_most_trans total x b z (at_most_below cmp x b below) (best.2 z here passes)
       by z passes (inr last) = subst (IsAtMost cmp x) (Contains-single x z last) (at_most_itself total x)
 
-  -- one that does not
+  -- one that does not come before it
   stays : (xs : List A) (x b : A) → ¬ (cmp x b ≡ Less) → IsBest cmp test xs (Some b) → IsBest cmp test (xs ++ x ∷ []) (Some b)
   stays xs x b not_below best = (Contains-append_left xs (x ∷ []) b best.0, best.1, λ z among passes. by z passes (Contains-append_cases xs (x ∷ []) z among))
     where

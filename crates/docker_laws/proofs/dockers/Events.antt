@@ -1,4 +1,4 @@
--- Events of a schedule: one for each number, each at a location record.
+-- The events of a schedule: one for each number, each at a location record.
 use Rattle.std.proofs.Common.{◌≡◌, ℕ, zero, suc, ◌+◌, ◌<◌, ◌≤◌, List, [], ◌∷◌, ◌++◌, length, get_or, refl, ap, sym, ◌∙◌, subst, inl, inr, ◌⊎◌, Some, None, Contains, map, arith}
 use Rattle.std.specs.Prelude.{Option, slice_index_or}
 use Rattle.std.specs.List.{enumerate_from}
@@ -34,11 +34,11 @@ counts_up n (x ∷ xs) = (
   counts_up (n + 1) xs,
 )
 
--- events are numbered upwards
+-- the numbers of events ascend
 pub numbers_ascend : (lines : List (List ℕ)) → AllLater (λ (a b : Event). a.number < b.number) (events_of lines)
 numbers_ascend lines = later_map (λ (a b : Event). a.number < b.number) as_event (enumerate_from 1 (placed_times lines)) (counts_up 1 (placed_times lines))
 
--- so a number has one event
+-- so there is one event with a number
 pub one_event : (lines : List (List ℕ)) (a b : Event) → Contains (events_of lines) a → Contains (events_of lines) b → a.number ≡ b.number → a ≡ b
 one_event lines a b in_a in_b same = by (one_before (λ (x y : Event). x.number < y.number) (events_of lines) a b (numbers_ascend lines) in_a in_b)
   where
@@ -49,7 +49,7 @@ one_event lines a b in_a in_b same = by (one_before (λ (x y : Event). x.number 
 
 -- ---- an event's line
 
--- the members of a numbered list stand at their numbers
+-- the members of a numbered list are at their numbers
 stands_at : {A : Type 0} (n : ℕ) (xs : List A) (z : ℕ × A) (d : A) → Contains (enumerate_from n xs) z → (k : ℕ) × (z.0 ≡ n + k) × (k < length xs)
     × (get_or xs k d ≡ z.1)
 stands_at n [] z d among = absurd (nil-Contains z among)
@@ -61,7 +61,7 @@ stands_at n (x ∷ xs) z d among = by (stands_at (n + 1) xs z d) (Contains-cons 
     by rest (inl e) = (0, (let same : n ≡ z.0 = ap (λ (v : ℕ × _). v.0) e in omega arith), omega arith, ap (λ (v : ℕ × _). v.1) e)
     by rest (inr inside) = let found = rest inside in (suc found.0, (let at = found.1 in omega arith), (let low = found.2 in omega arith), found.3)
 
--- what an event happens at: a line among the lines, one of whose times it is
+-- the line of an event is one of the lines, and the event is one of the line's times
 pub record IsTimeOf (lines : List (List ℕ)) (event : Event) : Type 0 where
   pub among : Contains lines (event_line lines event)
   pub is_time : Contains (times_of (event_line lines event)) (event.occasion, event.time)
@@ -71,7 +71,7 @@ same_at [] k x low is = absurd (omega arith)
 same_at (y ∷ ys) zero x low is = is
 same_at (y ∷ ys) (suc k) x low is = same_at ys k x (omega arith) is
 
--- a time of the line that stands at the event's place
+-- a time of the line at the event's place
 time_of_line : (lines : List (List ℕ)) (event : Event) (k : ℕ) (line : List ℕ) → k < length lines → get_or lines k [] ≡ line → event.place ≡ k
     → Contains (times_of line) (event.occasion, event.time) → IsTimeOf lines event
 time_of_line lines event k line low is place among =
@@ -81,7 +81,7 @@ time_of_line lines event k line low is place among =
       is_time = subst (λ l. Contains (times_of l) (event.occasion, event.time)) (sym line_is) among;
     }
 
--- a placed time is one of the line at its place
+-- a placed time is a time of the line at its place
 time_of_placed : (lines : List (List ℕ)) (placed : Placed) → Contains (placed_times lines) placed
     → (line : List ℕ) × (placed.0 < length lines) × (get_or lines placed.0 [] ≡ line) × Contains (times_of line) placed.1
 time_of_placed lines placed among =
@@ -135,7 +135,7 @@ timed_is occasion (Some n) pair among = by (Contains-cons (occasion, n) [] pair 
     by (inl e) = sym (ap (λ (v : Occasion × ℕ). v.0) e)
     by (inr none) = absurd (nil-Contains pair none)
 
--- a record that has a time is of a location, and it is of a train's event
+-- a record that has a time is a location record, and the time is of a train's event
 pub timed_there : (line : List ℕ) (pair : Occasion × ℕ) → Contains (times_of line) pair → IsLocation line × IsOfTrain pair.0
 timed_there line pair among = by (kind_of line) refl among
   where

@@ -1,4 +1,4 @@
--- A table has one docker for a place with each excerpt of it for that place.
+-- A table and each excerpt of it for a place have the same docker there.
 use Rattle.std.proofs.Common.{◌≡◌, ℕ, List, subst, inl, inr, ◌⊎◌, refl, ap, sym, ◌∙◌, Some, None}
 use Rattle.std.specs.Prelude.{Option, ◌↔◌}
 use Rattle.docker_model.specs.records.Record.{column}
@@ -51,7 +51,7 @@ partner_over : (one other : Table) (uid : List ℕ) (day : Option ℕ) (identity
 partner_over one other uid None identity same is = is
 partner_over one other uid (Some day) identity same is = identity_over one other uid identity day same is
 
--- ---- and with the same associations of a group
+-- ---- two tables with the same associations of a group
 
 abbrev HaveSameAssociations : Table → Table → Group → Type 0
 HaveSameAssociations one other group = (key : AssociationKey) → group_of key ≡ group → one (association_key key) ≡ other (association_key key)
@@ -71,7 +71,8 @@ association_over one other group day key line same is = record {
 
 -- ---- lines of one table in another
 
--- the other table has each schedule of a UID that calls at the place or that an association there names, and each association of a group there
+-- the other table has each schedule of each UID that calls at the place or that an association
+-- there names, and each association of a group there
 record Covers (one other : Table) (place : List ℕ) : Type 0 where
   calls : (key : ScheduleKey) (lines : List (List ℕ)) → one (schedule_key key) ≡ Some (schedule_body lines) → CallsAt place lines
       → HaveSameSchedules one other key.uid
@@ -141,7 +142,7 @@ list_over one other place day forth back lines is = record {
 -- ---- a table and its excerpt
 
 module _ (place : List ℕ) (live part : Table) (is : IsExcerpt place live part) where
-  -- what is needed is the same in both
+  -- both have the same at each key that is needed
   pub same_where_needed : (key : Key) → IsNeeded live place key → part key ≡ live key
   same_where_needed key needed = by (is key)
     where
@@ -189,20 +190,20 @@ module _ (place : List ℕ) (live part : Table) (is : IsExcerpt place live part)
     links = λ group here key of. sym (same_links group here key of);
   }
 
-  -- they have one docker list at the place
+  -- they have the same docker list at the place
   pub excerpt_list_iff : (day : ℕ) (lines : List DockerLine) → IsDockerList live place day lines ↔ IsDockerList part place day lines
   excerpt_list_iff day lines = (list_over live part place day forth back lines, list_over part live place day back forth lines)
 
   text_same : (day : ℕ) (lines : List DockerLine) → docker_text part place day lines ≡ docker_text live place day lines
   text_same day lines = ap (text_with place day lines) (ap description_in (same_where_needed (tiploc_key place) refl))
 
-  -- and one docker text
+  -- they have the same docker text
   pub excerpt_text_iff : (day : ℕ) (text : List ℕ) → IsDockerText live place day text ↔ IsDockerText part place day text
   excerpt_text_iff day text = (
     λ told. (told.0, (excerpt_list_iff day told.0).0 told.1, told.2 ∙ sym (text_same day told.0)),
     λ told. (told.0, (excerpt_list_iff day told.0).1 told.1, told.2 ∙ text_same day told.0),
   )
 
-  -- and good bodies where the table has
+  -- the excerpt has good bodies if the table has
   pub excerpt_good : HasGoodBodies live → HasGoodBodies part
   excerpt_good good key body there = good key body (was_there key body there)

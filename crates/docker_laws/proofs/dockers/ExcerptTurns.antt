@@ -1,4 +1,5 @@
--- The walk that makes an excerpt as a loop has it: what is kept, the run, and whether the run is to be kept, from entry to entry.
+-- The walk that makes an excerpt, as a loop does it. From entry to entry it has what is kept, the
+-- run, and whether to keep the run.
 use Rattle.std.proofs.Common.{◌≡◌, ℕ, List, [], ◌∷◌, ◌++◌, subst, refl, ap, sym, ◌∙◌, Bool, true, false, cond, Contains}
 use Rattle.std.specs.Prelude.{◌||◌, ◌↔◌}
 use Rattle.docker_model.specs.file.Change.{Key, schedule_key, ScheduleKey}
@@ -24,7 +25,7 @@ pub kept_first : (place : List ℕ) → HasKept place [] [] [] false
 kept_first place = record { so_far = refl; is_needed = refl }
 
 module _ (place : List ℕ) (entries kept run : List Keyed) (needed : Bool) (has : HasKept place entries kept run needed) where
-  -- where the walk is with an entry more
+  -- where the walk is after one more entry
   next_is : (x : Keyed) → kept_so_far place (entries ++ x ∷ []) ≡ next_kept place (at kept run) x
   next_is x = so_far_more place entries x ∙ ap (λ (so_far : ExcerptSoFar). next_kept place so_far x) has.so_far
 
@@ -44,7 +45,7 @@ module _ (place : List ℕ) (entries kept run : List Keyed) (needed : Bool) (has
         ∙ ap (λ b. b || is_call place entry.op) has.is_needed;
   }
 
-  -- where a run ends it is kept or dropped
+  -- when a run ends, it is kept or dropped
   ended : kept_after_run place (at kept run) ≡ cond needed (kept ++ run) kept
   ended = λ i. cond (has.is_needed i) (kept ++ run) kept
 
@@ -86,7 +87,7 @@ module _ (place : List ℕ) (entries kept run : List Keyed) (needed : Bool) (has
   pub kept_within : IsSublist (kept ++ run) entries
   kept_within = subst (λ (so_far : ExcerptSoFar). IsSublist (so_far.kept ++ so_far.run) entries) has.so_far (so_far_within place entries)
 
-  -- and good where they are
+  -- they are good entries if the entries are
   pub kept_good : (ledger : List LedgerItem) → AreEntries ledger entries → AreEntries ledger (kept ++ run)
   kept_good ledger are = subst (λ (so_far : ExcerptSoFar). AreEntries ledger (so_far.kept ++ so_far.run)) has.so_far (so_far_good place ledger entries are)
 
@@ -103,7 +104,7 @@ module _ (place : List ℕ) (state : State) (kept run : List Keyed) (needed : Bo
     is_needed = refl;
   }
 
-  -- one elsewhere is not
+  -- one that is elsewhere is not kept
   pub kept_elsewhere : (key : Key) (entry : Entry) → IsAboveEntries state key → ((uid : List ℕ) → has_uid uid key ≡ false) → is_here place key ≡ false
       → HasKept place (state.entries ++ (key, entry) ∷ []) kept [] false
   kept_elsewhere key entry above never elsewhere = record {
@@ -114,6 +115,6 @@ module _ (place : List ℕ) (state : State) (kept run : List Keyed) (needed : Bo
     is_needed = refl;
   }
 
-  -- at the end the excerpt is what was kept, with the run where that is to be kept
+  -- at the end the excerpt is what was kept, with the run if that is to be kept
   pub kept_last : (excerpt_for place state).entries ≡ cond needed (kept ++ run) kept
   kept_last = ap (kept_after_run place) has.so_far ∙ ended place state.entries kept run needed has

@@ -1,4 +1,5 @@
--- A walk over entries in key order keeps those whose keys are needed, as the entries tell, and no others.
+-- A walk over entries in key order keeps the entries whose keys are needed and no others. Which
+-- keys are needed is read from the entries.
 use Rattle.std.proofs.Common.{◌≡◌, ℕ, List, [], ◌∷◌, ◌++◌, subst, inl, inr, ◌⊎◌, refl, ap, sym, ◌∙◌, Bool, true, false, cond, Some, None, Contains, append-nil, append_assoc}
 use Rattle.std.specs.Prelude.{◌↔◌, Option, ◌||◌, filter}
 use Rattle.std.specs.List.{list_any}
@@ -41,7 +42,7 @@ uid_once one other (schedule_key key) h g = sym ((bytes_eq-Decides key.uid one).
 uid_once one other (tiploc_key code) h g = false_true h
 uid_once one other (association_key key) h g = false_true h
 
--- what stands behind a schedule's key is a schedule's
+-- a key above a schedule's key is a schedule's
 pub above_uid : (a b : Key) (uid : List ℕ) → key_cmp a b ≡ Less → has_uid uid a ≡ true → (other : List ℕ) × (has_uid other b ≡ true)
 above_uid (schedule_key a) (schedule_key b) uid below h = (b.uid, (bytes_eq-Decides b.uid b.uid).1 refl)
 above_uid (schedule_key a) (tiploc_key b) uid below h = absurd (let bad : Greater ≡ Less = below in cc)
@@ -49,7 +50,7 @@ above_uid (schedule_key a) (association_key b) uid below h = absurd (let bad : G
 above_uid (tiploc_key a) b uid below h = false_true h
 above_uid (association_key a) b uid below h = false_true h
 
--- a key of a place is no schedule's
+-- a key at a place is no schedule's
 here_no_uid : (place uid : List ℕ) (key : Key) → is_here place key ≡ true → has_uid uid key ≡ true → ⊥
 here_no_uid place uid (schedule_key key) h g = false_true h
 here_no_uid place uid (tiploc_key code) h g = false_true g
@@ -60,7 +61,7 @@ first_decides Less b less greater = cc
 first_decides Equal b less greater = cc
 first_decides Greater b less greater = let bad : Greater ≡ Less = less in cc
 
--- the schedules of one UID stand one behind the other
+-- the schedules of one UID are consecutive
 uid_between : (a b c : ScheduleKey) → schedule_key_cmp a b ≡ Less → schedule_key_cmp b c ≡ Less → a.uid ≡ c.uid → b.uid ≡ a.uid
 uid_between a b c up further same =
     let low = first_decides (bytes_cmp a.uid b.uid) (ordering_then (nat_cmp a.runs_from b.runs_from) (nat_cmp a.indicator b.indicator)) up in
@@ -81,11 +82,11 @@ between_uid (association_key a) b c uid up further h g = false_true h
 
 -- ---- lists
 
--- the key of the first is below that of the second
+-- the key of the first entry is below the key of the second
 abbrev pub Below : Keyed → Keyed → Type 0
 Below a b = IsBelow (on (λ (entry : Keyed). entry.0) key_cmp) a b
 
--- what stands in the first of two lists is below what stands in the second
+-- an element of the first of two lists is below each element of the second
 pub later_across : (xs ys : List Keyed) (x y : Keyed) → AllLater Below (xs ++ ys) → Contains xs x → Contains ys y → Below x y
 later_across [] ys x y later in_x in_y = absurd (nil-Contains x in_x)
 later_across (z ∷ xs) ys x y later in_x in_y = by (λ inside. later_across xs ys x y later.1 inside in_y) (Contains-cons z xs x in_x)
@@ -112,7 +113,7 @@ with_alike : (b : Bool) (xs ys : List Keyed) → cond b (xs ++ ys) xs ≡ xs ++ 
 with_alike true xs ys = refl
 with_alike false xs ys = sym (append-nil xs)
 
--- two tests that are passed together are one
+-- two tests that pass together are equal
 pub same_tests : (a b : Bool) → (a ≡ true → b ≡ true) → (b ≡ true → a ≡ true) → a ≡ b
 same_tests true b to back = sym (to refl)
 same_tests false true to back = back refl
@@ -120,8 +121,9 @@ same_tests false false to back = refl
 
 -- ---- where a walk is
 
--- the walk has come behind the entries done and its run, and these are still to come: what is kept is what is needed of those done, the run is of one UID, and
--- none of those done is of a UID of the others
+-- Where a walk is. It is past the entries done and its run, and the rest is to come. What is kept
+-- is what is needed of the entries done. The run is of one UID. No entry done has the UID of an
+-- entry in the run or to come.
 record IsAt (place : List ℕ) (all done : List Keyed) (so_far : ExcerptSoFar) (rest : List Keyed) : Type 0 where
   whole : all ≡ (done ++ so_far.run) ++ rest
   kept : so_far.kept ≡ filter (λ (entry : Keyed). is_needed place all entry.0) done
@@ -129,7 +131,7 @@ record IsAt (place : List ℕ) (all done : List Keyed) (so_far : ExcerptSoFar) (
   of_uid : (r : Keyed) → Contains so_far.run r → has_uid uid r.0 ≡ true
   apart : (z y : Keyed) (other : List ℕ) → Contains done z → Contains (so_far.run ++ rest) y → has_uid other z.0 ≡ true → has_uid other y.0 ≡ true → ⊥
 
--- none of the run is of a UID of those to come
+-- no entry of the run has the UID of an entry to come
 abbrev IsEnded : List Keyed → List Keyed → Type 0
 IsEnded run rest = (r y : Keyed) (other : List ℕ) → Contains run r → Contains rest y → has_uid other r.0 ≡ true → has_uid other y.0 ≡ true → ⊥
 
@@ -163,7 +165,7 @@ module _ (place : List ℕ) (all : List Keyed) (order : AllLater Below all) wher
     of_first : has_uid at.uid first.0 ≡ true
     of_first = at.of_uid first (cons-Contains-first first others)
 
-    -- an entry is one of those done, of the run or of those to come
+    -- an entry is done, in the run, or to come
     place_of : (x : Keyed) → Contains all x → Contains done x ⊎ (Contains (first ∷ others) x ⊎ Contains rest x)
     place_of x among = outer (Contains-append_cases (done ++ first ∷ others) rest x (subst (λ xs. Contains xs x) at.whole among))
       where
@@ -267,22 +269,22 @@ module _ (place : List ℕ) (all : List Keyed) (order : AllLater Below all) wher
         ∙ ap (λ (ys : List Keyed). filter (λ (entry : Keyed). is_needed place all entry.0) done ++ ys) (sym of_run)
         ∙ sym (filter-append test done (first ∷ others))
 
-  -- where the run has ended, what is kept is what is needed of those done and of the run
+  -- when the run has ended, what is kept is what is needed of the entries done and of the run
   run_end : (done kept run rest : List Keyed) → IsAt place all done (record { kept = kept; run = run }) rest → IsEnded run rest
       → kept_after_run place (record { kept = kept; run = run }) ≡ filter (λ (entry : Keyed). is_needed place all entry.0) (done ++ run)
   run_end done kept [] rest at ended = at.kept ∙ ap (filter (λ (entry : Keyed). is_needed place all entry.0)) (sym (append-nil done))
   run_end done kept (first ∷ others) rest at ended = ended_run done kept first others rest at ended
 
-  -- ---- one entry more
+  -- ---- one more entry
 
-  -- each of the run is below the next entry
+  -- each entry of the run is below the next entry
   run_below : (done : List Keyed) (so_far : ExcerptSoFar) (x : Keyed) (rest : List Keyed) → IsAt place all done so_far (x ∷ rest) → (r : Keyed)
       → Contains so_far.run r → key_cmp r.0 x.0 ≡ Less
   run_below done so_far x rest at r among =
       later_across (done ++ so_far.run) (x ∷ rest) r x (subst (AllLater Below) at.whole order) (Contains-append_right done so_far.run r among)
       (cons-Contains-first x rest)
 
-  -- and that below those behind it
+  -- the next entry is below those after it
   next_below : (done : List Keyed) (so_far : ExcerptSoFar) (x : Keyed) (rest : List Keyed) → IsAt place all done so_far (x ∷ rest) → (y : Keyed)
       → Contains rest y → key_cmp x.0 y.0 ≡ Less
   next_below done so_far x rest at y among =
@@ -325,7 +327,7 @@ module _ (place : List ℕ) (all : List Keyed) (order : AllLater Below all) wher
           subst (λ (e : Keyed). has_uid at.uid e.0 ≡ true) (Contains-single {A = Keyed} (schedule_key key, entry) r last)
           ((bytes_eq-Decides key.uid at.uid).1 uid_is)
 
-  -- one of another UID ends it
+  -- a schedule of another UID ends it
   ends : (done : List Keyed) (so_far : ExcerptSoFar) (key : ScheduleKey) (entry : Entry) (rest : List Keyed)
       → IsAt place all done so_far ((schedule_key key, entry) ∷ rest) → goes_on so_far.run key.uid ≡ false
       → IsEnded so_far.run ((schedule_key key, entry) ∷ rest)
@@ -344,7 +346,7 @@ module _ (place : List ℕ) (all : List Keyed) (order : AllLater Below all) wher
           hit (between_uid r.0 (schedule_key key) y.0 other (run_below done so_far (schedule_key key, entry) rest at r in_run)
           (next_below done so_far (schedule_key key, entry) rest at y there) of_r of_y)
 
-  -- and begins a run
+  -- it also begins a run
   begins : (done : List Keyed) (so_far : ExcerptSoFar) (key : ScheduleKey) (entry : Entry) (rest : List Keyed)
       → IsAt place all done so_far ((schedule_key key, entry) ∷ rest) → goes_on so_far.run key.uid ≡ false
       → IsAt place all (done ++ so_far.run) (record { kept = kept_after_run place so_far; run = (schedule_key key, entry) ∷ [] }) rest
@@ -367,7 +369,7 @@ module _ (place : List ℕ) (all : List Keyed) (order : AllLater Below all) wher
           at.apart z y other here (Contains-append_right so_far.run ((schedule_key key, entry) ∷ rest) y behind) of_z of_y
       by z y other (inr here) behind of_z of_y = ended z y other here behind of_z of_y
 
-  -- what a walk has come to with an entry more
+  -- where a walk is after one more entry
   abbrev Goes : ExcerptSoFar → List Keyed → Type 0
   Goes so_far rest = (now : List Keyed) × IsAt place all now so_far rest
 
@@ -472,7 +474,7 @@ module _ (place : List ℕ) (all : List Keyed) (order : AllLater Below all) wher
     apart = λ z y other in_done behind of_z of_y. nil-Contains z in_done;
   }
 
-  -- what a walk over all of them keeps is what is needed
+  -- a walk over all entries keeps what is needed
   pub walk_keeps : kept_after_run place (kept_so_far place all) ≡ filter (λ (entry : Keyed). is_needed place all entry.0) all
   walk_keeps = from_here all [] nothing_kept at_first
 
@@ -483,17 +485,17 @@ walk_is_excerpt place state up =
     (sym (walk_keeps place state.entries (later_of (on (λ (entry : Keyed). entry.0) key_cmp) state.entries up)))
     (passing_is_excerpt place state)
 
--- of a valid state it is valid
+-- the excerpt of a valid state is valid
 pub walk_valid : (place : List ℕ) (state : State) → IsValid state → IsValid (excerpt_for place state)
 walk_valid place state valid = excerpt_valid place state (excerpt_for place state) valid (walk_is_excerpt place state valid.entries.1)
 
--- and has the same docker list at the place
+-- it has the same docker list at the place
 pub walk_list_iff : (place : List ℕ) (state : State) (day : ℕ) (lines : List DockerLine) → IsValid state
     → IsDockerList (live_table state) place day lines ↔ IsDockerList (live_table (excerpt_for place state)) place day lines
 walk_list_iff place state day lines valid =
     excerpt_list_iff place (live_table state) (live_table (excerpt_for place state)) (walk_is_excerpt place state valid.entries.1).live day lines
 
--- and the same docker text
+-- it has the same docker text
 pub walk_text_iff : (place : List ℕ) (state : State) (day : ℕ) (text : List ℕ) → IsValid state
     → IsDockerText (live_table state) place day text ↔ IsDockerText (live_table (excerpt_for place state)) place day text
 walk_text_iff place state day text valid =

@@ -1,4 +1,5 @@
--- The schedules of a table with good bodies pass midnight at most twice, so that an event is at most two days after the start.
+-- The schedules of a table with good bodies pass midnight at most twice. So an event is at most two
+-- days after the start.
 use Rattle.std.proofs.Common.{◌≡◌, ℕ, ◌+◌, ◌≤◌, List, take, drop, subst, inl, inr, ◌⊎◌, ap, sym, ◌∙◌, Some, arith}
 use Rattle.std.specs.Prelude.{IsTrue}
 use Rattle.std.proofs.lemmas.Bool.{eqb-true}
@@ -18,7 +19,7 @@ use Rattle.cif_laws.proofs.schedules.ScheduleStages.{midnights_of_journey}
 abbrev pub HasFewMidnights : Table → Type 0
 HasFewMidnights live = (key : ScheduleKey) (lines : List (List ℕ)) → live (schedule_key key) ≡ Some (schedule_body lines) → midnights lines ≤ 2
 
--- ---- a schedule that is kept
+-- ---- the schedule of a good body
 
 -- it passes midnight at most twice
 pub few_midnights : (key : ScheduleKey) (lines : List (List ℕ)) → IsScheduleOf key lines → midnights lines ≤ 2
@@ -37,13 +38,13 @@ few_midnights key lines of = by of.schedule.sound
         let same : midnights lines ≡ midnights is.journey = ap midnights is.whole ∙ midnights_of_journey is.basic is.extra is.journey is.kind is.details in
         subst (λ n. n ≤ 2) (sym same) falls
 
--- and so do those of good bodies
+-- so do the schedules of a table with good bodies
 pub bodies_few : (live : Table) → HasGoodBodies live → HasFewMidnights live
 bodies_few live good key lines is = few_midnights key lines (good (schedule_key key) (schedule_body lines) is)
 
 -- ---- events
 
--- up to an event there are no more falls than in all
+-- there are no more falls up to an event than in all
 pub falls_below : (lines : List (List ℕ)) (number : ℕ) → falls_to lines number ≤ midnights lines
 falls_below lines number =
     subst (λ times. falls_to lines number ≤ fall_count times) (take-append-drop number (times_along lines))

@@ -1,4 +1,5 @@
--- What a walk over rows gathers are the lines of the docker, and the order tells them apart: sorted, they are the docker list.
+-- What a walk over rows gathers are the lines of the docker, and no two of them tie in the order.
+-- Sorted, they are the docker list.
 use Rattle.std.proofs.Common.{◌≡◌, ℕ, ◌-◌, ◌<◌, ◌≤◌, lit<, List, [], ◌∷◌, refl, ap, sym, ◌∙◌, subst, inl, inr, ◌⊎◌, Some, Bool, true, false, cond, Contains, arith, ◌++◌, append-nil}
 use Rattle.std.specs.Prelude.{Option, filter, nat_le}
 use Rattle.std.specs.List.{flat_map}
@@ -32,7 +33,7 @@ use Rattle.docker_laws.proofs.dockers.OneDockerLine.{tied_lines_agree, same_even
 use Rattle.docker_laws.proofs.dockers.ScheduleLines.{schedule_piece, IsOfSchedule, schedule_piece_back, schedule_piece_forth, schedule_piece_apart, event_starts}
 use Rattle.docker_laws.proofs.dockers.AssociationLines.{link_piece, IsOfAssociation, link_piece_back, link_piece_forth, link_piece_apart, association_starts}
 
--- a line of a row's train or association, and of a start day
+-- a line made from a row's train or association, and from a start day
 abbrev IsLineFrom : Table → List ℕ → ℕ → Key → ℕ → DockerLine → Type 0
 IsLineFrom live place day key start line =
     ((schedule : ScheduleKey) × (schedule_key schedule ≡ key) × IsOfSchedule live place day schedule start line)
@@ -63,7 +64,7 @@ same_source live place day first second start other a b (inl (x, x_is, one)) (in
 same_source live place day first second start other a b (inr (x, x_is, one)) (inl (y, y_is, two)) e =
     absurd (event_apart live place day b a two.made one.made (sym (tied_lines_agree a b e).occasions))
 
--- the start days differ
+-- the start days are different
 counted_up : AllLater (λ (a b : ℕ). a < b) (0 ∷ 1 ∷ 2 ∷ [])
 counted_up = ((lit< tt, (lit< tt, tt)), ((lit< tt, tt), (tt, tt)))
 
@@ -110,7 +111,7 @@ module _ (live : Table) (trains : List ℕ → ℕ → Option Train) (links : Gr
   of_row (association_key key) (tiploc_body bytes) is line among = absurd (nil-Contains line among)
   of_row (association_key key) (schedule_body lines) is line among = absurd (nil-Contains line among)
 
-  -- pieces of one row, for start days that differ
+  -- the pieces of one row, for different start days
   module _ (key : Key) (piece : ℕ → List DockerLine) (back : (start : ℕ) (line : DockerLine) → Contains (piece start) line
       → IsLineFrom live place day key start line)
       (apart : (start : ℕ) → AreApart docker_line_cmp (piece start)) where
@@ -149,7 +150,7 @@ module _ (live : Table) (trains : List ℕ → ℕ → Option Train) (links : Gr
   -- ---- a walk
 
   module _ (rows : List Row) (walk : IsWalk live place rows) where
-    -- the order tells the gathered lines apart
+    -- no two of the gathered lines tie in the order
     pub gathered_apart : AreApart docker_line_cmp (gathered trains links place day rows)
     unfolding SomeStart
     gathered_apart =
@@ -167,7 +168,7 @@ module _ (live : Table) (trains : List ℕ → ℕ → Option Train) (links : Gr
         later_from_ascending [] up = tt
         later_from_ascending (x ∷ xs) up = (up.0, later_from_ascending xs up.1)
 
-    -- each gathered line is one of the docker
+    -- each gathered line is a line of the docker
     pub gathered_back : (line : DockerLine) → Contains (gathered trains links place day rows) line → IsDockerLine live place day line
     unfolding SomeStart
     gathered_back line among =
@@ -205,7 +206,7 @@ module _ (live : Table) (trains : List ℕ → ℕ → Option Train) (links : Gr
       );
     }
 
--- one more row
+-- the gathered lines with one more row
 pub gathered_more : (trains : List ℕ → ℕ → Option Train) (links : Group → ℕ → Option Link) (place : List ℕ) (day : ℕ) (rows : List Row) (key : Key)
     (body : Body)
     → gathered trains links place day (rows ++ (key, body) ∷ []) ≡ gathered trains links place day rows ++ row_lines trains links place day key body

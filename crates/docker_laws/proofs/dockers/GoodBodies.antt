@@ -10,7 +10,7 @@ use Rattle.state_laws.proofs.states.PlainTable.{Keyed, live_at, live_none}
 use Rattle.cif_laws.proofs.orders.Orders.{same_key}
 use Rattle.cif_laws.proofs.lists.FilteredMembers.{find_some}
 
--- what is live at a key stands in an entry of it that is put
+-- a live body at a key is the put of an entry of that key
 pub live_entry : (state : State) (key : Key) (body : Body) → live_table state key ≡ Some body → (entry : Entry) × Contains state.entries (key, entry)
     × (entry.op ≡ put_with body)
 live_entry state key body is = by (find (λ entry. is_eq (key_cmp entry.0 key)) state.entries) refl
@@ -29,7 +29,7 @@ live_entry state key body is = by (find (λ entry. is_eq (key_cmp entry.0 key)) 
         let here : pair ≡ (key, pair.1) = (λ i. (same i, pair.1)) in
         (pair.1, subst (Contains state.entries) here told.0, op_is pair.1.op (sym (live_at state key pair h) ∙ is))
 
--- so the bodies that are live in a valid state are good
+-- so the live bodies of a valid state are good
 pub good_bodies : (state : State) → IsValid state → HasGoodBodies (live_table state)
 good_bodies state valid key body is =
     let found = live_entry state key body is in

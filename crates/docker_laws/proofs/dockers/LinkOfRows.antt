@@ -1,4 +1,4 @@
--- The rows of a live table tell its chosen associations.
+-- The rows of a live table determine its chosen associations.
 use Rattle.std.proofs.Common.{◌≡◌, ℕ, List, refl, ap, sym, ◌∙◌, Some, None, true, Contains, eqb-true, rules}
 use Rattle.std.specs.Prelude.{Option, ◌&&◌, ◌==◌}
 use Rattle.std.specs.Str.{bytes_eq}
@@ -31,7 +31,7 @@ row_is (association_key key) (schedule_body lines) link is = none_some link is
 row_is (tiploc_key code) body link is = none_some link is
 row_is (schedule_key key) body link is = none_some link is
 
--- the test of a group
+-- the test whether a key is of a group
 group_forth : (group : Group) (key : AssociationKey) → is_of_group group key ≡ true → group_of key ≡ group
 group_forth group key passes =
     let p = both (bytes_eq key.base group.base && bytes_eq key.associated group.associated && bytes_eq key.location group.location)
@@ -92,7 +92,7 @@ module _ (live : Table) (rows : List Row) (group : Group) (has : HasAssociations
     best_is_link found best =
         first_is_link found (best_is_first by_key (is_linked group day) (associations_in rows) Runs associated among_linked passes_linked found best)
 
-    -- what rows with each association of a group answer is the association that is chosen
+    -- rows with each association of a group give the chosen association
     pub link_tells : IsLinkOn live group day (link_in rows group day)
     link_tells =
         first_is_link (link_in rows group day)
@@ -105,7 +105,7 @@ rows_have live rows are group = record {
   all = λ key line same is. (are.members (association_key key) (association_body line)).1 is;
 }
 
--- so they tell its associations
+-- so they determine its associations
 pub links_tell : (live : Table) (rows : List Row) → AreRowsOf live rows → TellsLinks live (link_in rows)
 links_tell live rows are group day = link_tells live rows group (rows_have live rows are group) day
 

@@ -1,4 +1,5 @@
--- A docker line's train starts on the day or one of the two days before it. A walk over the whole table leaves out no row of a place.
+-- The train of a docker line starts on the day or on one of the two days before it. A walk over the
+-- whole table leaves out no row of a place.
 use Rattle.std.proofs.Common.{ℕ, ◌+◌, ◌≤◌, List, Contains, arith}
 use Rattle.std.specs.Prelude.{◌↔◌}
 use Rattle.docker_model.specs.file.Change.{schedule_key, association_key, schedule_body, association_body}
@@ -12,7 +13,7 @@ use Rattle.docker_model.specs.docker.Gathering.{start_days, IsWalk}
 use Rattle.docker_laws.proofs.dockers.StartDays.{event_within, start_days_iff}
 use Rattle.docker_laws.proofs.dockers.FewMidnights.{bodies_few}
 
--- the train of an event's line starts on the day or one of the two days before
+-- the train of an event's line starts on the day or on one of the two days before
 pub event_near : (live : Table) (place : List ℕ) (day : ℕ) (line : DockerLine) → HasGoodBodies live → (made : IsEventLine live place day line)
     → (made.start ≤ day) × (day ≤ made.start + 2)
 event_near live place day line good made =
@@ -22,7 +23,7 @@ event_near live place day line good made =
     let today = made.today in
     (omega arith, omega arith)
 
--- the base train of an association's line starts on the day or one of the two days before
+-- the base train of an association's line starts on the day or on one of the two days before
 pub association_near : (live : Table) (place : List ℕ) (day : ℕ) (line : DockerLine) → HasGoodBodies live → (made : IsAssociationLine live place day line)
     → (made.start ≤ day) × (day ≤ made.start + 2)
 association_near live place day line good made =

@@ -1,4 +1,4 @@
--- Of a UID and a day there is one chosen schedule at most, and of a group and a day one association.
+-- A UID and a day have at most one chosen schedule, and a group and a day at most one association.
 use Rattle.std.proofs.Common.{◌≡◌, ℕ, List, ap, sym, ◌∙◌, Some}
 use Rattle.std.specs.declared.cmp.Ordering.TheVariants.{Equal}
 use Rattle.std.specs.Ordering.{nat_cmp}
@@ -11,17 +11,17 @@ use Rattle.docker_model.specs.docker.Choice.{schedule_choice_cmp, association_ch
 use Rattle.cif_laws.proofs.orders.Orders.{then_equal}
 use Rattle.cif_laws.proofs.orders.AtMost.{level}
 
--- the order in which schedules are chosen is total
+-- the order of choice among schedules is total
 pub schedule_choice_total : IsTotalOrder schedule_choice_cmp
 schedule_choice_total =
     then_total (on_total (λ (k : ScheduleKey). k.indicator) nat_cmp_total) (on_total (λ (k : ScheduleKey). k.runs_from) (back_total nat_cmp_total))
 
--- the order in which associations are chosen is total
+-- the order of choice among associations is total
 pub association_choice_total : IsTotalOrder association_choice_cmp
 association_choice_total =
     then_total (on_total (λ (k : AssociationKey). k.indicator) nat_cmp_total) (on_total (λ (k : AssociationKey). k.start) (back_total nat_cmp_total))
 
--- one lines of a live schedule key, and one line of a live association key
+-- a live schedule key has one list of lines, and a live association key one line
 pub one_schedule : (live : Table) (a b : ScheduleKey) (xs ys : List (List ℕ)) → a ≡ b → live (schedule_key a) ≡ Some (schedule_body xs)
     → live (schedule_key b) ≡ Some (schedule_body ys) → xs ≡ ys
 one_schedule live a b xs ys same one two =
@@ -33,7 +33,7 @@ pub one_association : (live : Table) (a b : AssociationKey) (x y : List ℕ) →
 one_association live a b x y same one two =
     let e : Some (association_body x) ≡ Some (association_body y) = sym one ∙ ap (λ k. live (association_key k)) same ∙ two in cc
 
--- schedules of a UID that neither comes before the other in the order of choice have one key
+-- schedules of one UID that tie in the order of choice have one key
 pub tied_schedules : (a b : ScheduleKey) → a.uid ≡ b.uid → schedule_choice_cmp a b ≡ Equal → a ≡ b
 tied_schedules a b uids tied =
     let parts = then_equal (nat_cmp a.indicator b.indicator) (nat_cmp b.runs_from a.runs_from) tied in
@@ -43,7 +43,7 @@ tied_schedules a b uids tied =
       indicator = exact_unsigned a.indicator b.indicator parts.0 i;
     }
 
--- associations of one group that the order of choice does not tell apart have one key
+-- associations of one group that tie in the order of choice have one key
 pub tied_associations : (a b : AssociationKey) → group_of a ≡ group_of b → association_choice_cmp a b ≡ Equal → a ≡ b
 tied_associations a b groups tied =
     let parts = then_equal (nat_cmp a.indicator b.indicator) (nat_cmp b.start a.start) tied in
@@ -56,7 +56,7 @@ tied_associations a b groups tied =
       indicator = exact_unsigned a.indicator b.indicator parts.0 i;
     }
 
--- of a UID and a day one schedule is chosen at most
+-- a UID and a day have at most one chosen schedule
 pub one_chosen : (live : Table) (uid : List ℕ) (day : ℕ) (a b : ScheduleKey) (xs ys : List (List ℕ)) → IsChosen live uid day a xs → IsChosen live uid day b ys
     → (a ≡ b) × (xs ≡ ys)
 one_chosen live uid day a b xs ys one two =
@@ -64,12 +64,12 @@ one_chosen live uid day a b xs ys one two =
     let keys = tied_schedules a b (one.running.uid_is ∙ sym two.running.uid_is) tied in
     (keys, one_schedule live a b xs ys keys one.running.is_live two.running.is_live)
 
--- of a UID one train starts on a day at most
+-- a UID and a day have at most one train
 pub one_train : (live : Table) (uid : List ℕ) (day : ℕ) (a b : ScheduleKey) (xs ys : List (List ℕ)) → TrainRuns live uid day a xs → TrainRuns live uid day b ys
     → (a ≡ b) × (xs ≡ ys)
 one_train live uid day a b xs ys one two = one_chosen live uid day a b xs ys one.chosen two.chosen
 
--- of a group and a day one association is chosen at most
+-- a group and a day have at most one chosen association
 pub one_link : (live : Table) (group : Group) (day : ℕ) (a b : AssociationKey) (x y : List ℕ) → IsChosenAssociation live group day a x
     → IsChosenAssociation live group day b y → (a ≡ b) × (x ≡ y)
 one_link live group day a b x y one two =

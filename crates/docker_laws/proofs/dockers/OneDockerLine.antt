@@ -1,4 +1,5 @@
--- Docker lines that the order does not tell apart are one: of one schedule or one association, and of one start day.
+-- Docker lines that tie in their order are one line: of one schedule or one association, and of one
+-- start day.
 use Rattle.std.proofs.Common.{◌≡◌, ℕ, List, ap, sym, ◌∙◌, subst, inl, inr, ◌⊎◌, Some, None, Bool, true, false, cond, Contains, arith}
 use Rattle.std.specs.Prelude.{Option, codes, ◌==◌}
 use Rattle.std.specs.Str.{bytes_eq}
@@ -25,7 +26,7 @@ use Rattle.cif_laws.proofs.lists.FilteredMembers.{find_some}
 use Rattle.docker_laws.proofs.dockers.OneChoice.{one_train, one_link}
 use Rattle.docker_laws.proofs.dockers.Events.{one_event, IsOfTrain, event_occasion}
 
--- what two lines have in common that the order does not tell apart
+-- what two lines that tie have in common
 pub record AreTied (a b : DockerLine) : Type 0 where
   pub occasions : occasion_rank a.occasion ≡ occasion_rank b.occasion
   pub uids : a.uid ≡ b.uid
@@ -33,7 +34,7 @@ pub record AreTied (a b : DockerLine) : Type 0 where
   pub numbers : a.number ≡ b.number
   pub associated : associated_uid a.detail ≡ associated_uid b.detail
 
--- lines that the order does not tell apart agree in all that the order looks at
+-- lines that tie agree in all that the order compares
 pub tied_lines_agree : (a b : DockerLine) → docker_line_cmp a b ≡ Equal → AreTied a b
 tied_lines_agree a b e =
     let p = then_equal (nat_cmp a.time b.time) _ e in
@@ -58,7 +59,7 @@ pub record AreOneEvent (live : Table) (place : List ℕ) (day : ℕ) (a b : Dock
   pub starts : one.start ≡ two.start
   pub lines : a ≡ b
 
--- two event lines that the order does not tell apart are so
+-- two event lines that tie are so
 pub same_event_line : (live : Table) (place : List ℕ) (day : ℕ) (a b : DockerLine) (one : IsEventLine live place day a) (two : IsEventLine live place day b)
     → docker_line_cmp a b ≡ Equal → AreOneEvent live place day a b one two
 same_event_line live place day a b one two e =
@@ -116,7 +117,7 @@ not_both a b (inr (inr e)) (inl f) same = let bad : ◌≡◌ {A = ℕ} 5 2 = sy
 not_both a b (inr (inr e)) (inr (inl f)) same = let bad : ◌≡◌ {A = ℕ} 5 3 = sym (ap occasion_rank e) ∙ same ∙ ap occasion_rank f in omega arith
 not_both a b (inr (inr e)) (inr (inr f)) same = let bad : ◌≡◌ {A = ℕ} 5 4 = sym (ap occasion_rank e) ∙ same ∙ ap occasion_rank f in omega arith
 
--- an event's line and an association's line stand for different occasions
+-- an event's line and an association's line have different occasions
 pub event_apart : (live : Table) (place : List ℕ) (day : ℕ) (a b : DockerLine) → IsEventLine live place day a → IsAssociationLine live place day b
     → ¬ (occasion_rank a.occasion ≡ occasion_rank b.occasion)
 event_apart live place day a b one two same =
@@ -147,7 +148,7 @@ pub record AreOneAssociation (live : Table) (place : List ℕ) (day : ℕ) (a b 
   pub starts : one.start ≡ two.start
   pub lines : a ≡ b
 
--- the first event at a location and suffix is an event, at this suffix
+-- the first event at a location and suffix is an event there, with this suffix
 pub first_event_is : (base : List (List ℕ)) (location : List ℕ) (suffix : ℕ) (event : Event) → first_event_at base location suffix ≡ Some event
     → Contains (events_of base) event × (column 10 (event_line base event) ≡ suffix) × (columns 3 9 (event_line base event) ≡ location)
 first_event_is base location suffix event is =
@@ -155,7 +156,7 @@ first_event_is base location suffix event is =
     let parts = both (bytes_eq (columns 3 9 (event_line base event)) location) (column 10 (event_line base event) == suffix) told.1 in
     (told.0, eqb-true _ _ parts.1, (bytes_eq-Decides (columns 3 9 (event_line base event)) location).0 parts.0)
 
--- two association lines that the order does not tell apart are so
+-- two association lines that tie are so
 pub same_association_line : (live : Table) (place : List ℕ) (day : ℕ) (a b : DockerLine) (one : IsAssociationLine live place day a)
     (two : IsAssociationLine live place day b)
     → docker_line_cmp a b ≡ Equal → AreOneAssociation live place day a b one two
@@ -207,7 +208,7 @@ same_association_line live place day a b one two e =
 
 -- ---- any two
 
--- two docker lines that the order does not tell apart are equal
+-- two docker lines that tie are equal
 pub one_line : (live : Table) (place : List ℕ) (day : ℕ) (a b : DockerLine) → IsDockerLine live place day a → IsDockerLine live place day b
     → docker_line_cmp a b ≡ Equal → a ≡ b
 one_line live place day a b (inl one) (inl two) e = (same_event_line live place day a b one two e).lines

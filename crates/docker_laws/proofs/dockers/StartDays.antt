@@ -1,4 +1,5 @@
--- The events of a live schedule stand on its start day or one of the two days behind it, so that a day has three start days at most.
+-- The events of a live schedule are on its start day or on one of the two days after it. So a day
+-- has at most three start days.
 use Rattle.std.proofs.Common.{◌≡◌, ℕ, zero, suc, ◌+◌, ◌-◌, ◌≤◌, List, [], ◌∷◌, subst, inl, inr, ◌⊎◌, Some, Contains, arith}
 use Rattle.std.specs.Prelude.{filter, nat_le}
 use Rattle.std.proofs.lemmas.Bool.{leb-true, le-leb}
@@ -17,14 +18,14 @@ pub few_falls_to : (live : Table) (key : ScheduleKey) (lines : List (List ℕ)) 
     → (number : ℕ) → falls_to lines number ≤ 2
 few_falls_to live key lines good is number = let front = falls_below lines number in let few = bodies_few live good key lines is in omega arith
 
--- so an event stands at most two days behind the start day
+-- so an event is at most two days after the start day
 pub event_within : (start : ℕ) (lines : List (List ℕ)) (event : Event) → midnights lines ≤ 2 → (start ≤ event_day start lines event)
     × (event_day start lines event ≤ start + 2)
 event_within start lines event few = let front = falls_below lines event.number in (omega arith, omega arith)
 
 -- ---- the start days
 
--- the start days of a day are those that are at most two days before it
+-- the start days of a day are the days at most two days before it
 pub start_days_iff : (day start : ℕ) → (Contains (start_days day) start → (start ≤ day) × (day ≤ start + 2)) × ((start ≤ day) × (day ≤ start + 2)
     → Contains (start_days day) start)
 start_days_iff day start = (forth, back)

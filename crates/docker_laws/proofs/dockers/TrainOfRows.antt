@@ -1,4 +1,4 @@
--- The rows of a live table tell its chosen schedules and its trains.
+-- The rows of a live table determine its chosen schedules and its trains.
 use Rattle.std.proofs.Common.{◌≡◌, ℕ, List, refl, ap, sym, ◌∙◌, Some, None, Bool, true, false, cond, Contains, eqb-true}
 use Rattle.std.specs.Prelude.{Option, ◌&&◌, ◌==◌}
 use Rattle.std.specs.Str.{bytes_eq}
@@ -20,7 +20,7 @@ use Rattle.docker_laws.proofs.dockers.FirstOfRows.{IsFirst, best_is_first, found
 by_key : IsTotalOrder (on (λ (train : Train). train.key) schedule_choice_cmp)
 by_key = on_total (λ (train : Train). train.key) schedule_choice_total
 
--- a row of a schedule is that schedule's
+-- the schedule in a row has the row's key and body
 row_is : (key : Key) (body : Body) (train : Train) → schedule_of key body ≡ Some train → (key ≡ schedule_key train.key) × (body ≡ schedule_body train.lines)
 row_is (schedule_key key) (schedule_body lines) train is =
     let e : record { key = key; lines = lines } ≡ train = some_is (record { key = key; lines = lines }) train is in
@@ -70,13 +70,13 @@ module _ (live : Table) (rows : List Row) (uid : List ℕ) (has : HasSchedulesOf
     best_is_chosen found best =
         first_is_chosen found (best_is_first by_key (is_running uid day) (schedules_in rows) Runs running among_running passes_running found best)
 
-    -- what rows with each schedule of a UID answer is the schedule that is chosen
+    -- rows with each schedule of a UID give the chosen schedule
     pub chosen_tells : IsChosenOn live uid day (chosen_in rows uid day)
     chosen_tells =
         first_is_chosen (chosen_in rows uid day)
         (found_is_first by_key (is_running uid day) (schedules_in rows) Runs running among_running passes_running)
 
-    -- and it is the train, where one runs
+    -- it is the train, if one runs
     pub train_tells : IsTrainOn live uid day (train_in rows uid day)
     train_tells = by (chosen_in rows uid day) chosen_tells
       where
@@ -104,7 +104,7 @@ rows_have live rows are uid = record {
   all = λ key lines same is. (are.members (schedule_key key) (schedule_body lines)).1 is;
 }
 
--- so they tell its trains
+-- so they determine its trains
 pub trains_tell : (live : Table) (rows : List Row) → AreRowsOf live rows → TellsTrains live (train_in rows)
 trains_tell live rows are uid day = train_tells live rows uid (rows_have live rows are uid) day
 
@@ -117,7 +117,7 @@ one_answer live uid day (Some a) (Some b) one two =
     let same = one_chosen live uid day a.key b.key a.lines b.lines one two in
     λ i. Some (record { key = same.0 i; lines = same.1 i })
 
--- and one train, or none
+-- likewise one train, or none
 pub one_train_answer : (live : Table) (uid : List ℕ) (day : ℕ) (a b : Option Train) → IsTrainOn live uid day a → IsTrainOn live uid day b → a ≡ b
 one_train_answer live uid day None None one two = refl
 one_train_answer live uid day None (Some b) one two = absurd (one b.key b.lines two)

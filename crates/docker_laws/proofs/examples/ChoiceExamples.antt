@@ -13,7 +13,7 @@ use Rattle.cif_laws.proofs.records.Builders.{no_text, bs, lo, f2_origin, f2_term
 use Rattle.cif_laws.proofs.lists.Membership.{Contains-cons, nil-Contains}
 use Rattle.state_laws.proofs.states.PlainTable.{Keyed, Found, NotFound, find_in, live_at, live_none}
 
--- what is live is an entry's put
+-- a live body is the put of an entry
 pub in_state : (state : State) (key : Key) (body : Body) → live_table state key ≡ Some body → (entry : Entry) × Contains state.entries (key, entry)
     × (body_of entry.op ≡ Some body)
 in_state state key body h = by (find_in state.entries key)
@@ -133,7 +133,7 @@ overlay_chosen = record { running = overlay_runs; first = λ other others runnin
         not_both : false ≡ true → ⊥
         not_both h = cc
 
--- on 14 June the cancellation is, and so no train runs
+-- on 14 June the cancellation is chosen, and so no train runs
 cancellation_runs : IsRunning (live_table three) (codes "C10001") 23541 (key_of 23541 67) cancellation
 unfolding days_from_civil day_count days_of_years days_of_months
 cancellation_runs = record { uid_is = refl; is_live = refl; runs_then = refl }

@@ -25,7 +25,7 @@ use Rattle.cif_laws.proofs.orders.Orders.{exact_key}
 abbrev live : Table
 live = live_table f2_state
 
--- the live table of a state of one key has that key alone
+-- the live table of a state of one key has only that key
 equal_by_test : (o : Ordering) → is_eq o ≡ true → o ≡ Equal
 equal_by_test Less h = cc
 equal_by_test Equal h = refl

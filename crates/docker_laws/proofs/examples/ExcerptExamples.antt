@@ -1,4 +1,5 @@
--- Worked excerpts for COLWELL: what is needed there, what the walk leaves, and what a docker would lose without it.
+-- Worked excerpts for COLWELL: what is needed there, what the walk leaves, and what a docker would
+-- lose without it.
 use Rattle.std.proofs.Common.{◌≡◌, ℕ, List, [], ◌∷◌, refl, inl, inr, Some, None, arith, ap, ◌∙◌, subst, Contains, ◌⊎◌}
 use Rattle.std.specs.Prelude.{codes, slice_index}
 use Rattle.jiff_core.specs.Calendar.{days_from_civil, day_count, days_of_years, days_of_months}
@@ -47,7 +48,7 @@ one_day uid identity origin terminus =
 abbrev key_of : List ℕ → ℕ → ℕ → ScheduleKey
 key_of uid day letter = record { uid = uid; runs_from = day; indicator = letter }
 
--- ---- an overlay that does not call there, of a UID that does on other days
+-- ---- an overlay that does not call there, of a UID that calls there on other days
 
 abbrev stops : List (List ℕ)
 stops = week (codes "C40001") (codes "4D40") (codes "ASHFELD") (codes "COLWELL")
@@ -79,12 +80,12 @@ only_stops other others h =
     ap (λ (pair : Keyed). schedule_in pair.0)
     (Contains-single {A = Keyed} (put_in (schedule_key stops_key) (schedule_body stops)) (schedule_key other, found.0) found.1)
 
--- it does not run by the permanent schedule on the day of the overlay
+-- on the day of the overlay no train runs by the permanent schedule
 runs_by_overlay : ¬ TrainRuns (live_table overlaid) (codes "C40001") 23538 stops_key stops
 unfolding days_from_civil day_count days_of_years days_of_months
 runs_by_overlay runs = runs.chosen.first short_key short (record { uid_is = refl; is_live = refl; runs_then = refl }) refl
 
--- and would without the overlay
+-- without the overlay it would run by it
 would_stop : TrainRuns (live_table alone) (codes "C40001") 23538 stops_key stops
 unfolding days_from_civil day_count days_of_years days_of_months
 would_stop = record {
@@ -211,7 +212,7 @@ identity_there =
       refl,
     )
 
--- and would not without it
+-- without the partner the docker would not have it
 identity_lost : ¬ IsPartnerIdentity (live_table parted) (codes "C40002") (Some 23537) (codes "4D42")
 identity_lost (inl runs) = no_partner runs.0 runs.1 runs.2.chosen.running.uid_is runs.2.chosen.running.is_live
 identity_lost (inr none) = let first : ◌≡◌ {A = ℕ} 52 63 = ap (λ bytes. slice_index bytes 0) none.1 in omega arith
@@ -231,7 +232,8 @@ parted_is_no_excerpt is = by (is (schedule_key partner_key))
 partner_is_kept : (excerpt_for place joined).entries ≡ joined.entries
 partner_is_kept = refl
 
--- of the partner alone nothing is needed. So an excerpt is taken of a state that is whole: joined with what names the partner it would lack it
+-- a state with only the partner needs nothing of it, so an excerpt is taken only of a whole state:
+-- joined with the association that names the partner, this one would lack it
 partner_alone_is_dropped : (excerpt_for place (state_of (put_in (schedule_key partner_key) (schedule_body partner) ∷ []))).entries ≡ []
 partner_alone_is_dropped = refl
 
@@ -246,7 +248,7 @@ far = week (codes "C40004") (codes "4D44") (codes "BRAYTON") (codes "ASHFELD")
 abbrev late : List (List ℕ)
 late = week (codes "C40005") (codes "4D45") (codes "COLWELL") (codes "ASHFELD")
 
--- at the place, and deleted
+-- at the place, but deleted
 abbrev gone_key : AssociationKey
 gone_key = record { base = codes "C40001"; associated = codes "C40003"; start = 23537; location = codes "COLWELL"; suffix = 32; indicator = 80 }
 
@@ -259,7 +261,7 @@ far_link =
     aa (codes "N") (codes "C40003") (codes "C40004") (codes "240610") (codes "240616") (codes "1111111") (codes "NP") (codes "S")
     (codes "ASHFELD") no_text no_text (codes "P")
 
--- of two TIPLOCs, three associations and five UIDs
+-- the state has two TIPLOCs, three associations and five UIDs
 abbrev whole : State
 whole = state_of (
     put_in (tiploc_key (codes "ASHFELD")) (tiploc_body (spaces 63)) ∷ put_in (tiploc_key (codes "COLWELL")) (tiploc_body (spaces 63))
@@ -272,7 +274,8 @@ whole = state_of (
     ∷ put_in (schedule_key (key_of (codes "C40005") 23537 80)) (schedule_body late) ∷ []
     )
 
--- the walk leaves the TIPLOC, both associations there, the base with its overlay, the partner, and the last, which calls there
+-- the walk leaves the TIPLOC, both associations there, the base with its overlay, the partner, and
+-- the last schedule, which calls there
 walk_leaves : (excerpt_for place whole).entries
     ≡ put_in (tiploc_key (codes "COLWELL")) (tiploc_body (spaces 63)) ∷ put_in (association_key link_key) (association_body link)
     ∷ with_op (association_key gone_key) deleted ∷ put_in (schedule_key stops_key) (schedule_body stops)
@@ -284,6 +287,6 @@ walk_leaves = refl
 whole_ascends : AreAscending whole.entries
 whole_ascends = ((refl, (refl, (refl, (refl, (refl, (refl, (refl, (refl, (refl, (refl, (refl, tt))))))))))), ((refl, (refl, (refl, (refl, (refl, (refl, (refl, (refl, (refl, (refl, tt)))))))))), ((refl, (refl, (refl, (refl, (refl, (refl, (refl, (refl, (refl, tt))))))))), ((refl, (refl, (refl, (refl, (refl, (refl, (refl, (refl, tt)))))))), ((refl, (refl, (refl, (refl, (refl, (refl, (refl, tt))))))), ((refl, (refl, (refl, (refl, (refl, (refl, tt)))))), ((refl, (refl, (refl, (refl, (refl, tt))))), ((refl, (refl, (refl, (refl, tt)))), ((refl, (refl, (refl, tt))), ((refl, (refl, tt)), ((refl, tt), (tt, tt))))))))))))
 
--- and that is an excerpt
+-- that is an excerpt
 walk_leaves_excerpt : IsExcerptState place whole (excerpt_for place whole)
 walk_leaves_excerpt = walk_is_excerpt place whole whole_ascends

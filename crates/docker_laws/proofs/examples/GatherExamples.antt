@@ -1,4 +1,5 @@
--- A worked gathering: the train that ends at COLWELL at 23:50 and works on as the one that leaves there after midnight.
+-- A worked gathering: the train that ends at COLWELL at 23:50 and works on as the one that leaves
+-- there after midnight.
 use Rattle.std.proofs.Common.{◌≡◌, ℕ, List, [], ◌∷◌, map, refl, true, false}
 use Rattle.std.specs.Prelude.{codes}
 use Rattle.jiff_core.specs.Calendar.{days_from_civil, day_count, days_of_years, days_of_months}
@@ -48,12 +49,12 @@ at_colwell : map line_text (gathered (train_in rows) (link_in rows) (codes "COLW
 unfolding days_from_civil day_count days_of_years days_of_months
 at_colwell = refl
 
--- and on the day before, none
+-- on the day before there are none
 day_before : gathered (train_in rows) (link_in rows) (codes "COLWELL") 23536 rows ≡ []
 unfolding days_from_civil day_count days_of_years days_of_months
 day_before = refl
 
--- where the associated train is cancelled, its identity is not known
+-- if the associated train is cancelled, its identity is not known
 abbrev cancelled : List Row
 cancelled = (
   association_key (record { base = codes "C40001"; associated = codes "C40002"; start = 23537; location = codes "COLWELL"; suffix = 32; indicator = 80 }),
@@ -107,7 +108,7 @@ division_at_colwell : map line_text (gathered (train_in divided) (link_in divide
 unfolding days_from_civil day_count days_of_years days_of_months
 division_at_colwell = refl
 
--- who calls at COLWELL, and nobody at ELM
+-- who calls at COLWELL; nobody calls at ELM
 colwell_called_at : (calls_at (codes "COLWELL") twice_lines ≡ true) × (calls_at (codes "COLWELL") divided_lines ≡ true)
     × (calls_at (codes "ELM    ") twice_lines ≡ false)
 colwell_called_at = (refl, refl, refl)

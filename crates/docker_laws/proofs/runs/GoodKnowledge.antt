@@ -1,4 +1,5 @@
--- What is known in a run of good events is good: files, and a horizon that the format tells.
+-- What is known in a run of good events is good: the files are, and the format can hold the
+-- horizon.
 use Rattle.std.proofs.Common.{◌≡◌, ℕ, zero, suc, ◌≤◌, Bool, true, false, List, [], ◌∷◌, length, get_or, ap, ◌∙◌, refl, arith, All}
 use Rattle.std.specs.Prelude.{max, nat_lt, fold, slice_set}
 use Rattle.std.specs.List.{zip}
@@ -16,7 +17,7 @@ use Rattle.state_laws.proofs.states.Lapse.{max_most}
 
 -- ---- what two know
 
--- of two horizons of a format the greater is one
+-- the greater of two horizons of a format is a horizon of the format
 max_good : (format : Format) (a b : ℕ) → IsHorizonOf format a → IsHorizonOf format b → IsHorizonOf format (max a b)
 max_good dks_1 a b first second = ap (λ n. max n b) first ∙ zero-max b ∙ second
 max_good dks_2 a b first second = max_most a b last_day first second
@@ -28,18 +29,18 @@ none_good dks_2 = omega arith
 no_files_good : AreFiles []
 no_files_good = (All-nil IsFile, All-nil (λ file. length file ≤ most_records))
 
--- nothing is good
+-- knowing no file and no horizon is good
 pub nothing_good : (format : Format) → IsGoodKnown format nothing
 nothing_good format = (no_files_good, none_good format)
 
--- what two know together
+-- what two know together is good
 pub united_good : (format : Format) (first second : Known) → IsGoodKnown format first → IsGoodKnown format second → IsGoodKnown format (united first second)
 united_good format first second one two = (
   (All-append IsFile first.files second.files one.0.0 two.0.0, All-append (λ file. length file ≤ most_records) first.files second.files one.0.1 two.0.1),
   max_good format first.horizon second.horizon one.1 two.1,
 )
 
--- a file that was read under a limit
+-- a file that was read under a limit is good knowledge
 pub file_good : (format : Format) (text : List ℕ) (limit : ℕ) → limit ≤ most_records → IsFileText limit text (lines_of text)
     → IsGoodKnown format (record { files = lines_of text ∷ []; horizon = 0 })
 file_good format text limit low file =
@@ -53,7 +54,7 @@ file_good format text limit low file =
       none_good format,
     )
 
--- a horizon that is set
+-- a horizon that is set is good knowledge
 pub horizon_good : (format : Format) (day : ℕ) → IsHorizonOf format day → IsGoodKnown format (record { files = []; horizon = day })
 horizon_good format day is = (no_files_good, is)
 
@@ -64,7 +65,7 @@ good_at P [] i d all one = one
 good_at P (x ∷ xs) zero d all one = All-head P x xs all
 good_at P (x ∷ xs) (suc i) d all one = good_at P xs i d (All-tail P x xs all) one
 
--- offices and messages know good things
+-- what offices and messages know is good
 abbrev pub AllGood : Format → KnownSets → Type 0
 AllGood format known = All (IsGoodKnown format) known.offices × All (IsGoodKnown format) known.messages
 
@@ -121,7 +122,7 @@ module _ (format : Format) where
       good_along (after_reply known (event, reply)) events replies (good_after known event reply good (All-head (IsGoodEvent format) event events each) are.0)
       (All-tail (IsGoodEvent format) event events each) are.1
 
-  -- what is known in a run of good events
+  -- what is known in a run of good events is good
   pub good_in_run : (offices : ℕ) (events : List RunEvent) (replies : List Reply) → All (IsGoodEvent format) events
       → AreReplies (none_known offices) events replies
       → AllGood format (known_sets offices events replies)

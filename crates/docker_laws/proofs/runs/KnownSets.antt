@@ -1,4 +1,4 @@
--- What is known in a run, after one more event, and of how many offices and messages.
+-- What is known in a run after one more event, and how many offices and messages there are.
 use Rattle.std.proofs.Common.{◌≡◌, ℕ, suc, ◌+◌, Bool, true, false, cond, List, [], ◌∷◌, ◌++◌, length, refl, ap, ◌∙◌, arith, length-append, length-set}
 use Rattle.std.specs.Prelude.{fold, filter}
 use Rattle.std.specs.List.{zip}
@@ -22,14 +22,14 @@ sets_more offices events replies event reply same =
 
 -- ---- replies
 
--- as many replies as events
+-- there are as many replies as events
 pub replies_long : (known : KnownSets) (events : List RunEvent) (replies : List Reply) → AreReplies known events replies → length events ≡ length replies
 replies_long known [] [] are = refl
 replies_long known [] (reply ∷ replies) are = absurd are
 replies_long known (event ∷ events) [] are = absurd are
 replies_long known (event ∷ events) (reply ∷ replies) are = ap suc (replies_long (after_reply known (event, reply)) events replies are.1)
 
--- one more reply behind those of a run that begins anywhere
+-- one more reply after the replies of a run that begins anywhere
 pub replies_after : (known : KnownSets) (events : List RunEvent) (replies : List Reply) (event : RunEvent) (reply : Reply)
     → AreReplies known events replies → IsReply (fold after_reply known (zip events replies)) event reply → AreReplies known (events ++ event ∷ [])
     (replies ++ reply ∷ [])
@@ -39,7 +39,7 @@ replies_after known (other ∷ events) [] event reply are is = absurd are
 replies_after known (other ∷ events) (answer ∷ replies) event reply are is =
     (are.0, replies_after (after_reply known (other, answer)) events replies event reply are.1 is)
 
--- and behind those of a run from the start
+-- one more reply after the replies of a run from the start
 pub replies_more : (offices : ℕ) (events : List RunEvent) (replies : List Reply) (event : RunEvent) (reply : Reply)
     → AreReplies (none_known offices) events replies → IsReply (known_sets offices events replies) event reply → AreReplies (none_known offices)
     (events ++ event ∷ []) (replies ++ reply ∷ [])
@@ -88,11 +88,11 @@ messages_along known (event ∷ events) (reply ∷ replies) =
         by true = omega arith
         by false = omega arith
 
--- as many offices as at the start
+-- there are as many offices as at the start
 pub offices_are : (offices : ℕ) (events : List RunEvent) (replies : List Reply) → length (known_sets offices events replies).offices ≡ offices
 offices_are offices events replies = offices_along (none_known offices) events replies ∙ length-replicate offices nothing
 
--- and as many messages as sendings that were done
+-- there are as many messages as sendings that were done
 pub messages_are : (offices : ℕ) (events : List RunEvent) (replies : List Reply)
     → length (known_sets offices events replies).messages ≡ sent_count events replies
 messages_are offices events replies =

@@ -1,4 +1,5 @@
--- The summary of good knowledge is told by the format, and a text of fewer than 2^64 bytes has counts that eight bytes tell.
+-- The format can hold the summary of good knowledge. A text of fewer than 2^64 bytes has counts
+-- that fit in eight bytes.
 use Rattle.std.proofs.Common.{◌≡◌, ℕ, ◌+◌, ◌^◌, ◌<◌, ◌≤◌, List, [], ◌∷◌, ◌++◌, length, sym, ◌∙◌, ap, subst, arith, length-append}
 use Rattle.std.specs.List.{flat_map}
 use Rattle.std.specs.Int.{w64, to_be_bytes}
@@ -19,7 +20,7 @@ use Rattle.state_laws.proofs.states.SummaryValid.{summary_is_valid}
 
 -- ---- counts
 
--- pieces of a byte at least make as many bytes
+-- pieces of at least one byte make at least as many bytes as there are pieces
 at_least : {A : Type 0} (f : A → List ℕ) → ((x : A) → 1 ≤ length (f x)) → (xs : List A) → length xs ≤ length (flat_map f xs)
 at_least f one [] = omega arith
 at_least f one (x ∷ xs) = let here = one x in let rest = at_least f one xs in let whole = length-append (f x) (flat_map f xs) in omega arith
@@ -51,7 +52,7 @@ counts_fit format state short =
 
 -- ---- ops
 
--- what an act makes has not lapsed where there is no horizon
+-- without a horizon, what an act makes has not lapsed
 act_told : (act : Act) → TellsOp dks_1 (op_of act)
 act_told delete = tt
 act_told (put body) = tt
@@ -66,7 +67,7 @@ op_told dks_2 horizon act day = any (lapse horizon (op_of act))
     any lapsed = tt
     any (put_with body) = tt
 
--- the summary of good knowledge is a valid state that the format tells
+-- the summary of good knowledge is a valid state that the format can hold
 pub summary_told : (format : Format) (known : Known) (state : State) → IsGoodKnown format known → IsStateOf known state → IsToldState format state
 summary_told format known state good summary = record {
   valid = summary_is_valid known.files known.horizon state (horizon_day format known.horizon good.1) good.0.0 good.0.1 summary;

@@ -1,4 +1,5 @@
--- Offices that know the same have equal states, and those that know the same files print the same dockers, whatever runs they are of.
+-- Offices that know the same have equal states. Offices that know the same files print the same
+-- dockers. Both hold across runs.
 use Rattle.std.proofs.Common.{◌≡◌, ℕ, ◌+◌, Bool, true, false, List, [], ap, sym, ◌∙◌, subst, refl, arith, All}
 use Rattle.std.specs.Prelude.{◌↔◌, max, nat_lt}
 use Rattle.std.proofs.Math.Nat.{le-max_left, le-max_right, max-eq_left, max-eq_right}
@@ -23,12 +24,12 @@ use Rattle.state_laws.proofs.states.SummaryLaws.{summary_unique, lapsed_summary}
 use Rattle.state_laws.proofs.states.OneJoin.{docker_unique}
 use Rattle.cif_laws.proofs.lists.ZipSteps.{zip_at}
 
--- what holds at the end is what a run leaves
+-- an exchange that holds what is known at the end is what the run leaves
 pub holds_at_end : (format : Format) (offices : ℕ) (events : List RunEvent) (exchange : Exchange) → AreReplies (none_known offices) events exchange.replies
     → Holds format (sets_of offices events exchange) exchange.states exchange.messages → IsRun format offices events exchange
 holds_at_end format offices events exchange replies holds = record { replies = replies; states = holds.states_are; messages = holds.messages_are }
 
--- and what a run of good events leaves holds
+-- an exchange that a run of good events leaves holds what is known
 pub run_holds : (format : Format) (offices : ℕ) (events : List RunEvent) (exchange : Exchange) → All (IsGoodEvent format) events
     → IsRun format offices events exchange
     → Holds format (sets_of offices events exchange) exchange.states exchange.messages
@@ -46,7 +47,7 @@ greater_prints a b day first second = by (nat_lt a b) refl
     by true h = let below = ltb-true a b h in subst (λ n. ¬ IsDayRefused n day) (sym (max-eq_right (omega arith))) second
     by false h = subst (λ n. ¬ IsDayRefused n day) (sym (max-eq_left (ltb-false a b h))) first
 
--- under a horizon that doesn't refuse the day the docker is the same
+-- under a horizon that does not refuse the day, the docker is the same
 docker_stays : (horizon : ℕ) (state : State) (place : List ℕ) (day : ℕ) (text : List ℕ) → IsDay horizon → IsValid state → ¬ IsDayRefused horizon day
     → IsDockerText (live_table state) place day text → IsDockerText (live_table (lapse_state horizon state)) place day text
 docker_stays horizon state place day text is_day valid printed is = by (nat_lt 0 horizon) (nat_lt day (horizon + 3)) refl refl
@@ -60,11 +61,12 @@ docker_stays horizon state place day text is_day valid printed is = by (nat_lt 0
         subst (λ h. IsDockerText (live_table (lapse_state h state)) place day text) (sym zero_is)
         (subst (λ (s : State). IsDockerText (live_table s) place day text) (sym (lapsed_already 0 state (none_to_lapse state.entries))) is)
 
--- a table has one docker text of a place and day
+-- a table, a place and a day have one docker text
 one_text : (live : Table) (place : List ℕ) (day : ℕ) (text other : List ℕ) → IsDockerText live place day text → IsDockerText live place day other → text ≡ other
 one_text live place day text other is that = is.2 ∙ ap (docker_text live place day) (docker_unique _ is.0 that.0 is.1 that.1) ∙ sym that.2
 
--- two states of the same files print one docker of a place and day that neither's horizon refuses
+-- two states of the same files print the same docker for a place and day that neither horizon
+-- refuses
 pub docker_of_files : (format : Format) (one two : Known) (first second : State) → IsGoodKnown format one → IsGoodKnown format two → IsStateOf one first
     → IsStateOf two second
     → HaveSameFiles one.files two.files → (place : List ℕ) (day : ℕ) → ¬ IsDayRefused one.horizon day → ¬ IsDayRefused two.horizon day → (text other : List ℕ)
@@ -105,7 +107,8 @@ module _ (format : Format) (offices others : ℕ) (events more : List RunEvent) 
         (office_state one.states i) (office_state two.states j)
         (subst (λ h. IsSummary (office_known (sets_of offices events one) i).files h (office_state one.states i)) same.1 this_state) that_state
 
-    -- and those that know the same files print one docker of each place and day that neither refuses
+    -- offices that know the same files print the same docker for each place and day that neither
+    -- refuses
     pub same_docker : All (IsGoodEvent format) events → All (IsGoodEvent format) more → HaveSameFiles (office_known (sets_of offices events one) i).files
         (office_known (sets_of others more two) j).files
         → (place : List ℕ) (day : ℕ) → ¬ IsDayRefused (office_state one.states i).horizon day → ¬ IsDayRefused (office_state two.states j).horizon day
@@ -135,7 +138,7 @@ module _ (format : Format) (offices others : ℕ) (events more : List RunEvent) 
       (message_known (sets_of others more two) j).horizon this.0 that.0
       (subst (λ h. IsSummary (message_known (sets_of offices events one) i).files h this.0) same.1 this.1) that.1) ∙ sym that.2
 
--- a docker that is printed is that of the plain table of the files
+-- a docker that is printed is the docker of the files' plain table
 pub plain_docker : (format : Format) (offices : ℕ) (events : List RunEvent) (exchange : Exchange) → IsRun format offices events exchange
     → All (IsGoodEvent format) events
     → (office : ℕ) → IsOffice (sets_of offices events exchange) office → (plain : Table)

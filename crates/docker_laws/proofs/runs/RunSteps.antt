@@ -1,4 +1,4 @@
--- What holds of an exchange in the middle of a run holds after each event that is done.
+-- What holds for an exchange in the middle of a run still holds after each event that is done.
 use Rattle.std.proofs.Common.{◌≡◌, ℕ, ◌^◌, ◌<◌, ◌≤◌, List, [], ◌∷◌, ◌++◌, length, refl, sym, ◌∙◌, subst, arith, All, set}
 use Rattle.std.proofs.Math.Nat.{max_comm}
 use Rattle.std.proofs.lemmas.List.Elements.{All-set, All-push, All-nil, All-replicate, All-get_or}
@@ -33,7 +33,7 @@ module _ (format : Format) (known : KnownSets) (states : List State) (messages :
   pub office_good : (office : ℕ) → IsOffice known office → IsGoodKnown format (office_known known office)
   office_good office there = All-get_or (IsGoodKnown format) known.offices office nothing there holds.offices
 
-  -- and so is what a message knows
+  -- so is what a message knows
   pub message_good : (message : ℕ) → IsMessage known message → IsGoodKnown format (message_known known message)
   message_good message there = All-get_or (IsGoodKnown format) known.messages message nothing there holds.sent
 
@@ -41,11 +41,11 @@ module _ (format : Format) (known : KnownSets) (states : List State) (messages :
   pub sizes : (length states ≡ length known.offices) × (length messages ≡ length known.messages)
   sizes = (sym (zip_long IsStateOf known.offices states holds.states_are), sym (zip_long (IsMessageOf format) known.messages messages holds.messages_are))
 
-  -- an office's state is valid, and told by the format
+  -- an office's state is valid, and the format can hold it
   pub office_told : (office : ℕ) → IsOffice known office → IsToldState format (office_state states office)
   office_told office there = summary_told format (office_known known office) (office_state states office) (office_good office there) (office_is office there)
 
-  -- a message's bytes are the text of the summary of what it knows, within its length as limit
+  -- a message's bytes are the text of the summary of what it knows, with their length as the limit
   pub message_reads : (message : ℕ) → IsMessage known message → length (message_text messages message) < 2 ^ 64
       → (state : State) × IsStateOf (message_known known message) state × IsStateText format (length (message_text messages message))
       (message_text messages message) state
@@ -61,7 +61,7 @@ module _ (format : Format) (known : KnownSets) (states : List State) (messages :
         },
       )
 
-  -- so what is read there is that summary
+  -- so reading them gives that summary
   pub what_is_read : (message : ℕ) → IsMessage known message → length (message_text messages message) < 2 ^ 64 → (limit : ℕ) (state : State)
       → IsStateText format limit (message_text messages message) state → IsStateOf (message_known known message) state
   what_is_read message there short limit state is =
@@ -84,7 +84,7 @@ module _ (format : Format) (known : KnownSets) (states : List State) (messages :
     messages_are = holds.messages_are;
   }
 
-  -- a state is joined to an office's
+  -- a state is joined to an office's state
   joined_in : (office : ℕ) (more : Known) (one joined : State) → IsOffice known office → IsGoodKnown format more → IsStateOf more one
       → IsJoin (office_state states office) one joined
       → Holds format (record { offices = set known.offices office (united more (office_known known office)); messages = known.messages })

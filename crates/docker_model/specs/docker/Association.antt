@@ -1,5 +1,5 @@
--- Association lines: where two trains join, divide, or one works on as the other. A day is any number here, and no bound stands on it: dockers are of days 0 to
--- 36524.
+-- Association lines: where two trains join or divide, or where one train's next working is the
+-- other. A day is any number here, without a bound; dockers are made for days 0 to 36524.
 use Rattle.std.specs.Prelude.{◌≡◌, ℕ, ◌+◌, ◌-◌, Bool, ◌||◌, ◌⊎◌, ◌==◌, nat_lt, if◌then◌else◌, IsTrue, List, Option, Some, None, codes}
 use Rattle.std.specs.Str.{bytes_eq}
 use Rattle.docker_model.specs.records.Record.{columns, column}
@@ -22,7 +22,8 @@ category_occasion category =
 abbrev pub is_date_indicator : ℕ → Bool
 is_date_indicator b = (b == 83) || (b == 32) || (b == 78) || (b == 80)
 
--- the associated train's start day, if there is such a day: the next for N, the one before for P, else the base's. Of base start days 0 to 36524
+-- the associated train's start day, if there is such a day: the next day for N, the day before for
+-- P, else the base train's own. For base start days 0 to 36524
 abbrev pub partner_start : ℕ → ℕ → Option ℕ
 partner_start indicator day =
     if indicator == 78 then (if nat_lt day last_day then Some (day + 1) else None)
@@ -32,13 +33,14 @@ partner_start indicator day =
 abbrev pub RunsNot : Table → List ℕ → ℕ → Type 0
 RunsNot live uid day = (key : ScheduleKey) (lines : List (List ℕ)) → ¬ TrainRuns live uid day key lines
 
--- the identity of the UID's train that starts on the day, as its basic schedule has it, and question marks where it does not run
+-- the identity of the UID's train that starts on the day, from its basic schedule, or question
+-- marks if it doesn't run
 abbrev pub IsIdentityOn : Table → List ℕ → List ℕ → ℕ → Type 0
 IsIdentityOn live uid identity day =
     ((key : ScheduleKey) × (lines : List (List ℕ)) × TrainRuns live uid day key lines × (identity ≡ columns 33 36 (first_record lines)))
     ⊎ (RunsNot live uid day × (identity ≡ codes "????"))
 
--- the same on a day that there may not be
+-- like `IsIdentityOn`, for a day that may not exist
 abbrev pub IsPartnerIdentity : Table → List ℕ → Option ℕ → List ℕ → Type 0
 IsPartnerIdentity live uid None identity = identity ≡ codes "????"
 IsPartnerIdentity live uid (Some day) identity = IsIdentityOn live uid identity day

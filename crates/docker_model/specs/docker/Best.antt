@@ -1,10 +1,12 @@
--- The best so far of a walk over elements: of those that pass a test the first in an order.
+-- The best element that a walk has met so far: the first, in an order, of the elements that pass a
+-- test.
 use Rattle.std.specs.Prelude.{◌≡◌, Bool, true, false, if◌then◌else◌, List, Option, Some, None, Contains}
 use Rattle.std.specs.declared.cmp.Ordering.{Ordering}
 use Rattle.std.specs.Ordering.{is_lt}
 use Rattle.docker_model.specs.state.Order.{IsAtMost}
 
--- what is found is an element that passes, and no other that passes comes before it; if nothing is found, none passes
+-- what is found is an element that passes, and no other that passes comes before it; if nothing is
+-- found, none passes
 abbrev pub IsBest : {A : Type 0} → (A → A → Ordering) → (A → Bool) → List A → Option A → Type 0
 IsBest {A} cmp test xs None = (z : A) → Contains xs z → test z ≡ false
 IsBest {A} cmp test xs (Some x) = Contains xs x × (test x ≡ true) × ((z : A) → Contains xs z → test z ≡ true → IsAtMost cmp x z)

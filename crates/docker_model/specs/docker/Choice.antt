@@ -1,4 +1,5 @@
--- Which schedule of a train, and which association, counts on a day. A day is any number here, and no bound stands on it: dockers are of days 0 to 36524.
+-- Which schedule of a train, and which association, counts on a day. A day is any number here,
+-- without a bound; dockers are made for days 0 to 36524.
 use Rattle.std.specs.Prelude.{◌≡◌, ℕ, Bool, false, ◌&&◌, nat_le, IsTrue, List, Option, Some}
 use Rattle.std.specs.declared.cmp.Ordering.{Ordering}
 use Rattle.std.specs.Ordering.{ordering_then, nat_cmp}
@@ -9,7 +10,8 @@ use Rattle.docker_model.specs.file.Change.{association_key, schedule_key, Associ
 use Rattle.docker_model.specs.state.Order.{IsAtMost}
 use Rattle.docker_model.specs.state.Table.{Table}
 
--- the day is not before the first date, not after the last, and its weekday is marked: of fields of six, six and seven bytes
+-- the day is not before the first date, not after the last, and its weekday is marked: for fields
+-- of six, six and seven bytes
 abbrev pub runs_within : List ℕ → List ℕ → List ℕ → ℕ → Bool
 runs_within first last days day =
     nat_le (date_number first) day && nat_le day (end_number last) && runs_on_weekday days (weekday_of day)
@@ -54,12 +56,14 @@ pub record IsRunning (live : Table) (uid : List ℕ) (day : ℕ) (key : Schedule
   pub is_live : live (schedule_key key) ≡ Some (schedule_body lines)
   pub runs_then : IsTrue (schedule_runs (first_record lines) day)
 
--- the chosen schedule of the UID on the day: of those that run the first in the order of choice
+-- the chosen schedule of the UID on the day: the first, in the order of choice, of the schedules
+-- that run
 pub record IsChosen (live : Table) (uid : List ℕ) (day : ℕ) (key : ScheduleKey) (lines : List (List ℕ)) : Type 0 where
   pub running : IsRunning live uid day key lines
   pub first : (other : ScheduleKey) (others : List (List ℕ)) → IsRunning live uid day other others → IsAtMost schedule_choice_cmp key other
 
--- the train of the UID that starts on the day runs, by this schedule: it is chosen, and is no cancellation
+-- the UID's train that starts on the day runs by this schedule: it is chosen, and it isn't a
+-- cancellation
 pub record TrainRuns (live : Table) (uid : List ℕ) (day : ℕ) (key : ScheduleKey) (lines : List (List ℕ)) : Type 0 where
   pub chosen : IsChosen live uid day key lines
   pub no_cancellation : ¬ IsCancellation key.indicator

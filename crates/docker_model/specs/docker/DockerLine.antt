@@ -9,12 +9,14 @@ use Rattle.docker_model.specs.file.Change.{ScheduleKey}
 use Rattle.docker_model.specs.state.Order.{bytes_cmp}
 use Rattle.docker_model.specs.docker.Event.{has_identity, Event, event_line, event_identity}
 
--- the end of a line: origin and destination of the train, or UID and identity of the associated train
+-- the end of a line: origin and destination of the train, or UID and identity of the associated
+-- train
 pub data Detail : Type 0 where
   ends : (origin destination : List ℕ) → Detail
   partner : (uid identity : List ℕ) → Detail
 
--- a line: its time in half minutes, and the bytes of its fields. With the start day of the train and the number of the event it is of
+-- a line: its time in half minutes and the bytes of its fields, with the train's start day and the
+-- number of its event
 pub record DockerLine : Type 0 where
   pub time : ℕ
   pub occasion : Occasion
@@ -55,11 +57,12 @@ public_by_kind (Some intermediate_location) departure line = shown_public (colum
 public_by_kind (Some terminating_location) arrival line = shown_public (columns 16 19 line)
 public_by_kind _ _ line = spaces 4
 
--- the TIPLOC of the schedule's first line of an identity, as LO for its origin
+-- the TIPLOC of the schedule's first line with a record identity, such as LO for its origin
 abbrev pub tiploc_of_first : List ℕ → List (List ℕ) → List ℕ
 tiploc_of_first identity lines = columns 3 9 (unwrap_or (find (λ line. has_identity identity line) lines) [])
 
--- the line of an event of a train: its schedule is known by the key, has these lines and starts on a day
+-- the line of an event of a train: its schedule has this key and these lines, and the train starts
+-- on this day
 abbrev pub line_of_event : ScheduleKey → ℕ → List (List ℕ) → Event → DockerLine
 line_of_event key start lines event =
     let at = event_line lines event in
@@ -79,7 +82,8 @@ line_of_event key start lines event =
       detail = ends (tiploc_of_first (codes "LO") lines) (tiploc_of_first (codes "LT") lines);
     }
 
--- the line of an association of this indicator at the base train's event, with the associated train's UID and identity
+-- the line of an association of this indicator at the base train's event, with the associated
+-- train's UID and identity
 abbrev pub line_of_association : Occasion → ℕ → ScheduleKey → ℕ → List (List ℕ) → Event → List ℕ → List ℕ → DockerLine
 line_of_association occasion indicator key start lines event associated identity =
     let at = event_line lines event in
@@ -99,7 +103,8 @@ line_of_association occasion indicator key start lines event associated identity
       detail = partner associated identity;
     }
 
--- the order of what happens at one time: arrivals, passes, joins, divisions, next workings, departures
+-- the order of what happens at one time: arrivals, passes, joins, divisions, next workings,
+-- departures
 abbrev pub occasion_rank : Occasion → ℕ
 occasion_rank arrival = 0
 occasion_rank pass = 1

@@ -1,5 +1,5 @@
--- The list of a docker: the events and association lines of a place on a day. The day is any number here, and no bound stands on it: dockers are of days 0 to
--- 36524.
+-- The list of a docker: the events and association lines of a place on a day. The day is any number
+-- here, without a bound; dockers are made for days 0 to 36524.
 use Rattle.std.specs.Prelude.{◌≡◌, ℕ, ◌↔◌, ◌⊎◌, List, Contains}
 use Rattle.docker_model.specs.records.Record.{columns}
 use Rattle.docker_model.specs.file.Change.{ScheduleKey}

@@ -31,7 +31,8 @@ line_text line =
     ++ spaces 1 ++ line.indicator ∷ spaces 1 ++ line.suffix ∷ spaces 1 ++ line.platform ++ spaces 1 ++ line.track
     ++ spaces 1 ++ line.path ++ spaces 1 ++ line.public_time ++ spaces 1 ++ detail_text line.detail
 
--- the TPS description in a TIPLOC's body, which has columns 10 to 72 of its record, and spaces where there is none
+-- the TPS description in a TIPLOC's body, which holds columns 10 to 72 of its record; spaces if
+-- there is no such body
 abbrev pub description_in : Option Body → List ℕ
 description_in (Some (tiploc_body bytes)) = columns 10 35 bytes
 description_in _ = spaces 26
@@ -45,7 +46,7 @@ heading live place day =
 abbrev pub last_line : List ℕ
 last_line = codes "END" ++ spaces 53
 
--- with a line feed after it
+-- a text with a line feed after it
 abbrev pub ended : List ℕ → List ℕ
 ended text = text ++ 10 ∷ []
 

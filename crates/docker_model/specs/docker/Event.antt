@@ -1,4 +1,5 @@
--- Events of a schedule: its departures, arrivals and passes, numbered from 1. A schedule is the list of its lines.
+-- Events of a schedule: its departures, arrivals and passes, numbered from 1. A schedule is the
+-- list of its lines.
 use Rattle.std.specs.Prelude.{ℕ, ◌+◌, Bool, ◌&&◌, ◌==◌, List, [], map, take, filter, find, slice_index_or, Option, Some, None, codes}
 use Rattle.std.specs.List.{flat_map, enumerate_from, last_or}
 use Rattle.std.specs.Str.{bytes_eq}
@@ -6,7 +7,8 @@ use Rattle.docker_model.specs.records.Record.{columns, column}
 use Rattle.docker_model.specs.file.Journey.{Occasion, times_of, times_along, fall_count}
 use Rattle.docker_model.specs.file.File.{first_record}
 
--- an event: its number, the place of its line in the schedule, from 0, what happens, and when, in half minutes
+-- an event: its number, the place of its line in the schedule, from 0, what happens, and when, in
+-- half minutes
 pub record Event : Type 0 where
   pub number : ℕ
   pub place : ℕ
@@ -23,11 +25,12 @@ events_of lines =
     map (λ counted. record { number = counted.0; place = counted.1.0; occasion = counted.1.1.0; time = counted.1.1.1 })
     (enumerate_from 1 (placed_times lines))
 
--- the falls among the events up to the one of this number. It answers for numbers that no event has too: 0 for the number 0, and all falls above the last
+-- the falls among the events up to the one with this number. Numbers that no event has are allowed
+-- too: 0 gives 0, and a number above the last gives all falls
 abbrev pub falls_to : List (List ℕ) → ℕ → ℕ
 falls_to lines number = fall_count (take number (times_along lines))
 
--- the day of an event of these lines, of a train that starts on a day
+-- the day of an event of these lines, for a train that starts on a day
 abbrev pub event_day : ℕ → List (List ℕ) → Event → ℕ
 event_day start lines event = start + falls_to lines event.number
 
@@ -49,10 +52,11 @@ abbrev pub event_identity : List (List ℕ) → Event → List ℕ
 event_identity lines event =
     changed_identity (last_or None (filter (λ line. has_identity (codes "CR") line) (take event.place lines))) (first_record lines)
 
--- the line is of this TIPLOC, and of this suffix
+-- the line has this TIPLOC and this suffix
 abbrev pub is_at : List ℕ → ℕ → List ℕ → Bool
 is_at location suffix line = bytes_eq (columns 3 9 line) location && (column 10 line == suffix)
 
--- the first event at a location and suffix, which is the first of the first call there: a call is a location record that has an event
+-- the first event at a location and suffix. It belongs to the first call there; a call is a
+-- location record that has an event
 abbrev pub first_event_at : List (List ℕ) → List ℕ → ℕ → Option Event
 first_event_at lines location suffix = find (λ event. is_at location suffix (event_line lines event)) (events_of lines)

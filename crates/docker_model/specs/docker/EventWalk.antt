@@ -1,4 +1,5 @@
--- The events of a schedule as a walk over its lines meets them, and the falls and the identity that it carries along.
+-- The events of a schedule as a walk over its lines meets them, and the falls and the identity that
+-- it carries along.
 use Rattle.std.specs.Prelude.{ℕ, ◌+◌, nat_lt, if◌then◌else◌, List, [], ◌∷◌, ◌++◌, map, length, filter, Option, Some, None, codes}
 use Rattle.std.specs.List.{enumerate_from, last_or}
 use Rattle.docker_model.specs.file.Journey.{Occasion, times_of}
@@ -14,7 +15,7 @@ abbrev pub events_from : ℕ → ℕ → List (List ℕ) → List Event
 events_from number place [] = []
 events_from number place (line ∷ lines) = events_here number place (times_of line) ++ events_from (number + length (times_of line)) (place + 1) lines
 
--- 1 where a time is below the last one before it
+-- 1 if a time is below the last one before it, else 0
 abbrev pub fall_at : Option ℕ → ℕ → ℕ
 fall_at None time = 0
 fall_at (Some last) time = if nat_lt time last then 1 else 0

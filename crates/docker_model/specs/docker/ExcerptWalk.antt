@@ -1,4 +1,5 @@
--- The excerpt of a state for a place, as a walk over its entries in key order makes it. The entries of one UID's schedules, its run, are kept or dropped together.
+-- The excerpt of a state for a place, as a walk over its entries in key order makes it. The entries
+-- of one UID's schedules, its run, are kept or dropped together.
 use Rattle.std.specs.Prelude.{◌≡◌, ℕ, Bool, false, ◌||◌, if◌then◌else◌, List, [], ◌∷◌, ◌++◌, fold, Option, Some, None}
 use Rattle.std.specs.List.{filter_map, list_any}
 use Rattle.std.specs.Str.{bytes_eq}
@@ -7,7 +8,8 @@ use Rattle.docker_model.specs.file.Change.{Key, tiploc_key, association_key, sch
 use Rattle.docker_model.specs.state.Op.{Op, put_with, Entry}
 use Rattle.docker_model.specs.state.State.{State}
 
--- what a walk has kept so far, and the run that it is in: entries of one UID's schedules, which may still be dropped
+-- what a walk has kept so far, and the run that it is in: entries of one UID's schedules, which may
+-- still be dropped
 pub record ExcerptSoFar : Type 0 where
   pub kept : List (Key × Entry)
   pub run : List (Key × Entry)
@@ -54,7 +56,7 @@ is_run_calling place run = list_any (λ entry. is_call place entry.1.op) run
 abbrev pub is_run_needed : List ℕ → ExcerptSoFar → Bool
 is_run_needed place so_far = is_run_named (names_in so_far.kept) so_far.run || is_run_calling place so_far.run
 
--- what is kept where the run ends
+-- what is kept once the run ends
 abbrev pub kept_after_run : List ℕ → ExcerptSoFar → List (Key × Entry)
 kept_after_run place so_far = if is_run_needed place so_far then so_far.kept ++ so_far.run else so_far.kept
 
@@ -76,7 +78,7 @@ with_entry_of place so_far key entry =
 abbrev pub next_kept : List ℕ → ExcerptSoFar → Key × Entry → ExcerptSoFar
 next_kept place so_far entry = with_entry_of place so_far entry.0 entry.1
 
--- what is kept in the end, of a walk that has come so far with these entries to come
+-- what a walk has kept in the end, if it has come this far and these entries are still to come
 abbrev pub kept_from : List ℕ → ExcerptSoFar → List (Key × Entry) → List (Key × Entry)
 kept_from place so_far rest = kept_after_run place (fold (next_kept place) so_far rest)
 
@@ -88,7 +90,8 @@ kept_so_far place entries = fold (next_kept place) nothing_kept entries
 abbrev pub excerpt_for : List ℕ → State → State
 excerpt_for place state = record { horizon = state.horizon; ledger = state.ledger; entries = kept_after_run place (kept_so_far place state.entries) }
 
--- a walk that has passed these entries has kept this much, is in this run, and the run is to be kept or not
+-- a walk that has passed these entries has kept this much, is in this run, and the run is to be
+-- kept or not
 pub record HasKept (place : List ℕ) (entries kept run : List (Key × Entry)) (needed : Bool) : Type 0 where
   pub so_far : kept_so_far place entries ≡ record { kept = kept; run = run }
   pub is_needed : is_run_needed place (record { kept = kept; run = run }) ≡ needed

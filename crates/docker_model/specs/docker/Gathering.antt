@@ -1,5 +1,5 @@
--- The lines of a docker, gathered by a walk over rows of the live table: of each schedule and each association, for the start days whose trains can be there on
--- the day.
+-- The lines of a docker, gathered by a walk over rows of the live table. Each schedule and each
+-- association gives its lines for the start days whose trains can be there on the day.
 use Rattle.std.specs.Prelude.{ℕ, List, ◌⊎◌, ◌-◌, nat_le, [], ◌∷◌, map, filter, ◌&&◌, ◌==◌, Bool, false, Option, Some, None, if◌then◌else◌, codes, not, ◌≡◌, Contains}
 use Rattle.std.specs.List.{flat_map}
 use Rattle.std.specs.Str.{bytes_eq}
@@ -22,7 +22,8 @@ use Rattle.docker_model.specs.docker.LiveRows.{Train, Link}
 abbrev pub IsDockerLine : Table → List ℕ → ℕ → DockerLine → Type 0
 IsDockerLine live place day line = IsEventLine live place day line ⊎ IsAssociationLine live place day line
 
--- the start days of the trains that can be somewhere on a day: the day, the one before it, and the one before that, those that there are
+-- the start days of the trains that can be somewhere on a day: the day itself and the two days
+-- before it, as far as they exist
 abbrev pub start_days : ℕ → List ℕ
 start_days day = map (λ back. day - back) (filter (λ back. nat_le back day) (0 ∷ 1 ∷ 2 ∷ []))
 
@@ -37,7 +38,8 @@ abbrev pub runs_by : Option Train → ScheduleKey → Bool
 runs_by None key = false
 runs_by (Some train) key = is_eq (schedule_key_cmp train.key key)
 
--- the lines of a schedule: of its events, on each start day on which its train runs by it
+-- the lines of a schedule: the lines of its events, for each start day on which the train runs by
+-- this schedule
 abbrev pub schedule_lines : (List ℕ → ℕ → Option Train) → List ℕ → ℕ → ScheduleKey → List (List ℕ) → List DockerLine
 schedule_lines trains place day key lines =
     flat_map (λ start. if runs_by (trains key.uid start) key then event_lines place day start key lines else []) (start_days day)
@@ -47,17 +49,17 @@ abbrev pub counts_as : Option Link → AssociationKey → Bool
 counts_as None key = false
 counts_as (Some link) key = is_eq (association_key_cmp link.key key)
 
--- the identity of a train, and question marks where there is none
+-- the identity of a train, or question marks if there is none
 abbrev pub identity_of : Option Train → List ℕ
 identity_of None = codes "????"
 identity_of (Some train) = columns 33 36 (first_record train.lines)
 
--- and so for a UID, on a day that may not exist
+-- the identity of a UID's train, on a day that may not exist
 abbrev pub partner_identity : (List ℕ → ℕ → Option Train) → List ℕ → Option ℕ → List ℕ
 partner_identity trains uid None = codes "????"
 partner_identity trains uid (Some day) = identity_of (trains uid day)
 
--- the line of an association at the base train's event, where that is on the day
+-- the line of an association at the base train's event, if that event is on the day
 abbrev pub line_at : (List ℕ → ℕ → Option Train) → ℕ → ℕ → AssociationKey → List ℕ → Occasion → Train → Option Event → List DockerLine
 line_at trains day start key line occasion base None = []
 line_at trains day start key line occasion base (Some event) =
@@ -66,7 +68,7 @@ line_at trains day start key line occasion base (Some event) =
     (partner_identity trains key.associated (partner_start (column 37 line) start)) ∷ []
     else []
 
--- the line of an association with the base train, where both there are
+-- the line of an association with the base train, if there are both an occasion and a base train
 abbrev pub line_with : (List ℕ → ℕ → Option Train) → ℕ → ℕ → AssociationKey → List ℕ → Option Occasion → Option Train → List DockerLine
 line_with trains day start key line None base = []
 line_with trains day start key line (Some occasion) None = []
@@ -96,7 +98,8 @@ row_lines trains links place day _ _ = []
 abbrev pub gathered : (List ℕ → ℕ → Option Train) → (Group → ℕ → Option Link) → List ℕ → ℕ → List Row → List DockerLine
 gathered trains links place day rows = flat_map (λ row. row_lines trains links place day row.0 row.1) rows
 
--- a walk over the table that leaves out no row of the place: live rows in key order, among them each schedule that calls there and each association there
+-- a walk over the table that leaves out no row of the place: live rows in key order, among them
+-- each schedule that calls there and each association there
 pub record IsWalk (live : Table) (place : List ℕ) (rows : List Row) : Type 0 where
   pub ascending : AreInKeyOrder rows
   pub each : (key : Key) (body : Body) → Contains rows (key, body) → live key ≡ Some body

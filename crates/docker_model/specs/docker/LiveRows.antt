@@ -1,4 +1,5 @@
--- A live table as rows, and what a walk over rows finds there: the train of a UID on a day, and the association of a group on a base start day.
+-- A live table as rows, and what a walk over rows finds there: the train of a UID on a day, and the
+-- association of a group on a base start day.
 use Rattle.std.specs.Prelude.{◌≡◌, ℕ, List, Some, Contains, Option, None, Bool, ◌&&◌, not, find, ◌==◌, if◌then◌else◌}
 use Rattle.std.specs.List.{filter_map, list_all}
 use Rattle.std.specs.Str.{bytes_eq}
@@ -100,25 +101,25 @@ is_link_choice links group day link =
 abbrev pub link_in : List Row → Group → ℕ → Option Link
 link_in rows group day = find (is_link_choice (associations_in rows) group day) (associations_in rows)
 
--- what is answered is the chosen schedule of the UID on the day, and none where none runs
+-- the answer is the chosen schedule of the UID on the day, or none if none runs
 abbrev pub IsChosenOn : Table → List ℕ → ℕ → Option Train → Type 0
 IsChosenOn live uid day None = (key : ScheduleKey) (lines : List (List ℕ)) → ¬ IsRunning live uid day key lines
 IsChosenOn live uid day (Some train) = IsChosen live uid day train.key train.lines
 
--- what is answered is the train of the UID that starts on the day, and none where none runs
+-- the answer is the UID's train that starts on the day, or none if none runs
 abbrev pub IsTrainOn : Table → List ℕ → ℕ → Option Train → Type 0
 IsTrainOn live uid day None = RunsNot live uid day
 IsTrainOn live uid day (Some train) = TrainRuns live uid day train.key train.lines
 
--- it gives for each UID and day the train of the table
+-- the function gives, for each UID and day, the train of the table
 abbrev pub TellsTrains : Table → (List ℕ → ℕ → Option Train) → Type 0
 TellsTrains live trains = (uid : List ℕ) (day : ℕ) → IsTrainOn live uid day (trains uid day)
 
--- what is answered is the chosen association of the group on the day, and none where none runs
+-- the answer is the chosen association of the group on the day, or none if none runs
 abbrev pub IsLinkOn : Table → Group → ℕ → Option Link → Type 0
 IsLinkOn live group day None = (key : AssociationKey) (line : List ℕ) → ¬ IsChosenAssociation live group day key line
 IsLinkOn live group day (Some link) = IsChosenAssociation live group day link.key link.line
 
--- it gives for each group and base start day the chosen association of the table
+-- the function gives, for each group and base start day, the chosen association of the table
 abbrev pub TellsLinks : Table → (Group → ℕ → Option Link) → Type 0
 TellsLinks live links = (group : Group) (day : ℕ) → IsLinkOn live group day (links group day)

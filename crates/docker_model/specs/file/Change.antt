@@ -7,7 +7,7 @@ use Rattle.docker_model.specs.records.Clock.{is_blank}
 use Rattle.docker_model.specs.records.Field.{is_deletion, as_new}
 use Rattle.docker_model.specs.file.File.{follows_basic}
 
--- what an association is known by
+-- what identifies an association
 pub record AssociationKey : Type 0 where
   pub base : List ℕ
   pub associated : List ℕ
@@ -16,7 +16,7 @@ pub record AssociationKey : Type 0 where
   pub suffix : ℕ
   pub indicator : ℕ
 
--- what a schedule is known by
+-- what identifies a schedule
 pub record ScheduleKey : Type 0 where
   pub uid : List ℕ
   pub runs_from : ℕ
@@ -84,7 +84,7 @@ keeps_code line = is_blank (columns 73 79 line) || bytes_eq (columns 73 79 line)
 abbrev pub schedule_rest : List (List ℕ) → List (List ℕ)
 schedule_rest following = take_while (λ line. follows_basic (kind_of line)) following
 
--- what a record of a kind does, where these records follow it: each key with its act
+-- what a record of a kind does, if these records follow it: each key with its act
 abbrev pub acts_by_kind : Option Kind → List ℕ → List (List ℕ) → List (Key × Act)
 acts_by_kind (Some tiploc_insert) line following = (tiploc_named line, put (tiploc_details line)) ∷ []
 acts_by_kind (Some tiploc_amend) line following =
@@ -97,12 +97,12 @@ acts_by_kind (Some basic_schedule) line following =
     (schedule_named line, if is_deletion line then delete else put (schedule_body (as_new line ∷ schedule_rest following))) ∷ []
 acts_by_kind _ line following = []
 
--- the changes of a record, numbered as the record
+-- the changes of a record, with the record's number
 abbrev pub changes_of_record : ℕ → List ℕ → List (List ℕ) → List Change
 changes_of_record number line following =
     map (λ act. record { number = number; key = act.0; act = act.1 }) (acts_by_kind (kind_of line) line following)
 
--- the changes of records that are numbered from here on
+-- the changes of records, which are numbered from this number on
 abbrev pub changes_from : ℕ → List (List ℕ) → List Change
 changes_from number [] = []
 changes_from number (line ∷ following) = changes_of_record number line following ++ changes_from (number + 1) following

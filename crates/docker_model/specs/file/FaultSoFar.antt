@@ -10,7 +10,8 @@ last_of [] = []
 last_of (piece ∷ []) = piece
 last_of (piece ∷ next ∷ pieces) = last_of (next ∷ pieces)
 
--- how many lines of a text are complete whatever follows: each that has its line feed, and a last one of more than 81 bytes
+-- how many lines of a text are complete whatever follows: each that has its line feed, and also a
+-- last one of more than 81 bytes
 abbrev pub lines_told : List ℕ → ℕ
 lines_told text =
     count_by (λ b. b == 10) text + (if nat_le 82 (length (last_of (slice_split (λ b. b == 10) text))) then 1 else 0)

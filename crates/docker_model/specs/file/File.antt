@@ -5,12 +5,13 @@ use Rattle.docker_model.specs.records.Record.{Kind, extra_details, origin_locati
 use Rattle.docker_model.specs.records.Field.{is_deletion, HasGoodFields}
 use Rattle.docker_model.specs.file.Journey.{midnights}
 
--- the first of some records: the header of a file, and of a schedule's lines its basic schedule. Of none it has no bytes
+-- the first of some records: a file's header, or the basic schedule of a schedule's lines. Without
+-- records it is empty
 abbrev pub first_record : List (List ℕ) → List ℕ
 first_record [] = []
 first_record (line ∷ lines) = line
 
--- a record that stands in a schedule after its basic schedule
+-- a record that follows a basic schedule within its schedule
 abbrev pub follows_basic : Option Kind → Bool
 follows_basic (Some extra_details) = true
 follows_basic (Some origin_location) = true
@@ -46,7 +47,8 @@ pub record IsSoundJourney (lines : List (List ℕ)) : Type 0 where
   pub fields : All HasGoodFields lines
   pub falls : midnights lines ≤ 2
 
--- a basic schedule, at most one record of extra details, and a journey. The journey lines of a deletion are read only for kind and place
+-- a basic schedule, at most one record of extra details, and a journey. The journey lines of a
+-- deletion are read only for kind and place
 pub record IsSchedule (lines : List (List ℕ)) : Type 0 where
   pub basic : List ℕ
   pub extra : List (List ℕ)
@@ -84,7 +86,7 @@ pub record IsFile (records : List (List ℕ)) : Type 0 where
   pub trailer_record : IsRecord last
   pub trailer_kind : HasKind trailer last
 
--- the most records that a limit lets a file have
+-- the most records that any limit allows a file
 abbrev pub most_records : ℕ
 most_records = 4_294_967_294
 

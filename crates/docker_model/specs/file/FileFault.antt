@@ -6,7 +6,7 @@ use Rattle.docker_model.specs.file.Journey.{midnights}
 use Rattle.docker_model.specs.file.File.{IsFile, BeginsFile}
 use Rattle.docker_model.specs.file.Text.{lines_of}
 
--- the causes. A line that does not go on with a schedule has one of them too
+-- the causes. A line that doesn't continue a schedule has one of them too
 pub data FileCause : Type 0 where
   too_many : FileCause
   after_trailer : FileCause
@@ -49,7 +49,7 @@ abbrev pub HasThirdFall : List (List ℕ) → List ℕ → Type 0
 HasThirdFall earlier line =
     (lines : List (List ℕ)) × EndsInSchedule earlier lines × (midnights lines ≤ 2) × (2 < midnights (lines ++ line ∷ []))
 
--- the cause holds of a record, which the earlier ones precede
+-- the cause holds for a record that follows these earlier ones
 abbrev pub HoldsOf : ℕ → List (List ℕ) → List ℕ → FileCause → Type 0
 HoldsOf limit earlier line too_many = limit ≤ length earlier
 HoldsOf limit earlier line after_trailer = Any (HasKind trailer) earlier
@@ -71,7 +71,7 @@ pub record FileFault : Type 0 where
   pub number : ℕ
   pub cause : FileCause
 
--- the first record that is above the limit, or up to which the records begin no file
+-- the first record that is above the limit, or with which the records so far no longer begin a file
 pub record IsRecordFault (limit : ℕ) (records : List (List ℕ)) (fault : FileFault) : Type 0 where
   pub earlier : List (List ℕ)
   pub line : List ℕ
@@ -95,7 +95,7 @@ pub record IsUnended (limit : ℕ) (records : List (List ℕ)) (fault : FileFaul
 abbrev pub IsFileFault : ℕ → List ℕ → FileFault → Type 0
 IsFileFault limit text fault = IsRecordFault limit (lines_of text) fault ⊎ IsUnended limit (lines_of text) fault
 
--- the text is one of this file, of at most this many records
+-- the text is a text of this file, which has at most this many records
 pub record IsFileText (limit : ℕ) (text : List ℕ) (file : List (List ℕ)) : Type 0 where
   pub lines : lines_of text ≡ file
   pub is : IsFile file

@@ -1,4 +1,5 @@
--- The times of a journey, and its falls past midnight. A journey is the lines of a schedule from its origin to its terminus.
+-- The times of a journey, and its falls past midnight. A journey is the lines of a schedule from
+-- its origin to its terminus.
 use Rattle.std.specs.Prelude.{ℕ, List, [], ◌∷◌, Option, Some, None, ◌+◌, ◌++◌, map, nat_lt, if◌then◌else◌, ◌≡◌, Contains, ◌⊎◌, Bool, ◌&&◌}
 use Rattle.std.specs.List.{flat_map, list_any}
 use Rattle.std.specs.Str.{bytes_eq}
@@ -19,7 +20,8 @@ abbrev pub timed : Occasion → Option ℕ → List (Occasion × ℕ)
 timed occasion None = []
 timed occasion (Some time) = (occasion, time) ∷ []
 
--- the times of a record of a kind, in their order: a departure; an arrival, a pass and a departure, those that are there; an arrival
+-- the times of a record of a kind, in their order: an origin's departure; the arrival, pass and
+-- departure of an intermediate location, as far as it has them; a terminus's arrival
 abbrev pub times_by_kind : Option Kind → List ℕ → List (Occasion × ℕ)
 times_by_kind (Some origin_location) line = timed departure (scheduled_time (columns 11 15 line))
 times_by_kind (Some intermediate_location) line =
@@ -54,6 +56,6 @@ pub record CallsAt (place : List ℕ) (lines : List (List ℕ)) : Type 0 where
   pub kind : HasKind origin_location line ⊎ HasKind intermediate_location line ⊎ HasKind terminating_location line
   pub here : columns 3 9 line ≡ place
 
--- the same as a test
+-- the test that an LO, LI or LT of this TIPLOC is among the lines
 abbrev pub calls_at : List ℕ → List (List ℕ) → Bool
 calls_at place lines = list_any (λ line. is_location (kind_of line) && bytes_eq (columns 3 9 line) place) lines

@@ -1,4 +1,5 @@
--- Why a line does not go on with a schedule: the cause and its rank, as for a record of a file. The lines are records, so no cause is of length or bytes.
+-- Why a line doesn't continue a schedule: the cause and its rank, as for a record of a file. The
+-- lines are records, so no cause concerns length or bytes.
 use Rattle.std.specs.Prelude.{◌≡◌, ℕ, ◌<◌, ◌≤◌, List, [], ◌∷◌, ◌++◌, None, Some}
 use Rattle.docker_model.specs.records.Record.{kind_of}
 use Rattle.docker_model.specs.records.Field.{leftmost_bad_field}
@@ -10,7 +11,7 @@ use Rattle.docker_model.specs.file.FileFault.{FileCause, bad_kind, bad_place, ba
 abbrev pub IsOutOfSchedule : List (List ℕ) → List ℕ → Type 0
 IsOutOfSchedule earlier line = (next : List ℕ) → kind_of next ≡ kind_of line → ¬ BeginsSchedule (earlier ++ next ∷ [])
 
--- the cause holds of a line of a schedule, which the earlier ones precede
+-- the cause holds for a line of a schedule that follows these earlier lines
 abbrev pub HoldsInSchedule : List (List ℕ) → List ℕ → FileCause → Type 0
 HoldsInSchedule earlier line bad_kind = kind_of line ≡ None
 HoldsInSchedule earlier line bad_place = IsOutOfSchedule earlier line
@@ -18,7 +19,8 @@ HoldsInSchedule earlier line (bad_field at) = leftmost_bad_field line ≡ Some a
 HoldsInSchedule earlier line third_midnight = (midnights earlier ≤ 2) × (2 < midnights (earlier ++ line ∷ []))
 HoldsInSchedule earlier line _ = ⊥
 
--- the earlier lines begin a schedule and with this one they do not, for this cause: the first of those that hold
+-- the earlier lines begin a schedule, with this one they don't, and this is the first cause that
+-- holds
 pub record IsScheduleFault (earlier : List (List ℕ)) (line : List ℕ) (cause : FileCause) : Type 0 where
   pub earlier_begin : BeginsSchedule earlier
   pub here : ¬ BeginsSchedule (earlier ++ line ∷ [])

@@ -1,19 +1,22 @@
--- The changes of a file unit by unit. A unit is what stands between header and trailer: a single record, or a schedule's lines.
+-- The changes of a file unit by unit. A unit is what stands between header and trailer: a single
+-- record, or a schedule's lines.
 use Rattle.std.specs.Prelude.{ℕ, ◌+◌, if◌then◌else◌, List, [], ◌∷◌, ◌++◌, length}
 use Rattle.docker_model.specs.records.Field.{is_deletion, as_new}
 use Rattle.docker_model.specs.file.Change.{schedule_body, delete, put, Change, schedule_named, changes_of_record}
 
--- the changes of a unit: those of its first record, where the rest of the unit follows it. They are numbered as that record
+-- the changes of a unit: the changes of its first record, with the rest of the unit after it. They
+-- have that record's number
 abbrev pub changes_of_unit : ℕ → List (List ℕ) → List Change
 changes_of_unit number [] = []
 changes_of_unit number (line ∷ others) = changes_of_record number line others
 
--- the changes of units in order, the first record of which has this number
+-- the changes of units in order, if the first record of the first unit has this number
 abbrev pub changes_of_units : ℕ → List (List (List ℕ)) → List Change
 changes_of_units number [] = []
 changes_of_units number (unit ∷ units) = changes_of_unit number unit ++ changes_of_units (number + length unit) units
 
--- the one change of a schedule, from its basic schedule and the lines after it: its key is deleted, or put with all these lines
+-- the one change of a schedule, from its basic schedule and the lines after it: its key is deleted,
+-- or put with all these lines
 abbrev pub change_of_schedule : ℕ → List ℕ → List (List ℕ) → Change
 change_of_schedule number basic others = record {
   number = number;

@@ -1,23 +1,24 @@
--- Times of day. A scheduled time is in half minutes, and a public time in minutes. A field has the width said: past the end of a shorter one bytes read as 0.
+-- Times of day. A scheduled time is in half minutes, and a public time in minutes. A field has the
+-- stated width; past the end of a shorter one, bytes read as 0.
 use Rattle.std.specs.Prelude.{ℕ, ◌+◌, ◌*◌, Bool, ◌&&◌, ◌||◌, ◌==◌, nat_lt, if◌then◌else◌, List, take, slice_index, Option, Some, None, codes}
 use Rattle.std.specs.List.{list_all}
 use Rattle.std.specs.Char.{is_ascii_digit}
 use Rattle.std.specs.Str.{bytes_eq}
 use Rattle.docker_model.specs.records.Date.{two_digits}
 
--- each byte is a space: of a field of four, five or seven bytes
+-- each byte is a space: for a field of four, five or seven bytes
 abbrev pub is_blank : List ℕ → Bool
 is_blank field = list_all (λ b. b == 32) field
 
--- the first four bytes are HHMM: of a field of four or five bytes
+-- the first four bytes are HHMM: for a field of four or five bytes
 abbrev pub is_clock : List ℕ → Bool
 is_clock field = list_all is_ascii_digit (take 4 field) && nat_lt (two_digits field 0) 24 && nat_lt (two_digits field 2) 60
 
--- the minute of the day in the first four bytes: of a field of four or five bytes
+-- the minute of the day in the first four bytes: for a field of four or five bytes
 abbrev pub minute_of : List ℕ → ℕ
 minute_of field = 60 * two_digits field 0 + two_digits field 2
 
--- a scheduled time of five bytes that is there: HHMM, and then H for half a minute or a space
+-- a scheduled time of five bytes that is present: HHMM, then H for half a minute or a space
 abbrev pub is_present_time : List ℕ → Bool
 is_present_time field = is_clock field && ((slice_index field 4 == 72) || (slice_index field 4 == 32))
 
@@ -25,7 +26,7 @@ is_present_time field = is_clock field && ((slice_index field 4 == 72) || (slice
 abbrev pub is_scheduled_time : List ℕ → Bool
 is_scheduled_time field = is_blank field || is_present_time field
 
--- the half minutes of a scheduled time of five bytes that is there
+-- the half minutes of a scheduled time of five bytes that is present
 abbrev pub half_minutes : List ℕ → ℕ
 half_minutes field = 2 * minute_of field + (if slice_index field 4 == 72 then 1 else 0)
 
@@ -37,6 +38,6 @@ scheduled_time field = if is_blank field then None else Some (half_minutes field
 abbrev pub is_public_time : List ℕ → Bool
 is_public_time field = is_blank field || is_clock field
 
--- the minute of a public time of four bytes, where 0000 and blank are none
+-- the minute of a public time of four bytes; none for 0000 and for a blank field
 abbrev pub public_time : List ℕ → Option ℕ
 public_time field = if is_blank field || bytes_eq field (codes "0000") then None else Some (minute_of field)

@@ -1,5 +1,5 @@
--- Dates: a day is a number, 0 for 1 January 1960. The calendar is the one of the crate `jiff`. A field has the width said: past the end of a shorter one bytes
--- read as 0.
+-- Dates: a day is a number, 0 for 1 January 1960. The calendar is the one of the crate `jiff`. A
+-- field has the stated width; past the end of a shorter one, bytes read as 0.
 use Rattle.std.specs.Prelude.{ℕ, ◌+◌, ◌-◌, ◌*◌, List, slice_index, nat_le, if◌then◌else◌, Bool, ◌&&◌, pos, ◌+ℤ◌, unsigned_abs, ◌≤◌, codes, ◌||◌, ◌==◌, ◌%◌, count_by}
 use Rattle.std.specs.List.{list_all, range_with_len}
 use Rattle.std.specs.Int.{is_in_range}
@@ -8,11 +8,13 @@ use Rattle.std.specs.Str.{bytes_eq}
 use Rattle.jiff.specs.Words.{days_in_month}
 use Rattle.jiff_core.specs.Calendar.{days_from_civil}
 
--- the number that two digits of a field spell, from this place on, counted from 0: of a field that has both
+-- the number that two digits of a field spell, from this place on, counted from 0: for a field that
+-- has both
 abbrev pub two_digits : List ℕ → ℕ → ℕ
 two_digits field i = 10 * (slice_index field i - 48) + (slice_index field (i + 1) - 48)
 
--- the year that a year of two digits means: 60 to 99 are 1960 to 1999, and 00 to 59 are 2000 to 2059
+-- the year that a year of two digits means: 60 to 99 are 1960 to 1999, and 00 to 59 are 2000 to
+-- 2059
 abbrev pub full_year : ℕ → ℕ
 full_year n = if nat_le 60 n then 1900 + n else 2000 + n
 
@@ -20,7 +22,8 @@ full_year n = if nat_le 60 n then 1900 + n else 2000 + n
 abbrev pub is_calendar_day : ℕ → ℕ → ℕ → Bool
 is_calendar_day year month day = is_in_range 1 12 month && is_in_range 1 (days_in_month (pos year) month) day
 
--- the number of a day of the calendar from 1960 on, in days since 1 January 1960, which is 3653 days before 1 January 1970
+-- the number of a day of the calendar from 1960 on, in days since 1 January 1960, which is 3653
+-- days before 1 January 1970
 abbrev pub day_number : ℕ → ℕ → ℕ → ℕ
 day_number year month day = unsigned_abs (days_from_civil (pos year) month day +ℤ pos 3653)
 
@@ -32,7 +35,7 @@ last_day = 36524
 abbrev pub IsDay : ℕ → Type 0
 IsDay day = day ≤ last_day
 
--- the end number of what has no end
+-- the end number for no end
 abbrev pub no_end_number : ℕ
 no_end_number = 65535
 
@@ -64,11 +67,11 @@ is_end_date field = is_no_end field || is_date field
 abbrev pub end_number : List ℕ → ℕ
 end_number field = if is_no_end field then no_end_number else date_number field
 
--- seven marks 0 or 1, Monday first: of a field of seven bytes
+-- seven marks 0 or 1, Monday first: for a field of seven bytes
 abbrev pub is_days : List ℕ → Bool
 is_days field = list_all (λ b. (b == 48) || (b == 49)) field
 
--- the mark of a weekday, 0 for Monday to 6, is 1: of marks of seven bytes
+-- the mark of a weekday, 0 for Monday to 6, is 1: for marks of seven bytes
 abbrev pub runs_on_weekday : List ℕ → ℕ → Bool
 runs_on_weekday field weekday = slice_index field weekday == 49
 

@@ -1,10 +1,11 @@
--- The checked fields of each kind of record, in the order of their columns, and the leftmost that is not good. A field has the width said.
+-- The checked fields of each kind of record, in the order of their columns, and the leftmost that
+-- is not good. A field has the stated width.
 use Rattle.std.specs.Prelude.{ℕ, Bool, List, ◌||◌, ◌==◌, slice_index, not, ◌≡◌, IsTrue, slice_set, if◌then◌else◌, [], ◌∷◌, ◌++◌, Option, Some, None, option_map, find}
 use Rattle.docker_model.specs.records.Record.{IsTextOfLength, column, Kind, header, tiploc_insert, tiploc_amend, tiploc_delete, association, basic_schedule, extra_details, origin_location, intermediate_location, terminating_location, change_en_route, trailer, kind_of, columns}
 use Rattle.docker_model.specs.records.Date.{is_date, is_date_day_first, is_end_date, is_days}
 use Rattle.docker_model.specs.records.Clock.{is_blank, is_clock, is_present_time, is_scheduled_time, is_public_time}
 
--- a checked field: its first and its last column, and the test that its bytes, of that width, are good
+-- a checked field: its first and last columns, and the test that its bytes, of that width, are good
 pub record CheckedField : Type 0 where
   pub first : ℕ
   pub last : ℕ
@@ -14,7 +15,7 @@ pub record CheckedField : Type 0 where
 abbrev pub checked : ℕ → ℕ → (List ℕ → Bool) → CheckedField
 checked from to test = record { first = from; last = to; is_good = test }
 
--- F for a full extract, U for an update: of a field of one byte
+-- F for a full extract, U for an update: for a field of one byte
 abbrev pub is_update_indicator : List ℕ → Bool
 is_update_indicator field = (slice_index field 0 == 70) || (slice_index field 0 == 85)
 
@@ -22,15 +23,15 @@ is_update_indicator field = (slice_index field 0 == 70) || (slice_index field 0 
 abbrev pub is_tiploc : List ℕ → Bool
 is_tiploc field = not (slice_index field 0 == 32)
 
--- a TIPLOC of seven bytes, whose first is not a space
+-- a TIPLOC of seven bytes, the first of which is not a space
 abbrev pub IsTiploc : List ℕ → Type 0
 IsTiploc code = IsTextOfLength 7 code × ¬ (slice_index code 0 ≡ 32)
 
--- a new TIPLOC of seven bytes, which is blank where the code stays
+-- a new TIPLOC of seven bytes, which is blank if the code stays
 abbrev pub is_new_tiploc : List ℕ → Bool
 is_new_tiploc field = is_blank field || is_tiploc field
 
--- the transactions N, D and R, for new, delete and revise: of a field of one byte
+-- the transactions N, D and R, for new, delete and revise: for a field of one byte
 abbrev pub is_transaction : List ℕ → Bool
 is_transaction field = (slice_index field 0 == 78) || (slice_index field 0 == 68) || (slice_index field 0 == 82)
 
@@ -42,7 +43,7 @@ is_stp_letter b = (b == 80) || (b == 78) || (b == 79) || (b == 67)
 abbrev pub IsStpLetter : ℕ → Type 0
 IsStpLetter letter = IsTrue (is_stp_letter letter)
 
--- an STP indicator: of a field of one byte
+-- an STP indicator: for a field of one byte
 abbrev pub is_stp_indicator : List ℕ → Bool
 is_stp_indicator field = is_stp_letter (slice_index field 0)
 
@@ -58,7 +59,7 @@ HasNewTransaction line = column 3 line ≡ 78
 abbrev pub as_new : List ℕ → List ℕ
 as_new line = slice_set line 2 78
 
--- the checked fields of a record of a kind. Of a deletion the end date and the days do not count
+-- the checked fields of a record of a kind. A deletion's end date and days run don't count
 abbrev pub checked_fields : Kind → List ℕ → List CheckedField
 checked_fields header line =
     checked 23 28 is_date_day_first ∷ checked 29 32 is_clock ∷ checked 47 47 is_update_indicator ∷ []
@@ -89,12 +90,12 @@ abbrev pub fields_of : Option Kind → List ℕ → List CheckedField
 fields_of None line = []
 fields_of (Some kind) line = checked_fields kind line
 
--- the first column of the leftmost checked field that is not good: of a line of 80 bytes
+-- the first column of the leftmost checked field that is not good: for a line of 80 bytes
 abbrev pub leftmost_bad_field : List ℕ → Option ℕ
 leftmost_bad_field line =
     option_map (λ (field : CheckedField). field.first)
     (find (λ field. not (field.is_good (columns field.first field.last line))) (fields_of (kind_of line) line))
 
--- each checked field of the record is good: of a line of 80 bytes
+-- each checked field of the record is good: for a line of 80 bytes
 abbrev pub HasGoodFields : List ℕ → Type 0
 HasGoodFields line = leftmost_bad_field line ≡ None

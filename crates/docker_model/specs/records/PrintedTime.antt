@@ -1,4 +1,4 @@
--- Days and times as printed. A field has the width said.
+-- Days and times as printed. A field has the stated width.
 use Rattle.std.specs.Prelude.{ℕ, List, replicate, ◌+◌, ◌/◌, ◌%◌, [], ◌∷◌, ◌++◌, codes, ◌==◌, if◌then◌else◌}
 use Rattle.std.specs.Str.{bytes_eq}
 use Rattle.docker_model.specs.records.Date.{year_of, month_of, day_of_month}
@@ -19,7 +19,7 @@ four_digit_text n = two_digit_text (n / 100) ++ two_digit_text (n % 100)
 abbrev pub date_text : ℕ → ℕ → ℕ → List ℕ
 date_text year month day = four_digit_text year ++ codes "-" ++ two_digit_text month ++ codes "-" ++ two_digit_text day
 
--- a day number as YYYY-MM-DD, of days 0 to 36524
+-- a day number as YYYY-MM-DD, for days 0 to 36524
 abbrev pub day_text : ℕ → List ℕ
 day_text day = date_text (year_of day) (month_of day) (day_of_month day)
 
@@ -27,7 +27,7 @@ day_text day = date_text (year_of day) (month_of day) (day_of_month day)
 abbrev pub minute_text : ℕ → List ℕ
 minute_text minute = two_digit_text (minute / 60) ++ two_digit_text (minute % 60)
 
--- a time in half minutes, from 0 to 2879, as HHMM, and then H or a space
+-- a time in half minutes, from 0 to 2879, as HHMM, then H or a space
 abbrev pub time_text : ℕ → List ℕ
 time_text time = minute_text (time / 2) ++ (if time % 2 == 1 then codes "H" else codes " ")
 

@@ -1,4 +1,5 @@
--- Records of a CIF file, their kinds and their columns. Bytes are numbers, and columns count from 1.
+-- Records of a CIF file, their kinds and their columns. Bytes are numbers, and columns count from
+-- 1.
 use Rattle.std.specs.Prelude.{ℕ, Bool, ◌&&◌, nat_le, ◌≡◌, List, length, ◌+◌, not, Option, option_map, position, ◌-◌, slice_range, slice_index, [], ◌∷◌, codes, find, Some, true, false}
 use Rattle.std.specs.List.{AllPass}
 use Rattle.std.specs.Str.{bytes_eq}
@@ -19,11 +20,11 @@ IsTextOfLength n bytes = (length bytes ≡ n) × AllPass is_printable bytes
 abbrev pub leftmost_bad_byte : List ℕ → Option ℕ
 leftmost_bad_byte bytes = option_map (λ i. i + 1) (position (λ b. not (is_printable b)) bytes)
 
--- the bytes from one column to another, both included: of a line that has these columns
+-- the bytes from one column to another, both included: for a line that has these columns
 abbrev pub columns : ℕ → ℕ → List ℕ → List ℕ
 columns first last line = slice_range line (first - 1) last
 
--- the byte in one column: of a line that has it, for past the end of a shorter one it reads as 0
+-- the byte in one column: for a line that has it. Past the end of a shorter line it reads as 0
 abbrev pub column : ℕ → List ℕ → ℕ
 column n line = slice_index line (n - 1)
 
@@ -42,7 +43,7 @@ pub data Kind : Type 0 where
   change_en_route : Kind
   trailer : Kind
 
--- each kind beside its record identity
+-- each kind with its record identity
 abbrev pub identities : List (List ℕ × Kind)
 identities =
     (codes "HD", header) ∷ (codes "TI", tiploc_insert) ∷ (codes "TA", tiploc_amend) ∷ (codes "TD", tiploc_delete)

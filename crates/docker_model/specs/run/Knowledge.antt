@@ -1,4 +1,5 @@
--- What an exchange holds in the middle of a run: each office's state and each message's text, beside what it knows.
+-- What an exchange holds in the middle of a run: each office's state and each message's text, with
+-- what the office or message knows.
 use Rattle.std.specs.Prelude.{◌≡◌, ℕ, ◌≤◌, ◌↔◌, List, All, Contains, slice_index_or, [], length, filter, Bool, true, false, ⊤}
 use Rattle.std.specs.List.{AllZip, zip}
 use Rattle.docker_model.specs.file.File.{IsFile, most_records}
@@ -22,28 +23,30 @@ AreFiles files = All IsFile files × All (λ file. length file ≤ most_records)
 abbrev pub IsGoodKnown : Format → Known → Type 0
 IsGoodKnown format known = AreFiles known.files × IsHorizonOf format known.horizon
 
--- an event that a run of the format is given: a limit of at most 4,294,967,294 records, and a horizon that a state of the format may have
+-- an event that a run of the format is given: a limit of at most 4,294,967,294 records, and a
+-- horizon that a state of the format may have
 abbrev pub IsGoodEvent : Format → RunEvent → Type 0
 IsGoodEvent format (take_file office text limit) = limit ≤ most_records
 IsGoodEvent format (horizon_event office day) = IsHorizonOf format day
 IsGoodEvent format _ = ⊤
 
--- each state is the summary of what its office knows, each message is the text of the summary of what it knows itself, and files and horizons are good
+-- each state is the summary of what its office knows, each message is the text of the summary of
+-- what it knows itself, and files and horizons are good
 pub record Holds (format : Format) (known : KnownSets) (states : List State) (messages : List (List ℕ)) : Type 0 where
   pub offices : All (IsGoodKnown format) known.offices
   pub sent : All (IsGoodKnown format) known.messages
   pub states_are : AllZip IsStateOf known.offices states
   pub messages_are : AllZip (IsMessageOf format) known.messages messages
 
--- the state of an office; of none that does not exist
+-- the state of an office; an empty one if the office doesn't exist
 abbrev pub office_state : List State → ℕ → State
 office_state states office = slice_index_or states office (record { horizon = 0; ledger = []; entries = [] })
 
--- the text of a message; of none that does not exist
+-- the text of a message; an empty one if the message doesn't exist
 abbrev pub message_text : List (List ℕ) → ℕ → List ℕ
 message_text messages message = slice_index_or messages message []
 
--- what is known where an exchange ends
+-- what is known when an exchange ends
 abbrev pub sets_of : ℕ → List RunEvent → Exchange → KnownSets
 sets_of offices events exchange = known_sets offices events exchange.replies
 
@@ -55,7 +58,7 @@ is_sending (deliver office message) = false
 is_sending (reload office message) = false
 is_sending (horizon_event office day) = false
 
--- and it was done
+-- the event is a sending, and it was done
 abbrev pub is_sent : RunEvent × Reply → Bool
 is_sent happened = elim happened.1 [ done ↦ is_sending happened.0 | refused why ↦ false ]
 

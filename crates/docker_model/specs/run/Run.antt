@@ -31,7 +31,8 @@ pub data Reply : Type 0 where
 abbrev pub Files : Type 0
 Files = List (List (List ℕ))
 
--- what an office or a message knows: a set of files, as a list in any order, and a horizon, 0 for none
+-- what an office or a message knows: a set of files, as a list in any order, and a horizon, 0 for
+-- none
 pub record Known : Type 0 where
   pub files : Files
   pub horizon : ℕ
@@ -61,8 +62,9 @@ message_known known message = slice_index_or known.messages message nothing
 abbrev pub with_office : KnownSets → ℕ → Known → KnownSets
 with_office known office now = record { offices = slice_set known.offices office now; messages = known.messages }
 
--- what is known after an event that was done: a file is added, a message gets what the office knows, what a message knows is united with what the office knows,
--- or replaces it, or the greater horizon is taken
+-- what is known after an event that was done: a file is added, a message gets what the office
+-- knows, what a message knows is united with what the office knows, or replaces it, or the greater
+-- horizon is taken
 abbrev pub after_done : KnownSets → RunEvent → KnownSets
 after_done known (take_file office text limit) =
     with_office known office (united (record { files = lines_of text ∷ []; horizon = 0 }) (office_known known office))
@@ -91,14 +93,14 @@ IsOffice known office = office < length known.offices
 abbrev pub IsMessage : KnownSets → ℕ → Type 0
 IsMessage known message = message < length known.messages
 
--- what a file may be answered at an office
+-- the reply is one that a file may get at an office
 abbrev pub IsFileReply : ℕ → List ℕ → Reply → Type 0
 IsFileReply limit text done = IsFileText limit text (lines_of text)
 IsFileReply limit text (refused (bad_file fault)) = IsFileFault limit text fault
 IsFileReply limit text (refused no_memory) = ⊤
 IsFileReply limit text (refused _) = ⊥
 
--- what any other event may be answered there
+-- the reply is one that any other event may get there
 abbrev pub IsDoneOrNoMemory : Reply → Type 0
 IsDoneOrNoMemory done = ⊤
 IsDoneOrNoMemory (refused no_memory) = ⊤
@@ -143,8 +145,9 @@ pub record Exchange : Type 0 where
   pub messages : List (List ℕ)
   pub replies : List Reply
 
--- it is what a run of these events at this many offices leaves, with messages of a format: each state is the summary of what its office knows, each message the
--- text of the summary of what it knows itself
+-- it is what a run of these events at this many offices leaves, with messages of a format: each
+-- state is the summary of what its office knows, each message the text of the summary of what it
+-- knows itself
 pub record IsRun (format : Format) (offices : ℕ) (events : List RunEvent) (exchange : Exchange) : Type 0 where
   pub replies : AreReplies (none_known offices) events exchange.replies
   pub states : AllZip IsStateOf (known_sets offices events exchange.replies).offices exchange.states

@@ -1,4 +1,5 @@
--- The two indexes of a live table, and what they find: the schedules that call at a place, the associations there, the schedules of a UID.
+-- The two indexes of a live table, and what they find: the schedules that call at a place, the
+-- associations there, the schedules of a UID.
 use Rattle.std.specs.Prelude.{◌≡◌, ℕ, ◌↔◌, List, [], ◌∷◌, map, filter, Some, None, Contains, ◌⊎◌}
 use Rattle.std.specs.Str.{bytes_eq}
 use Rattle.std.specs.declared.cmp.Ordering.{Ordering}
@@ -27,7 +28,8 @@ calling_cmp a b = ordering_then (bytes_cmp a.0 b.0) (schedule_key_cmp a.1 b.1)
 abbrev pub linked_cmp : LinkedRow → LinkedRow → Ordering
 linked_cmp a b = ordering_then (bytes_cmp a.0 b.0) (association_key_cmp a.1 b.1)
 
--- the rows of the index of calls that a live row gives: a TIPLOC as often as a location record names it
+-- the rows of the index of calls that a live row gives: a TIPLOC as often as a location record
+-- names it
 abbrev pub calls_of : Key → Body → List CallingRow
 calls_of (schedule_key key) (schedule_body lines) = map (λ line. (columns 3 9 line, key)) (filter (λ line. is_location (kind_of line)) lines)
 calls_of _ _ = []
@@ -82,21 +84,21 @@ pub record AreOfUid (live : Table) (uid : List ℕ) (rows : List Row) : Type 0 w
 abbrev pub calling_keys : List CallingRow → List ℕ → List Key
 calling_keys index place = map (λ (r : CallingRow). schedule_key r.1) (filter (λ (r : CallingRow). bytes_eq r.0 place) index)
 
--- and those that a walk over the index of associations finds
+-- the keys that a walk over the index of associations finds at a place
 abbrev pub linked_keys : List LinkedRow → List ℕ → List Key
 linked_keys index place = map (λ (r : LinkedRow). association_key r.1) (filter (λ (r : LinkedRow). bytes_eq r.0 place) index)
 
--- what the table has at each key is what one of two tables has there, or nothing
+-- at each key the table has what one of two tables has there, or nothing
 abbrev pub IsFromEither : Table → Table → Table → Type 0
 IsFromEither one two live = (key : Key) → (live key ≡ one key) ⊎ (live key ≡ two key) ⊎ (live key ≡ None)
 
--- a row of one of two indexes, whose key has in the table what it has in that index's table
+-- a row of one of two indexes: at its key the table has what that index's table has
 abbrev pub IsCallingFromEither : Table → Table → Table → List CallingRow → List CallingRow → CallingRow → Type 0
 IsCallingFromEither one two live first second row =
     (Contains first row × (live (schedule_key row.1) ≡ one (schedule_key row.1)))
     ⊎ (Contains second row × (live (schedule_key row.1) ≡ two (schedule_key row.1)))
 
--- and so for associations
+-- like `IsCallingFromEither`, for a row of an index of associations
 abbrev pub IsLinkedFromEither : Table → Table → Table → List LinkedRow → List LinkedRow → LinkedRow → Type 0
 IsLinkedFromEither one two live first second row =
     (Contains first row × (live (association_key row.1) ≡ one (association_key row.1)))

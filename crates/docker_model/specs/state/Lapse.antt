@@ -1,16 +1,18 @@
--- The lapse under a horizon, a day number: a put whose end number is below it has lapsed. Under the horizon 0, which is none, nothing lapses.
+-- The lapse under a horizon, a day number: a put whose end number is below it has lapsed. Under the
+-- horizon 0, which is none, nothing lapses.
 use Rattle.std.specs.Prelude.{ℕ, nat_lt, if◌then◌else◌, ◌≤◌, ⊤, List, map, Option, Some, None, option_and_then, ◌+◌, ◌<◌}
 use Rattle.docker_model.specs.file.Change.{Key, Body}
 use Rattle.docker_model.specs.state.Op.{body_end, Op, deleted, lapsed, put_with, Entry}
 use Rattle.docker_model.specs.state.Table.{Table}
 
--- the lapse of an op: a put whose end number is below the horizon has lapsed, and any other op stays
+-- the lapse of an op: a put whose end number is below the horizon has lapsed, and any other op
+-- stays
 abbrev pub lapse : ℕ → Op → Op
 lapse horizon deleted = deleted
 lapse horizon lapsed = lapsed
 lapse horizon (put_with body) = if nat_lt (body_end body) horizon then lapsed else put_with body
 
--- the op is no put whose end number is below the horizon
+-- the op isn't a put whose end number is below the horizon
 abbrev pub HasNotToLapse : ℕ → Op → Type 0
 HasNotToLapse horizon deleted = ⊤
 HasNotToLapse horizon lapsed = ⊤
@@ -20,11 +22,11 @@ HasNotToLapse horizon (put_with body) = horizon ≤ body_end body
 abbrev pub lapse_entry : ℕ → Entry → Entry
 lapse_entry horizon entry = record { stamp = entry.stamp; op = lapse horizon entry.op }
 
--- and so for the entry of a key
+-- the key stays with its entry, which lapses
 abbrev pub lapse_keyed : ℕ → Key × Entry → Key × Entry
 lapse_keyed horizon entry = (entry.0, lapse_entry horizon entry.1)
 
--- and so for each entry
+-- each entry lapses, and its key stays with it
 abbrev pub lapse_entries : ℕ → List (Key × Entry) → List (Key × Entry)
 lapse_entries horizon entries = map (lapse_keyed horizon) entries
 

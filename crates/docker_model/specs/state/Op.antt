@@ -23,19 +23,22 @@ body_tag (tiploc_body bytes) = 1
 body_tag (association_body line) = 2
 body_tag (schedule_body lines) = 3
 
--- the order of associations: by their parts from left to right, which of well formed keys is the order of their bytes
+-- the order of associations: by their parts from left to right. For well formed keys this is the
+-- order of their bytes
 abbrev pub association_key_cmp : AssociationKey → AssociationKey → Ordering
 association_key_cmp a b =
     ordering_then (bytes_cmp a.base b.base) (ordering_then (bytes_cmp a.associated b.associated)
     (ordering_then (nat_cmp a.start b.start) (ordering_then (bytes_cmp a.location b.location)
     (ordering_then (nat_cmp a.suffix b.suffix) (nat_cmp a.indicator b.indicator)))))
 
--- the order of schedules: by their parts from left to right, which of well formed keys is the order of their bytes
+-- the order of schedules: by their parts from left to right. For well formed keys this is the order
+-- of their bytes
 abbrev pub schedule_key_cmp : ScheduleKey → ScheduleKey → Ordering
 schedule_key_cmp a b =
     ordering_then (bytes_cmp a.uid b.uid) (ordering_then (nat_cmp a.runs_from b.runs_from) (nat_cmp a.indicator b.indicator))
 
--- keys are ordered by tag, and then within it, which of well formed keys is the order of their bytes
+-- keys are ordered by tag, and then within a tag. For well formed keys this is the order of their
+-- bytes
 abbrev pub key_cmp : Key → Key → Ordering
 key_cmp (tiploc_key a) (tiploc_key b) = bytes_cmp a b
 key_cmp (tiploc_key a) (association_key b) = Less
@@ -53,7 +56,7 @@ body_bytes (tiploc_body bytes) = bytes
 body_bytes (association_body line) = line
 body_bytes (schedule_body lines) = concat lines
 
--- the end number of an end date of six bytes that can be read, else the number for no end
+-- the end number of an end date of six bytes if it can be read, else the number for no end
 abbrev pub readable_end : List ℕ → ℕ
 readable_end field = if is_end_date field then end_number field else no_end_number
 
@@ -63,7 +66,8 @@ body_end (tiploc_body bytes) = no_end_number
 body_end (association_body line) = readable_end (columns 22 27 line)
 body_end (schedule_body lines) = readable_end (columns 16 21 (first_record lines))
 
--- the order of bodies: by end number, then by bytes, then by tag. It distinguishes bodies whose lines are records, but not all bodies with lines of other lengths
+-- the order of bodies: by end number, then by bytes, then by tag. The order distinguishes bodies
+-- whose lines are records, but not all bodies with lines of other lengths
 abbrev pub body_cmp : Body → Body → Ordering
 body_cmp a b =
     ordering_then (nat_cmp (body_end a) (body_end b))
@@ -86,7 +90,8 @@ body_of deleted = None
 body_of lapsed = None
 body_of (put_with body) = Some body
 
--- deleted is below lapsed, and lapsed is below every put. It distinguishes ops of records, whose bodies' lines have 80 bytes
+-- deleted is below lapsed, and lapsed is below every put. The order distinguishes ops of records,
+-- whose bodies' lines have 80 bytes
 abbrev pub op_cmp : Op → Op → Ordering
 op_cmp deleted deleted = Equal
 op_cmp deleted lapsed = Less
@@ -103,6 +108,6 @@ pub record Entry : Type 0 where
   pub stamp : Stamp
   pub op : Op
 
--- entries are ordered by stamp, and then by op. It distinguishes entries of records
+-- entries are ordered by stamp, and then by op. The order distinguishes entries of records
 abbrev pub entry_cmp : Entry → Entry → Ordering
 entry_cmp a b = ordering_then (stamp_cmp a.stamp b.stamp) (op_cmp a.op b.op)

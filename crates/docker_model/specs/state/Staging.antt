@@ -1,4 +1,5 @@
--- Receiving from the stream: the entries of a received state are staged as they come, and then committed at once.
+-- Receiving from the stream: the entries of a received state are staged as they come, and then
+-- committed at once.
 use Rattle.std.specs.Prelude.{◌≡◌, ◌↔◌, ◌⊎◌, List, ◌++◌, Option, Some, None, Contains, ⊤}
 use Rattle.docker_model.specs.file.Change.{Key}
 use Rattle.docker_model.specs.state.Order.{IsStrictlyAscending, IsBelow}
@@ -7,11 +8,12 @@ use Rattle.docker_model.specs.state.Op.{Entry, entry_cmp}
 use Rattle.docker_model.specs.state.Lapse.{lapse_entry}
 use Rattle.docker_model.specs.state.State.{State, AreAscending}
 
--- no entry of the key stands among these
+-- none of these entries has the key
 abbrev pub HasNoEntryOf : List (Key × Entry) → Key → Type 0
 HasNoEntryOf entries key = (entry : Entry) → ¬ Contains entries (key, entry)
 
--- an offered entry is to be staged: it is kept under the floor of the union, and greater than the state's own entry of its key, where there is one
+-- an offered entry is to be staged: it is kept under the floor of the union, and it is greater than
+-- the state's own entry of its key, if there is one
 pub record IsToStage (own : State) (floor : Option FileStamp) (key : Key) (entry : Entry) : Type 0 where
   pub kept : IsKept floor entry.stamp.file
   pub greater : (other : Entry) → Contains own.entries (key, other) → IsBelow entry_cmp other entry
@@ -21,18 +23,19 @@ abbrev pub IsGreaterThan : Option Entry → Entry → Type 0
 IsGreaterThan None entry = ⊤
 IsGreaterThan (Some mine) entry = IsBelow entry_cmp mine entry
 
--- what is staged of the offered entries: those that are to be, in key order
+-- what is staged of the offered entries: each entry that is to be staged, in key order
 pub record IsStaged (own : State) (floor : Option FileStamp) (offered staged : List (Key × Entry)) : Type 0 where
   pub ascending : AreAscending staged
   pub members : (key : Key) (entry : Entry) → Contains staged (key, entry) ↔ (Contains offered (key, entry) × IsToStage own floor key entry)
 
--- after a commit an entry of the key is put: one that is staged, or the state's own, if it is kept and none of the key is staged
+-- after a commit an entry of the key is put: a staged one, or the state's own if it is kept and no
+-- entry of the key is staged
 abbrev pub IsPutIn : State → List (Key × Entry) → Option FileStamp → Key → Entry → Type 0
 IsPutIn own staged floor key entry =
     Contains staged (key, entry) ⊎ (Contains own.entries (key, entry) × IsKept floor entry.stamp.file × HasNoEntryOf staged key)
 
--- what a commit leaves: the state's own horizon, the union of the ledgers kept under its floor, and the state's own kept entries with each staged entry put in
--- at its key, lapsed under the horizon
+-- what a commit leaves: the state's own horizon, the union of the ledgers kept under its floor, and
+-- the state's own kept entries with each staged entry put in at its key, lapsed under the horizon
 pub record IsCommit (own : State) (items : List LedgerItem) (staged : List (Key × Entry)) (after : State) : Type 0 where
   pub horizon : after.horizon ≡ own.horizon
   pub floor : Option FileStamp

@@ -87,7 +87,8 @@ abbrev pub IsFloor : List LedgerItem → Option FileStamp → Type 0
 IsFloor items None = HasNoFull items
 IsFloor items (Some stamp) = IsGreatestFull items stamp
 
--- what has this file stamp is kept under a floor: it is at or above it. Without a floor everything is kept
+-- what has this file stamp is kept under a floor: it is at or above it. Without a floor everything
+-- is kept
 abbrev pub IsKept : Option FileStamp → FileStamp → Type 0
 IsKept None stamp = ⊤
 IsKept (Some floor) stamp = IsAtMost file_stamp_cmp floor stamp

@@ -83,7 +83,8 @@ pub record IsLedger (ledger : List LedgerItem) : Type 0 where
   pub is_floor : IsFloor ledger floor
   pub kept : All (λ item. IsKept floor item.stamp) ledger
 
--- the record number of a stamp is at least 2 and at most 4,294,967,294, and its file stands in the ledger
+-- the record number of a stamp is at least 2 and at most 4,294,967,294, and its file stands in the
+-- ledger
 pub record IsStampIn (ledger : List LedgerItem) (stamp : Stamp) : Type 0 where
   pub in_ledger : Contains (map (λ (item : LedgerItem). item.stamp) ledger) stamp.file
   pub low : 2 ≤ stamp.number
@@ -143,8 +144,8 @@ pub record IsGreatestAmong (entries : List (Key × Entry)) (key : Key) (entry : 
   pub among : Contains entries (key, entry)
   pub greatest : (other : Entry) → Contains entries (key, other) → IsAtMost entry_cmp other entry
 
--- joined is the join of two states: the union of the ledgers, and of each key the greater entry, both kept under the floor of the union, and each entry lapsed
--- under the greater horizon
+-- joined is the join of two states: the union of the ledgers and, for each key, the greater entry.
+-- Both are kept under the floor of the union, and each entry is lapsed under the greater horizon
 pub record IsJoin (first second joined : State) : Type 0 where
   pub horizon : joined.horizon ≡ max first.horizon second.horizon
   pub floor : Option FileStamp

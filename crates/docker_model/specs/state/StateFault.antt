@@ -1,4 +1,5 @@
--- Why bytes are no text of a state in a format: the first part that is bad after the parts before it.
+-- Why bytes are not a state's text in a format: the first part that is bad after the parts before
+-- it.
 use Rattle.std.specs.Prelude.{ℕ, List, ◌≤◌, ◌≡◌, ◌+◌, [], ◌∷◌, ◌++◌, slice_index, ◌≢◌, length, ◌<◌, ◌⊎◌}
 use Rattle.std.specs.Int.{w32, from_be_bytes, w16}
 use Rattle.docker_model.specs.records.Record.{IsTextOfLength}
@@ -42,7 +43,7 @@ IsBadKey state key bad_body = ¬ IsGoodKey key
 IsBadKey state key bad_order = IsGoodKey key × ¬ IsAboveEntries state key
 IsBadKey state key _ = ⊥
 
--- a body, or the number of its lines, is good, and an association has not to lapse
+-- a body, or the number of its lines, is good, and an association's body has not lapsed
 abbrev pub IsBodyPart : State → Key → List ℕ → Type 0
 IsBodyPart state (tiploc_key code) bytes = IsTextOfLength 63 bytes
 IsBodyPart state (association_key key) bytes = IsAssociationOf key bytes × (state.horizon ≤ body_end (association_body bytes))

@@ -1,4 +1,5 @@
--- The parts of a state's text: what the parts before a part say, how wide the next one is, and when they are good.
+-- The parts of a state's text: what the parts before a part say, how wide the next one is, and when
+-- they are good.
 use Rattle.std.specs.Int.{w32, to_be_bytes}
 use Rattle.std.specs.List.{concat}
 use Rattle.std.specs.Prelude.{ℕ, List, [], length, ◌∷◌, ◌++◌, ◌==◌, if◌then◌else◌, ◌≡◌, ◌⊎◌, ◌-◌, ◌^◌, ◌<◌, All, ◌≤◌, ⊤}
@@ -20,7 +21,8 @@ pub data EntryPart : Type 0 where
   before_body : (key : Key) (stamp : Stamp) → EntryPart
   before_line : (key : ScheduleKey) (stamp : Stamp) (count : ℕ) (lines : List (List ℕ)) → EntryPart
 
--- what the parts before a part say: the horizon, the counts, and what has been read of the ledger, of the entries and of the next entry
+-- what the parts before a part say: the horizon, the counts, and what has been read of the ledger,
+-- of the entries and of the next entry
 pub data Before : Type 0 where
   before_mark : Before
   before_horizon : Before
@@ -100,7 +102,7 @@ IsTag tag = (tag ≡ 1) ⊎ (tag ≡ 2) ⊎ (tag ≡ 3)
 abbrev pub IsLineCount : ℕ → Type 0
 IsLineCount count = (0 < count) × (count < 2 ^ 32 - 1)
 
--- the key is above those of the entries before it
+-- the key is above the keys of the entries before it
 abbrev pub IsAboveEntries : State → Key → Type 0
 IsAboveEntries state key = All (λ entry. IsBelow key_cmp entry.0 key) state.entries
 
@@ -119,7 +121,7 @@ pub record AreLinesOf (key : ScheduleKey) (lines : List (List ℕ)) : Type 0 whe
   pub new : HasNewTransaction (first_record lines)
   pub key_is : schedule_named (first_record lines) ≡ schedule_key key
 
--- the same, and the last of this many lines completes the schedule
+-- the lines are of this key, and the last of this many lines completes the schedule
 pub record AreLinesUpTo (key : ScheduleKey) (count : ℕ) (lines : List (List ℕ)) : Type 0 where
   pub lines_of : AreLinesOf key lines
   pub complete : length lines ≡ count → IsSchedule lines
@@ -132,7 +134,7 @@ IsKeyHere state key = IsGoodKey key × IsAboveEntries state key
 abbrev pub IsStampHere : State → Key → Stamp → Type 0
 IsStampHere state key stamp = IsKeyHere state key × IsStampIn state.ledger stamp
 
--- the lines do not lapse, as the first of them shows
+-- the lines have not lapsed, as the first of them shows
 abbrev pub HaveNotToLapse : State → List (List ℕ) → Type 0
 HaveNotToLapse state lines = state.horizon ≤ body_end (schedule_body lines)
 

@@ -1,4 +1,5 @@
--- The text of a state, in bytes, in either of two formats: with the mark DKS1 it has no horizon, with DKS2 it has one. All numbers are big endian.
+-- The text of a state, in bytes, in either of two formats: with the mark DKS1 it has no horizon,
+-- with DKS2 it has one. All numbers are big endian.
 use Rattle.std.specs.Prelude.{ℕ, List, codes, [], ◌++◌, ◌∷◌, length, slice_range, slice_index, ◌==◌, if◌then◌else◌, ⊤, ◌≡◌, ◌⊎◌, All}
 use Rattle.std.specs.List.{concat, flat_map}
 use Rattle.std.specs.Int.{w16, to_be_bytes, w32, w64, from_be_bytes}
@@ -46,7 +47,7 @@ key_bytes (schedule_key key) = key.uid ++ to_be_bytes w16 key.runs_from ++ key.i
 abbrev pub stamp_bytes : Stamp → List ℕ
 stamp_bytes stamp = file_stamp_bytes stamp.file ++ to_be_bytes w32 stamp.number
 
--- a body: of a schedule the number of its lines, and then they
+-- a body; for a schedule, the number of its lines and then the lines
 abbrev pub put_bytes : Body → List ℕ
 put_bytes (tiploc_body bytes) = bytes
 put_bytes (association_body line) = line
@@ -66,7 +67,7 @@ entry_bytes entry = key_tag entry.0 ∷ key_bytes entry.0 ++ stamp_bytes entry.1
 abbrev pub ledger_text : Format → ℕ → ℕ → List LedgerItem → List ℕ
 ledger_text format horizon count ledger = head_text format horizon ++ to_be_bytes w64 count ++ flat_map item_bytes ledger
 
--- and then the number of entries, and these entries
+-- mark, horizon and ledger items with their number, then the number of entries, and these entries
 abbrev pub entries_text : Format → ℕ → State → List ℕ
 entries_text format count state =
     ledger_text format state.horizon (length state.ledger) state.ledger ++ to_be_bytes w64 count ++ flat_map entry_bytes state.entries
@@ -128,7 +129,7 @@ abbrev pub TellsOp : Format → Op → Type 0
 TellsOp dks_1 lapsed = ⊥
 TellsOp _ _ = ⊤
 
--- the same as bytes
+-- the bytes that may begin an op of the format: 2, for lapsed, only in DKS2
 abbrev pub IsOpByte : Format → ℕ → Type 0
 IsOpByte dks_1 byte = (byte ≡ 0) ⊎ (byte ≡ 1)
 IsOpByte dks_2 byte = (byte ≡ 0) ⊎ (byte ≡ 1) ⊎ (byte ≡ 2)

@@ -29,13 +29,13 @@ pub record IsEntryOf (files : List (List (List ℕ))) (floor : Option FileStamp)
   pub key_is : change.key ≡ key
   pub entry_is : entry_of file change ≡ entry
 
--- and it is the greatest that one makes
+-- this entry is the greatest that a change of the key in a kept file makes
 pub record IsGreatestEntryOf (files : List (List (List ℕ))) (floor : Option FileStamp) (key : Key) (entry : Entry) : Type 0 where
   pub is : IsEntryOf files floor key entry
   pub greatest : (other : Entry) → IsEntryOf files floor key other → IsAtMost entry_cmp other entry
 
--- the state is the summary under a horizon, 0 for none: the ledger items of the kept files, and for each key the greatest entry among the changes of kept
--- files, lapsed under the horizon
+-- the state is the summary under a horizon, 0 for none: the ledger items of the kept files and, for
+-- each key, the greatest entry among the changes of kept files, lapsed under the horizon
 pub record IsSummary (files : List (List (List ℕ))) (horizon : ℕ) (state : State) : Type 0 where
   pub horizon_is : state.horizon ≡ horizon
   pub floor : Option FileStamp

@@ -1,4 +1,5 @@
--- The plain table of a set of files: the newest full extract and then the later files, each record in order.
+-- The plain table of a set of files: the newest full extract and then the later files, each record
+-- in order.
 use Rattle.std.specs.Prelude.{◌≡◌, ℕ, Bool, ◌==◌, if◌then◌else◌, List, [], ◌∷◌, ◌↔◌, Option, None, fold, Contains}
 use Rattle.std.specs.List.{list_any}
 use Rattle.std.specs.Ordering.{is_eq, on}
@@ -31,12 +32,12 @@ after_files table files = fold after_file table files
 abbrev pub is_full : List (List ℕ) → Bool
 is_full file = (ledger_item_of file).indicator == 70
 
--- the last full extract and the files after it, or all of them where there is none
+-- the last full extract and the files after it, or all files if there is no full extract
 abbrev pub from_last_full : List (List (List ℕ)) → List (List (List ℕ))
 from_last_full [] = []
 from_last_full (file ∷ files) = if list_any is_full files then from_last_full files else file ∷ files
 
--- files in moment order: those of the set, and no others
+-- files in moment order: the files of the set, and no others
 pub record IsInMomentOrder (files ordered : List (List (List ℕ))) : Type 0 where
   pub same : (file : List (List ℕ)) → Contains ordered file ↔ Contains files file
   pub ascending : IsStrictlyAscending (on moment_of moment_cmp) ordered

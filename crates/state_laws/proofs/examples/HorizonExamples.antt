@@ -16,7 +16,8 @@ use Rattle.cif_laws.proofs.records.Builders.{f2_basic, f2_schedule}
 use Rattle.state_laws.proofs.examples.StateExamples.{f2_item, end_of_f2}
 use Rattle.state_laws.proofs.examples.SummaryExamples as plain
 
--- the schedule ends on 14 June: it lives under a horizon of that day, and has lapsed under the next
+-- the schedule ends on 14 June: it is live under a horizon on that day, and has lapsed under one on
+-- the next
 lives : lapse 23541 (put_with (schedule_body f2_schedule)) ≡ put_with (schedule_body f2_schedule)
 unfolding days_from_civil day_count days_of_years days_of_months
 lives = refl
@@ -29,7 +30,8 @@ lapses = refl
 tiploc_stays : lapse 36524 (put_with (tiploc_body [])) ≡ put_with (tiploc_body [])
 tiploc_stays = refl
 
--- under the horizon of 14 June the docker of the 16th is refused, and that of the 17th is printed
+-- under the horizon of 14 June the docker for the 16th is refused, and the docker for the 17th is
+-- printed
 day_is_refused : IsDayRefused 23541 23543
 day_is_refused = (lit< tt, lit< tt)
 
@@ -64,7 +66,7 @@ length_of_first = refl
 length_of_second : length (state_text dks_2 f2_state) ≡ 311
 length_of_second = refl
 
--- the horizon of 15 June set: the entry has lapsed, with its stamp, and has no body
+-- the horizon of 15 June is set: the entry has lapsed; it keeps its stamp and has no body
 pub raised_state : raise_horizon 23542 f2_state ≡ state_with 23542 (lapsed_entry ∷ [])
 unfolding days_from_civil day_count days_of_years days_of_months
 raised_state = refl
@@ -97,7 +99,7 @@ other_mark = inl (record {
   item_at = refl;
 })
 
--- a horizon above the last day
+-- a horizon after the last day
 high_horizon : IsStateFault dks_2 1000 (codes "DKS2" ++ 0x8e ∷ 0xad ∷ drop 6 text) (record { at = 4; cause = bad_horizon })
 high_horizon = inl (record {
   before = before_horizon;
@@ -153,7 +155,7 @@ op_three = inl (record {
     no_op (inr (inl e)) = omega arith
     no_op (inr (inr e)) = omega arith
 
--- a lapsed op is good also without a horizon, and what follows it is behind the state
+-- a lapsed op is good without a horizon too, and what follows it is a tail after the state
 op_two : IsStateFault dks_2 1000 (take 66 text ++ 2 ∷ drop 67 text) (record { at = 67; cause = has_tail })
 op_two = inr (inr (inr (record {
   state = state_with 0 (lapsed_entry ∷ []);
@@ -184,7 +186,7 @@ op_two = inr (inr (inr (record {
       ops = All-from_recursion (λ (entry : Key × Entry). TellsOp dks_2 entry.1.op) (lapsed_entry ∷ []) (tt, tt);
     }
 
--- a schedule that ends before the horizon: the first line tells it
+-- a schedule that ends before the horizon: its first line shows that it does
 end_of_line : body_end (schedule_body (f2_basic ∷ [])) ≡ 23541
 unfolding days_from_civil day_count days_of_years days_of_months
 end_of_line = refl
@@ -202,7 +204,7 @@ ends_before = inl (record {
   item_at = refl;
 })
 
--- under a horizon of its last day it is a text of a state
+-- under a horizon on its last day it is a state's text
 abbrev last_day_state : State
 last_day_state = record { horizon = 23541; ledger = f2_state.ledger; entries = f2_state.entries }
 

@@ -71,7 +71,7 @@ start_of_entry = refl
 lines_in_text : drop 69 (state_text dks_1 f2_state) ≡ concat f2_schedule
 lines_in_text = refl
 
--- what the bytes of an item, a key and a stamp say
+-- the item, key and stamp that these bytes encode
 item_again : item_in (slice_range (state_text dks_1 f2_state) 12 31) ≡ f2_item
 item_again = refl
 

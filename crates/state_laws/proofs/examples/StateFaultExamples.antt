@@ -1,4 +1,4 @@
--- Worked texts that are no text of a state.
+-- Worked texts that are not the text of a state.
 use Rattle.std.proofs.Common.{◌≡◌, ℕ, List, [], ◌∷◌, ◌++◌, take, drop, refl, inl, inr, lit≤, lit<, arith, ap}
 use Rattle.std.specs.Prelude.{codes, slice_index}
 use Rattle.std.proofs.lemmas.List.Elements.{All-from_recursion}
@@ -53,7 +53,7 @@ told_f2 : IsToldState dks_1 f2_state
 told_f2 =
     record { valid = f2_state_valid; horizon = refl; ops = All-from_recursion (λ (entry : Key × Entry). TellsOp dks_1 entry.1.op) f2_state.entries (tt, tt) }
 
--- a byte behind the state
+-- a byte after the state
 one_byte_more : IsStateFault dks_1 1000 (text ++ 7 ∷ []) (record { at = 309; cause = has_tail })
 one_byte_more = inr (inr (inr (record {
   state = f2_state;
@@ -146,7 +146,7 @@ op_two = inl (record {
     no_op (inl e) = omega arith
     no_op (inr e) = omega arith
 
--- the last line ends at the byte behind the limit
+-- the last line ends at the byte after the limit
 too_long_by_one : IsStateFault dks_1 308 text (record { at = 308; cause = too_long })
 too_long_by_one = inr (inl (record {
   before = in_entry 1 without_entry (before_line f2_key (record { file = f2_item.stamp; number = 2 }) 3 (f2_basic ∷ f2_origin ∷ []));

@@ -32,7 +32,7 @@ good_item = record {
 no_full : (item : LedgerItem) → Contains (f2_item ∷ []) item → item.indicator ≡ 70 → ⊥
 no_full item among full = let same = ap (λ (i : LedgerItem). i.indicator) (Contains-single f2_item item among) ∙ full in omega arith
 
--- the worked ledger is one
+-- the worked ledger is a ledger
 pub good_ledger : IsLedger (f2_item ∷ [])
 good_ledger = record {
   each = All-from_recursion IsGoodItem (f2_item ∷ []) (good_item, tt);
@@ -68,7 +68,7 @@ f2_state_valid = record {
   entries = (All-from_recursion (IsGoodEntry (f2_item ∷ [])) ((schedule_key f2_key, f2_entry) ∷ []) (good_entry, tt), (tt, tt));
 }
 
--- the summary of the one file
+-- the summary of this one file
 item_is : ledger_item_of f2 ≡ f2_item
 item_is = item_of_f2
 
@@ -94,7 +94,7 @@ f2_entry_of = record {
   entry_is = entry_is;
 }
 
--- an entry that a change makes is that one, at that key
+-- the only entry that a change makes is this one, at this key
 only_entry : (key : Key) (entry : Entry) (made : IsEntryOf (f2 ∷ []) None key entry) → (schedule_key f2_key ≡ key) × (f2_entry ≡ entry)
 only_entry key entry made =
     let file_is : f2 ≡ made.file = Contains-single f2 made.file made.kept.among in

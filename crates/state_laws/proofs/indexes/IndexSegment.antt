@@ -1,4 +1,5 @@
--- The rows of an index at a place stand together: a piece of it whose rows are of the place, and outside which none is, are they.
+-- The rows of an index at a place are consecutive. A piece of the index is these rows if all its
+-- rows are at the place and no row outside it is.
 use Rattle.std.proofs.Common.{◌≡◌, ℕ, List, [], ◌∷◌, ◌++◌, map, refl, ap, ◌∙◌, Bool, true, false, cond, Contains, append-nil}
 use Rattle.std.specs.Prelude.{filter}
 use Rattle.std.specs.Str.{bytes_eq}
@@ -29,7 +30,7 @@ module _ {K : Type 0} (place : List ℕ) where
       by true h rest = absurd (each row (cons-Contains-first row rows) ((bytes_eq-Decides row.0 place).0 h))
       by false h rest = rest
 
-  -- what stands at a place is a piece of the rows outside which nothing does
+  -- the rows at a place are the piece of rows outside which no row is at the place
   pub piece_is : (front rows back : List (List ℕ × K)) → ((row : List ℕ × K) → Contains front row → ¬ (row.0 ≡ place))
       → ((row : List ℕ × K) → Contains rows row → row.0 ≡ place)
       → ((row : List ℕ × K) → Contains back row → ¬ (row.0 ≡ place)) → filter (λ (row : List ℕ × K). bytes_eq row.0 place) ((front ++ rows) ++ back) ≡ rows
@@ -39,14 +40,14 @@ module _ {K : Type 0} (place : List ℕ) where
       ∙ (λ i. (filter-append test front rows ∙ (λ j. none_kept front before j ++ all_kept rows here j)) i ++ none_kept back behind i)
       ∙ append-nil rows
 
--- the same of the index of calls
+-- like `piece_is`, for the index of calls
 pub calling_piece : (place : List ℕ) (front rows back : List CallingRow) → ((row : CallingRow) → Contains front row → ¬ (row.0 ≡ place))
     → ((row : CallingRow) → Contains rows row → row.0 ≡ place)
     → ((row : CallingRow) → Contains back row → ¬ (row.0 ≡ place)) → calling_keys ((front ++ rows) ++ back) place ≡ map
     (λ (row : CallingRow). schedule_key row.1) rows
 calling_piece place front rows back before here behind = ap (map (λ (row : CallingRow). schedule_key row.1)) (piece_is place front rows back before here behind)
 
--- the same of the index of associations
+-- like `piece_is`, for the index of associations
 pub linked_piece : (place : List ℕ) (front rows back : List LinkedRow) → ((row : LinkedRow) → Contains front row → ¬ (row.0 ≡ place))
     → ((row : LinkedRow) → Contains rows row → row.0 ≡ place)
     → ((row : LinkedRow) → Contains back row → ¬ (row.0 ≡ place)) → linked_keys ((front ++ rows) ++ back) place ≡ map

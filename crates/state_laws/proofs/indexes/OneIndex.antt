@@ -1,4 +1,4 @@
--- A live table has one index of each kind, and one list of what each call walks.
+-- A live table has one index of each kind, and one list of rows for each walk.
 use Rattle.std.proofs.Common.{◌≡◌, List, ℕ, map, sym, ◌∙◌, Contains, refl, subst, [], ◌∷◌, ap, Some}
 use Rattle.std.specs.Prelude.{◌↔◌, filter}
 use Rattle.std.specs.Str.{bytes_eq}
@@ -60,7 +60,7 @@ one_of_uid live uid a b one two = same_list rows_total a b one.ascending two.asc
 
 -- ---- what the indexes find
 
--- of the rows of one place the second part ascends
+-- the second parts of the rows of one place ascend
 at_place_ascends : {K : Type 0} (cmp : K → K → Ordering) (wrap : K → Key) → ((a b : K) → cmp a b ≡ Less → key_cmp (wrap a) (wrap b) ≡ Less)
     → (place : List ℕ) (index : List (List ℕ × K))
     → AllLater (λ (a b : List ℕ × K). ordering_then (bytes_cmp a.0 b.0) (cmp a.1 b.1) ≡ Less) index
@@ -82,7 +82,7 @@ at_place_ascends {K} cmp wrap to place index up =
         let level : bytes_cmp a.0 b.0 ≡ Equal = (λ i. bytes_cmp (one i) (two i)) ∙ tied_itself nat_list_cmp_total place in
         sym (λ i. ordering_then (level i) (cmp a.1 b.1)) ∙ below
 
--- the keys of an index's rows of a place are found there, and no others
+-- the keys found at a place are the keys of the index's rows there, and no others
 found_at : {K : Type 0} (wrap : K → Key) (place : List ℕ) (index : List (List ℕ × K)) (key : Key)
     → Contains (map (λ (r : List ℕ × K). wrap r.1) (filter (λ (r : List ℕ × K). bytes_eq r.0 place) index)) key
     ↔ ((k : K) × Contains index (place, k) × (wrap k ≡ key))
@@ -108,7 +108,7 @@ order_of_keys (row ∷ rows) up = (above rows up.0, order_of_keys rows up.1)
     above (other ∷ others) all = (all.0, above others all.1)
 
 module _ (live : Table) (place : List ℕ) where
-  -- rows are what calls at the place where their keys are those that the index finds, and they are live
+  -- live rows whose keys the index of calls finds at a place are the calling rows there
   pub calling_by_index : (index : List CallingRow) (rows : List Row) → IsCallingIndex live index → map (λ (row : Row). row.0) rows ≡ calling_keys index place
       → ((key : Key) (body : Body) → Contains rows (key, body) → live key ≡ Some body) → AreCalling live place rows
   calling_by_index index rows is keys each = record {

@@ -1,4 +1,5 @@
--- The join of states with horizons is commutative and associative, and idempotent on valid states; two states have at most one.
+-- The join of states with horizons is commutative, associative, and idempotent on valid states. Two
+-- states have at most one join.
 use Rattle.std.proofs.Common.{◌++◌, ◌≡◌, ◌∙◌, sym, ◌≤◌, subst, ℕ, arith, ap, List, Contains, inl, inr, ◌⊎◌, Some, None}
 use Rattle.std.specs.Prelude.{max, Option}
 use Rattle.std.proofs.Math.Nat.{max_comm, le-max_left, le-max_right, max-eq_left}
@@ -17,7 +18,7 @@ use Rattle.state_laws.proofs.states.PlainTable.{one_per_key}
 use Rattle.state_laws.proofs.states.ReducedEntries.{IsReduced, reduced_twice}
 use Rattle.state_laws.proofs.states.ReducedMembers.{reduced_along, reduced_unique}
 
--- ---- a join reduces what both states have
+-- ---- a join reduces what the two states have together
 
 -- a join reduces the items and the entries of both states
 pub join_reduced : (a b c : State) → IsJoin a b c → IsReduced (a.ledger ++ b.ledger) (a.entries ++ b.entries) c
@@ -42,7 +43,7 @@ reduced_join a b c horizon is = record {
   entries = is.of_keys;
 }
 
--- the join of two states is that of the two in the other order
+-- two states in the other order have the same join
 pub join_commutes : (a b c : State) → IsJoin a b c → IsJoin b a c
 join_commutes a b c is =
     reduced_join b a c (is.horizon ∙ max_comm a.horizon b.horizon)
@@ -56,11 +57,11 @@ join_unique a b c d is_c is_d =
 
 -- ---- three states
 
--- the horizon of a join is not below that of either
+-- the horizon of a join is not below the horizon of the first state
 pub horizon_left : (a b c : State) → IsJoin a b c → a.horizon ≤ c.horizon
 horizon_left a b c is = subst (λ h. a.horizon ≤ h) (sym is.horizon) (le-max_left a.horizon b.horizon)
 
--- the horizon of a join is at least that of the second state
+-- the horizon of a join is not below the horizon of the second state
 pub horizon_right : (a b c : State) → IsJoin a b c → b.horizon ≤ c.horizon
 horizon_right a b c is = subst (λ h. b.horizon ≤ h) (sym is.horizon) (le-max_right a.horizon b.horizon)
 

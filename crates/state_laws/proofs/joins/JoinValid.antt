@@ -1,4 +1,5 @@
--- The join of valid states is valid, and so is a state under a greater horizon. The floor of a valid state's ledger is the file stamp of its first full item.
+-- The join of valid states is valid, and so is a valid state under a greater horizon. The floor of
+-- a valid state's ledger is the file stamp of its first full item.
 use Rattle.std.proofs.Common.{List, Contains, subst, sym, Some, None, map, inl, inr, ◌⊎◌, ℕ, ◌<◌, ◌≤◌, ◌++◌, ap, ◌≡◌, [], ◌∷◌, refl, ◌∙◌, Bool, true, false, cond, eqb-true, All}
 use Rattle.std.specs.Prelude.{Option, max, option_map, find, ◌==◌}
 use Rattle.std.proofs.lemmas.List.Elements.{All-contains, Contains-append_left, Contains-append_right, Contains-append_cases}
@@ -17,7 +18,7 @@ use Rattle.state_laws.proofs.states.Lapse.{below_or, put_lapses, put_stays, has_
 use Rattle.state_laws.proofs.states.LapsedGreatest.{lapsed_from}
 use Rattle.state_laws.proofs.states.KeptEntries.{lapse_ascends}
 
--- the items of a union that are kept under its floor have that floor
+-- the items of a union that its floor keeps have the same floor
 pub kept_floor : (items ledger : List LedgerItem) (floor : Option FileStamp) → IsFloor items floor
     → ((item : LedgerItem) → Contains ledger item → Contains items item) → ((item : LedgerItem) → Contains items item → IsKept floor item.stamp
     → Contains ledger item)
@@ -31,7 +32,7 @@ kept_floor items ledger (Some stamp) greatest from to = record {
   greatest = λ item among. greatest.greatest item (from item among);
 }
 
--- a stamp of one ledger stands in a ledger that keeps the ledger's items, where the stamp is kept
+-- a kept stamp of one ledger is in every ledger that has that ledger's kept items
 pub stamp_stays : (ledger joined : List LedgerItem) (floor : Option FileStamp) → ((item : LedgerItem) → Contains ledger item → IsKept floor item.stamp
     → Contains joined item)
     → (stamp : FileStamp) → IsKept floor stamp → Contains (map (λ (item : LedgerItem). item.stamp) ledger) stamp
@@ -51,7 +52,7 @@ op_lapses horizon key (put_with body) good = by (below_or horizon body)
     by (inl below) = subst (IsOpOf key) (sym (put_lapses horizon body below)) tt
     by (inr above) = subst (IsOpOf key) (sym (put_stays horizon body above)) good
 
--- a good entry lapses to a good one
+-- the lapse of a good entry is good
 pub good_lapses : (horizon : ℕ) (ledger : List LedgerItem) (key : Key) (entry : Entry) → IsGoodEntry ledger (key, entry)
     → IsGoodEntry ledger (key, lapse_entry horizon entry)
 good_lapses horizon ledger key entry good = record { key = good.key; stamp = good.stamp; op = op_lapses horizon key entry.op good.op }
@@ -136,11 +137,11 @@ raised_is_valid horizon state day valid = lapsed_is_valid (max state.horizon hor
 pub one_floor : (state : State) (first second : Option FileStamp) → IsFloor state.ledger first → IsFloor state.ledger second → first ≡ second
 one_floor state = floor_unique state.ledger state.ledger (λ item. (λ x. x, λ x. x))
 
--- the first full item, if there is one
+-- the stamp of the first full item, if there is one
 abbrev pub first_full : List LedgerItem → Option FileStamp
 first_full ledger = option_map (λ (item : LedgerItem). item.stamp) (find (λ (item : LedgerItem). item.indicator == 70) ledger)
 
--- it is among the items, or none is full
+-- it is the stamp of a full item among these, or none is full
 FirstFull : List LedgerItem → Option FileStamp → Type 0
 FirstFull ledger None = (item : LedgerItem) → Contains ledger item → ¬ IsFull item
 FirstFull ledger (Some stamp) = (item : LedgerItem) × Contains ledger item × IsFull item × (item.stamp ≡ stamp)
@@ -160,7 +161,7 @@ first_full_is (head ∷ ledger) = by (head.indicator == 70) refl (find (λ (item
         step item full (inr inside) = none item inside full
     by false h (Some item) rest = (rest.0, cons-Contains head ledger rest.0 rest.1, rest.2, rest.3)
 
--- in a ledger none of whose items is below its floor, it is the floor
+-- in a valid state's ledger the stamp of the first full item is the floor
 pub floor_is_first_full : (state : State) → IsValid state → IsFloor state.ledger (first_full state.ledger)
 unfolding FirstFull
 floor_is_first_full state valid =

@@ -1,4 +1,4 @@
--- One more entry is offered: it is staged, or it isn't. What a state has at a key.
+-- One more entry is offered, and is staged or left out. What a state has at a key.
 use Rattle.std.proofs.Common.{◌≡◌, List, [], ◌∷◌, ◌++◌, refl, ap, sym, ◌∙◌, subst, inl, inr, ◌⊎◌, Some, None, Contains, arith}
 use Rattle.std.specs.Prelude.{Option, ◌↔◌, option_and_then}
 use Rattle.std.specs.declared.cmp.Ordering.TheVariants.{Less}
@@ -26,7 +26,7 @@ use Rattle.state_laws.proofs.joins.StagedJoin.{commit_is_join}
 Some_is : {A : Type 0} (a b : A) → Some a ≡ Some b → a ≡ b
 Some_is a b h = cc
 
--- the entry at a key is the one that stands among the entries
+-- the entry at a key is the one that is among the entries
 pub entry_at_iff : (state : State) → AreAscending state.entries → (key : Key) (entry : Entry) → (entry_at state key ≡ Some entry) ↔ Contains state.entries
     (key, entry)
 entry_at_iff state up key entry = by (find_in state.entries key)
@@ -43,7 +43,7 @@ entry_at_iff state up key entry = by (find_in state.entries key)
           λ among. absurd (none entry among),
         )
 
--- whether an entry is to be staged, by what the state has at its key
+-- whether an entry is to be staged depends on what the state has at its key
 pub to_stage_by_get : (own : State) → AreAscending own.entries → (floor : Option FileStamp) (key : Key) (entry : Entry)
     → IsToStage own floor key entry ↔ (IsKept floor entry.stamp.file × IsGreaterThan (entry_at own key) entry)
 to_stage_by_get own up floor key entry = by (entry_at own key) refl
@@ -72,7 +72,7 @@ nothing_staged own floor = record {
 
 module _ (own : State) (floor : Option FileStamp) (offered staged : List (Key × Entry)) (key : Key) (entry : Entry)
     (stages : IsStaged own floor offered staged) where
-  -- an entry that is to be staged goes behind
+  -- an entry that is to be staged goes after the others
   pub one_staged_more : ((other : Key × Entry) → Contains staged other → key_cmp other.0 key ≡ Less) → IsToStage own floor key entry
       → IsStaged own floor (offered ++ (key, entry) ∷ []) (staged ++ (key, entry) ∷ [])
   one_staged_more above to = record {
@@ -115,9 +115,10 @@ module _ (own : State) (floor : Option FileStamp) (offered staged : List (Key ×
       back k e to_stage (inr here) =
           absurd (out (subst (λ (v : Key × Entry). IsToStage own floor v.0 v.1) (sym (Contains-single (key, entry) (k, e) here)) to_stage))
 
--- ---- the whole
+-- ---- all entries
 
--- staging all entries of a received state under the floor of the union, and then committing, leaves the join with it as it was before its horizon was set
+-- staging all entries of a received state under the floor of the union, and then committing, leaves
+-- the join with that state without its horizon
 pub staging_joins_before : (own received : State) (floor : Option FileStamp) (staged : List (Key × Entry)) (after : State) → IsValid own → IsValid received
     → IsFloor (own.ledger ++ received.ledger) floor → IsStaged own floor received.entries staged → IsCommit own received.ledger staged after
     → IsJoin own (without_horizon received) after
@@ -126,14 +127,14 @@ staging_joins_before own received floor staged after valid valid_too is_floor st
     (λ item. (λ x. x, λ x. x)) floor commit.floor is_floor commit.is_floor in
     commit_is_join own received valid valid_too staged after commit (subst (λ f. IsStaged own f received.entries staged) floors stages)
 
--- and then setting its horizon leaves the join with it
+-- then setting its horizon leaves the join with it
 pub staging_joins : (own received : State) (floor : Option FileStamp) (staged : List (Key × Entry)) (after : State) → IsValid own → IsValid received
     → IsFloor (own.ledger ++ received.ledger) floor → IsStaged own floor received.entries staged → IsCommit own received.ledger staged after
     → IsJoin own received (raise_horizon received.horizon after)
 staging_joins own received floor staged after valid valid_too is_floor stages commit =
     join_then_set own received after (staging_joins_before own received floor staged after valid valid_too is_floor stages commit)
 
--- what a commit leaves is valid
+-- the state that a commit leaves is valid
 pub commit_is_valid : (own received : State) (floor : Option FileStamp) (staged : List (Key × Entry)) (after : State) → IsValid own → IsValid received
     → IsFloor (own.ledger ++ received.ledger) floor → IsStaged own floor received.entries staged → IsCommit own received.ledger staged after → IsValid after
 commit_is_valid own received floor staged after valid valid_too is_floor stages commit =
@@ -143,7 +144,7 @@ commit_is_valid own received floor staged after valid valid_too is_floor stages 
     without : IsValid (without_horizon received)
     without = record { horizon = omega arith; ledger = valid_too.ledger; entries = valid_too.entries; have_lapsed = none_to_lapse received.entries }
 
--- of its own entries a state stages nothing
+-- a state stages none of its own entries
 pub own_stages_nothing : (own : State) (floor : Option FileStamp) → IsStaged own floor own.entries []
 own_stages_nothing own floor = record {
   ascending = tt;

@@ -1,4 +1,4 @@
--- Well formed entries of one key that tie are equal.
+-- Well-formed entries of one key that tie are equal.
 use Rattle.std.proofs.Common.{◌≡◌, ℕ, List, [], ◌∷◌, length, All, refl, ap, sym, ◌∙◌, arith, length-append}
 use Rattle.std.specs.List.{concat}
 use Rattle.std.specs.declared.cmp.Ordering.TheVariants.{Equal}
@@ -28,7 +28,7 @@ same_lines (x ∷ xs) (y ∷ ys) good_x good_y same =
     let rest = same_lines xs ys (All-tail IsRecord x xs good_x) (All-tail IsRecord y ys good_y) parts.1 in
     λ i. parts.0 i ∷ rest i
 
--- bodies of one key that have the same bytes are equal
+-- bodies of one key with the same bytes are equal
 same_body : (key : Key) (a b : Body) → IsBodyOf key a → IsBodyOf key b → body_bytes a ≡ body_bytes b → a ≡ b
 same_body (tiploc_key code) (tiploc_body a) (tiploc_body b) good_a good_b same = ap tiploc_body same
 same_body (tiploc_key code) (tiploc_body a) (association_body b) good_a good_b same = absurd good_b

@@ -15,7 +15,7 @@ use Rattle.state_laws.proofs.states.PlainTable.{Keyed}
 abbrev pub NoEntry : List Keyed → Key → Type 0
 NoEntry entries key = (entry : Entry) → ¬ Contains entries (key, entry)
 
--- an entry of the key among these that none of them is above
+-- an entry of the key among these, with none of them above it
 abbrev pub GreatestEntry : List Keyed → Key → Type 0
 GreatestEntry entries key = (entry : Entry) × Contains entries (key, entry) × ((other : Entry) → Contains entries (key, other) → IsAtMost entry_cmp other entry)
 
@@ -69,7 +69,7 @@ still first entries key apart (inr best) =
     by other (inl e) = absurd (apart (ap (λ (pair : Keyed). pair.0) e))
     by other (inr inside) = best.2 other inside
 
--- a key has a greatest entry among some, or none
+-- a key has a greatest entry among these entries, or none
 pub greatest_in : (entries : List Keyed) (key : Key) → NoEntry entries key ⊎ GreatestEntry entries key
 greatest_in [] key = inl (λ entry among. nil-Contains (key, entry) among)
 greatest_in (first ∷ entries) key = by (is_eq (key_cmp first.0 key)) refl (greatest_in entries key)

@@ -1,4 +1,5 @@
--- The lapse keeps the order of ops and entries. Lapsing again under the same horizon changes nothing, and lapsing under two is lapsing under the greater.
+-- The lapse keeps the order of ops and entries. Lapsing again under the same horizon changes
+-- nothing. Lapsing under two horizons is lapsing under the greater.
 use Rattle.std.proofs.Common.{◌≡◌, ℕ, ◌<◌, ◌≤◌, subst, inl, inr, ◌⊎◌, refl, ap, sym, ◌∙◌, Bool, true, false, cond, arith}
 use Rattle.std.specs.Prelude.{max, nat_lt}
 use Rattle.std.specs.declared.cmp.Ordering.{Ordering}
@@ -31,13 +32,13 @@ put_lapses horizon body below = λ i. cond (lt-ltb (body_end body) horizon below
 pub put_stays : (horizon : ℕ) (body : Body) → horizon ≤ body_end body → lapse horizon (put_with body) ≡ put_with body
 put_stays horizon body above = λ i. cond (le-ltb (body_end body) horizon above i) lapsed (put_with body)
 
--- an op that has not to lapse stays
+-- an op that need not lapse stays
 pub op_stays : (horizon : ℕ) (op : Op) → HasNotToLapse horizon op → lapse horizon op ≡ op
 op_stays horizon deleted has_not = refl
 op_stays horizon lapsed has_not = refl
 op_stays horizon (put_with body) has_not = put_stays horizon body has_not
 
--- what has lapsed has not to lapse
+-- what has lapsed need not lapse again
 pub has_lapsed : (horizon : ℕ) (op : Op) → HasNotToLapse horizon (lapse horizon op)
 has_lapsed horizon deleted = tt
 has_lapsed horizon lapsed = tt
@@ -59,7 +60,7 @@ lapse_none (put_with body) = put_stays 0 body (omega arith)
 
 -- ---- two horizons
 
--- the greater of two numbers is at most what both are
+-- if two numbers are at most a third, so is the greater of them
 pub max_most : (a b n : ℕ) → a ≤ n → b ≤ n → max a b ≤ n
 max_most a b n first second = by (nat_lt a b) refl
   where
@@ -87,7 +88,7 @@ lapse_twice second first (put_with body) = by (below_or first body) (below_or se
 
 -- ---- the order
 
--- a lapsed op is at most what a put becomes
+-- a lapsed op is at most what a put lapses to
 lapsed_least : (horizon : ℕ) (body : Body) → IsAtMost op_cmp lapsed (lapse horizon (put_with body))
 lapsed_least horizon body = by (below_or horizon body)
   where
@@ -105,7 +106,7 @@ deleted_least horizon body = by (below_or horizon body)
 number_above : (m n : ℕ) → n < m → nat_cmp m n ≡ Greater
 number_above m n below = sym (nat_cmp_is m n Greater below)
 
--- of bodies in order the ends are in order
+-- the ends of bodies in order are in order
 ends_in_order : (a b : Body) → IsAtMost body_cmp a b → body_end a ≤ body_end b
 ends_in_order a b most = by (nat_lt (body_end b) (body_end a)) refl
   where
@@ -134,7 +135,7 @@ lapse_keeps_order horizon (put_with a) (put_with b) most = by (below_or horizon 
         subst (λ op. IsAtMost op_cmp op (lapse horizon (put_with b))) (sym (put_stays horizon a above))
         (subst (IsAtMost op_cmp (put_with a)) (sym (put_stays horizon b (omega arith))) most)
 
--- entries: the stamps stay
+-- the lapse keeps the order of entries, because their stamps stay
 pub lapse_entry_keeps_order : (horizon : ℕ) (a b : Entry) → IsAtMost entry_cmp a b → IsAtMost entry_cmp (lapse_entry horizon a) (lapse_entry horizon b)
 lapse_entry_keeps_order horizon a b most = by (stamp_cmp a.stamp b.stamp) most
   where
@@ -149,6 +150,6 @@ lapse_entry_keeps_order horizon a b most = by (stamp_cmp a.stamp b.stamp) most
 pub entry_twice : (second first : ℕ) (entry : Entry) → lapse_entry second (lapse_entry first entry) ≡ lapse_entry (max second first) entry
 entry_twice second first entry = λ i. record { stamp = entry.stamp; op = lapse_twice second first entry.op i }
 
--- an entry that has not to lapse stays
+-- an entry that need not lapse stays
 pub entry_stays : (horizon : ℕ) (entry : Entry) → HasNotToLapse horizon entry.op → lapse_entry horizon entry ≡ entry
 entry_stays horizon entry has_not = λ i. record { stamp = entry.stamp; op = op_stays horizon entry.op has_not i }

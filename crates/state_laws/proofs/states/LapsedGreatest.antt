@@ -16,12 +16,12 @@ lapsed_from horizon entries key entry among =
     let same : found.0.0 ≡ key = ap (λ (pair : Key × Entry). pair.0) found.2 in
     (found.0.1, subst (λ k. Contains entries (k, found.0.1)) same found.1, ap (λ (pair : Key × Entry). pair.1) found.2)
 
--- an entry among these lapses to one among the lapsed
+-- the lapse of one of these entries is among the lapsed entries
 pub lapsed_to : (horizon : ℕ) (entries : List (Key × Entry)) (key : Key) (entry : Entry) → Contains entries (key, entry)
     → Contains (lapse_entries horizon entries) (key, lapse_entry horizon entry)
 lapsed_to horizon entries key entry among = map-Contains (lapse_keyed horizon) entries (key, entry) among
 
--- the greatest entry of a key lapses to the greatest
+-- the lapse of the greatest entry of a key is the greatest of the lapses
 pub greatest_lapses : (horizon : ℕ) (entries : List (Key × Entry)) (key : Key) (entry : Entry) → IsGreatestAmong entries key entry
     → IsGreatestAmong (lapse_entries horizon entries) key (lapse_entry horizon entry)
 greatest_lapses horizon entries key entry best = record {
@@ -31,7 +31,7 @@ greatest_lapses horizon entries key entry best = record {
       subst (λ e. IsAtMost entry_cmp e (lapse_entry horizon entry)) found.2 (lapse_entry_keeps_order horizon found.0 entry (best.greatest found.0 found.1));
 }
 
--- of ops alone
+-- like the greatest entry, for ops only
 pub greatest_op_lapses : (horizon : ℕ) (ops : List Op) (op : Op) → Contains ops op → ((other : Op) → Contains ops other → IsAtMost op_cmp other op)
     → Contains (map (lapse horizon) ops) (lapse horizon op) × ((other : Op) → Contains (map (lapse horizon) ops) other
     → IsAtMost op_cmp other (lapse horizon op))

@@ -1,4 +1,5 @@
--- Where the files of a set have distinct moments, the live table of its summary under a horizon is its plain table, lapsed under the horizon.
+-- If the files of a set have distinct moments, the live table of its summary under a horizon is its
+-- plain table, lapsed under the horizon.
 use Rattle.std.proofs.Common.{◌≡◌, ℕ, List, Contains, subst, inl, inr, ◌⊎◌, ap, sym, ◌∙◌, None}
 use Rattle.std.specs.Prelude.{fold, option_and_then}
 use Rattle.std.specs.declared.cmp.Ordering.TheVariants.{Less, Greater}

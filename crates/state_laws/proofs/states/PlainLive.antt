@@ -1,4 +1,5 @@
--- The live table of a summary is the plain table of its files, lapsed under the horizon, where their moments are distinct.
+-- If the files have distinct moments, the live table of their summary is their plain table, lapsed
+-- under the horizon.
 use Rattle.std.proofs.Common.{◌≡◌, ℕ, List, refl, ◌∙◌, Some, None, arith}
 use Rattle.std.specs.Prelude.{Option, option_and_then}
 use Rattle.docker_model.specs.file.Change.{Key, Body}
@@ -10,7 +11,7 @@ use Rattle.state_laws.proofs.states.MomentOrder.{moment_order}
 use Rattle.state_laws.proofs.states.TableLapsed.{body_stays}
 use Rattle.state_laws.proofs.states.LapsedPlainTable.{live_is_plain}
 
--- under no horizon a table is as it was
+-- without a horizon a table is unchanged
 pub lapse_table_none : (table : Table) (key : Key) → lapse_table 0 table key ≡ table key
 lapse_table_none table key = by (table key)
   where
@@ -23,7 +24,7 @@ pub live_is_lapsed_plain : (files : List (List (List ℕ))) (horizon : ℕ) (sta
     → IsPlainTable files table → live_table state ≡ lapse_table horizon table
 live_is_lapsed_plain files horizon state table summary plain = λ i key. live_is_plain files horizon state table summary plain key i
 
--- where the moments are distinct, there is a plain table; without a horizon it is the live table
+-- if the moments are distinct, there is a plain table; without a horizon it is the live table
 pub live_table_is_plain : (files : List (List (List ℕ))) (state : State) → IsSummary files 0 state → HaveDistinctMoments files
     → IsPlainTable files (live_table state)
 live_table_is_plain files state summary distinct =

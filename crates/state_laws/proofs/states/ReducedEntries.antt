@@ -1,4 +1,5 @@
--- What is kept of items and entries, lapsed under a horizon: reducing in two steps, the first under a horizon that is not greater, is reducing at once.
+-- What is kept of items and entries, lapsed under a horizon. Reducing in two steps, the first under
+-- a horizon that is not greater, is the same as reducing at once.
 use Rattle.std.proofs.Common.{◌≡◌, ℕ, ◌≤◌, List, ◌++◌, Contains, subst, inl, inr, ◌⊎◌, ap, sym, ◌∙◌, Some, None}
 use Rattle.std.specs.Prelude.{Option, ◌↔◌}
 use Rattle.std.proofs.Math.Nat.{max-eq_left}
@@ -21,7 +22,8 @@ abbrev pub KeptOf : List Keyed → Option FileStamp → ℕ → Key → Entry �
 KeptOf entries floor horizon key entry =
     (greatest : Entry) × IsGreatestAmong entries key greatest × IsKept floor greatest.stamp.file × (lapse_entry horizon greatest ≡ entry)
 
--- the state keeps of these items and entries what is kept under their floor, and of each key the greatest, lapsed under its horizon
+-- the state has the items that their floor keeps, and for each key the greatest entry, if it is
+-- kept, lapsed under the state's horizon
 pub record IsReduced (items : List LedgerItem) (entries : List Keyed) (state : State) : Type 0 where
   pub floor : Option FileStamp
   pub is_floor : IsFloor items floor
@@ -33,7 +35,7 @@ pub record IsReduced (items : List LedgerItem) (entries : List Keyed) (state : S
 module _ (items more : List LedgerItem) (entries others : List Keyed) (once twice : State) (first : IsReduced items entries once)
     (second : IsReduced (once.ledger ++ more) (once.entries ++ others) twice)
     (rises : once.horizon ≤ twice.horizon) where
-  -- ---- the ledger, as without a horizon
+  -- ---- the ledger, as it is without a horizon
   Top : LedgerItem → Type 0
   Top item = (top : LedgerItem) × Contains (once.ledger ++ more) top × IsFull top × IsAtMost file_stamp_cmp item.stamp top.stamp
 
@@ -99,7 +101,7 @@ module _ (items more : List LedgerItem) (entries others : List Keyed) (once twic
     Whole : Type 0
     Whole = (best : Entry) × IsGreatestAmong (entries ++ others) key best
 
-    -- what stands in the second step is at most the greatest of all
+    -- an entry in the second step is at most the greatest of all
     under_best : (best : Entry) → IsGreatestAmong (entries ++ others) key best → (other : Entry) → Contains (once.entries ++ others) (key, other)
         → IsAtMost entry_cmp other best
     under_best best is other among = by (Contains-append_cases once.entries others (key, other) among)
@@ -112,7 +114,7 @@ module _ (items more : List LedgerItem) (entries others : List Keyed) (once twic
             (subst (λ e. IsAtMost entry_cmp e told.0) told.3 (lapse_below once.horizon told.0))
             (is.greatest told.0 (Contains-append_left entries others (key, told.0) told.1.among))
 
-    -- the greatest of all, where it is kept, stands lapsed in the first step, or among the others
+    -- if the greatest of all is kept, it is in the first step, lapsed, or among the others
     stands : (best : Entry) → IsGreatestAmong (entries ++ others) key best → IsKept second.floor best.stamp.file
         → Contains once.entries (key, lapse_entry once.horizon best) ⊎ Contains others (key, best)
     stands best is kept = by (Contains-append_cases entries others (key, best) is.among)
@@ -127,12 +129,12 @@ module _ (items more : List LedgerItem) (entries others : List Keyed) (once twic
           λ i. lapse_entry once.horizon best,
         ))
 
-    -- both steps, and one: what the greatest lapse to is one entry
+    -- the greatest entry after both steps and the greatest of all lapse to one entry
     same_lapse : (best top : Entry) → IsGreatestAmong (entries ++ others) key best → IsGreatestAmong (once.entries ++ others) key top
         → IsKept second.floor best.stamp.file → IsKept second.floor top.stamp.file → lapse_entry twice.horizon best ≡ lapse_entry twice.horizon top
     same_lapse best top is_best is_top kept_best kept_top = by (stands best is_best kept_best)
       where
-        -- the greatest of all stands there as it is
+        -- the greatest of all is there as it was
         itself : Contains (once.entries ++ others) (key, best) → lapse_entry twice.horizon best ≡ lapse_entry twice.horizon top
         itself there =
             one_per_key twice.entries second.entries_ascend key (lapse_entry twice.horizon best) (lapse_entry twice.horizon top)
@@ -145,7 +147,7 @@ module _ (items more : List LedgerItem) (entries others : List Keyed) (once twic
             ))
             ((second.of_keys key (lapse_entry twice.horizon top)).1 (top, is_top, kept_top, λ i. lapse_entry twice.horizon top))
 
-        -- it has lapsed there, and so has what is between
+        -- it has lapsed there, and so has every entry in between
         between : lapse once.horizon best.op ≡ lapsed → Contains once.entries (key, lapse_entry once.horizon best)
             → lapse_entry twice.horizon best ≡ lapse_entry twice.horizon top
         between has there =

@@ -1,4 +1,4 @@
--- What is reduced depends on the members alone, and is one.
+-- What a state reduces depends only on the members of the lists, and one horizon gives one state.
 use Rattle.std.proofs.Common.{List, Some, None, ◌≡◌, subst, sym}
 use Rattle.std.specs.Prelude.{Option}
 use Rattle.std.specs.Cmp.{on_total}
@@ -24,7 +24,7 @@ floor_along items more same (Some stamp) greatest = record {
   greatest = λ item among. greatest.greatest item ((same item).1 among);
 }
 
--- the greatest entry of a key depends on the members alone
+-- the greatest entry of a key depends only on the members
 pub greatest_along : (entries others : List Keyed) → SameMembers entries others → (key : Key) (entry : Entry) → IsGreatestAmong entries key entry
     → IsGreatestAmong others key entry
 greatest_along entries others same key entry best = record {
@@ -37,7 +37,7 @@ kept_of_along : (entries others : List Keyed) → SameMembers entries others →
 kept_of_along entries others same f g floors h key entry told =
     (told.0, greatest_along entries others same key told.0 told.1, subst (λ floor. IsKept floor told.0.stamp.file) floors told.2, told.3)
 
--- what is reduced depends on the members alone
+-- what a state reduces depends only on the members
 pub reduced_along : (items more : List LedgerItem) (entries others : List Keyed) → SameMembers items more → SameMembers entries others
     → (state : State) → IsReduced items entries state → IsReduced more others state
 reduced_along items more entries others same same_entries state is = record {
@@ -56,7 +56,7 @@ reduced_along items more entries others same same_entries state is = record {
   );
 }
 
--- of one horizon there is one
+-- there is one reduced state for one horizon
 pub reduced_unique : (items : List LedgerItem) (entries : List Keyed) (s t : State) → s.horizon ≡ t.horizon → IsReduced items entries s
     → IsReduced items entries t → s ≡ t
 reduced_unique items entries s t horizons is_s is_t =
@@ -78,4 +78,4 @@ reduced_unique items entries s t horizons is_s is_t =
     moved f g fs h k hs key entry told =
         (told.0, told.1, subst (λ floor. IsKept floor told.0.stamp.file) fs told.2, subst (λ n. lapse_entry n told.0 ≡ entry) hs told.3)
 
--- ---- members of lists joined
+-- ---- members of joined lists

@@ -1,5 +1,6 @@
--- A set of files has under each horizon at most one summary. The join of two summaries is the summary of the union under the greater horizon, and a summary
--- raised to a greater horizon is the summary under it.
+-- A set of files has at most one summary under each horizon. The join of two summaries is the
+-- summary of the union under the greater horizon. A summary raised to a greater horizon is the
+-- summary under it.
 use Rattle.std.proofs.Common.{◌≡◌, ℕ, ◌≤◌, List, ◌++◌, map, Contains, subst, inl, inr, ◌⊎◌, ap, sym, ◌∙◌}
 use Rattle.std.specs.Prelude.{max}
 use Rattle.std.specs.List.{flat_map}
@@ -50,7 +51,7 @@ members_of_append xs ys zs left right x among = by (Contains-append_cases xs ys 
     by (inl here) = left x here
     by (inr here) = right x here
 
--- of files and others: what is made of the others and of the files is what is made of all
+-- what is made of other files and of these has the members of what is made of all of them
 items_of_union : (files others : List File) → SameMembers (map ledger_item_of others ++ map ledger_item_of files) (map ledger_item_of (files ++ others))
 items_of_union files others item = (
   members_of_append (map ledger_item_of others) (map ledger_item_of files) (map ledger_item_of (files ++ others))
@@ -86,7 +87,7 @@ entries_of_union files others entry = (
 
 -- ---- the laws
 
--- a set of files has one summary under a horizon, whatever list it is given as
+-- a set of files has one summary under a horizon, whichever list gives the set
 pub summary_unique : (files others : List File) → SameMembers files others → (horizon : ℕ) (s t : State) → IsSummary files horizon s
     → IsSummary others horizon t → s ≡ t
 summary_unique files others same horizon s t is_s is_t =
@@ -112,7 +113,7 @@ join_is_summary files others g h one two joined of_files of_others is =
     (entries_along (files ++ others))
     (items_of_union files others) (entries_of_union files others) joined second)
 
--- under a horizon that is not below its own
+-- the lapse of a summary, under a horizon that is not below its own, is the summary under it
 pub lapsed_summary : (files : List File) (low high : ℕ) (state : State) → low ≤ high → IsSummary files low state → IsSummary files high (lapse_state high state)
 lapsed_summary files low high state rises is = record {
   horizon_is = λ i. high;
@@ -136,7 +137,7 @@ lapsed_summary files low high state rises is = record {
     twofold : (entry : Entry) → lapse_entry high (lapse_entry low entry) ≡ lapse_entry high entry
     twofold entry = entry_twice high low entry ∙ ap (λ h. lapse_entry h entry) (max-eq_left rises)
 
--- a summary under a greater horizon is the summary under that
+-- a summary raised to a greater horizon is the summary under that
 pub raised_summary : (files : List File) (g h : ℕ) (state : State) → IsSummary files g state → IsSummary files (max g h) (raise_horizon h state)
 raised_summary files g h state is =
     let same : max state.horizon h ≡ max g h = ap (λ n. max n h) is.horizon_is in

@@ -19,7 +19,7 @@ use Rattle.state_laws.proofs.states.ReducedEntries.{IsReduced}
 abbrev pub File : Type 0
 File = List (List ℕ)
 
--- what is not kept is at most what is
+-- an entry that is not kept is at most one that is
 pub below_kept : (floor : Option FileStamp) (low high : Entry) → IsKept floor high.stamp.file → IsKept floor low.stamp.file ⊎ IsAtMost entry_cmp low high
 below_kept None low high kept = inl tt
 below_kept (Some floor) low high kept = by (at_most_or file_stamp_total floor low.stamp.file)
@@ -40,7 +40,7 @@ below_kept (Some floor) low high kept = by (at_most_or file_stamp_total floor lo
         (op_cmp low.op high.op)))
 
 module _ (files : List File) (floor : Option FileStamp) (key : Key) where
-  -- an entry that a kept file makes is among all entries, and kept
+  -- an entry that a kept file makes is among all entries and is kept
   pub entry_in : (entry : Entry) → IsEntryOf files floor key entry → Contains (entries_along files) (key, entry) × IsKept floor entry.stamp.file
   entry_in entry made =
       let pair : entry_of_change made.file made.change ≡ (key, entry) = (λ i. (made.key_is i, made.entry_is i)) in (
@@ -49,7 +49,7 @@ module _ (files : List File) (floor : Option FileStamp) (key : Key) where
         subst (λ (e : Entry). IsKept floor e.stamp.file) made.entry_is made.kept.kept,
       )
 
-  -- an entry of the files that is kept is one of a kept file
+  -- a kept entry of the files is made by a kept file
   pub entry_out : (entry : Entry) → Contains (entries_along files) (key, entry) → IsKept floor entry.stamp.file → IsEntryOf files floor key entry
   entry_out entry among kept =
       let found = Contains-flat_map entries_of files (key, entry) among in
@@ -64,7 +64,7 @@ module _ (files : List File) (floor : Option FileStamp) (key : Key) where
         entry_is = is;
       }
 
-  -- the greatest of the kept files is the greatest of all, and kept
+  -- the greatest entry of the kept files is the greatest of all and is kept
   pub greatest_forth : (entry : Entry) → IsGreatestEntryOf files floor key entry → IsGreatestAmong (entries_along files) key entry
       × IsKept floor entry.stamp.file
   greatest_forth entry best =
@@ -76,7 +76,7 @@ module _ (files : List File) (floor : Option FileStamp) (key : Key) where
       by other among (inl kept) = best.greatest other (entry_out other among kept)
       by other among (inr low) = low
 
-  -- the greatest entry of a key, kept, is the greatest that a kept file makes
+  -- if the greatest entry of a key is kept, it is the greatest that a kept file makes
   pub greatest_back : (entry : Entry) → IsGreatestAmong (entries_along files) key entry → IsKept floor entry.stamp.file
       → IsGreatestEntryOf files floor key entry
   greatest_back entry best kept = record {
@@ -119,7 +119,7 @@ summary_reduced files horizon state summary = record {
   );
 }
 
--- what reduces them under a horizon is the summary
+-- a state that reduces them under a horizon is the summary
 pub reduced_summary : (files : List File) (horizon : ℕ) (state : State) → state.horizon ≡ horizon → IsReduced (map ledger_item_of files)
     (entries_along files) state → IsSummary files horizon state
 reduced_summary files horizon state horizon_is is = record {

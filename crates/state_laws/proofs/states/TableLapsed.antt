@@ -1,4 +1,5 @@
--- A table under a horizon: it has the bodies whose end number is not below it. The live table of a lapsed state is the lapsed live table.
+-- A table under a horizon has the bodies whose end number is not below the horizon. The live table
+-- of a lapsed state is the lapsed live table.
 use Rattle.std.proofs.Common.{◌≡◌, ℕ, ◌<◌, ◌≤◌, List, [], ◌∷◌, inl, inr, ◌⊎◌, refl, ap, sym, ◌∙◌, Bool, true, false, cond, Some, None}
 use Rattle.std.specs.Prelude.{Option, find, option_and_then}
 use Rattle.std.specs.Ordering.{is_eq}
@@ -13,7 +14,7 @@ use Rattle.state_laws.proofs.states.PlainTable.{Keyed}
 
 -- ---- a body lapses or stays
 
--- a body whose end is below the horizon goes
+-- a body whose end is below the horizon is dropped
 pub body_gone : (horizon : ℕ) (body : Body) → body_end body < horizon → unlapsed horizon body ≡ None
 body_gone horizon body below = λ i. cond (lt-ltb (body_end body) horizon below i) None (Some body)
 
@@ -21,12 +22,12 @@ body_gone horizon body below = λ i. cond (lt-ltb (body_end body) horizon below 
 pub body_stays : (horizon : ℕ) (body : Body) → horizon ≤ body_end body → unlapsed horizon body ≡ Some body
 body_stays horizon body above = λ i. cond (le-ltb (body_end body) horizon above i) None (Some body)
 
--- what a table has, it has under a horizon that its end number is not below
+-- a table under a horizon keeps each body whose end number is not below it
 pub live_stays : (horizon : ℕ) (table : Table) (key : Key) (body : Body) → table key ≡ Some body → horizon ≤ body_end body
     → lapse_table horizon table key ≡ Some body
 live_stays horizon table key body is above = ap (option_and_then (unlapsed horizon)) is ∙ body_stays horizon body above
 
--- and what it has under a horizon, it has
+-- what a table has under a horizon, it had before
 pub was_live : (horizon : ℕ) (table : Table) (key : Key) (body : Body) → lapse_table horizon table key ≡ Some body → table key ≡ Some body
 was_live horizon table key body is = by (table key) is
   where
@@ -50,7 +51,7 @@ body_lapses horizon (put_with body) = by (below_or horizon body)
     by (inl below) = ap body_of (put_lapses horizon body below) ∙ sym (body_gone horizon body below)
     by (inr above) = ap body_of (put_stays horizon body above) ∙ sym (body_stays horizon body above)
 
--- what stands at a key, as a body
+-- the body of the entry that was found, if there is one
 abbrev pub body_in : Option Keyed → Option Body
 body_in found = option_and_then (λ (entry : Entry). body_of entry.op) (option_and_then (λ (entry : Keyed). Some entry.1) found)
 

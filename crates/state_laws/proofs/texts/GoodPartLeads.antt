@@ -1,4 +1,4 @@
--- A good part leads on: from a part of a text of a state to the next.
+-- A good part leads on, from one part of a state's text to the next.
 use Rattle.std.proofs.Common.{refl, arith, ◌≡◌, ℕ, ap, sym, subst, [], ◌++◌, ◌∙◌, append-nil, ◌<◌, ◌^◌, List, ◌∷◌, length, append_assoc, length-append, inl, inr, ◌≤◌}
 use Rattle.std.specs.List.{flat_map, concat}
 use Rattle.std.specs.Int.{w16, to_be_bytes, from_be_bytes, w64, w32}
@@ -42,7 +42,7 @@ pub head_leads : (format : Format) (horizon : ℕ) → IsHorizonOf format horizo
 head_leads dks_1 horizon none = subst (λ h. Leads dks_1 before_mark (before_ledger_count h)) (sym none) step_mark_1
 head_leads dks_2 horizon day = then_leads dks_2 before_mark before_horizon (before_ledger_count horizon) step_mark_2 (step_horizon horizon day)
 
--- the text behind the count of items
+-- the text after the count of items
 pub count_of_ledger : (format : Format) (horizon count : ℕ) → text_before format (after_items horizon count []) ≡ text_before format
     (before_ledger_count horizon) ++ to_be_bytes w64 count
 count_of_ledger format horizon count =
@@ -55,7 +55,7 @@ step_ledger_count format horizon count fits =
     one_step format (before_ledger_count horizon) (after_items horizon count []) (to_be_bytes w64 count) refl (omega arith) (λ cause bad. bad)
     (ap (λ n. after_items horizon n []) (read_64 count fits)) (count_of_ledger format horizon count)
 
--- the text behind a good item
+-- the text after a good item
 pub item_text : (format : Format) (horizon : ℕ) → (count : ℕ) (ledger : List LedgerItem) (item : LedgerItem) → length ledger < count
     → text_before format (after_items horizon count (ledger ++ item ∷ [])) ≡ text_before format (before_item horizon count ledger) ++ item_bytes item
 item_text format horizon count ledger item below =
@@ -66,7 +66,7 @@ item_text format horizon count ledger item below =
     ∙ sym (append_assoc front (flat_map item_bytes ledger) (item_bytes item))
     ∙ ap (λ xs. xs ++ item_bytes item) (sym (append-nil (ledger_text format horizon count ledger)))
 
--- a good item above those before it, which does not raise the floor, is not bad
+-- a good item that is above those before it and does not raise the floor is not bad
 pub no_bad_item : (ledger : List LedgerItem) (item : LedgerItem) (cause : StateCause) → IsGoodItem item → IsAboveItems ledger item → ¬ RaisesFloor ledger item
     → ¬ IsBadItem ledger item cause
 no_bad_item ledger item bad_item good above floor bad = bad good
@@ -97,7 +97,7 @@ step_entry_count format horizon count ledger fits =
     ∙ ap (λ xs. xs ++ to_be_bytes w64 count) (sym (append-nil (ledger_text format horizon (length ledger) ledger)))
     )
 
--- the text of a part with one part more
+-- the text of a part with one more part
 pub part_more : (format : Format) → (count : ℕ) (state : State) (old part : List ℕ) → entries_text format count state ++ (old ++ part) ≡
     (entries_text format count state ++ old) ++ part
 part_more format count state old part = sym (append_assoc (entries_text format count state) old part)
@@ -109,7 +109,7 @@ step_tag format count state tag is =
     one_step format (in_entry count state before_tag) (in_entry count state (before_key tag)) (tag ∷ []) refl (omega arith) (λ cause bad. bad.1 is) refl
     (part_more format count state [] (tag ∷ []))
 
--- a good key above those before it is not bad
+-- a good key above the keys before it is not bad
 pub no_bad_key : (state : State) (key : Key) (cause : StateCause) → IsGoodKey key → IsAboveEntries state key → ¬ IsBadKey state key cause
 no_bad_key state key bad_body good above bad = bad good
 no_bad_key state key bad_order good above bad = bad.1 above
@@ -131,7 +131,7 @@ step_key format count state key good above =
     (ap (λ k. in_entry count state (before_stamp k)) (key_read key good))
     (part_more format count state (key_tag key ∷ []) (key_bytes key))
 
--- a stamp whose file stands in the ledger leads to its op
+-- a stamp whose file is in the ledger leads to its op
 pub step_stamp : (format : Format) → (count : ℕ) (state : State) (key : Key) (stamp : Stamp) → IsLedger state.ledger → IsStampIn state.ledger stamp
     → Leads format (in_entry count state (before_stamp key)) (in_entry count state (before_op key stamp))
 step_stamp format count state key stamp ledger is =
@@ -141,7 +141,7 @@ step_stamp format count state key stamp ledger is =
     (ap (λ s. in_entry count state (before_op key s)) (stamp_read state.ledger stamp ledger is))
     (part_more format count state (key_text key) (stamp_bytes stamp))
 
--- the ops that a format tells
+-- the ops that a format can hold
 zero_told : (format : Format) → IsOpByte format 0
 zero_told dks_1 = inl refl
 zero_told dks_2 = inl refl
@@ -154,7 +154,7 @@ two_told : (format : Format) → TellsOp format lapsed → IsOpByte format 2
 two_told dks_1 told = absurd told
 two_told dks_2 told = inr (inr refl)
 
--- the op of a deletion leads behind the entry
+-- the op of a deletion leads to the place after the entry
 pub step_deleted : (format : Format) → (count : ℕ) (state : State) (key : Key) (stamp : Stamp) → length state.entries < count
     → Leads format (in_entry count state (before_op key stamp)) (after_entries count (with_entry state key stamp deleted))
 step_deleted format count state key stamp below =
@@ -162,7 +162,7 @@ step_deleted format count state key stamp below =
     (λ cause bad. bad.1 (zero_told format)) refl
     (entry_done_text format count state key stamp deleted below ∙ part_more format count state (key_text key ++ stamp_bytes stamp) (0 ∷ []))
 
--- the op of a lapsed entry leads behind it, where the format tells it
+-- if the format can hold a lapsed op, it leads to the place after the entry
 pub step_lapsed : (format : Format) → (count : ℕ) (state : State) (key : Key) (stamp : Stamp) → TellsOp format lapsed → length state.entries < count
     → Leads format (in_entry count state (before_op key stamp)) (after_entries count (with_entry state key stamp lapsed))
 step_lapsed format count state key stamp told below =
@@ -178,7 +178,7 @@ step_put format count state key stamp =
     (λ cause bad. bad.1 (one_told format)) refl
     (part_more format count state (key_text key ++ stamp_bytes stamp) (1 ∷ []))
 
--- a body behind an op
+-- the text after a body, which follows an op
 pub body_text : (format : Format) → (count : ℕ) (state : State) (key : Key) (stamp : Stamp) (body : Body) → length state.entries < count
     → text_before format (after_entries count (with_entry state key stamp (put_with body))) ≡
     (entries_text format count state ++ (key_text key ++ stamp_bytes stamp ++ 1 ∷ [])) ++ put_bytes body
@@ -187,7 +187,7 @@ body_text format count state key stamp body below =
     ∙ ap (λ xs. entries_text format count state ++ xs) (sym (append_assoc (key_text key ++ stamp_bytes stamp) (1 ∷ []) (put_bytes body)))
     ∙ part_more format count state (key_text key ++ stamp_bytes stamp ++ 1 ∷ []) (put_bytes body)
 
--- the body of a TIPLOC leads behind the entry
+-- the body of a TIPLOC leads to the place after the entry
 pub step_tiploc : (format : Format) → (count : ℕ) (state : State) (code : List ℕ) (stamp : Stamp) (bytes : List ℕ) → length state.entries < count
     → IsTextOfLength 63 bytes
     → Leads format (in_entry count state (before_body (tiploc_key code) stamp))
@@ -197,7 +197,7 @@ step_tiploc format count state code stamp bytes below is =
     (after_entries count (with_entry state (tiploc_key code) stamp (put_with (tiploc_body bytes)))) bytes is.0 (omega arith)
     (λ cause bad. bad.1 is) refl (body_text format count state (tiploc_key code) stamp (tiploc_body bytes) below)
 
--- the line of an association that has not to lapse leads behind the entry
+-- the line of an association that need not lapse leads to the place after the entry
 pub step_association : (format : Format) → (count : ℕ) (state : State) (key : _) (stamp : Stamp) (line : List ℕ) → length state.entries < count
     → IsAssociationOf key line → state.horizon ≤ body_end (association_body line)
     → Leads format (in_entry count state (before_body (association_key key) stamp))
@@ -207,7 +207,7 @@ step_association format count state key stamp line below is stays =
     (after_entries count (with_entry state (association_key key) stamp (put_with (association_body line)))) line is.is_record.0 (omega arith)
     (λ cause bad. bad.1 (is, stays)) refl (body_text format count state (association_key key) stamp (association_body line) below)
 
--- the number of lines
+-- the text after the number of lines
 pub count_text : (format : Format) → (count : ℕ) (state : State) (key : ScheduleKey) (stamp : Stamp) (n : ℕ) → length state.entries < count
     → text_before format (after_lines count state key stamp n []) ≡ text_before format
     (in_entry count state (before_body (schedule_key key) stamp)) ++ to_be_bytes w32 n
@@ -232,7 +232,7 @@ concat-append : (xs ys : List (List ℕ)) → concat (xs ++ ys) ≡ concat xs ++
 concat-append [] ys = refl
 concat-append (x ∷ xs) ys = ap (λ zs. x ++ zs) (concat-append xs ys) ∙ sym (append_assoc x (concat xs) (concat ys))
 
--- the text behind a schedule's line
+-- the text after a schedule's line
 pub line_text : (format : Format) → (count : ℕ) (state : State) (key : ScheduleKey) (stamp : Stamp) (n : ℕ) (lines : List (List ℕ)) (line : List ℕ)
     → length state.entries < count → length lines < n
     → text_before format (after_lines count state key stamp n (lines ++ line ∷ [])) ≡ text_before format

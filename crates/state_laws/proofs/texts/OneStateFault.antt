@@ -1,4 +1,4 @@
--- A text has one state fault at most, and none where it is a state's.
+-- A text has at most one state fault, and a state's text has none.
 use Rattle.std.proofs.Common.{◌≡◌, ℕ, ◌+◌, ◌≤◌, List, [], ◌∷◌, ◌++◌, length, refl, ap, sym, ◌∙◌, subst, inl, inr, arith, append_assoc, append-nil, length-append}
 use Rattle.docker_model.specs.file.Change.{Key}
 use Rattle.docker_model.specs.state.Stamp.{LedgerItem}
@@ -54,7 +54,7 @@ one_cause format (before_entry_count horizon ledger) bytes first second one two 
 one_cause format (in_entry count state part) bytes first second one two = one_part_cause format state part bytes first second one two
 one_cause format (at_end state) bytes first second one two = absurd one
 
--- two faults of one kind
+-- faults with the same place and cause are equal
 fault_is : (first second : StateFault) → first.at ≡ second.at → first.cause ≡ second.cause → first ≡ second
 fault_is first second ats causes = λ i. record { at = ats i; cause = causes i }
 
@@ -95,7 +95,7 @@ bad_and_short format limit text first second one two =
     let ends = two.ends in
     omega arith
 
--- nothing is at fault at the end of a state but what follows
+-- at the end of a state there is no bad part, only what follows
 end_and_bad : (format : Format) → (limit : ℕ) (text : List ℕ) (state : State) (fault : StateFault) → IsStopped format limit text (at_end state)
     → HasBadPart format limit text fault → ⊥
 end_and_bad format limit text state fault stopped one =
@@ -140,7 +140,7 @@ tail_and_tail format limit text first second one two =
     (stop_of_tail format limit text second two)) in
     fault_is first second (one.end_at ∙ ap (λ state. length (state_text format state)) same ∙ sym two.end_at) (one.cause ∙ sym two.cause)
 
--- a text has one state fault at most
+-- a text has at most one state fault
 pub one_fault : (format : Format) → (limit : ℕ) (text : List ℕ) (first second : StateFault) → IsStateFault format limit text first
     → IsStateFault format limit text second → first ≡ second
 one_fault format limit text first second (inl one) (inl two) = bad_and_bad format limit text first second one two
@@ -166,7 +166,7 @@ one_fault format limit text first second (inr (inr (inr one))) (inr (inr (inl tw
     absurd (end_and_short format limit text one.state second (stop_of_tail format limit text first one) two)
 one_fault format limit text first second (inr (inr (inr one))) (inr (inr (inr two))) = tail_and_tail format limit text first second one two
 
--- a state's text within the limit has none
+-- a state's text within the limit has no fault
 pub no_fault_of_state : (format : Format) → (limit : ℕ) (text : List ℕ) (state : State) (fault : StateFault) → IsStateText format limit text state
     → ¬ IsStateFault format limit text fault
 no_fault_of_state format limit text state fault is found = by found

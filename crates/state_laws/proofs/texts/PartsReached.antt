@@ -1,4 +1,4 @@
--- Whatever stands before a part of a text of a state, the parts before lead to it.
+-- Each good place before a part of a state's text is reached by the parts before it.
 use Rattle.std.proofs.Common.{List, ◌∷◌, ◌++◌, ◌≡◌, [], refl, ap, sym, ◌∙◌, subst, Contains, Some, None, ℕ, ◌<◌, ◌≤◌, length, arith, append_assoc, append-nil, length-append, inl, inr, ◌^◌, ◌⊎◌}
 use Rattle.std.specs.Prelude.{Option}
 use Rattle.std.specs.List.{AllByRecursion}
@@ -71,7 +71,7 @@ items_lead format horizon count before (item ∷ later) is within =
     (item_floor before item later is))
     (then_leads format _ _ _ rest (no_step format _ _ (ap (after_items horizon count) grouped))))
 
--- the fronts of the lines of a schedule
+-- a front of a schedule's lines begins a schedule
 pub begins_front : (front rest : List (List ℕ)) → BeginsSchedule (front ++ rest) → BeginsSchedule front
 begins_front front rest begins = (rest ++ begins.0, subst IsSchedule (append_assoc front rest begins.0) begins.1)
 
@@ -96,7 +96,7 @@ lines_front key n front rest some are within =
     by [] low whole done = subst IsSchedule (append-nil front) (done (ap length (append-nil front) ∙ whole))
     by (line ∷ more) low whole done = let size = length-append front (line ∷ more) in absurd (omega arith)
 
--- lines of which the first has not to lapse
+-- if the first of the lines need not lapse, a front of them need not either
 front_stays : (state : State) (front rest : List (List ℕ)) → 0 < length front → HaveNotToLapse state (front ++ rest) → HaveNotToLapse state front
 front_stays state front rest some stays = subst (λ line. state.horizon ≤ readable_end (columns 16 21 line)) (first_of_front front rest some) stays
 
@@ -105,7 +105,7 @@ line_size lines line more begins =
     let all = recursion_from_All IsRecord ((lines ++ line ∷ more) ++ begins.0) begins.1.records in
     (all_behind IsRecord lines (line ∷ more) (all_front IsRecord (lines ++ line ∷ more) begins.0 all)).0.0
 
--- the lines of a schedule lead behind the entry
+-- the lines of a schedule lead to the place after the entry
 pub lines_lead : (format : Format) → (count : ℕ) (state : State) (key : ScheduleKey) (stamp : Stamp) (n : ℕ) (lines more : List (List ℕ))
     → length state.entries < count
     → AreLinesUpTo key n (lines ++ more) → HaveNotToLapse state (lines ++ more) → length (lines ++ more) ≤ n
@@ -132,7 +132,7 @@ is_tag (tiploc_key code) = inl refl
 is_tag (association_key key) = inr (inl refl)
 is_tag (schedule_key key) = inr (inr refl)
 
--- the parts of an entry
+-- the parts of an entry lead on, one by one
 tag_leads : (format : Format) → (count : ℕ) (state : State) (tag : ℕ) → length state.entries < count → IsTag tag → Leads format (after_entries count state)
     (in_entry count state (before_key tag))
 tag_leads format count state tag below is = then_leads format _ _ _ (no_step format _ _ (more_entries count state below)) (step_tag format count state tag is)
@@ -180,7 +180,7 @@ body_leads format count state (association_key key) stamp (schedule_body lines) 
 body_leads format count state (schedule_key key) stamp (tiploc_body bytes) below is stays = absurd is
 body_leads format count state (schedule_key key) stamp (association_body line) below is stays = absurd is
 
--- an entry that the format tells, under a horizon
+-- an entry that the format can hold, under a horizon
 abbrev pub IsToldEntry : Format → ℕ → List LedgerItem → Key × Entry → Type 0
 IsToldEntry format horizon ledger entry = IsGoodEntry ledger entry × HasNotToLapse horizon entry.1.op × TellsOp format entry.1.op
 
@@ -218,7 +218,7 @@ entries_lead format horizon count ledger before (entry ∷ later) is good up wit
     then_leads format _ _ _ (entry_leads format count (state_of horizon ledger before) entry.0 entry.1.stamp entry.1.op (omega arith) is good.0 above)
     (then_leads format _ _ _ rest (no_step format _ _ (ap (λ entries. after_entries count (state_of horizon ledger entries)) grouped)))
 
--- the ledger of a state, and its entries so far
+-- the items of a ledger so far, and the count of entries, are reached from the mark
 ledger_leads : (format : Format) (horizon : ℕ) → (count : ℕ) (ledger : List LedgerItem) → IsHorizonOf format horizon → IsLedger ledger → count < 2 ^ 64
     → length ledger ≤ count → Leads format before_mark (after_items horizon count ledger)
 ledger_leads format horizon count ledger is_horizon is fits within =
@@ -231,7 +231,7 @@ entry_count_leads format horizon ledger is_horizon is fits =
     then_leads format _ _ _ (ledger_leads format horizon (length ledger) ledger is_horizon is fits (omega arith))
     (no_step format _ _ (all_items horizon ledger))
 
--- the entries of a state that the format tells
+-- the entries of a state that the format can hold
 told_entries : (format : Format) (horizon : ℕ) (ledger : List LedgerItem) (entries : List (Key × Entry)) → AllByRecursion (IsGoodEntry ledger) entries
     → AllByRecursion (λ (entry : Key × Entry). HasNotToLapse horizon entry.1.op) entries
     → AllByRecursion (λ (entry : Key × Entry). TellsOp format entry.1.op) entries
@@ -269,7 +269,7 @@ part_leads format count state (before_line key stamp n lines) below ledger here 
         let more = here.2 in
         lines_lead format count state key stamp n [] lines below (record { lines_of = are.0; complete = λ whole. absurd (omega arith) }) are.1 (omega arith)
 
--- what is good before a part is reached from the beginning
+-- a good place before a part is reached from the beginning
 pub reach : (format : Format) (before : Before) → AreGood format before → Leads format before_mark before
 reach format before_mark good = no_step format _ _ refl
 reach format before_horizon good = horizon_leads format good

@@ -1,4 +1,4 @@
--- A state that a format tells, with a good entry more.
+-- A state that a format can hold, with one more good entry.
 use Rattle.std.proofs.Common.{ℕ, arith, List, [], ◌∷◌, ◌++◌, All, ◌≡◌, ◌<◌, ◌≤◌, ◌^◌, length, sym, subst, inl, inr, ◌⊎◌, true, false, cond, nat_le}
 use Rattle.std.specs.Ordering.{on}
 use Rattle.std.proofs.lemmas.List.Elements.{All-from_recursion, recursion_from_All}
@@ -16,22 +16,22 @@ use Rattle.state_laws.specs.TextStage.{with_entry, after_items, after_entries}
 use Rattle.cif_laws.proofs.lists.AllOf.{all_append}
 use Rattle.cif_laws.proofs.orders.Ascending.{ascending_last}
 
--- a horizon that a format tells is a day
+-- a horizon that a format can hold is a day
 pub horizon_day : (format : Format) (horizon : ℕ) → IsHorizonOf format horizon → IsDay horizon
 horizon_day dks_1 horizon none = omega (arith, none)
 horizon_day dks_2 horizon day = day
 
--- each format tells a deletion and a put
+-- each format can hold a deletion
 pub tells_deleted : (format : Format) → TellsOp format deleted
 tells_deleted dks_1 = tt
 tells_deleted dks_2 = tt
 
--- each format tells a put
+-- each format can hold a put
 pub tells_put : (format : Format) (body : Body) → TellsOp format (put_with body)
 tells_put dks_1 body = tt
 tells_put dks_2 body = tt
 
--- a state of no entries is valid
+-- a state without entries is valid
 pub valid_without : (horizon : ℕ) (ledger : List LedgerItem) → IsDay horizon → IsLedger ledger
     → IsValid (record { horizon = horizon; ledger = ledger; entries = [] })
 valid_without horizon ledger day is = record {
@@ -41,7 +41,7 @@ valid_without horizon ledger day is = record {
   have_lapsed = All-from_recursion (λ (entry : Key × Entry). HasNotToLapse horizon entry.1.op) [] tt;
 }
 
--- a ledger without entries is a state that the format tells
+-- a ledger without entries is a state that the format can hold
 pub no_entries : (format : Format) (horizon : ℕ) (ledger : List LedgerItem) → IsHorizonOf format horizon → IsLedger ledger
     → IsToldState format (record { horizon = horizon; ledger = ledger; entries = [] })
 no_entries format horizon ledger is_horizon is = record {
@@ -50,12 +50,12 @@ no_entries format horizon ledger is_horizon is = record {
   ops = All-from_recursion (λ (entry : Key × Entry). TellsOp format entry.1.op) [] tt;
 }
 
--- what holds of each entry holds of each and of one more
+-- what holds for each entry and for one more holds for all of them
 one_more : (P : Key × Entry → Type 0) (entries : List (Key × Entry)) (entry : Key × Entry) → All P entries → P entry → All P (entries ++ entry ∷ [])
 one_more P entries entry all last =
     All-from_recursion P (entries ++ entry ∷ []) (all_append P entries (entry ∷ []) (recursion_from_All P entries all) (last, tt))
 
--- a valid state with a good entry more is valid
+-- a valid state with one more good entry is valid
 pub valid_more : (state : State) (key : Key) (stamp : Stamp) (op : Op) → IsValid state → IsStampHere state key stamp → IsOpOf key op
     → HasNotToLapse state.horizon op → IsValid (with_entry state key stamp op)
 valid_more state key stamp op valid here of stays = record {
@@ -72,7 +72,7 @@ valid_more state key stamp op valid here of stays = record {
     entry : Entry
     entry = record { stamp = stamp; op = op }
 
--- a state that the format tells, with a good entry more that it tells, is one
+-- a state that the format can hold is still one with one more good entry that the format can hold
 pub one_entry_more : (format : Format) (state : State) (key : Key) (stamp : Stamp) (op : Op) → IsToldState format state → IsStampHere state key stamp
     → IsOpOf key op
     → HasNotToLapse state.horizon op → TellsOp format op → IsToldState format (with_entry state key stamp op)
@@ -82,7 +82,7 @@ one_entry_more format state key stamp op told here of stays tells = record {
   ops = one_more (λ (e : Key × Entry). TellsOp format e.1.op) state.entries (key, record { stamp = stamp; op = op }) told.ops tells;
 }
 
--- what comes after good parts is good
+-- the place after good parts is good
 pub good_after_items : (format : Format) (horizon : ℕ) → (count : ℕ) (ledger : List LedgerItem) → IsHorizonOf format horizon → IsLedger ledger
     → length ledger ≤ count → count < 2 ^ 64 → AreGood format (after_items horizon count ledger)
 good_after_items format horizon count ledger is_horizon is within fits = by (leb_tells count (length ledger))
@@ -94,7 +94,7 @@ good_after_items format horizon count ledger is_horizon is within fits = by (leb
     by (inr told) =
         subst (λ b. AreGood format (cond b (before_entry_count horizon ledger) (before_item horizon count ledger))) (sym told.0) (is_horizon, is, told.1, fits)
 
--- what comes after the entries of a state that the format tells is good
+-- the place after the entries of a state that the format can hold is good
 pub good_after_entries : (format : Format) → (count : ℕ) (state : State) → IsToldState format state → length state.ledger < 2 ^ 64
     → length state.entries ≤ count → count < 2 ^ 64 → AreGood format (after_entries count state)
 good_after_entries format count state valid items within fits = by (leb_tells count (length state.entries))

@@ -1,4 +1,4 @@
--- The bytes of an item, a key and a stamp are read back, and have their width.
+-- An item, a key and a stamp are read back from their bytes. The bytes have the right width.
 use Rattle.std.proofs.Common.{◌≡◌, ℕ, suc, ◌+◌, ◌-◌, ◌<◌, ◌^◌, List, [], ◌∷◌, ◌++◌, length, take, drop, refl, ap, ◌∙◌, subst, arith, append_assoc, length-append, Contains}
 use Rattle.std.specs.Prelude.{slice_index, slice_range}
 use Rattle.std.specs.Int.{w16, w32, to_be_bytes, from_be_bytes}
@@ -12,7 +12,7 @@ use Rattle.docker_model.specs.state.StateText.{file_stamp_bytes, item_bytes, key
 use Rattle.docker_model.specs.state.StatePart.{key_width}
 use Rattle.cif_laws.proofs.lists.Membership.{Contains-map}
 
--- what stands behind a front
+-- what is left after a front
 pub drop_past : (xs ys : List ℕ) (n k : ℕ) → length xs ≡ n → drop (n + k) (xs ++ ys) ≡ drop k ys
 drop_past [] ys n k size = ap (λ j. drop j ys) (omega arith)
 drop_past (x ∷ xs) ys n k size =

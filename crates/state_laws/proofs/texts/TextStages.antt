@@ -1,4 +1,5 @@
--- Reading a text part by part: what stands before the next part is fixed by the parts, and so by the text.
+-- Reading a text part by part. The parts determine what stands before the next part, and so does
+-- the text.
 use Rattle.std.proofs.Common.{◌≡◌, ℕ, ◌<◌, List, ◌++◌, length, [], ◌∷◌, ap, ◌∙◌, sym, subst, append_assoc, append-nil, ◌⊎◌, refl, inl, inr}
 use Rattle.std.specs.Prelude.{⊤}
 use Rattle.std.specs.List.{concat}
@@ -16,17 +17,17 @@ pub record IsNextPart (format : Format) (before : Before) (part : List ℕ) : Ty
   pub not_bad : (cause : StateCause) → ¬ IsBadPart format before part cause
   pub text : text_before format (advance format before part) ≡ text_before format before ++ part
 
--- each of these is the next part after those before it
+-- each of these parts is the next after the parts before it
 abbrev pub Follow : (format : Format) → Before → List (List ℕ) → Type 0
 Follow format before [] = ⊤
 Follow format before (part ∷ parts) = IsNextPart format before part × Follow format (advance format before part) parts
 
--- what comes after these parts
+-- the place after these parts
 abbrev pub after_parts : (format : Format) → Before → List (List ℕ) → Before
 after_parts format before [] = before
 after_parts format before (part ∷ parts) = after_parts format (advance format before part) parts
 
--- some parts lead from one to the other
+-- some parts lead from one place to the other
 pub record Leads (format : Format) (before after : Before) : Type 0 where
   pub parts : List (List ℕ)
   pub follow : Follow format before parts
@@ -46,7 +47,7 @@ one_step format before after part size some not_bad to text = record {
   to = to;
 }
 
--- one way after another
+-- one way, followed by another
 pub then_leads : (format : Format) → (before between after : Before) → Leads format before between → Leads format between after → Leads format before after
 then_leads format before between after first second = by before first.parts first.follow first.to
   where
@@ -56,7 +57,7 @@ then_leads format before between after first second = by before first.parts firs
         let rest = by (advance format from part) parts follow.1 to in
         record { parts = part ∷ rest.parts; follow = (follow.0, rest.follow); to = rest.to }
 
--- the text of what comes after
+-- the text before the place that these parts lead to
 pub after_text : (format : Format) → (before : Before) (parts : List (List ℕ)) → Follow format before parts
     → text_before format (after_parts format before parts) ≡ text_before format before ++ concat parts
 after_text format before [] follow = sym (append-nil (text_before format before))
@@ -64,14 +65,14 @@ after_text format before (part ∷ parts) follow =
     after_text format (advance format before part) parts follow.1 ∙ ap (λ front. front ++ concat parts) follow.0.text
     ∙ append_assoc (text_before format before) part (concat parts)
 
--- one has a next part, with which the other begins
+-- the text before the second place goes on with the first place's next part
 pub record IsLater (format : Format) (before after : Before) : Type 0 where
   pub part : List ℕ
   pub more : List ℕ
   pub is_next : IsNextPart format before part
   pub text : text_before format after ≡ text_before format before ++ part ++ more
 
--- of two places, one leads on to the other
+-- two places are equal, or one is later than the other
 abbrev pub AreInLine : (format : Format) → Before → Before → Type 0
 AreInLine format first second = (first ≡ second) ⊎ (IsLater format first second ⊎ IsLater format second first)
 
@@ -101,7 +102,7 @@ in_line_from format from (part ∷ parts) (other ∷ others) rest more f g same 
     (after_parts format (advance format from v) others)) told.0
     (λ follow. in_line_from format (advance format from part) parts others rest more f.1 follow told.1) g.1
 
--- what begins one text is in line
+-- two places whose texts begin one text are equal, or one is later than the other
 pub in_line : (format : Format) → (from first second : Before) (rest more : List ℕ) → Leads format from first → Leads format from second
     → text_before format first ++ rest ≡ text_before format second ++ more → AreInLine format first second
 in_line format from first second rest more one two same =

@@ -1,4 +1,5 @@
--- Each valid state is told by the format with a horizon, and so is what a text without one tells.
+-- The format with a horizon can hold each valid state. So it can hold the state of a text without
+-- one.
 use Rattle.std.proofs.Common.{◌≡◌, ℕ, List, [], ◌∷◌}
 use Rattle.std.specs.List.{AllByRecursion}
 use Rattle.std.proofs.lemmas.List.Elements.{All-from_recursion}
@@ -9,13 +10,13 @@ use Rattle.docker_model.specs.state.StateText.{dks_1, dks_2, IsToldState, TellsO
 use Rattle.docker_model.specs.state.StatePart.{AreGood, at_end}
 use Rattle.docker_model.specs.state.StateFault.{IsStateText}
 
--- each op is told by it
+-- it can hold each op
 pub any_op_told : (op : Op) → TellsOp dks_2 op
 any_op_told deleted = tt
 any_op_told lapsed = tt
 any_op_told (put_with body) = tt
 
--- each valid state is told by the format with a horizon
+-- the format with a horizon can hold each valid state
 pub valid_is_told : (state : State) → IsValid state → IsToldState dks_2 state
 valid_is_told state valid = record {
   valid = valid;
@@ -27,6 +28,7 @@ valid_is_told state valid = record {
     each [] = tt
     each (x ∷ xs) = (any_op_told x.1.op, each xs)
 
--- the state that a text without a horizon tells has none, and the other format tells it too
+-- the state of a text in the format without a horizon has none, and the other format can hold it
+-- too
 pub migrated_is_told : (limit : ℕ) (text : List ℕ) (state : State) → IsStateText dks_1 limit text state → (state.horizon ≡ 0) × AreGood dks_2 (at_end state)
 migrated_is_told limit text state is = (is.valid.0.horizon, (valid_is_told state is.valid.0.valid, is.valid.1, is.valid.2))

@@ -1,8 +1,8 @@
--- Each piece is taken behind those before it.
+-- Each piece is taken after the ones before it.
 use Rattle.std.proofs.Common.{rules, Ok, Err, ◌≡◌, ◌+◌, ◌<◌, ◌++◌, length, take, refl, ap, arith, ◌∙◌, subst}
 use Rattle.std.proofs.lemmas.List.{length-take-le}
 use Rattle.cif_device.specs.Device.{IsEnd}
-use Rattle.cif_device.proofs.FeedLemmas.{at_once, at_start, count_told, end_stays, fed_where_failed, fits_still, next_turn, no_more, none_failed, nothing_more, nothing_read, one_more, refusal_told, refused_as, refused_behind, same_front}
+use Rattle.cif_device.proofs.FeedLemmas.{at_once, at_start, count_told, end_stays, ended_by, going_on, not_passed_by, still_going, still_not_passed, fed_where_failed, fits_still, next_turn, no_more, none_failed, nothing_more, nothing_read, one_more, refusal_told, refused_as, refused_behind, same_front}
 use Rattle.cif_device.specs.declared.feed.FeedFault.TheVariants as feed
 use Rattle.cif_device.proofs.feed.feed_all.Goals as goal
 
@@ -15,6 +15,8 @@ pieces-init g c = record {
   turn = λ terms text taken. at_start g.T.Taker.takes terms text (g.S.Source.left c.args.source.now) c.args.taker.now taken;
   no_failure = refl;
   room = c.in-Ok.ensures.len;
+  not_ended = λ was. was;
+  not_passed = λ was. refl;
 }
 
 pub returns-in_default-read-clause-failed : goal.returns-in_default-read-clause-failed
@@ -117,7 +119,45 @@ pieces-preserved g c =
           (c.in_default-take.ensures.taken terms (text ++ at.bytes) at.taken));
       no_failure = c.in-Ok-read.ensures.no_failure ∙ c.pieces.invariant.no_failure;
       room = c.pieces.invariant.room;
+      not_ended = λ was. going_on c.in-Ok-read.n (length c.read.new.into) (g.S.Source.ended c.pieces.source) (g.S.Source.ended c.read.new.self)
+          (g.S.Source.passed c.pieces.source) (g.S.Source.passed c.read.new.self) c.in-Ok-read.ensures.ending c.if-n-eq0.false (c.pieces.invariant.not_ended was);
+      not_passed = λ was. not_passed_by c.in-Ok-read.n (length c.read.new.into) (g.S.Source.ended c.pieces.source) (g.S.Source.ended c.read.new.self)
+          (g.S.Source.passed c.pieces.source) (g.S.Source.passed c.read.new.self) c.in-Ok-read.ensures.ending (c.pieces.invariant.not_ended was)
+          ∙ c.pieces.invariant.not_passed was;
     }
+
+pub returns-in_default-read-clause-not_ended : goal.returns-in_default-read-clause-not_ended
+returns-in_default-read-clause-not_ended g c = λ was.
+    still_going (g.S.Source.ended c.pieces.source) (g.S.Source.ended c.read.new.self) (g.S.Source.passed c.pieces.source) (g.S.Source.passed c.read.new.self)
+    c.in_default-read.ensures.still ∙ c.pieces.invariant.not_ended was
+
+pub returns-in_default-read-clause-not_passed : goal.returns-in_default-read-clause-not_passed
+returns-in_default-read-clause-not_passed g c = λ was.
+    still_not_passed (g.S.Source.ended c.pieces.source) (g.S.Source.ended c.read.new.self) (g.S.Source.passed c.pieces.source) (g.S.Source.passed c.read.new.self)
+    c.in_default-read.ensures.still ∙ c.pieces.invariant.not_passed was
+
+pub returns-then-n-eq0-clause-ended : goal.returns-then-n-eq0-clause-ended
+returns-then-n-eq0-clause-ended g c =
+    let room : 0 < length c.read.new.into = omega (arith, c.pieces.invariant.room, c.as_mut_slice.ensures.len, c.read.auto.into) in
+    ended_by c.in-Ok-read.n (length c.read.new.into) (g.S.Source.ended c.pieces.source) (g.S.Source.ended c.read.new.self) (g.S.Source.passed c.pieces.source)
+    (g.S.Source.passed c.read.new.self) c.in-Ok-read.ensures.ending c.if-n-eq0.true room
+
+pub returns-then-n-eq0-clause-not_passed : goal.returns-then-n-eq0-clause-not_passed
+returns-then-n-eq0-clause-not_passed g c = λ was.
+    not_passed_by c.in-Ok-read.n (length c.read.new.into) (g.S.Source.ended c.pieces.source) (g.S.Source.ended c.read.new.self)
+    (g.S.Source.passed c.pieces.source) (g.S.Source.passed c.read.new.self) c.in-Ok-read.ensures.ending (c.pieces.invariant.not_ended was)
+    ∙ c.pieces.invariant.not_passed was
+
+pub returns-in-Err-clause-not_ended : goal.returns-in-Err-clause-not_ended
+returns-in-Err-clause-not_ended g c = λ was.
+    going_on c.in-Ok-read.n (length c.read.new.into) (g.S.Source.ended c.pieces.source) (g.S.Source.ended c.read.new.self) (g.S.Source.passed c.pieces.source)
+    (g.S.Source.passed c.read.new.self) c.in-Ok-read.ensures.ending c.if-n-eq0.false (c.pieces.invariant.not_ended was)
+
+pub returns-in-Err-clause-not_passed : goal.returns-in-Err-clause-not_passed
+returns-in-Err-clause-not_passed g c = λ was.
+    not_passed_by c.in-Ok-read.n (length c.read.new.into) (g.S.Source.ended c.pieces.source) (g.S.Source.ended c.read.new.self)
+    (g.S.Source.passed c.pieces.source) (g.S.Source.passed c.read.new.self) c.in-Ok-read.ensures.ending (c.pieces.invariant.not_ended was)
+    ∙ c.pieces.invariant.not_passed was
 
 -- `auto` proves these too: they are written out so that a wrong body is refused without a long search.
 pub returns-in_default-read-clause-fed : goal.returns-in_default-read-clause-fed

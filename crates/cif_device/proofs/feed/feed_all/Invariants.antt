@@ -1,5 +1,5 @@
 -- The taker has taken what was read, a byte a turn at least.
-use Rattle.std.proofs.Common.{◌≡◌, ◌-◌, ◌^◌, vec_len}
+use Rattle.std.proofs.Common.{◌≡◌, ◌-◌, ◌^◌, false, vec_len}
 use Rattle.cif_device.specs.Taken.{BehindEach, HasFed}
 use Rattle.cif_device.proofs.feed.feed_all.Given as goal
 
@@ -9,6 +9,8 @@ invariant-pieces g l = record {
       (λ terms text. HasFed g.T.Taker.takes l.fed terms text (g.S.Source.left l.fn.source) (g.S.Source.left l.source) l.taker);
   no_failure : g.S.Source.failures l.source ≡ g.S.Source.failures l.fn.source;
   room : vec_len l.piece ≡ 65536;
+  not_ended : g.S.Source.ended l.fn.source ≡ false → g.S.Source.ended l.source ≡ false;
+  not_passed : g.S.Source.ended l.fn.source ≡ false → g.S.Source.passed l.source ≡ g.S.Source.passed l.fn.source;
 }
 
 abbrev pub decreases-pieces : goal.decreases-pieces

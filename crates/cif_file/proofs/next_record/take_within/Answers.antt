@@ -1,4 +1,4 @@
--- Behind the trailer, else of its bytes, else of its place and fields.
+-- The cause: after the trailer, else its bytes, else its place and fields.
 use Rattle.std.proofs.lemmas.Result.{err_from_is_err_and}
 use Rattle.std.proofs.Common.{◌∙◌, sym, subst, refl}
 use Rattle.std.proofs.lemmas.Bool.{false≢true}

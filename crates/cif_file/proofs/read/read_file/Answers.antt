@@ -1,4 +1,4 @@
--- The file of what was read, whose changes were kept.
+-- The file that was read, whose changes were kept.
 use Rattle.std.proofs.Common.{sym, subst}
 use Rattle.std.specs.Prelude.{⊤}
 use Rattle.cif_file.specs.SourceRead.{ReadsText}

@@ -1,4 +1,4 @@
--- Behind a record the first line feed is that of the rest.
+-- After a record, the first line feed is the first line feed of the rest.
 use Rattle.std.proofs.Common.{◌≡◌, ℕ, ◌+◌, ◌-◌, ◌≤◌, List, length, take, drop, sym, ap, ◌∙◌, arith, length-drop}
 use Rattle.std.specs.Prelude.{position, option_map, ◌==◌}
 use Rattle.std.proofs.lemmas.List.{take_all}

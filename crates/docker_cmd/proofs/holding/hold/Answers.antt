@@ -1,9 +1,9 @@
 use Rattle.std.proofs.Common.{◌∙◌, ap, inl, refl, sym}
 use Rattle.std.proofs.lemmas.Result.{err_from_is_err_and}
-use Rattle.docker_job.specs.Job.{task_meant}
-use Rattle.docker_job.specs.Writes.{docker_written, output_of}
-use Rattle.docker_job.specs.declared.tasks.Task.{Task}
-use Rattle.docker_job.specs.declared.tasks.Task.TheVariants.{Files, Print}
+use Rattle.docker_cmd.specs.Job.{task_meant}
+use Rattle.docker_cmd.specs.Writes.{docker_written, output_of}
+use Rattle.docker_cmd.specs.declared.tasks.Task.{Task}
+use Rattle.docker_cmd.specs.declared.tasks.Task.TheVariants.{Files, Print}
 use Rattle.docker_cmd.proofs.SourcesLemmas.{read_of_task, refused_of_task, some_of_task}
 use Rattle.docker_cmd.proofs.holding.hold.Goals as goal
 

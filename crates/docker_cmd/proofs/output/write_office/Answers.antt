@@ -1,5 +1,5 @@
 use Rattle.std.proofs.Common.{ap, sym, subst}
-use Rattle.docker_job.specs.Writes.{Output, output_meant}
+use Rattle.docker_cmd.specs.Writes.{Output, output_meant}
 use Rattle.docker_cmd.specs.Prepared.{EndsEmitting, office_read}
 use Rattle.docker_cmd.proofs.OutputLemmas.{docker_ends}
 use Rattle.docker_cmd.proofs.output.write_office.Goals as goal

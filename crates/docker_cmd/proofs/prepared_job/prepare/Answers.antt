@@ -1,7 +1,7 @@
 use Rattle.std.proofs.Common.{◌≡◌, ◌∙◌, ap}
 use Rattle.std.proofs.lemmas.Result.{err_from_is_err_and}
-use Rattle.docker_job.specs.Job.{task_meant}
-use Rattle.docker_job.specs.Reads.{sources_of}
+use Rattle.docker_cmd.specs.Job.{task_meant}
+use Rattle.docker_cmd.specs.Reads.{sources_of}
 use Rattle.docker_cmd.specs.Holding.{held_meant}
 use Rattle.docker_cmd.proofs.SourcesLemmas.{prepared_read, read_one_file, refused_for, second_for}
 use Rattle.docker_cmd.proofs.prepared_job.prepare.Goals as goal

@@ -1,8 +1,8 @@
-use Rattle.std.proofs.Common.{ap, sym, subst, inl, inr, refl}
+use Rattle.std.proofs.Common.{sym, subst, inl, inr, refl}
 use Rattle.std.proofs.lemmas.Result.{err_from_is_err_and}
-use Rattle.docker_job.specs.Reads.{sources_meant}
-use Rattle.docker_job.specs.declared.reads.Sources.{Sources}
-use Rattle.docker_job.specs.declared.reads.Sources.TheVariants as code
+use Rattle.docker_cmd.specs.Reads.{sources_meant}
+use Rattle.docker_cmd.specs.declared.reads.Sources.{Sources}
+use Rattle.docker_cmd.specs.declared.reads.Sources.TheVariants as code
 use Rattle.docker_cmd.specs.Prepared.{HasSecondSource, file_read, office_read}
 use Rattle.docker_cmd.proofs.ReadingLemmas.{read_at, read_second, refused_at, some_at}
 use Rattle.docker_cmd.proofs.sources.read_sources.Goals as goal

@@ -4,7 +4,7 @@ use Rattle.docker_train.specs.Along.{AreGoodRows, AreLive}
 use Rattle.docker_day.specs.Portions.{AreLeft, HaveMoved}
 use Rattle.docker_day.proofs.portions.add_portion.Given as goal
 
--- what is out and the lines of the rows to come are all
+-- the lines so far and the lines of the remaining rows are all lines
 abbrev pub invariant-loop : goal.invariant-loop
 invariant-loop l = record {
   good : AreGoodRows l.rows;

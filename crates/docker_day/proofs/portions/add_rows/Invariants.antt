@@ -4,7 +4,7 @@ use Rattle.docker_train.specs.Along.{AreGoodRows, AreLive}
 use Rattle.docker_day.specs.Portions.{HaveMoved}
 use Rattle.docker_day.proofs.portions.add_rows.Given as goal
 
--- what is out and the lines of the rows to come are all
+-- the lines so far and the lines of the remaining rows are all lines
 abbrev pub invariant-loop-ahead : goal.invariant-loop-ahead
 invariant-loop-ahead l = record {
   good : AreGoodRows l.rest;

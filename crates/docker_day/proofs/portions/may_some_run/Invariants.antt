@@ -3,7 +3,7 @@ use Rattle.docker_train.specs.Along.{AreGoodRows}
 use Rattle.docker_day.specs.Portions.{AreLeft, ArePassedOver}
 use Rattle.docker_day.proofs.portions.may_some_run.Given as goal
 
--- where none of the rows so far may have lines, they are passed over
+-- if none of the rows so far may have lines, they are passed over
 abbrev pub invariant-loop : goal.invariant-loop
 invariant-loop l = record {
   good : AreGoodRows l.rows;

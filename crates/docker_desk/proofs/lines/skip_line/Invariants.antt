@@ -3,7 +3,7 @@ use Rattle.std.specs.Prelude.{Option}
 use Rattle.docker_desk.specs.Lines.{ReadsMany, SkipsLine, SkipsAll, with_ahead}
 use Rattle.docker_desk.proofs.lines.skip_line.Given as goal
 
--- what the rest of the line leads to, the whole does
+-- if the bytes from here on are the rest of a line, so are all the bytes from the beginning on
 abbrev pub invariant-loop : goal.invariant-loop
 invariant-loop g l = record {
   line : (new : Option (List ℕ)) → SkipsLine (with_ahead l.ahead (g.S.Source.left l.source)) new

@@ -1,4 +1,4 @@
-use Rattle.docker_job.specs.Words.{texts}
+use Rattle.docker_cmd.specs.Words.{texts}
 use Rattle.docker_program.proofs.ProgramLemmas.{status_within, usage_status}
 use Rattle.docker_program.proofs.host.run_words.Goals as goal
 

@@ -1,4 +1,4 @@
-use Rattle.std.proofs.Common.{◌≡◌, ◌+◌, arith, refl, ◌∙◌}
+use Rattle.std.proofs.Common.{◌≡◌, ◌+◌, arith, ◌∙◌}
 use Rattle.docker_program.proofs.JobOutputLemmas.{counted_alone, ends_in_part, ends_incomplete, ends_stored, ends_unmade, fails_alone, leaves_on}
 use Rattle.docker_program.proofs.job_output.write_file.Goals as goal
 

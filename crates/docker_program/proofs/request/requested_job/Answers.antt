@@ -1,11 +1,11 @@
 use Rattle.std.proofs.Common.{◌≢◌, ℕ, List, [], ◌∷◌, length, refl, rules, Bor}
-use Rattle.docker_job.specs.Job.{NameNoJob}
+use Rattle.docker_cmd.specs.Job.{NameNoJob}
 use Rattle.docker_cmd.specs.Prepared.{DeviceBytes}
-use Rattle.docker_job.specs.Words.{texts}
+use Rattle.docker_cmd.specs.Words.{texts}
 use Rattle.docker_program.specs.Program.{AskForNone}
 use Rattle.docker_program.proofs.request.requested_job.Goals as goal
 
--- where there are words, those that name no job ask for none
+-- if there are words and they name no job, no job is asked for
 asks_none : (words : List (Bor (List ℕ))) (input : DeviceBytes) → length words ≢ 0 → NameNoJob (texts words) → AskForNone (texts words) input
 asks_none [] input some none = absurd (some refl)
 asks_none (word ∷ words) input some none = none

@@ -5,7 +5,7 @@ use Rattle.docker_train.specs.Along.{link_along, AreGoodRows}
 use Rattle.docker_train.specs.Known.{group_cmp}
 use Rattle.docker_train.proofs.day_links.best_of.Given as goal
 
--- of each group the best along the rows that are left is the best along all
+-- for each group, the best along the remaining rows is the best along all rows
 abbrev pub invariant-loop-key : goal.invariant-loop-key
 invariant-loop-key l = record {
   best : (group : Group) → link_along group l.day (get group_cmp l.best group) l.key-iterator ≡ link_along group l.day None l.fn.rows;

@@ -3,7 +3,7 @@ use Rattle.docker_model.specs.records.Field.{HasGoodFields}
 use Rattle.docker_train.specs.Midnights.{falls_along}
 use Rattle.docker_train.proofs.midnights.falls_along.Given as goal
 
--- the lines so far ascend up to the last time
+-- the times of the lines so far ascend to the last one
 abbrev pub invariant-loop-line : goal.invariant-loop-line
 invariant-loop-line l = record {
   same : falls_along l.last l.behind ≡ falls_along 0 l.lines;

@@ -2,7 +2,7 @@ use Rattle.std.proofs.Common.{◌≡◌, length}
 use Rattle.docker_train.specs.UpTo.{up_to_last}
 use Rattle.docker_train.proofs.up_to.up_to_last.Given as goal
 
--- what was looked at is behind the last line at the place
+-- the lines looked at come after the last line at the place
 abbrev pub invariant-loop-line : goal.invariant-loop-line
 invariant-loop-line l = up_to_last l.place l.rest ≡ up_to_last l.place l.initial.lines
 

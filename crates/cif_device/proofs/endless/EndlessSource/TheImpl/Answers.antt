@@ -1,4 +1,4 @@
--- A read is always Ok, and nothing is told of the bytes.
+-- A read is always Ok, and the source can't name its bytes.
 use Rattle.std.proofs.Common.{refl}
 use Rattle.cif_device.proofs.endless.EndlessSource.TheImpl.Goals as goal
 
@@ -10,4 +10,6 @@ read-tells g c = record {
   no_failure = rw c.ensures.count refl;
   counted = rw c.ensures.count tt;
   unmoved = rw c.ensures.count tt;
+  ending = c.ensures.ending;
+  still = rw c.ensures.count tt;
 }

@@ -1,4 +1,4 @@
--- One byte more behind those up to `at`.
+-- One more byte follows the ones up to `at`.
 use Rattle.std.proofs.Common.{rules, arith, subst, sym}
 use Rattle.std.proofs.lemmas.Grind.{common_steps}
 use Rattle.std.proofs.lemmas.List.{take_more_set}

@@ -1,4 +1,4 @@
--- What is said of the bytes that are left is said of those that the source tells.
+-- The clauses speak of the bytes that are left, and the source names the same bytes.
 use Rattle.std.proofs.Common.{Some, ap}
 use Rattle.std.proofs.lemmas.Result.{IfOk-weaker, on_err_weaker}
 use Rattle.cif_device.proofs.fuse.FuseBytesSource.TheImpl.Goals as goal
@@ -11,4 +11,6 @@ read-tells g c = record {
   no_failure = c.ensures.no_failure;
   counted = c.ensures.counted;
   unmoved = on_err_weaker c.result (λ same. ap Some same) c.ensures.unmoved;
+  ending = c.ensures.ending;
+  still = c.ensures.still;
 }

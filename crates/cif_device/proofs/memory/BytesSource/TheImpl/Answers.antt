@@ -10,4 +10,6 @@ read-tells g c = record {
   no_failure = rw c.ensures.count refl;
   counted = rw c.ensures.count tt;
   unmoved = rw c.ensures.count tt;
+  ending = c.ensures.ending;
+  still = rw c.ensures.count tt;
 }

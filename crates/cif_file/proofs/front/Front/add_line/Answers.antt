@@ -1,4 +1,4 @@
--- The line stands behind those before it, and where it ends the journey the schedule makes its change.
+-- The line comes after the earlier ones. If it ends the journey, the schedule makes its change.
 use Rattle.std.proofs.Common.{subst, refl, ◌++◌, ◌∷◌, []}
 use Rattle.cif_file.specs.KeeperRead.{Closes}
 use Rattle.cif_file.proofs.FrontLemmas.{line_added, line_closed, on_ok}

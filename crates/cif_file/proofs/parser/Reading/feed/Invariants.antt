@@ -6,7 +6,7 @@ use Rattle.cif_file.specs.ParserRead.{IsReading}
 use Rattle.cif_file.proofs.ParserLemmas.{before_rest}
 use Rattle.cif_file.proofs.parser.Reading.feed.Given as goal
 
--- what stands before the rest was read
+-- what comes before the rest was read
 pub record AreRead {K : Type 0} (keeps : Keeps K) (reading initial : Reading K) (piece rest : List ℕ) : Type 0 where
   pub whole : before_rest piece rest ++ rest ≡ piece
   pub are : (limit : ℕ) (text : List ℕ) → IsReading keeps initial limit text → IsReading keeps reading limit (text ++ before_rest piece rest)

@@ -1,4 +1,4 @@
--- What the reading reads it takes.
+-- The reading takes what it reads.
 use Rattle.cif_file.proofs.ReadLemmas.{takes_more, refuses_more}
 use Rattle.cif_file.proofs.read.ReadingTaker.take.Goals as goal
 

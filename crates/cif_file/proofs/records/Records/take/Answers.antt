@@ -1,4 +1,4 @@
--- The cause is told of the next record.
+-- The cause is the cause of the next record.
 use Rattle.std.proofs.Common.{arith}
 use Rattle.cif_file.proofs.records.Records.take.Goals as goal
 

@@ -1,4 +1,4 @@
--- Above the limit, else behind the trailer, else of a wrong length.
+-- The cause: above the limit, else after the trailer, else a wrong length.
 use Rattle.std.proofs.Common.{◌≡◌, ap, subst, refl, true, false}
 use Rattle.std.specs.Prelude.{◌↔◌}
 use Rattle.docker_model.specs.file.File.{IsFile}

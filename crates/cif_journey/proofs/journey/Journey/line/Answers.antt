@@ -1,4 +1,4 @@
--- A line that is taken stands behind those before it.
+-- A line that is taken comes after the lines before it.
 use Rattle.std.proofs.Common.{subst, sym}
 use Rattle.cif_journey.specs.JourneyRead.{HasLines}
 use Rattle.cif_journey.proofs.JourneyLemmas.{of_ok}

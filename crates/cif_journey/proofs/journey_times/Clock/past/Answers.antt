@@ -1,4 +1,4 @@
--- Three times in turn.
+-- Three times, one after the other.
 use Rattle.std.proofs.Common.{◌+◌, ◌∙◌}
 use Rattle.cif_laws.specs.TimesSoFar.{falls_after, later_or}
 use Rattle.cif_journey.specs.JourneyRead.{time_list}

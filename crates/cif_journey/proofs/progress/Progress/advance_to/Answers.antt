@@ -1,4 +1,4 @@
--- One more line that stands at its place, of a deletion or not.
+-- One more line at its place, of a deletion or not.
 use Rattle.std.proofs.Common.{ap, ◌∙◌, refl}
 use Rattle.std.proofs.lemmas.Bool.{false≢true}
 use Rattle.cif_journey.specs.JourneyRead.{progress_meant, stage_then, stage_meant}

@@ -1,4 +1,4 @@
--- The lines are a schedule exactly where it may end at their stage.
+-- The lines are a schedule if and only if a schedule may end at their stage.
 use Rattle.std.proofs.Common.{ap, sym, ◌∙◌}
 use Rattle.std.specs.Prelude.{option_map}
 use Rattle.cif_journey.specs.JourneyRead.{stage_meant, may_end_by, progress_meant}

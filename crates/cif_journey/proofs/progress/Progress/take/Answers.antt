@@ -1,4 +1,4 @@
--- A line of no kind goes on with no schedule.
+-- No schedule goes on with a line of no kind.
 use Rattle.std.proofs.Common.{ap, sym, ◌∙◌}
 use Rattle.std.specs.Prelude.{option_map}
 use Rattle.std.proofs.lemmas.Bool.{false≢true}

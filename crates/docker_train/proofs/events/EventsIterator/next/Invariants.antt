@@ -2,7 +2,7 @@ use Rattle.std.proofs.Common.{◌≡◌, length}
 use Rattle.docker_train.specs.Walk.{events_left, CanWalk}
 use Rattle.docker_train.proofs.events.EventsIterator.next.Given as goal
 
--- the events to come stay
+-- the remaining events stay the same
 abbrev pub invariant-lines : goal.invariant-lines
 invariant-lines l = record {
   same : events_left l.initial.self-inside.walk l.initial.self-inside.lines.now ≡ events_left l.self-inside.walk l.self-inside.lines.now;

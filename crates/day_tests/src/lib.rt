@@ -1,0 +1,6 @@
+//! Worked rows for dockers: lines and their order, the choice of schedules, midnights,
+//! associations, horizons, stamps, texts, and running out of memory. This crate holds only tests.
+#![tactic(auto)]
+
+#[cfg(test)]
+mod tests;

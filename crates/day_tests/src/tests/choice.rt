@@ -1,0 +1,96 @@
+//! Which schedule a train runs by on a day.
+
+use super::lines::{LEAVES_0900, LEAVES_0910, LEAVES_0915};
+use super::records::{
+    BS, BS_CANCELLED, BS_LATER, BS_OVERLAY, BS_WEEK, HD, LO, LO_0910, LO_0915, LT, ZZ,
+};
+use super::{day, same, shows, state};
+use cif_line::{Kind, Line, Stp, Uid, kind};
+use docker_day::{chosen, runs};
+use docker_state::State;
+use std::process::Abort;
+
+/// A permanent schedule with its overlay and its cancellation.
+#[test]
+fn choice(rt: HostRuntime) {
+    let alloc = rt.alloc();
+    let files: &[&[&[u8]]] = &[&[
+        HD,
+        BS_WEEK,
+        LO,
+        LT,
+        BS_OVERLAY,
+        LO_0915,
+        LT,
+        BS_CANCELLED,
+        ZZ,
+    ]];
+    shows(&rt, alloc, files, "ASHFELD", "2024-06-10", &[LEAVES_0900]);
+    shows(&rt, alloc, files, "ASHFELD", "2024-06-11", &[LEAVES_0915]);
+    shows(&rt, alloc, files, "ASHFELD", "2024-06-12", &[LEAVES_0900]);
+    shows(&rt, alloc, files, "ASHFELD", "2024-06-13", &[LEAVES_0915]);
+    shows(&rt, alloc, files, "ASHFELD", "2024-06-14", &[]);
+    shows(&rt, alloc, files, "ASHFELD", "2024-06-15", &[LEAVES_0900]);
+    shows(&rt, alloc, files, "ASHFELD", "2024-06-16", &[LEAVES_0900]);
+}
+
+/// The same file with a fourth schedule, which begins later.
+#[test]
+fn choice_with_a_later_schedule(rt: HostRuntime) {
+    let alloc = rt.alloc();
+    let files: &[&[&[u8]]] = &[&[
+        HD,
+        BS_WEEK,
+        LO,
+        LT,
+        BS_OVERLAY,
+        LO_0915,
+        LT,
+        BS_CANCELLED,
+        BS_LATER,
+        LO_0910,
+        LT,
+        ZZ,
+    ]];
+    shows(&rt, alloc, files, "ASHFELD", "2024-06-10", &[LEAVES_0900]);
+    shows(&rt, alloc, files, "ASHFELD", "2024-06-11", &[LEAVES_0915]);
+    shows(&rt, alloc, files, "ASHFELD", "2024-06-12", &[LEAVES_0900]);
+    shows(&rt, alloc, files, "ASHFELD", "2024-06-13", &[LEAVES_0915]);
+    shows(&rt, alloc, files, "ASHFELD", "2024-06-14", &[]);
+    shows(&rt, alloc, files, "ASHFELD", "2024-06-15", &[LEAVES_0910]);
+    shows(&rt, alloc, files, "ASHFELD", "2024-06-16", &[LEAVES_0910]);
+}
+
+/// Asserts that the schedule chosen for C10001 on a day has this STP indicator.
+fn chosen_is(rt: &impl Abort, state: &State, on: &str, wanted: Option<Stp>) {
+    let uid = Uid::from_field(b"C10001").expect(rt, "a UID");
+    let stp = match chosen(state, &uid, day(rt, on)) {
+        Some(view) => Some(view.key().stp),
+        None => None,
+    };
+    same(rt, stp, wanted);
+}
+
+/// A chosen cancellation is returned.
+#[test]
+fn chosen_cancellation(rt: HostRuntime) {
+    let state = state(&rt, rt.alloc(), &[HD, BS_WEEK, LO, LT, BS_CANCELLED, ZZ]);
+    chosen_is(&rt, &state, "2024-06-14", Some(Stp::Cancellation));
+    chosen_is(&rt, &state, "2024-06-13", Some(Stp::Permanent));
+    chosen_is(&rt, &state, "2024-06-17", None);
+}
+
+/// The days on which a basic schedule runs.
+#[test]
+fn days(rt: HostRuntime) {
+    let line = Line::new(BS).expect(&rt, "a line");
+    let monday = day(&rt, "2024-06-10");
+    let saturday = day(&rt, "2024-06-15");
+    match kind(&line) {
+        Some(Kind::BasicSchedule) => {
+            same(&rt, runs(&line, monday), true);
+            same(&rt, runs(&line, saturday), false);
+        }
+        _ => panic!(rt; "a basic schedule"),
+    }
+}

@@ -1,0 +1,42 @@
+//! Dockers under a horizon.
+
+use super::records::{BS, BS_REVISED, BS_TO_JULY, HD, HD_8, HD_10, LO, LO_0905, LT, LT_0935, ZZ};
+use super::{day, join, lines_are, place, same, state};
+use docker_day::{DockerFault, docker};
+use docker_state::State;
+use std::alloc::Global;
+use std::process::Abort;
+
+/// Asserts that the docker of Ashfeld on a day is refused.
+fn is_refused(rt: &impl Abort, alloc: Global, state: &State, on: &str) {
+    let fault = docker(alloc, state, &place(rt, "ASHFELD"), day(rt, on)).err();
+    same(rt, fault, Some(DockerFault::Lapsed));
+}
+
+/// A docker is refused for days before the horizon plus three. Setting an earlier horizon changes
+/// nothing.
+#[test]
+fn horizons(rt: HostRuntime) {
+    let alloc = rt.alloc();
+    let mut state = state(&rt, alloc, &[HD, BS, LO, LT, ZZ]);
+    state.set_horizon(day(&rt, "2024-06-14"));
+    is_refused(&rt, alloc, &state, "2024-06-16");
+    lines_are(&rt, alloc, &state, "ASHFELD", "2024-06-17", &[]);
+    state.set_horizon(day(&rt, "2024-06-15"));
+    is_refused(&rt, alloc, &state, "2024-06-17");
+    lines_are(&rt, alloc, &state, "ASHFELD", "2024-06-18", &[]);
+    state.set_horizon(day(&rt, "2024-06-10"));
+    is_refused(&rt, alloc, &state, "2024-06-17");
+    lines_are(&rt, alloc, &state, "ASHFELD", "2024-06-18", &[]);
+}
+
+/// A lapsed entry keeps its stamp, so that an older file can't bring it back.
+#[test]
+fn older_file_after_a_horizon(rt: HostRuntime) {
+    let alloc = rt.alloc();
+    let mut known = state(&rt, alloc, &[HD_10, BS_REVISED, LO_0905, LT_0935, ZZ]);
+    known.set_horizon(day(&rt, "2024-06-15"));
+    let older = state(&rt, alloc, &[HD_8, BS_TO_JULY, LO, LT, ZZ]);
+    let joined = join(&rt, alloc, known, older);
+    lines_are(&rt, alloc, &joined, "ASHFELD", "2024-06-24", &[]);
+}

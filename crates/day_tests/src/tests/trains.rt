@@ -1,0 +1,61 @@
+//! The lines of one train.
+
+use super::lines::{COMES_0930, COMES_AS_5E51, LEAVES_0900, LEAVES_AS_5E50, PASSES_AS_5E51};
+use super::records::{
+    BS, BS_C50001, BS_ENDLESS, CR, HD, LI_1210, LI_TIMELESS, LO, LO_1200, LT, LT_1230, ZZ,
+};
+use super::shows;
+
+/// A weekday and a Saturday, at both ends of the journey and elsewhere.
+#[test]
+fn one_schedule(rt: HostRuntime) {
+    let alloc = rt.alloc();
+    let files: &[&[&[u8]]] = &[&[HD, BS, LO, LT, ZZ]];
+    shows(&rt, alloc, files, "ASHFELD", "2024-06-10", &[LEAVES_0900]);
+    shows(&rt, alloc, files, "BRAYTON", "2024-06-10", &[COMES_0930]);
+    shows(&rt, alloc, files, "ASHFELD", "2024-06-15", &[]);
+    shows(&rt, alloc, files, "BRAYTON", "2024-06-15", &[]);
+    shows(&rt, alloc, files, "ELM", "2024-06-10", &[]);
+}
+
+/// A call without times adds no line.
+#[test]
+fn no_line_without_a_time(rt: HostRuntime) {
+    let alloc = rt.alloc();
+    let files: &[&[&[u8]]] = &[&[HD, BS, LO, LI_TIMELESS, LT, ZZ]];
+    shows(&rt, alloc, files, "COLWELL", "2024-06-10", &[]);
+    shows(&rt, alloc, files, "BRAYTON", "2024-06-10", &[COMES_0930]);
+}
+
+/// A train changes its identity on the way.
+#[test]
+fn identity(rt: HostRuntime) {
+    let alloc = rt.alloc();
+    let files: &[&[&[u8]]] = &[&[HD, BS_C50001, LO_1200, CR, LI_1210, LT_1230, ZZ]];
+    shows(
+        &rt,
+        alloc,
+        files,
+        "ASHFELD",
+        "2024-06-10",
+        &[LEAVES_AS_5E50],
+    );
+    shows(
+        &rt,
+        alloc,
+        files,
+        "COLWELL",
+        "2024-06-10",
+        &[PASSES_AS_5E51],
+    );
+    shows(&rt, alloc, files, "BRAYTON", "2024-06-10", &[COMES_AS_5E51]);
+}
+
+/// A schedule without an end runs on the last day of the calendar, a Wednesday.
+#[test]
+fn without_end(rt: HostRuntime) {
+    let alloc = rt.alloc();
+    let files: &[&[&[u8]]] = &[&[HD, BS_ENDLESS, LO, LT, ZZ]];
+    shows(&rt, alloc, files, "ASHFELD", "2059-12-31", &[LEAVES_0900]);
+    shows(&rt, alloc, files, "ASHFELD", "2059-12-30", &[]);
+}

@@ -1,0 +1,62 @@
+-- Which words name a job.
+use Rattle.std.proofs.Common.{◌≡◌, ◌∙◌, ◌↔◌, ◌≤◌, ◌-◌, List, [], ◌∷◌, length, take, drop, slice_index_or, Bool, true, false, true≢false, Some, None, subst, sym, ap, arith}
+use Rattle.std.specs.Borrow.{Bor}
+use Rattle.std.proofs.lemmas.List.{length-map, take_all}
+use Rattle.std.specs.List.{list_all}
+use Rattle.docker_cmd.specs.declared.subcommands.Subcommand.{Subcommand}
+use Rattle.docker_cmd.specs.Subcommands.{ids_of, name_of, subcommand_named}
+use Rattle.docker_cmd.specs.Words.{Text, is_plain_word, texts}
+use Rattle.docker_cmd.specs.Job.{AreWordsOf, AskNothing, IsJobOf, IsTaskOf, JobView, NameNoJob, NameNoSubcommand, NamesSubcommand, subcommand_of}
+use Rattle.docker_cmd.proofs.TaskWords.{first_word, name_back, other_words, same_subcommand, words_counted}
+
+-- words that name a job name its subcommand
+pub job_subcommand : (words : List Text) (job : JobView) → IsJobOf words job → NamesSubcommand words (subcommand_of job.task) job.words
+job_subcommand words job is = record { plain = is.plain; whole = is.whole; count = words_counted job.task job.words is.required }
+
+-- words that name no subcommand name no job
+pub no_subcommand : (words : List Text) → NameNoSubcommand words → NameNoJob words
+no_subcommand words none = λ job is. none (subcommand_of job.task) job.words (job_subcommand words job is)
+
+-- words of a subcommand that ask for nothing
+pub asks_nothing : (words : List Text) (s : Subcommand) (behind : List Text) → NamesSubcommand words s behind → IsTaskOf s behind None → NameNoJob words
+asks_nothing words s behind names nothing = λ job is.
+    let same = sym names.whole ∙ is.whole in
+    let one = same_subcommand s (subcommand_of job.task) (ap first_word same) in
+    nothing job.task (sym one) (subst (AreWordsOf job.task) (sym (ap other_words same)) is.required)
+
+-- ---- words that `clap` isn't given
+
+-- words that aren't all plain
+pub no_plain_job : (words : List Text) → list_all is_plain_word words ≡ false → NameNoJob words
+no_plain_job words never = λ job is. true≢false (sym is.plain ∙ never)
+
+-- too many or too few words
+pub miscounted : (s : Subcommand) (words ids : List (Bor Text)) → texts ids ≡ ids_of s → (length words ≡ length ids → ⊥) → AskNothing s (texts words)
+miscounted s words ids are never = λ task same is.
+    let required = words_counted task (texts words) is ∙ ap (λ (t : Subcommand). length (ids_of t)) same in
+    never (sym (length-map words (λ word. word.now)) ∙ required ∙ ap length (sym are) ∙ length-map ids (λ id. id.now))
+
+-- plain words whose first word names a subcommand
+pub behind_asks : (words : List (Bor Text)) (d : Bor Text) (s : Subcommand) (test : Bool) → 1 ≤ length words
+    → Some s ≡ subcommand_named (slice_index_or words 0 d).now → list_all is_plain_word (texts words) ≡ true
+    → ((test ≡ false) ↔ AskNothing s (texts (take (length words - 1) (drop 1 words)))) → (test ≡ false) ↔ NameNoJob (texts words)
+behind_asks [] d s test some named plain asks = absurd (omega (arith, some))
+behind_asks (word ∷ words) d s test some named plain asks = ((λ never. no_job (asks.0 never)), (λ none. asks.1 (nothing none)))
+  where
+    behind : texts (take (length (word ∷ words) - 1) (drop 1 (word ∷ words))) ≡ texts words
+    behind = ap texts (take_all (length (word ∷ words) - 1) words (omega arith))
+
+    name : word.now ≡ name_of s
+    name = name_back word.now s (sym named)
+
+    no_job : AskNothing s (texts (take (length (word ∷ words) - 1) (drop 1 (word ∷ words)))) → NameNoJob (texts (word ∷ words))
+    no_job nothing job is =
+        let one = same_subcommand s (subcommand_of job.task) (sym name ∙ ap first_word is.whole) in
+        nothing job.task (sym one) (subst (AreWordsOf job.task) (sym (behind ∙ ap other_words is.whole)) is.required)
+
+    nothing : NameNoJob (texts (word ∷ words)) → AskNothing s (texts (take (length (word ∷ words) - 1) (drop 1 (word ∷ words))))
+    nothing none task same is = none (record { task = task; words = texts words }) (record {
+      plain = plain;
+      whole = ap (λ n. n ∷ texts words) (name ∙ ap name_of (sym same));
+      required = subst (AreWordsOf task) behind is;
+    })

@@ -1,0 +1,257 @@
+-- What `clap` makes of the words after a subcommand that requires some.
+use Rattle.std.proofs.Common.{◌≡◌, ◌∙◌, ◌+◌, ◌&&◌, ◌||◌, ℕ, Bool, cond, true, false, not, min, map, refl, sym, ap, subst, true≢false, List, [], ◌∷◌, ◌++◌, Some, None, append_assoc, append-nil}
+use Rattle.std.specs.List.{find, fold, list_all, list_any}
+use Rattle.std.specs.Str.{bytes_eq}
+use Rattle.std.proofs.lemmas.Slice.Eq.{bytes_eq-Decides}
+use Rattle.clap.specs.Facts.{explicit_source}
+use Rattle.std.specs.Option.{option_map_or}
+use Rattle.std.proofs.Math.Bool.{and-false, or-true}
+use Rattle.clap.specs.Lexer.{usize_max}
+use Rattle.clap.specs.Walk.{Held, Row, Rule, Text, arg_by_id, arg_by_index, at_row, has_row, is_pending, more_values, nothing_held, pushed, reading_by, rows_after, settled, settled_rows, to_positional, used, used_by_id, walk, walked, with_default, with_values}
+use Rattle.clap.specs.Simple.{Shape, built_leaf, filled, filled_from, inherited, new_rule, with_index}
+use Rattle.clap.specs.Takes.{is_given}
+use Rattle.clap.specs.Faults.{check_fault, defaults_fault, level_fault, positional_fault, settle_fault, stray_fault, use_fault, walk_fault}
+use Rattle.clap.specs.Kinds.{Kinds, or_else}
+use Rattle.clap.specs.declared.parser.ValueSource.TheVariants.{CommandLine}
+use Rattle.clap.specs.declared.error.ErrorKind.TheVariants as kind
+use Rattle.clap.proofs.WalkLemmas.{both}
+use Rattle.docker_cmd.specs.Words.{is_plain_word}
+use Rattle.docker_cmd.specs.Grammar.{docker_shape, required_rule, words_shape}
+use Rattle.docker_cmd.proofs.PlainWords.{at, plain_turn, plain_walked}
+
+-- the program's own level once it is built
+abbrev pub built_top : Shape
+built_top = record docker_shape { is_leaf = false; is_built = true }
+
+-- a subcommand of the program once it is built
+abbrev pub leaf : Text → List Text → Shape
+leaf name ids = built_leaf (inherited built_top (words_shape name ids))
+
+-- a required word once its command is built
+abbrev pub placed : ℕ → Text → Rule
+placed position id = with_index position (filled (required_rule id))
+
+-- the position after one
+abbrev pub next : ℕ → ℕ
+next position = min (position + 1) usize_max
+
+-- the rules have the ids at these positions and no more
+abbrev pub Fits : List Rule → ℕ → List Text → Type 0
+Fits c position [] = arg_by_index c position ≡ None
+Fits c position (id ∷ ids) = (arg_by_index c position ≡ Some (placed position id)) × (arg_by_id c id ≡ Some (placed position id)) × Fits c (next position) ids
+
+-- what was found for a required word
+abbrev pub row : Text → Text → Row
+row id word = record { id = id; values = word ∷ []; count = None; source = Some CommandLine; reading = reading_by (new_rule id) }
+
+-- no id has a row yet, nor has any id before it
+abbrev pub Fresh : List Row → List Text → Type 0
+Fresh rows [] = Unit {0}
+Fresh rows (id ∷ ids) = (has_row id rows ≡ false) × ((word : Text) → Fresh (rows ++ row id word ∷ []) ids)
+
+-- each word with its id
+abbrev pub paired : List Text → List Text → List Row
+paired [] words = []
+paired (id ∷ ids) [] = []
+paired (id ∷ ids) (word ∷ words) = row id word ∷ paired ids words
+
+-- ---- one required word
+
+-- neither of two tests passes
+neither : (a b : Bool) → (a || b) ≡ false → (a ≡ false) × (b ≡ false)
+neither true b e = absurd (true≢false e)
+neither false b e = (refl, e)
+
+-- a change at an id without a row adds to the end
+at_new : (id : Text) (change : Row → List Row) (missing rows : List Row) → has_row id rows ≡ false → at_row id change missing rows ≡ rows ++ missing
+at_new id change missing [] fresh = refl
+at_new id change missing (r ∷ rows) fresh =
+    let parts = neither _ _ fresh in
+    ap (λ b. cond b (change r ++ rows) (r ∷ at_row id change missing rows)) parts.0 ∙ ap (λ rest. r ∷ rest) (at_new id change missing rows parts.1)
+
+-- a first use of a required word adds its row
+used_new : (position : ℕ) (id word : Text) (rows : List Row) → has_row id rows ≡ false → used (placed position id) (word ∷ []) rows ≡ rows ++ row id word ∷ []
+used_new position id word rows fresh =
+    ap (with_values id (reading_by (new_rule id)) CommandLine (word ∷ [])) (at_new id (λ _. []) [] rows fresh ∙ append-nil rows)
+    ∙ at_new id (more_values CommandLine (word ∷ [])) (row id word ∷ []) rows fresh
+
+-- what is held counts as these rows, and passes
+record Settles (s : Shape) (h : Held) (rows : List Row) : Type 0 where
+  rows_are : settled_rows s.rules h.pending h.rows ≡ rows
+  no_fault : settle_fault s.rules s.args_override_self h ≡ []
+
+-- a required word that is held
+abbrev holding : List Row → Text → Text → ℕ → Held
+holding rows id word skip = record { rows = rows; pending = Some (id, word ∷ []); skip = skip }
+
+-- a required word that is held settles to its row
+settles_new : (s : Shape) (position : ℕ) (id word : Text) (rows : List Row) (skip : ℕ) → arg_by_id s.rules id ≡ Some (placed position id)
+    → has_row id rows ≡ false
+    → Settles s (holding rows id word skip) (rows ++ row id word ∷ [])
+settles_new s position id word rows skip found fresh = record {
+  rows_are = ap (λ rule. used_by_id rule (word ∷ []) rows) found ∙ used_new position id word rows fresh;
+  no_fault = ap (λ rule. option_map_or (λ a. use_fault s.args_override_self a (word ∷ []) rows) rule []) found
+      ∙ ap (λ b. or_else (cond (b && not s.args_override_self) (kind.ArgumentConflict ∷ []) []) []) fresh;
+}
+
+-- the walk over it
+at_positional : (c : List Rule) (position : ℕ) (id word : Text) (h : Held)
+    → to_positional c (Some (placed position id)) word (at h position) h ≡ at (holding (settled_rows c h.pending h.rows) id word h.skip) (next position)
+at_positional c position id word h =
+    ap (λ b. at (pushed id word (cond b h (settled c h))) (next position)) (and-false (is_pending (placed position id) h.pending))
+
+-- the walk over a required word holds it
+placed_walked : (s : Shape) (position : ℕ) (id word : Text) (h : Held) (rows : List Row) → arg_by_index s.rules position ≡ Some (placed position id)
+    → Settles s h rows → is_plain_word word ≡ true → walked s.rules [] (at h position) word ≡ at (holding rows id word h.skip) (next position)
+placed_walked s position id word h rows found settles plain =
+    plain_walked s.rules [] position word h plain refl
+    ∙ ap (λ rule. to_positional s.rules rule word (at h position) h) found
+    ∙ at_positional s.rules position id word h
+    ∙ ap (λ rs. at (holding rs id word h.skip) (next position)) settles.rows_are
+
+-- a required word has no fault
+placed_fault : (s : Shape) (position : ℕ) (id word : Text) (rest : List Text) (h : Held) (rows : List Row)
+    → arg_by_index s.rules position ≡ Some (placed position id)
+    → Settles s h rows → is_plain_word word ≡ true
+    → walk_fault s [] (at h position) (word ∷ rest) ≡ walk_fault s [] (at (holding rows id word h.skip) (next position)) rest
+unfolding walk_fault
+placed_fault s position id word rest h rows found settles plain =
+    let turn = plain_turn s [] position word h plain refl
+    ∙ ap (λ rule. option_map_or (λ a. positional_fault s.rules s.args_override_self a h) rule (stray_fault s)) found
+    ∙ ap (λ b. cond b [] (settle_fault s.rules s.args_override_self h)) (and-false (is_pending (placed position id) h.pending)) ∙ settles.no_fault in
+    let after = placed_walked s position id word h rows found settles plain in
+    λ i. or_else (turn i) (walk_fault s [] (after i) rest)
+
+-- ---- all the words
+
+-- one word more than required
+abbrev surplus_fault : List Text → List Text → Kinds
+surplus_fault [] [] = []
+surplus_fault [] (word ∷ words) = kind.UnknownArgument ∷ []
+surplus_fault (id ∷ ids) [] = []
+surplus_fault (id ∷ ids) (word ∷ words) = surplus_fault ids words
+
+-- fewer words than are required
+abbrev is_short : List Text → List Text → Bool
+is_short [] words = false
+is_short (id ∷ ids) [] = true
+is_short (id ∷ ids) (word ∷ words) = is_short ids words
+
+-- the walk over all words fails only if there is one too many
+words_fault : (s : Shape) (position : ℕ) (ids words : List Text) (h : Held) (rows : List Row) → stray_fault s ≡ kind.UnknownArgument ∷ []
+    → Fits s.rules position ids → Fresh rows ids
+    → Settles s h rows → list_all is_plain_word words ≡ true → walk_fault s [] (at h position) words ≡ surplus_fault ids words
+unfolding walk_fault
+words_fault s position [] [] h rows stray fits fresh settles plain = refl
+words_fault s position [] (word ∷ words) h rows stray fits fresh settles plain =
+    let turn = plain_turn s [] position word h (both _ _ plain).0 refl
+    ∙ ap (λ rule. option_map_or (λ a. positional_fault s.rules s.args_override_self a h) rule (stray_fault s)) fits ∙ stray in
+    ap (λ ks. or_else ks (walk_fault s [] (walked s.rules [] (at h position) word) words)) turn
+words_fault s position (id ∷ ids) [] h rows stray fits fresh settles plain = refl
+words_fault s position (id ∷ ids) (word ∷ words) h rows stray fits fresh settles plain =
+    placed_fault s position id word words h rows fits.0 settles (both _ _ plain).0
+    ∙ words_fault s (next position) ids words (holding rows id word h.skip) (rows ++ row id word ∷ []) stray fits.2 (fresh.1 word)
+    (settles_new s position id word rows h.skip fits.1 fresh.0) (both _ _ plain).1
+
+-- what is held at its end settles to the words with their ids
+words_held : (s : Shape) (position : ℕ) (ids words : List Text) (h : Held) (rows : List Row) → Fits s.rules position ids → Fresh rows ids
+    → Settles s h rows → list_all is_plain_word words ≡ true → Settles s (fold (walked s.rules []) (at h position) words).held (rows ++ paired ids words)
+words_held s position [] [] h rows fits fresh settles plain = subst (Settles s h) (sym (append-nil rows)) settles
+words_held s position [] (word ∷ words) h rows fits fresh settles plain =
+    let after : walked s.rules [] (at h position) word ≡ at h position =
+    plain_walked s.rules [] position word h (both _ _ plain).0 refl ∙ ap (λ rule. to_positional s.rules rule word (at h position) h) fits in
+    subst (λ w. Settles s (fold (walked s.rules []) w words).held (rows ++ [])) (sym after)
+    (words_held s position [] words h rows fits fresh settles (both _ _ plain).1)
+words_held s position (id ∷ ids) [] h rows fits fresh settles plain = subst (Settles s h) (sym (append-nil rows)) settles
+words_held s position (id ∷ ids) (word ∷ words) h rows fits fresh settles plain =
+    let after = placed_walked s position id word h rows fits.0 settles (both _ _ plain).0 in
+    let rest = words_held s (next position) ids words (holding rows id word h.skip) (rows ++ row id word ∷ []) fits.2 (fresh.1 word)
+    (settles_new s position id word rows h.skip fits.1 fresh.0) (both _ _ plain).1 in
+    subst (λ w. Settles s (fold (walked s.rules []) w words).held (rows ++ row id word ∷ paired ids words)) (sym after)
+    (subst (Settles s (fold (walked s.rules []) (at (holding rows id word h.skip) (next position)) words).held)
+    (append_assoc rows (row id word ∷ []) (paired ids words)) rest)
+
+-- ---- after the walk
+
+-- a choice between equal rows
+same_rows : (id : Text) (rows : List Row) → cond (has_row id rows) rows rows ≡ rows
+same_rows id rows = go (has_row id rows)
+  where
+    go : (b : Bool) → cond b rows rows ≡ rows
+    go true = refl
+    go false = refl
+
+-- no required word has a default
+no_defaults : (position : ℕ) (ids : List Text) (rows : List Row) → fold with_default rows (filled_from position (map required_rule ids)) ≡ rows
+no_defaults position [] rows = refl
+no_defaults position (id ∷ ids) rows =
+    ap (λ rs. fold with_default rs (filled_from (next position) (map required_rule ids))) (same_rows id rows) ∙ no_defaults (next position) ids rows
+
+no_default_fault : (position : ℕ) (ids : List Text) (rows : List Row) → defaults_fault rows (filled_from position (map required_rule ids)) ≡ []
+unfolding defaults_fault
+no_default_fault position [] rows = refl
+no_default_fault position (id ∷ ids) rows =
+    let rest = filled_from (next position) (map required_rule ids) in
+    ap (λ b. or_else (cond b [] []) (defaults_fault (with_default rows (placed position id)) rest)) (or-true (has_row id rows))
+    ∙ ap (λ rs. defaults_fault rs rest) (same_rows id rows) ∙ no_default_fault (next position) ids rows
+
+-- an id without a row is given only by the rows after it
+not_given : (id : Text) (rows rest : List Row) → has_row id rows ≡ false → is_given id (rows ++ rest) ≡ is_given id rest
+not_given id [] rest fresh = refl
+not_given id (r ∷ rows) rest fresh =
+    let parts = neither _ _ fresh in
+    ap (λ b. option_map_or (λ (x : Row). explicit_source x.source) (cond b (Some r) (find (λ x. bytes_eq x.id id) (rows ++ rest))) false) parts.0
+    ∙ not_given id rows rest parts.1
+
+-- an id is given by its row
+given_here : (id word : Text) (rest : List Row) → is_given id (row id word ∷ rest) ≡ true
+given_here id word rest =
+    ap (λ b. option_map_or (λ (x : Row). explicit_source x.source) (cond b (Some (row id word)) (find (λ x. bytes_eq x.id id) rest)) false)
+    ((bytes_eq-Decides id id).1 refl)
+
+-- a required word is missing if there are fewer words
+missing : (position : ℕ) (ids words : List Text) (rows : List Row) → Fresh rows ids
+    → list_any (λ a. a.required && not (is_given a.id (rows ++ paired ids words))) (filled_from position (map required_rule ids)) ≡ is_short ids words
+missing position [] words rows fresh = refl
+missing position (id ∷ ids) [] rows fresh =
+    ap (λ b. not b || list_any (λ a. a.required && not (is_given a.id (rows ++ []))) (filled_from (next position) (map required_rule ids)))
+    (not_given id rows [] fresh.0)
+missing position (id ∷ ids) (word ∷ words) rows fresh =
+    let tail = filled_from (next position) (map required_rule ids) in
+    let after = paired ids words in
+    ap (λ b. not b || list_any (λ a. a.required && not (is_given a.id (rows ++ row id word ∷ after))) tail)
+    (not_given id rows (row id word ∷ after) fresh.0 ∙ given_here id word after)
+    ∙ ap (λ rs. list_any (λ a. a.required && not (is_given a.id rs)) tail) (sym (append_assoc rows (row id word ∷ []) after))
+    ∙ missing (next position) ids words (rows ++ row id word ∷ []) (fresh.1 word)
+
+-- ---- a subcommand
+
+-- what a subcommand makes of the words after it
+abbrev pub count_fault : List Text → List Text → Kinds
+count_fault ids words = or_else (surplus_fault ids words) (cond (is_short ids words) (kind.MissingRequiredArgument ∷ []) [])
+
+module _ (name : Text) (ids words : List Text) (fits : Fits (leaf name ids).rules 1 ids) (fresh : Fresh [] ids)
+    (plain : list_all is_plain_word words ≡ true) where
+  -- what is held at the end of the words
+  end : Held
+  end = (walk (leaf name ids).rules [] nothing_held words).held
+
+  -- it settles to the words with their ids
+  settles_end : Settles (leaf name ids) end (paired ids words)
+  unfolding end
+  settles_end = words_held (leaf name ids) 1 ids words nothing_held [] fits fresh (record { rows_are = refl; no_fault = refl }) plain
+
+  -- the matches are the words with their ids
+  pub rows_found : rows_after (leaf name ids).rules [] words ≡ paired ids words
+  unfolding end
+  rows_found = ap (λ rows. fold with_default rows (leaf name ids).rules) settles_end.rows_are ∙ no_defaults 1 ids (paired ids words)
+
+  -- the faults are the faults of their number
+  pub leaf_fault : level_fault (leaf name ids) [] nothing_held words false [] ≡ count_fault ids words
+  unfolding end
+  leaf_fault =
+      let walk_part = words_fault (leaf name ids) 1 ids words nothing_held [] refl fits fresh (record { rows_are = refl; no_fault = refl }) plain in
+      let default_part = no_default_fault 1 ids (settled (leaf name ids).rules end).rows in
+      let check_part = ap (λ rows. check_fault (leaf name ids) rows false) rows_found
+      ∙ ap (λ b. cond b (kind.MissingRequiredArgument ∷ []) []) (missing 1 ids words [] fresh) in
+      λ i. or_else (walk_part i) (or_else (settles_end.no_fault i) (or_else (default_part i) (check_part i)))

@@ -1,0 +1,70 @@
+-- From what `clap` returns to what `read_words` returns.
+use Rattle.std.proofs.Common.{◌≡◌, ◌≢◌, ◌∙◌, ◌⊎◌, inl, inr, Bool, true, sym, ap, subst, List, [], Option, Some, None, Result, Err, IfOk, option_map, false, true≢false}
+use Rattle.std.specs.List.{list_all}
+use Rattle.std.specs.Option.{ok_or}
+use Rattle.std.specs.Borrow.{Bor}
+use Rattle.std.proofs.lemmas.List.Folds.{list_all-map}
+use Rattle.clap.specs.Simple.{subcommand_of}
+use Rattle.clap.specs.Faults.{fault_of}
+use Rattle.clap.specs.Kinds.{IsAmong}
+use Rattle.clap.specs.declared.error.ErrorKind.{ErrorKind}
+use Rattle.clap.specs.declared.error.ErrorKind.TheVariants.{OutOfMemory}
+use Rattle.docker_cmd.specs.declared.job_fault.JobFault.{JobFault}
+use Rattle.docker_cmd.specs.declared.job_fault.JobFault.TheVariants.{Usage}
+use Rattle.docker_cmd.specs.declared.subcommands.Subcommand.{Subcommand}
+use Rattle.docker_cmd.specs.Words.{Text, is_plain_word, texts}
+use Rattle.docker_cmd.specs.Job.{NameNoSubcommand, NamesSubcommand}
+use Rattle.docker_cmd.specs.Grammar.{docker_app, found_in, pair_of}
+use Rattle.docker_cmd.proofs.JobWords.{judged}
+
+-- the test of each word is the test of its text
+pub plain_texts : (words : List (Bor Text)) (b : Bool) → b ≡ list_all (λ word. is_plain_word word.now) words → list_all is_plain_word (texts words) ≡ b
+plain_texts words b is = list_all-map is_plain_word (λ (word : Bor Text). word.now) words ∙ sym is
+
+-- words that aren't all plain name no subcommand
+pub not_plain : (words : List Text) → list_all is_plain_word words ≡ false → NameNoSubcommand words
+not_plain words never = λ s behind names. absurd (true≢false (sym names.plain ∙ never))
+
+-- a subcommand and its words, as they were found
+pub record IsFound (words : List Text) (found : Option (Subcommand × List Text)) : Type 0 where
+  pub subcommand : Subcommand
+  pub behind : List Text
+  pub is : found ≡ Some (pair_of subcommand behind)
+  pub names : NamesSubcommand words subcommand behind
+
+-- what is found if `clap` accepts the words
+pub words_found : (words : List Text) → list_all is_plain_word words ≡ true → fault_of docker_app words ≡ []
+    → IsFound words (found_in (subcommand_of docker_app words))
+words_found words plain none = elim (judged words plain) [
+  | inl takes ↦ record {
+    subcommand = takes.subcommand;
+    behind = takes.behind;
+    is = takes.found;
+    names = record { plain = plain; whole = takes.required.whole; count = takes.required.count };
+  }
+  | inr refuses ↦ absurd (refuses.fault none)
+]
+
+-- `clap` refuses them, and not because it is out of memory
+pub words_refused : (words : List Text) (kind : ErrorKind) → list_all is_plain_word words ≡ true
+    → (kind ≡ OutOfMemory) ⊎ IsAmong kind (fault_of docker_app words) → kind ≢ OutOfMemory → NameNoSubcommand words
+words_refused words kind plain (inl memory) other = absurd (other memory)
+words_refused words kind plain (inr among) other = elim (judged words plain) [
+  | inl takes ↦ absurd (subst (IsAmong kind) takes.no_fault among)
+  | inr refuses ↦ λ s behind names. refuses.names_none s behind (record { whole = names.whole; count = names.count })
+]
+
+-- what `read_words` returns, if `held` gives the words after a subcommand
+abbrev pub IsRead : {B : Type 0} → (B → List Text) → List Text → Result (Subcommand × B) JobFault → Type 0
+IsRead held words result = IfOk result (λ read. NamesSubcommand words read.0 (held read.1)) × ((result ≡ Err Usage) → NameNoSubcommand words)
+
+-- the subcommand that was found is the one that the words name
+pub read_found : {B : Type 0} (held : B → List Text) (words : List Text) (found : Option (Subcommand × B)) (rows : Option (Subcommand × List Text))
+    → IsFound words rows → option_map (λ read. pair_of read.0 (held read.1)) found ≡ rows → IsRead held words (ok_or found Usage)
+read_found held words None rows is same = let bad : None ≡ Some (pair_of is.subcommand is.behind) = same ∙ is.is in absurd (cc)
+read_found held words (Some read) rows is same =
+    let some : Some (pair_of read.0 (held read.1)) ≡ Some (pair_of is.subcommand is.behind) = same ∙ is.is in
+    let pair : pair_of read.0 (held read.1) ≡ pair_of is.subcommand is.behind = cc in
+    let one = ap (λ (p : Subcommand × List Text). p.0) pair in
+    let words_are = ap (λ (p : Subcommand × List Text). p.1) pair in
+    (subst (λ s. NamesSubcommand words s (held read.1)) (sym one) (subst (NamesSubcommand words is.subcommand) (sym words_are) is.names), λ usage. absurd (cc))

@@ -1,0 +1,9 @@
+-- `auto` proves these too: they are written so that a wrong body is refused without a long search.
+use Rattle.std.proofs.Common.{rules}
+use Rattle.docker_cmd.proofs.jobs.Job.words.Goals as goal
+
+pub returns-clause-words : goal.returns-clause-words
+returns-clause-words c = search rules
+
+pub returns-clause-count : goal.returns-clause-count
+returns-clause-count c = search rules

@@ -1,0 +1,13 @@
+use Rattle.std.proofs.Common.{◌≡◌, length}
+use Rattle.cif_line.specs.Device.{Reads}
+use Rattle.docker_cmd.proofs.LineOfJobLemmas.{ArePrintable}
+use Rattle.docker_cmd.proofs.line_of_job.read_line.Given as goal
+
+-- the line so far was read, one byte per turn
+abbrev pub invariant-loop : goal.invariant-loop
+invariant-loop g l = record {
+  so_far : Reads (g.S.Source.left l.fn.source) l.line.items (g.S.Source.left l.source);
+  printable : ArePrintable l.line.items;
+  counted : length l.line.items ≡ l.counter;
+  no_failure : g.S.Source.failures l.source ≡ g.S.Source.failures l.fn.source;
+}

@@ -1,0 +1,32 @@
+-- Words, and what a word may name. A word is a text, as its bytes.
+use Rattle.std.specs.Prelude.{◌≡◌, ◌≢◌, ℕ, ◌==◌, ◌≤◌, ◌-◌, ◌++◌, Bool, false, not, List, [], ◌∷◌, length, codes, map}
+use Rattle.std.specs.Borrow.{Bor}
+use Rattle.docker_model.specs.records.Date.{last_day}
+use Rattle.docker_model.specs.records.PrintedTime.{spaces, day_text}
+use Rattle.cif_line.specs.Tiploc.{IsTiplocText}
+
+abbrev pub Text : Type 0
+Text = List ℕ
+
+-- the texts of words
+abbrev pub texts : List (Bor Text) → List Text
+texts = map (λ word. word.now)
+
+-- the word isn't empty, and doesn't begin with a hyphen (45)
+abbrev pub is_plain_word : Text → Bool
+is_plain_word [] = false
+is_plain_word (byte ∷ bytes) = not (byte == 45)
+
+-- the word names a file that can be written anew: standard input can't
+abbrev pub NamesStored : Text → Type 0
+NamesStored word = word ≢ codes "stdin"
+
+-- the word names this timing point: it is its code, without the trailing spaces
+pub record NamesPlace (word : Text) (place : List ℕ) : Type 0 where
+  pub code : IsTiplocText word
+  pub padded : place ≡ word ++ spaces (7 - length word)
+
+-- the word names this day: it is its date
+pub record NamesDay (word : Text) (day : ℕ) : Type 0 where
+  pub within : day ≤ last_day
+  pub written : word ≡ day_text day

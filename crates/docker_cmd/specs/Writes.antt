@@ -1,0 +1,32 @@
+-- What a task writes.
+use Rattle.std.specs.Prelude.{ℕ, List}
+use Rattle.docker_cmd.specs.Job.{TaskView, new_task, check_task, day_task, take_task, merge_task, print_task, files_task, horizon_task, migrate_task}
+use Rattle.docker_cmd.specs.declared.writes.Output as declared
+use Rattle.docker_cmd.specs.declared.writes.Output.TheVariants as code
+
+-- what a task writes: the counts of a file, the docker of a timing point and a day, the files of a
+-- ledger, or a state
+pub data Output : Type 0 where
+  counts_written : Output
+  docker_written : (place : List ℕ) (day : ℕ) → Output
+  files_written : Output
+  state_written : Output
+
+-- what the code's output means
+abbrev pub output_meant : declared.Output → Output
+output_meant code.Counts = counts_written
+output_meant (code.Docker place day) = docker_written place day
+output_meant code.Files = files_written
+output_meant code.State = state_written
+
+-- what each task writes
+abbrev pub output_of : TaskView → Output
+output_of new_task = state_written
+output_of check_task = counts_written
+output_of (day_task place day) = docker_written place day
+output_of take_task = state_written
+output_of merge_task = state_written
+output_of (print_task place day) = docker_written place day
+output_of files_task = files_written
+output_of (horizon_task day) = state_written
+output_of migrate_task = state_written

@@ -1,0 +1,81 @@
+//! What `clap` knows of the command line.
+ghost use Rattle.std.specs.Prelude.{◌≡◌, IfOk, [], false, map};
+ghost use Rattle.clap.specs.Words.{FailsBy, app_of, fault_of, rule_of, subcommand_of, subcommand_rows_of, with_subcommand};
+ghost use Rattle.clap.specs.declared.builder.Command.TheViews.{out-Command as fields_of};
+ghost use Rattle.docker_cmd.specs.Grammar.{docker_app, docker_shape, required_rule, shape_of};
+
+use crate::subcommands::Subcommand;
+use clap::{Arg, ArgMatches, Command, Error};
+use std::alloc::{AllocError, Global};
+
+/// A word that has to follow a subcommand.
+fn required_word<'a>(alloc: Global, id: &'a str) -> Arg<'a>
+    ensures rule { rule_of result ≡ required_rule id.entry.now }
+    ensures local { result.global ≡ false }
+{
+    Arg::new(alloc, id).required(true)
+}
+
+/// A subcommand, and the words that it requires.
+fn command_of<'a>(alloc: Global, subcommand: Subcommand) -> Result<Command<'a>, AllocError>
+    ensures shape { IfOk result (λ c. app_of c
+        ≡ record { top = shape_of subcommand; subs = [] }) }
+    ensures local { IfOk result (λ c. (fields_of c).has_globals ≡ false) }
+{
+    let mut command = Command::new(alloc, subcommand.name());
+    for id in subcommand.ids() {
+        command = command.arg(required_word(alloc, id))?;
+    }
+    Ok(command)
+}
+
+/// The program with one more subcommand.
+fn with_job<'a>(
+    alloc: Global,
+    docker: Command<'a>,
+    subcommand: Subcommand,
+) -> Result<Command<'a>, AllocError>
+    ensures { IfOk result (λ c. app_of c
+        ≡ with_subcommand (app_of docker.entry) (shape_of subcommand)) }
+{
+    docker.subcommand(command_of(alloc, subcommand)?)
+}
+
+/// The program: no word asks for help or for a version, and a subcommand has to come first.
+fn top<'a>(alloc: Global) -> Command<'a>
+    ensures { app_of result ≡ record { top = docker_shape; subs = [] } }
+{
+    Command::new(alloc, "docker")
+        .no_binary_name(true)
+        .disable_help_flag(true)
+        .disable_help_subcommand(true)
+        .disable_version_flag(true)
+        .subcommand_required(true)
+}
+
+/// The program with its subcommands.
+fn docker<'a>(alloc: Global) -> Result<Command<'a>, AllocError>
+    ensures { IfOk result (λ c. app_of c ≡ docker_app) }
+{
+    let docker = top(alloc);
+    let docker = with_job(alloc, docker, Subcommand::New)?;
+    let docker = with_job(alloc, docker, Subcommand::Check)?;
+    let docker = with_job(alloc, docker, Subcommand::Day)?;
+    let docker = with_job(alloc, docker, Subcommand::Take)?;
+    let docker = with_job(alloc, docker, Subcommand::Merge)?;
+    let docker = with_job(alloc, docker, Subcommand::Print)?;
+    let docker = with_job(alloc, docker, Subcommand::Files)?;
+    let docker = with_job(alloc, docker, Subcommand::Horizon)?;
+    let docker = with_job(alloc, docker, Subcommand::Migrate)?;
+    Ok(docker)
+}
+
+/// What `clap` makes of the words.
+pub(crate) fn matches<'a>(alloc: Global, words: &'a [&'a str]) -> Result<ArgMatches<'a>, Error>
+    ensures subcommand { IfOk result (λ m.
+        subcommand_rows_of m ≡ subcommand_of docker_app (map (λ w. w.now) words.entry.now)) }
+    ensures kinds { FailsBy (fault_of docker_app (map (λ w. w.now) words.entry.now)) result }
+{
+    let docker = docker(alloc)?;
+    docker.try_get_matches_from(words)
+}

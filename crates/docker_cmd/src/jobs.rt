@@ -1,0 +1,79 @@
+//! Jobs.
+ghost use Rattle.std.specs.Prelude.{◌≡◌, length, map, string_bytes};
+ghost use Rattle.docker_cmd.specs.Job.{day_of, subcommand_of, task_meant, tiploc_of};
+ghost use Rattle.docker_cmd.specs.Subcommands.{ids_of};
+
+use crate::subcommands::Subcommand;
+use crate::tasks::Task;
+use cif_line::{Day, Tiploc};
+use std::marker::Model;
+
+/// What the program is to do.
+#[derive(Debug, Drop)]
+pub struct Job {
+    task: Task,
+    words: Vec<String>,
+}
+
+impl Model for Job {
+    ghost use Rattle.std.specs.Prelude.{◌≡◌, length, map, string_bytes};
+    ghost use Rattle.docker_cmd.specs.Job.{JobView, subcommand_of, task_meant};
+    ghost use Rattle.docker_cmd.specs.Subcommands.{ids_of};
+
+    ghost Value = { JobView };
+
+    ghost view = { λ job. record {
+      task = task_meant job.task;
+      words = map (λ word. string_bytes word) job.words.items;
+    } };
+
+    ghost invariant = { λ job. length job.words.items
+        ≡ length (ids_of (subcommand_of (task_meant job.task))) };
+}
+
+impl Job {
+    /// The job of a task with the words that name it.
+    pub(crate) fn new(task: Task, words: Vec<String>) -> Job
+        requires { length words.items ≡ length (ids_of (subcommand_of (task_meant task))) }
+        ensures task { result.task ≡ task_meant task }
+        ensures words { result.words ≡ map (λ word. string_bytes word) words.items }
+    {
+        Job { task, words }
+    }
+
+    /// What it asks for.
+    pub fn task(&self) -> Task
+        ensures { task_meant result ≡ self.now.task }
+    {
+        self.task
+    }
+
+    /// The subcommand.
+    pub fn subcommand(&self) -> Subcommand
+        ensures { result ≡ subcommand_of self.now.task }
+    {
+        self.task.subcommand()
+    }
+
+    /// The words after the subcommand, as many as it requires.
+    pub fn words(&self) -> &[String]
+        ensures words { map (λ word. string_bytes word) result.now ≡ self.now.words }
+        ensures count { length result.now ≡ length (ids_of (subcommand_of self.now.task)) }
+    {
+        self.words.as_slice()
+    }
+
+    /// The timing point that a word names, if the subcommand has one.
+    pub fn tiploc(&self) -> Option<Tiploc>
+        ensures { result ≡ tiploc_of self.now.task }
+    {
+        self.task.tiploc()
+    }
+
+    /// The day that a word names, if the subcommand has one.
+    pub fn day(&self) -> Option<Day>
+        ensures { result ≡ day_of self.now.task }
+    {
+        self.task.day()
+    }
+}

@@ -1,0 +1,157 @@
+//! The job line: a program without words reads them from the first line of its standard input.
+ghost use Rattle.std.specs.Prelude.{◌≡◌, ◌+◌, ◌*◌, ◌-◌, ◌^◌, ◌<◌, ◌≤◌, ◌↔◌, ◌≢◌, ◌++◌, length, Some, IfOk, OnOk, OnErr, Err, MatchOption, IfSome};
+ghost use Rattle.std.specs.List.{position_or_len, before_first, after_first};
+ghost use Rattle.docker_cmd.specs.Job.{IsJobOf, NameNoJob};
+ghost use Rattle.arrayvec.specs.ArrayVec.{array_vec_len};
+ghost use Rattle.docker_cmd.specs.JobLine.{HasJob, HasNoJob, HasNoLine, IsLineText, ReadsAtMost, ReadsByte, ReadsJob, ReadsLine, is_space, word_or_none, words_in};
+ghost use Rattle.docker_cmd.specs.Words.{texts};
+
+use crate::job_fault::JobFault;
+use crate::job_of_words::job;
+use crate::jobs::Job;
+use arrayvec::ArrayVec;
+use cif_line::{Source, is_printable};
+use std::alloc::Global;
+use std::str;
+
+/// The most bytes that a job line has before its line feed.
+const LONGEST: usize = 255;
+
+/// A job line without its line feed.
+type Line = ArrayVec<u8, LONGEST>;
+
+/// The most words that a line has, with a space between two.
+const MOST_WORDS: usize = 128;
+
+/// The words of a job line.
+type LineWords<'a> = ArrayVec<&'a str, MOST_WORDS>;
+
+/// The job that the first line of a source names. The source is left after that line's feed. It
+/// returns `Usage` if the source has no such line, or if the line names no job, and `Memory` only
+/// if it names one. It reads at most 256 bytes of a source.
+pub fn job_line<S: Source>(alloc: Global, source: &mut S) -> Result<Job, JobFault>
+    requires { S.failures source.old < 2 ^ 64 - 1 }
+    ensures job { IfOk result (λ job. ReadsJob (S.left source.old) job (S.left source.new)) }
+    ensures usage { (result ≡ Err JobFault.Usage) → HasNoJob (S.left source.old) }
+    ensures memory { (result ≡ Err JobFault.Memory) → HasJob (S.left source.old) }
+    ensures few { ReadsAtMost 256 (S.left source.old) (S.left source.new) }
+    ensures source { (result ≡ Err JobFault.Source)
+        ↔ (S.failures source.new ≡ S.failures source.old + 1) }
+    ensures no_failure { result ≢ Err JobFault.Source
+        → S.failures source.new ≡ S.failures source.old }
+{
+    let line = read_line(source)?;
+    job_of_line(alloc, line.as_slice())
+}
+
+/// The job that a line names.
+fn job_of_line(alloc: Global, line: &[u8]) -> Result<Job, JobFault>
+    requires { IsLineText line.now }
+    ensures job { IfOk result (λ job. IsJobOf (words_in line.now) job) }
+    ensures usage { (result ≡ Err JobFault.Usage) ↔ NameNoJob (words_in line.now) }
+    ensures source { result ≢ Err JobFault.Source }
+{
+    let text = text_of(line);
+    let words = words_in(text);
+    job(alloc, words.as_slice())
+}
+
+/// A line as text.
+fn text_of(line: &[u8]) -> &str
+    requires { IsLineText line.now }
+    ensures { result.now ≡ line.now }
+{
+    match str::from_utf8(line) {
+        Ok(text) => text,
+        Err(_) => unreachable!(),
+    }
+}
+
+/// Reads one byte: None at the end of the source.
+fn read_byte<S: Source>(source: &mut S) -> Result<Option<u8>, JobFault>
+    requires { S.failures source.old < 2 ^ 64 - 1 }
+    ensures byte { IfOk result (λ byte. ReadsByte (S.left source.old) byte (S.left source.new)) }
+    ensures no_failure { OnOk result (S.failures source.new ≡ S.failures source.old) }
+    ensures failure { OnErr result (S.failures source.new ≡ S.failures source.old + 1) }
+    ensures unmoved { OnErr result (S.left source.new ≡ S.left source.old) }
+    ensures fault { OnErr result (result ≡ Err JobFault.Source) }
+{
+    let mut byte = [0];
+    match source.read(&mut byte) {
+        Ok(0) => Ok(None),
+        Ok(_) => Ok(Some(byte[0])),
+        Err(_) => Err(JobFault::Source),
+    }
+}
+
+/// The piece before the first space, and the text after it.
+fn split_at_space(text: &str) -> Option<(&str, &str)>
+    ensures pieces { MatchOption result (position_or_len is_space text.now
+        ≡ length text.now) (λ parts.
+        (parts.0.now ≡ before_first is_space text.now)
+        × (parts.1.now ≡ after_first is_space text.now)
+        × (position_or_len is_space text.now < length text.now)) }
+    ensures lengths { IfSome result (λ parts.
+        length parts.0.now + 1 + length parts.1.now ≡ length text.now) }
+{
+    text.split_once(' ')
+}
+
+/// Appends a piece, if it is a word.
+fn push_word<'a>(words: &mut LineWords<'a>, piece: &'a str)
+    requires { 0 < length piece.now → array_vec_len words.old < 128 }
+    ensures word { texts words.new.items ≡ texts words.old.items ++ word_or_none piece.now }
+    ensures len { 2 * array_vec_len words.new
+        ≤ 2 * array_vec_len words.old + length piece.now + 1 }
+{
+    if !piece.is_empty() {
+        words.push(piece);
+    }
+}
+
+/// The words of a line: its longest pieces without a space.
+#[tactic(auto, using(crate::proofs::LineWords::words_at_space, crate::proofs::LineWords::words_without_space))]
+fn words_in(line: &str) -> LineWords<'_>
+    requires { length line.now ≤ 255 }
+    ensures { texts result.items ≡ words_in line.now }
+{
+    let mut words: LineWords<'_> = ArrayVec::from_array_in((), [""; MOST_WORDS]);
+    words.clear();
+    let mut rest = line;
+    while let Some((word, behind)) = split_at_space(rest) {
+        push_word(&mut words, word);
+        rest = behind;
+    }
+    push_word(&mut words, rest);
+    words
+}
+
+/// Reads the first line of a source, and leaves the source after its line feed. It returns `Usage`
+/// if the line is too long, has a byte that isn't printable or has no line feed.
+fn read_line<S: Source>(source: &mut S) -> Result<Line, JobFault>
+    requires { S.failures source.old < 2 ^ 64 - 1 }
+    ensures line { IfOk result (λ line. ReadsLine (S.left source.old) line.items
+        (S.left source.new)) }
+    ensures usage { (result ≡ Err JobFault.Usage) → HasNoLine (S.left source.old) }
+    ensures memory { result ≢ Err JobFault.Memory }
+    ensures few { ReadsAtMost 256 (S.left source.old) (S.left source.new) }
+    ensures source { (result ≡ Err JobFault.Source)
+        ↔ (S.failures source.new ≡ S.failures source.old + 1) }
+    ensures no_failure { result ≢ Err JobFault.Source
+        → S.failures source.new ≡ S.failures source.old }
+{
+    let mut line = Line::new();
+    for _ in 0..=LONGEST {
+        let Some(byte) = read_byte(source)? else {
+            return Err(JobFault::Usage);
+        };
+        if byte == b'\n' {
+            return Ok(line);
+        }
+        if line.is_full() || !is_printable(byte) {
+            return Err(JobFault::Usage);
+        }
+        line.push(byte);
+    }
+    Err(JobFault::Usage)
+}

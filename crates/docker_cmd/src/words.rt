@@ -1,0 +1,100 @@
+//! The subcommand that words name, and the words after it.
+ghost use Rattle.std.specs.Prelude.{◌≡◌, ◌≢◌, ◌≤◌, IfOk, Err, length, map, option_map};
+ghost use Rattle.std.specs.List.{list_all};
+ghost use Rattle.clap.specs.Words.{first_of, found_of, rows_of, subcommand_rows_of};
+ghost use Rattle.docker_cmd.specs.Grammar.{found_words, found_in, pair_of};
+ghost use Rattle.docker_cmd.specs.Job.{NamesSubcommand, NameNoSubcommand};
+ghost use Rattle.docker_cmd.specs.Words.{is_plain_word, texts};
+
+use crate::grammar::matches;
+use crate::job_fault::JobFault;
+use crate::subcommands::Subcommand;
+use arrayvec::ArrayVec;
+use clap::ArgMatches;
+use clap::error::ErrorKind;
+use std::alloc::Global;
+
+/// The most words that a subcommand requires.
+const MOST_WORDS: usize = 3;
+
+/// The words after a subcommand.
+pub(crate) type Behind<'a> = ArrayVec<&'a str, MOST_WORDS>;
+
+/// Whether the word may stand on the command line: it isn't empty and has no leading hyphen.
+fn is_plain(word: &str) -> bool
+    ensures { result ≡ is_plain_word word.now }
+{
+    !word.is_empty() && !word.starts_with('-')
+}
+
+/// Whether each of the words may.
+pub(crate) fn are_plain(words: &[&str]) -> bool
+    ensures { result ≡ list_all (λ word. is_plain_word word.now) words.now }
+{
+    words.iter().all(|word| is_plain(word))
+}
+
+/// The subcommand that the words name, and the words after it. No word is empty or begins with a
+/// hyphen: there are no options, and `help` is no subcommand. Memory may run out before it is known
+/// whether they name one.
+pub(crate) fn read_words<'a>(
+    alloc: Global,
+    words: &'a [&'a str],
+) -> Result<(Subcommand, Behind<'a>), JobFault>
+    ensures named { IfOk result (λ read. NamesSubcommand (texts words.now) read.0
+        (texts read.1.items)) }
+    ensures usage { (result ≡ Err JobFault.Usage) → NameNoSubcommand (texts words.now) }
+    ensures source { result ≢ Err JobFault.Source }
+{
+    if !are_plain(words) {
+        return Err(JobFault::Usage);
+    }
+    match matches(alloc, words) {
+        Ok(found) => found_subcommand(&found).ok_or(JobFault::Usage),
+        Err(error) => Err(fault_at(error.kind())),
+    }
+}
+
+/// The fault for words at which `clap` gives an error of this kind.
+fn fault_at(kind: ErrorKind) -> JobFault
+    ensures usage { (result ≡ JobFault.Usage) → kind ≢ ErrorKind.OutOfMemory }
+    ensures source { result ≢ JobFault.Source }
+{
+    match kind {
+        ErrorKind::OutOfMemory => JobFault::Memory,
+        _ => JobFault::Usage,
+    }
+}
+
+/// The subcommand that `clap` found, and the words after it.
+fn found_subcommand<'a>(found: &ArgMatches<'a>) -> Option<(Subcommand, Behind<'a>)>
+    ensures { option_map (λ read. pair_of read.0 (texts read.1.items)) result
+        ≡ found_in (subcommand_rows_of found.now) }
+{
+    let (name, words) = found.subcommand()?;
+    let subcommand = Subcommand::of_name(name)?;
+    let words = words_at(words, subcommand.ids())?;
+    Some((subcommand, words))
+}
+
+/// The words that `clap` found at these ids.
+fn words_at<'a>(words: &ArgMatches<'a>, ids: &[&str]) -> Option<Behind<'a>>
+    requires { length ids.now ≤ 3 }
+    ensures { option_map (λ found. texts found.items) result
+        ≡ found_words (map (λ id. id.now) ids.now) (rows_of (found_of words.now)) }
+{
+    let mut found: Behind<'a> = ArrayVec::from_array_in((), [""; MOST_WORDS]);
+    found.clear();
+    for id in ids {
+        found.push(word_at(words, id)?);
+    }
+    Some(found)
+}
+
+/// The word that `clap` found at an id.
+fn word_at<'a>(words: &ArgMatches<'a>, id: &str) -> Option<&'a str>
+    ensures { option_map (λ word. word.now) result
+        ≡ first_of id.now (rows_of (found_of words.now)) }
+{
+    words.get_str(id)
+}

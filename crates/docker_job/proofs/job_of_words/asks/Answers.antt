@@ -1,7 +1,0 @@
-use Rattle.std.proofs.Common.{refl}
-use Rattle.docker_job.proofs.JobOfWordsLemmas.{miscounted}
-use Rattle.docker_job.proofs.job_of_words.asks.Goals as goal
-
-pub returns-then-words-ids : goal.returns-then-words-ids
-returns-then-words-ids c =
-    ((λ never. miscounted c.args.subcommand c.args.words.now c.ids.result.now c.ids.ensures c.if-words-ids.true), (λ none. refl))

@@ -1,7 +1,0 @@
-use Rattle.std.proofs.Common.{◌≡◌, map, take, string_bytes}
-use Rattle.docker_job.specs.Words.{texts}
-use Rattle.docker_job.proofs.job_of_words.owned_words.Given as goal
-
--- the words so far are our own
-abbrev pub invariant-loop-word : goal.invariant-loop-word
-invariant-loop-word l = map (λ word. string_bytes word) l.owned.items ≡ texts (take l.word-index l.words)

@@ -1,9 +1,0 @@
--- `auto` proves these too: they are written so that a wrong body is refused without a long search.
-use Rattle.std.proofs.Common.{rules}
-use Rattle.docker_job.proofs.job_of_words.place_and_day.Goals as goal
-
-pub returns-in_err-place-clause-none : goal.returns-in_err-place-clause-none
-returns-in_err-place-clause-none c = search rules
-
-pub returns-clause-pair : goal.returns-clause-pair
-returns-clause-pair c = search rules

@@ -1,0 +1,185 @@
+//! Devices that fail in mid-stream, that are full, or that never end.
+ghost use Rattle.std.specs.Prelude.{◌<◌};
+
+use crate::compare::same;
+use crate::files::*;
+use crate::offices::{at_place, day_of, has, ledger_of, office_of, place_of, text_of};
+use crate::state_texts::{MORNING_STATE, REVISED_STATE, REVISION_STATE, text_of_parts};
+use cif_file::{FileCause, FileFault};
+use cif_line::{Bytes, Endless, Fuse, Kept};
+use docker_office::{LedgerOffice, Office, OfficeFault, PlaceOffice, StateCause, StateFault};
+use std::alloc::Global;
+use std::process::Abort;
+
+/// Asserts what an office returns when it sends to a sink that takes one byte per write and fails
+/// at only this write, and which bytes the sink has.
+fn sends(
+    rt: &impl Abort,
+    alloc: Global,
+    office: &Office,
+    write: u64,
+    answer: Result<(), OfficeFault>,
+    bytes: &[u8],
+)
+    requires { 0 < write }
+{
+    let kept = Kept::new(alloc, 311).expect(rt, "room");
+    let mut sink = Fuse::new(kept, write);
+    same(rt, office.send(&mut sink), answer);
+    same(rt, sink.device().bytes(), bytes);
+}
+
+/// The first twenty bytes of a text.
+fn front_of<'a>(rt: &impl Abort, text: &'a [u8]) -> &'a [u8] {
+    text.get(..20).expect(rt, "20 bytes")
+}
+
+#[test]
+fn a_sink_that_fails_once(rt: HostRuntime) {
+    let alloc = rt.alloc();
+    let office = office_of(&rt, alloc, &[MORNING]);
+    let text = text_of_parts(&rt, alloc, MORNING_STATE);
+    let front = front_of(&rt, text.as_slice());
+    let failed = Err(OfficeFault::Sink);
+    sends(&rt, alloc, &office, 21, failed, front);
+    sends(&rt, alloc, &office, 312, Ok(()), text.as_slice());
+}
+
+/// What an office returns when it takes a file from a source that gives one byte per read and fails
+/// at only this read.
+fn taken(office: &mut Office, text: &[u8], read: u64) -> Result<(), OfficeFault>
+    requires { 0 < read }
+{
+    office.take(&mut Fuse::new(Bytes::new(text, 1), read), 1000)
+}
+
+/// What an office returns when it receives a state from such a source.
+fn received(office: &mut Office, text: &[u8], read: u64) -> Result<(), OfficeFault>
+    requires { 0 < read }
+{
+    office.receive(&mut Fuse::new(Bytes::new(text, 1), read), 1000)
+}
+
+/// What an office returns when it reloads a state from such a source.
+fn reloaded(office: &mut Office, text: &[u8], read: u64) -> Result<(), OfficeFault>
+    requires { 0 < read }
+{
+    office.reload(&mut Fuse::new(Bytes::new(text, 1), read), 1000)
+}
+
+/// Why an office at Ashfeld isn't made of a state from such a source, if it isn't.
+fn read_at_place(rt: &impl Abort, alloc: Global, text: &[u8], read: u64) -> Option<OfficeFault>
+    requires { 0 < read }
+{
+    let mut source = Fuse::new(Bytes::new(text, 1), read);
+    PlaceOffice::read(alloc, place_of(rt, "ASHFELD"), &mut source, 1000).err()
+}
+
+/// Why an office with a ledger isn't.
+fn read_ledger(alloc: Global, text: &[u8], read: u64) -> Option<OfficeFault>
+    requires { 0 < read }
+{
+    let mut source = Fuse::new(Bytes::new(text, 1), read);
+    LedgerOffice::read(alloc, &mut source, 1000).err()
+}
+
+#[test]
+fn a_part_of_a_state_from_a_source_that_fails_once(rt: HostRuntime) {
+    let alloc = rt.alloc();
+    let known = text_of_parts(&rt, alloc, MORNING_STATE);
+    let known = known.as_slice();
+    let failed = Some(OfficeFault::Source);
+    same(&rt, read_at_place(&rt, alloc, known, 312), failed);
+    same(&rt, read_at_place(&rt, alloc, known, 313), None);
+    same(&rt, read_ledger(alloc, known, 312), failed);
+    same(&rt, read_ledger(alloc, known, 313), None);
+}
+
+#[test]
+fn a_source_that_fails_once(rt: HostRuntime) {
+    let alloc = rt.alloc();
+    let mut office = office_of(&rt, alloc, &[REVISION]);
+    let text = text_of(&rt, alloc, MORNING);
+    let known = text_of_parts(&rt, alloc, MORNING_STATE);
+    let failed = Err(OfficeFault::Source);
+    same(&rt, taken(&mut office, text.as_slice(), 101), failed);
+    same(&rt, received(&mut office, known.as_slice(), 101), failed);
+    same(&rt, reloaded(&mut office, known.as_slice(), 312), failed);
+    has(&rt, alloc, &office, REVISION_STATE);
+    same(&rt, taken(&mut office, text.as_slice(), 407), Ok(()));
+    has(&rt, alloc, &office, REVISED_STATE);
+    same(&rt, reloaded(&mut office, known.as_slice(), 313), Ok(()));
+    has(&rt, alloc, &office, MORNING_STATE);
+}
+
+/// Asserts that sending to a sink with room for twenty bytes fills it.
+fn fills_by_send(rt: &impl Abort, alloc: Global, office: &Office) {
+    let text = text_of_parts(rt, alloc, MORNING_STATE);
+    let mut kept = Kept::new(alloc, 20).expect(rt, "room");
+    same(rt, office.send(&mut kept), Err(OfficeFault::Sink));
+    same(rt, kept.bytes(), front_of(rt, text.as_slice()));
+}
+
+/// The first seventy bytes of the docker of Ashfeld.
+const FRONT: &[u8] = b"DOCKER ASHFELD 2024-06-10                               \n0900  D 1A10 ";
+
+/// Asserts that printing to a sink with room for seventy bytes fills it.
+fn fills_by_print(rt: &impl Abort, alloc: Global, office: &Office) {
+    let place = place_of(rt, "ASHFELD");
+    let day = day_of(rt, "2024-06-10");
+    let mut kept = Kept::new(alloc, 70).expect(rt, "room");
+    let answer = office.print(&place, day, &mut kept);
+    same(rt, answer, Err(OfficeFault::Sink));
+    same(rt, kept.bytes(), FRONT);
+}
+
+/// Asserts that printing at Ashfeld to such a sink fills it.
+fn fills_at_place(rt: &impl Abort, alloc: Global, office: &Office) {
+    let office = at_place(rt, alloc, office, place_of(rt, "ASHFELD"));
+    let mut kept = Kept::new(alloc, 70).expect(rt, "room");
+    let answer = office.print(day_of(rt, "2024-06-10"), &mut kept);
+    same(rt, answer, Err(OfficeFault::Sink));
+    same(rt, kept.bytes(), FRONT);
+}
+
+/// Asserts that listing files to a sink with room for ten bytes fills it.
+fn fills_by_files(rt: &impl Abort, alloc: Global, office: &Office) {
+    let mut kept = Kept::new(alloc, 10).expect(rt, "room");
+    same(rt, office.files(&mut kept), Err(OfficeFault::Sink));
+    same(rt, kept.bytes(), b"2024-06-09".as_slice());
+}
+
+/// Asserts that listing by the ledger to such a sink fills it.
+fn fills_by_ledger(rt: &impl Abort, alloc: Global, office: &Office) {
+    let ledger = ledger_of(rt, alloc, office);
+    let mut kept = Kept::new(alloc, 10).expect(rt, "room");
+    same(rt, ledger.files(&mut kept), Err(OfficeFault::Sink));
+    same(rt, kept.bytes(), b"2024-06-09".as_slice());
+}
+
+#[test]
+fn a_sink_that_is_full(rt: HostRuntime) {
+    let office = office_of(&rt, rt.alloc(), &[MORNING]);
+    fills_by_send(&rt, rt.alloc(), &office);
+    fills_by_print(&rt, rt.alloc(), &office);
+    fills_at_place(&rt, rt.alloc(), &office);
+    fills_by_files(&rt, rt.alloc(), &office);
+    fills_by_ledger(&rt, rt.alloc(), &office);
+}
+
+#[test]
+fn a_source_without_end(rt: HostRuntime) {
+    let mut office = Office::new(rt.alloc());
+    let length = FileFault {
+        number: 1,
+        cause: FileCause::Length,
+    };
+    let answer = office.take(&mut Endless::new(b"", b"H", 4096), 1000);
+    same(&rt, answer, Err(OfficeFault::File(length)));
+    let tail = StateFault {
+        at: 22,
+        cause: StateCause::Tail,
+    };
+    let answer = office.receive(&mut Endless::new(b"DKS2", b"\0", 4096), 1000);
+    same(&rt, answer, Err(OfficeFault::State(tail)));
+}

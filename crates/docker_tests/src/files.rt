@@ -1,0 +1,193 @@
+//! The files of the worked rows, given by their records.
+
+use crate::records::*;
+
+/// The records of a file, in order.
+pub(crate) type File = &'static [&'static str];
+
+/// One train from Ashfeld to Brayton, on weekdays from 10 to 14 June 2024.
+pub(crate) const MORNING: File = &[HD, BS, LO, LT, ZZ];
+
+/// The same file without its trailer.
+pub(crate) const OPEN: File = &[HD, BS, LO, LT];
+
+/// The same train, as a revision.
+pub(crate) const REVISED: File = &[HD, BS_REVISED, LO, LT, ZZ];
+
+/// The same train, leaving in the evening.
+pub(crate) const EVENING: File = &[HD, BS, LO_2355, LT_0005, ZZ];
+
+/// The same train, in a full extract.
+pub(crate) const FULL: File = &[HD_FULL, BS, LO, LT, ZZ];
+
+/// The revision of that train, a day later.
+pub(crate) const REVISION: File = &[HD_10B, BS_REVISED, LO_0905, LT_0935, ZZ];
+
+/// An update of 5 June: C10003 is deleted.
+pub(crate) const FIFTH: File = &[HD_5A, BS_C10003, BS, LO, LT, ZZ];
+
+/// A full extract of 7 June: only C10002.
+pub(crate) const SEVENTH: File = &[HD_7B, BS_C10002, LO_1000, LT_1030, ZZ];
+
+/// An update of 9 June: C10001 two hours later.
+pub(crate) const NINTH: File = &[HD_9C, BS, LO_1100, LT_1130, ZZ];
+
+/// That update without its trailer.
+pub(crate) const NINTH_OPEN: File = &[HD_9C, BS, LO_1100, LT_1130];
+
+/// A deletion of C10001.
+pub(crate) const DELETION: File = &[HD_9B, BS_DELETED, ZZ];
+
+/// C10001, a day before the deletion.
+pub(crate) const EIGHTH: File = &[HD_8A, BS, LO, LT, ZZ];
+
+/// A timing point.
+pub(crate) const PLACE: File = &[HD, TI, ZZ];
+
+/// The new code of that timing point, a day later.
+pub(crate) const RENAMED: File = &[HD_10B, TA, ZZ];
+
+/// A file of a train with an overlay on two days, a cancellation on another day, and further
+/// records.
+macro_rules! week {
+    ($($more:expr),*) => {
+        &[
+            HD,
+            BS_WEEK,
+            LO,
+            LT,
+            BS_OVERLAY,
+            LO_0915,
+            LT,
+            BS_CANCELLED,
+            $($more,)*
+            ZZ,
+        ]
+    };
+}
+
+/// A train with an overlay on two days, and a cancellation on another.
+pub(crate) const WEEK: File = week!();
+
+/// The same train, with another schedule at its end.
+pub(crate) const WEEKEND: File = week!(BS_WEEKEND, LO_0910, LT);
+
+/// A train past midnight that calls at Colwell and passes Dunmere.
+pub(crate) const NIGHT: File = &[HD, BS_NIGHT, LO_2355, LI_0000, LI_0010, LT_0020, ZZ];
+
+/// A train past two midnights.
+pub(crate) const TWO_NIGHTS: File = &[HD, BS_NIGHT, LO_2355, LI_0010, LI_COLWELL_0005, LT_0006, ZZ];
+
+/// A train past three midnights, which no schedule may pass.
+pub(crate) const THREE_NIGHTS: File = &[
+    HD,
+    BS_NIGHT,
+    LO_2355,
+    LI_0010,
+    LI_COLWELL_0005,
+    LT_0001,
+    ZZ,
+];
+
+/// A train that calls at Colwell twice and divides at its second call.
+pub(crate) const DIVISION: File = &[
+    HD,
+    BS_C30001,
+    LO_1000_PLAIN,
+    LI_1010,
+    LI_1040,
+    LT_1100_PLAIN,
+    BS_C30002,
+    LO_COLWELL_1045,
+    LT_DUNMERE_1100,
+    AA_DIVIDE,
+    ZZ,
+];
+
+/// A train that changes its identity on the way.
+pub(crate) const IDENTITY: File = &[
+    HD,
+    BS_C50001,
+    LO_1200,
+    CR_5E51,
+    LI_COLWELL_1210,
+    LT_1230,
+    ZZ,
+];
+
+/// The morning train up to a later day, ten minutes earlier.
+pub(crate) const LONGER: File = &[HD, BS_LONGER, LO_0850, LT, ZZ];
+
+/// The morning train, five minutes later.
+pub(crate) const LATER: File = &[HD, BS, LO_0905, LT, ZZ];
+
+/// A deletion of the morning train under the same header.
+pub(crate) const DELETED: File = &[HD, BS_DELETED, ZZ];
+
+/// The morning train up to the end of July, from a file of the day before.
+pub(crate) const JULY: File = &[HD_8A, BS_JULY, LO, LT, ZZ];
+
+/// A train without a public time that leaves Ashfeld at a half minute.
+pub(crate) const HALF: File = &[HD, BS, LO_HALF, LT, ZZ];
+
+/// A train from Ashfeld to Ashfeld that arrives when it leaves.
+pub(crate) const ROUND: File = &[HD, BS, LO, LT_ASHFELD_0900, ZZ];
+
+/// A file of a train to Colwell, a train from there past midnight, and further records.
+macro_rules! two_trains {
+    ($first:expr, $($more:expr),*) => {
+        &[
+            HD,
+            $first,
+            LO_2300,
+            LT_COLWELL_2350,
+            BS_C40002,
+            LO_COLWELL_0010,
+            LT_ASHFELD_0100,
+            $($more,)*
+            ZZ,
+        ]
+    };
+}
+
+/// A train to Colwell that becomes another train there on the next day.
+pub(crate) const NEXT_DAY: File = two_trains!(BS_C40001, AA_N);
+
+/// The same trains, associated on the same day.
+pub(crate) const SAME_DAY: File = two_trains!(BS_C40001, AA_S);
+
+/// The same trains, without a date indicator.
+pub(crate) const NO_INDICATOR: File = two_trains!(BS_C40001, AA_BLANK);
+
+/// The same trains, associated on the day before.
+pub(crate) const DAY_BEFORE: File = two_trains!(BS_C40001, AA_P);
+
+/// The same trains, with an unknown date indicator.
+pub(crate) const UNKNOWN_INDICATOR: File = two_trains!(BS_C40001, AA_X);
+
+/// The same trains, with an unknown category.
+pub(crate) const UNKNOWN_CATEGORY: File = two_trains!(BS_C40001, AA_OTHER);
+
+/// The same trains, on the last day of the calendar.
+pub(crate) const LAST_DAY: File = two_trains!(BS_C40001_LAST, AA_LAST);
+
+/// The same trains, with the second one cancelled.
+pub(crate) const PARTNER_CANCELLED: File = two_trains!(BS_C40001, AA_N, BS_C40002_CANCELLED);
+
+/// The same trains, with the first one cancelled.
+pub(crate) const BASE_CANCELLED: File = two_trains!(BS_C40001, AA_N, BS_C40001_CANCELLED);
+
+/// The morning train, and its deletion in the same file.
+pub(crate) const WITHDRAWN: File = &[HD, BS, LO, LT, BS_DELETED, ZZ];
+
+/// The deletion of the morning train, with an origin whose time isn't a time of day. It isn't read.
+pub(crate) const DELETED_AT_NO_TIME: File = &[HD, BS_DELETED, LO_2400, LT, ZZ];
+
+/// An update from another century, without changes.
+pub(crate) const EARLY: File = &[HD_EARLY, ZZ];
+
+/// A train on Wednesdays, without an end.
+pub(crate) const NO_END: File = &[HD, BS_NO_END, LO, LT, ZZ];
+
+/// An amendment of a timing point that keeps its code.
+pub(crate) const AMENDED: File = &[HD, TA_SAME, ZZ];

@@ -1,0 +1,102 @@
+//! Offices with a horizon.
+
+use crate::compare::same_in;
+use crate::dockers::NONE_ON_18_JUNE;
+use crate::files::*;
+use crate::offices::{day_of, has, has_text, office_of, prints, refuses_day, sent, take};
+use crate::state_texts::LAPSED_STATE;
+use docker_office::Office;
+use std::alloc::Global;
+use std::process::Abort;
+
+/// Sets a horizon.
+fn set(rt: &impl Abort, office: &mut Office, date: &str) {
+    office.set_horizon(day_of(rt, date));
+}
+
+/// A horizon to set, the size that the state then has, a day that is refused, the next day, and its
+/// docker, which has no line.
+type Row = (
+    &'static str,
+    usize,
+    &'static str,
+    &'static str,
+    &'static str,
+);
+
+const ROWS: &[Row] = &[
+    (
+        "2024-06-14",
+        311,
+        "2024-06-16",
+        "2024-06-17",
+        "\
+DOCKER ASHFELD 2024-06-17                               
+END                                                     
+",
+    ),
+    (
+        "2024-06-15",
+        67,
+        "2024-06-17",
+        "2024-06-18",
+        NONE_ON_18_JUNE,
+    ),
+    (
+        "2024-06-10",
+        67,
+        "2024-06-17",
+        "2024-06-18",
+        NONE_ON_18_JUNE,
+    ),
+];
+
+/// Nothing happens at Ashfeld on 24 June.
+const NONE_ON_24_JUNE: &str = "\
+DOCKER ASHFELD 2024-06-24                               
+END                                                     
+";
+
+/// Asserts that an office answers like this row after its horizon is set.
+fn is_after(rt: &impl Abort, alloc: Global, office: &mut Office, row: &Row) {
+    let (horizon, bytes, refused, printed, docker) = *row;
+    set(rt, office, horizon);
+    let text = sent(rt, alloc, office);
+    same_in(rt, horizon, text.bytes().len(), bytes);
+    refuses_day(rt, alloc, office, refused);
+    prints(rt, alloc, office, "ASHFELD", printed, docker);
+}
+
+#[test]
+fn a_horizon_that_rises(rt: HostRuntime) {
+    let mut office = office_of(&rt, rt.alloc(), &[MORNING]);
+    for row in ROWS {
+        is_after(&rt, rt.alloc(), &mut office, row);
+    }
+}
+
+#[test]
+fn a_lapsed_state(rt: HostRuntime) {
+    let mut office = office_of(&rt, rt.alloc(), &[MORNING]);
+    set(&rt, &mut office, "2024-06-15");
+    has(&rt, rt.alloc(), &office, LAPSED_STATE);
+}
+
+/// Asserts that an office prints an empty docker for Ashfeld on 24 June.
+fn prints_none(rt: &impl Abort, alloc: Global, office: &Office) {
+    prints(rt, alloc, office, "ASHFELD", "2024-06-24", NONE_ON_24_JUNE);
+}
+
+#[test]
+fn a_file_after_a_horizon(rt: HostRuntime) {
+    let alloc = rt.alloc();
+    let mut office = office_of(&rt, alloc, &[REVISION]);
+    set(&rt, &mut office, "2024-06-15");
+    take(&rt, alloc, &mut office, JULY);
+    prints_none(&rt, alloc, &office);
+    let mut other = office_of(&rt, alloc, &[JULY, REVISION]);
+    prints_none(&rt, alloc, &other);
+    set(&rt, &mut other, "2024-06-15");
+    let text = sent(&rt, alloc, &other);
+    has_text(&rt, alloc, &office, text.bytes());
+}

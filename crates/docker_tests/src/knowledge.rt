@@ -1,0 +1,253 @@
+//! What offices know in a run, computed only from its events and replies, and the state that this
+//! gives without an office.
+
+use crate::files::*;
+use crate::offices::text_of;
+use cif_file::{FileCause, FileFault, MOST_RECORDS, read_file};
+use cif_line::{Bytes, Day, Kept};
+use docker_encode::{encoded_len, write_state};
+use docker_join::Merge;
+use docker_office::{OfficeFault, Reply, RunFault};
+use docker_state::State;
+use std::alloc::Global;
+use std::process::Abort;
+
+/// How many offices there are.
+pub(crate) const OFFICES: usize = 3;
+
+/// The files that may be taken. The first two are refused.
+pub(crate) const FILES: [File; 18] = [
+    OPEN,
+    THREE_NIGHTS,
+    MORNING,
+    REVISION,
+    FIFTH,
+    SEVENTH,
+    NINTH,
+    DELETION,
+    EIGHTH,
+    PLACE,
+    RENAMED,
+    WEEK,
+    DIVISION,
+    LONGER,
+    LATER,
+    DELETED,
+    JULY,
+    FULL,
+];
+
+/// Why the first two files are refused.
+const REFUSED: [FileFault; 2] = [
+    FileFault {
+        number: 5,
+        cause: FileCause::NoEnd,
+    },
+    FileFault {
+        number: 6,
+        cause: FileCause::Midnights,
+    },
+];
+
+/// The texts of the files.
+pub(crate) fn texts_of_files(rt: &impl Abort, alloc: Global) -> Vec<Vec<u8>> {
+    let mut texts = Vec::new(alloc);
+    for file in FILES {
+        let text = text_of(rt, alloc, file);
+        texts.push(text).expect(rt, "room");
+    }
+    texts
+}
+
+/// What happens at an office. A file is named by its place.
+#[derive(Clone, Copy)]
+pub(crate) enum Step {
+    /// It takes a file.
+    Take {
+        /// The office.
+        office: usize,
+        /// The file.
+        file: usize,
+    },
+    /// It sends its state.
+    Send {
+        /// The office.
+        office: usize,
+    },
+    /// A message is delivered to it.
+    Deliver {
+        /// The office.
+        office: usize,
+        /// The message.
+        message: usize,
+    },
+    /// It reloads a message.
+    Reload {
+        /// The office.
+        office: usize,
+        /// The message.
+        message: usize,
+    },
+    /// It sets a horizon.
+    Horizon {
+        /// The office.
+        office: usize,
+        /// The horizon.
+        day: Day,
+    },
+}
+
+impl Step {
+    /// The office where it happens.
+    fn office(&self) -> usize {
+        match self {
+            Step::Take { office, .. }
+            | Step::Send { office }
+            | Step::Deliver { office, .. }
+            | Step::Reload { office, .. }
+            | Step::Horizon { office, .. } => *office,
+        }
+    }
+
+    /// The message that is delivered or reloaded.
+    fn message(&self) -> Option<usize> {
+        match self {
+            Step::Deliver { message, .. } | Step::Reload { message, .. } => Some(*message),
+            Step::Take { .. } | Step::Send { .. } | Step::Horizon { .. } => None,
+        }
+    }
+
+    /// Why the file that is taken is refused, if it is.
+    fn refusal(&self) -> Option<FileFault> {
+        match self {
+            Step::Take { file, .. } => REFUSED.get(*file).copied(),
+            _ => None,
+        }
+    }
+}
+
+/// What an office knows or a message carries: which of the files, by their places, and the horizon.
+#[derive(Clone, Copy)]
+pub(crate) struct Known {
+    files: [bool; FILES.len()],
+    horizon: Option<Day>,
+}
+
+impl Known {
+    /// Nothing is known.
+    fn nothing() -> Known {
+        Known {
+            files: [false; FILES.len()],
+            horizon: None,
+        }
+    }
+
+    /// Adds a file.
+    fn take(&mut self, file: usize) {
+        if let Some(known) = self.files.get_mut(file) {
+            *known = true;
+        }
+    }
+
+    /// Adds a horizon.
+    fn raise(&mut self, horizon: Option<Day>) {
+        if self.horizon < horizon {
+            self.horizon = horizon;
+        }
+    }
+
+    /// Adds what another office or message knows.
+    fn join(&mut self, other: &Known) {
+        for file in 0..FILES.len() {
+            self.files[file] |= other.files[file];
+        }
+        self.raise(other.horizon);
+    }
+
+    /// The state of the files under the horizon.
+    fn state(&self, rt: &impl Abort, alloc: Global, texts: &[Vec<u8>]) -> State {
+        let mut state = State::empty(alloc);
+        for (text, known) in texts.iter().zip(self.files.iter()) {
+            if *known {
+                let other = state_of(rt, alloc, text.as_slice());
+                state = state.join(alloc, other).expect(rt, "room");
+            }
+        }
+        if let Some(day) = self.horizon {
+            state.set_horizon(day);
+        }
+        state
+    }
+
+    /// The text of that state.
+    pub(crate) fn text(&self, rt: &impl Abort, alloc: Global, texts: &[Vec<u8>]) -> Kept {
+        let state = self.state(rt, alloc, texts);
+        let room = usize::try_from(encoded_len(&state)).expect(rt, "a length");
+        let mut kept = Kept::new(alloc, room).expect(rt, "room");
+        write_state(&state, &mut kept).expect(rt, "all is written");
+        kept
+    }
+}
+
+/// The state of a file.
+fn state_of(rt: &impl Abort, alloc: Global, text: &[u8]) -> State {
+    let mut source = Bytes::new(text, 4096);
+    let file = read_file(alloc, &mut source, MOST_RECORDS).expect(rt, "a file");
+    State::of_file(alloc, file).expect(rt, "room")
+}
+
+/// What each office knows and each message carries.
+#[derive(Drop)]
+pub(crate) struct Knowledge {
+    pub(crate) offices: [Known; OFFICES],
+    pub(crate) messages: Vec<Known>,
+}
+
+impl Knowledge {
+    /// No office knows anything, and nothing was sent.
+    pub(crate) fn new(alloc: Global) -> Knowledge {
+        Knowledge {
+            offices: [Known::nothing(); OFFICES],
+            messages: Vec::new(alloc),
+        }
+    }
+
+    /// The expected reply if memory suffices.
+    pub(crate) fn due(&self, step: &Step) -> Reply {
+        if step.office() >= OFFICES {
+            return Reply::Refused(RunFault::NoOffice);
+        }
+        if let Some(message) = step.message() {
+            if message >= self.messages.len() {
+                return Reply::Refused(RunFault::NoMessage);
+            }
+        }
+        match step.refusal() {
+            Some(fault) => Reply::Refused(RunFault::Office(OfficeFault::File(fault))),
+            None => Reply::Done,
+        }
+    }
+
+    /// Follows a step by its reply. A refused step changes nothing.
+    pub(crate) fn follow(&mut self, rt: &impl Abort, step: &Step, reply: Reply) {
+        if reply == Reply::Done {
+            self.follow_done(rt, step);
+        }
+    }
+
+    /// Follows a step that was done.
+    fn follow_done(&mut self, rt: &impl Abort, step: &Step) {
+        let known = self.offices.get_mut(step.office()).expect(rt, "an office");
+        match step {
+            Step::Take { file, .. } => known.take(*file),
+            Step::Send { .. } => self.messages.push(*known).expect(rt, "room"),
+            Step::Deliver { message, .. } => {
+                known.join(self.messages.get(*message).expect(rt, "a message"));
+            }
+            Step::Reload { message, .. } => {
+                *known = *self.messages.get(*message).expect(rt, "a message");
+            }
+            Step::Horizon { day, .. } => known.raise(Some(*day)),
+        }
+    }
+}

@@ -1,0 +1,46 @@
+//! Worked rows that cross several crates: what offices print, send and do in runs of events, and
+//! what commands write. This crate holds only tests.
+#![tactic(auto)]
+
+#[cfg(test)]
+mod commands;
+#[cfg(test)]
+mod compare;
+#[cfg(test)]
+mod devices;
+#[cfg(test)]
+mod dice;
+#[cfg(test)]
+mod dockers;
+#[cfg(test)]
+mod fault_lines;
+#[cfg(test)]
+mod files;
+#[cfg(test)]
+mod horizons;
+#[cfg(test)]
+mod job_lines;
+#[cfg(test)]
+mod jobs;
+#[cfg(test)]
+mod knowledge;
+#[cfg(test)]
+mod offices;
+#[cfg(test)]
+mod printed_faults;
+#[cfg(test)]
+mod random_runs;
+#[cfg(test)]
+mod records;
+#[cfg(test)]
+mod refused_files;
+#[cfg(test)]
+mod refused_states;
+#[cfg(test)]
+mod runs;
+#[cfg(test)]
+mod state_texts;
+#[cfg(test)]
+mod states;
+#[cfg(test)]
+mod subcommands;

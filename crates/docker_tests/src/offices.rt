@@ -1,0 +1,144 @@
+//! Offices over devices in memory.
+
+use crate::compare::{same, same_in};
+use crate::files::File;
+use crate::state_texts::{Parts, text_of_parts};
+use cif_line::{Bytes, Day, Kept, Tiploc};
+use docker_office::{LedgerOffice, Office, OfficeFault, PlaceOffice};
+use std::alloc::Global;
+use std::process::Abort;
+
+/// The greatest length of a text of these rows.
+const ROOM: usize = 1000;
+
+/// Lines as one text, with a line feed after each.
+pub(crate) fn text_of(rt: &impl Abort, alloc: Global, lines: &[&str]) -> Vec<u8> {
+    let mut text = Vec::new(alloc);
+    for line in lines {
+        text.extend_from_slice(line.as_bytes()).expect(rt, "room");
+        text.push(b'\n').expect(rt, "room");
+    }
+    text
+}
+
+/// Takes a file.
+pub(crate) fn take(rt: &impl Abort, alloc: Global, office: &mut Office, file: File) {
+    let text = text_of(rt, alloc, file);
+    let mut source = Bytes::new(text.as_slice(), 100);
+    office.take(&mut source, 1000).expect(rt, "a file");
+}
+
+/// An office that took these files in turn.
+pub(crate) fn office_of(rt: &impl Abort, alloc: Global, files: &[File]) -> Office {
+    let mut office = Office::new(alloc);
+    for file in files {
+        take(rt, alloc, &mut office, file);
+    }
+    office
+}
+
+/// Receives the state of another office that took this file.
+fn receive_of(rt: &impl Abort, alloc: Global, office: &mut Office, file: File) {
+    let mut other = Office::new(alloc);
+    take(rt, alloc, &mut other, file);
+    let text = sent(rt, alloc, &other);
+    let mut source = Bytes::new(text.bytes(), 7);
+    office.receive(&mut source, 1000).expect(rt, "a state");
+}
+
+/// An office that received the states of others in turn, each of which took one of these files.
+pub(crate) fn merged(rt: &impl Abort, alloc: Global, files: &[File]) -> Office {
+    let mut office = Office::new(alloc);
+    for file in files {
+        receive_of(rt, alloc, &mut office, file);
+    }
+    office
+}
+
+/// What an office sends.
+pub(crate) fn sent(rt: &impl Abort, alloc: Global, office: &Office) -> Kept {
+    let mut kept = Kept::new(alloc, ROOM).expect(rt, "room");
+    office.send(&mut kept).expect(rt, "the state");
+    kept
+}
+
+/// An office at a timing point that reads the state of another office.
+pub(crate) fn at_place(
+    rt: &impl Abort,
+    alloc: Global,
+    office: &Office,
+    place: Tiploc,
+) -> PlaceOffice {
+    let text = sent(rt, alloc, office);
+    let mut source = Bytes::new(text.bytes(), 7);
+    PlaceOffice::read(alloc, place, &mut source, 1000).expect(rt, "a state")
+}
+
+/// An office with the ledger of the state of another office.
+pub(crate) fn ledger_of(rt: &impl Abort, alloc: Global, office: &Office) -> LedgerOffice {
+    let text = sent(rt, alloc, office);
+    let mut source = Bytes::new(text.bytes(), 7);
+    LedgerOffice::read(alloc, &mut source, 1000).expect(rt, "a state")
+}
+
+/// Asserts that an office has the state with this text.
+pub(crate) fn has_text(rt: &impl Abort, alloc: Global, office: &Office, text: &[u8]) {
+    let own = sent(rt, alloc, office);
+    same(rt, own.bytes(), text);
+}
+
+/// Asserts that an office has the state with this text, given in parts.
+pub(crate) fn has(rt: &impl Abort, alloc: Global, office: &Office, parts: Parts) {
+    let text = text_of_parts(rt, alloc, parts);
+    has_text(rt, alloc, office, text.as_slice());
+}
+
+/// The timing point with this code.
+pub(crate) fn place_of(rt: &impl Abort, code: &str) -> Tiploc {
+    Tiploc::from_text(code).expect(rt, "a TIPLOC")
+}
+
+/// The day with this date.
+pub(crate) fn day_of(rt: &impl Abort, date: &str) -> Day {
+    Day::from_iso(date).expect(rt, "a day")
+}
+
+/// Asserts that an office prints this docker for a place and a day, and so does an office at the
+/// place.
+pub(crate) fn prints(
+    rt: &impl Abort,
+    alloc: Global,
+    office: &Office,
+    place: &str,
+    date: &str,
+    docker: &str,
+) {
+    let place = place_of(rt, place);
+    let day = day_of(rt, date);
+    let mut kept = Kept::new(alloc, ROOM).expect(rt, "room");
+    let answer = office.print(&place, day, &mut kept);
+    same_in(rt, date, answer, Ok(()));
+    same_in(rt, date, kept.bytes(), docker.as_bytes());
+    let office = at_place(rt, alloc, office, place);
+    prints_there(rt, alloc, &office, date, docker);
+}
+
+/// Asserts that an office at a place prints this docker for a day.
+fn prints_there(rt: &impl Abort, alloc: Global, office: &PlaceOffice, date: &str, docker: &str) {
+    let mut kept = Kept::new(alloc, ROOM).expect(rt, "room");
+    let answer = office.print(day_of(rt, date), &mut kept);
+    same_in(rt, date, answer, Ok(()));
+    same_in(rt, date, kept.bytes(), docker.as_bytes());
+}
+
+/// Asserts that an office refuses to print a docker of Ashfeld on a day, and so does one at Ashfeld.
+pub(crate) fn refuses_day(rt: &impl Abort, alloc: Global, office: &Office, date: &str) {
+    let place = place_of(rt, "ASHFELD");
+    let day = day_of(rt, date);
+    let mut kept = Kept::new(alloc, ROOM).expect(rt, "room");
+    let answer = office.print(&place, day, &mut kept);
+    same_in(rt, date, answer, Err(OfficeFault::Lapsed));
+    let answer = at_place(rt, alloc, office, place).print(day, &mut kept);
+    same_in(rt, date, answer, Err(OfficeFault::Lapsed));
+    same_in(rt, date, kept.bytes().is_empty(), true);
+}

@@ -1,0 +1,300 @@
+//! Refused texts of states, and what they leave of the office.
+
+use crate::compare::same;
+use crate::files::*;
+use crate::offices::{has, has_text, office_of, place_of};
+use crate::state_texts::*;
+use cif_line::Bytes;
+use docker_office::{LedgerOffice, Office, OfficeFault, PlaceOffice, StateCause, StateFault};
+use std::alloc::Global;
+use std::process::Abort;
+
+/// How an office reads a state.
+#[derive(Clone, Copy, PartialEq, Eq, Debug)]
+enum Ask {
+    Receive,
+    Reload,
+    Migrate,
+    Place,
+    Ledger,
+}
+
+/// How an office reads a state of the new format.
+const NEWER: &[Ask] = &[Ask::Receive, Ask::Reload, Ask::Place, Ask::Ledger];
+
+/// How an office reads a state of the older format.
+const OLDER: &[Ask] = &[Ask::Migrate];
+
+/// Asks an office, or one at a place or with a ledger, to read a text of at most `limit` bytes, in
+/// pieces of 9 bytes.
+fn read_in(
+    rt: &impl Abort,
+    alloc: Global,
+    how: Ask,
+    office: &mut Office,
+    text: &[u8],
+    limit: u64,
+) -> Result<(), OfficeFault> {
+    let mut source = Bytes::new(text, 9);
+    let place = place_of(rt, "ASHFELD");
+    match how {
+        Ask::Receive => office.receive(&mut source, limit),
+        Ask::Reload => office.reload(&mut source, limit),
+        Ask::Migrate => office.migrate(&mut source, limit),
+        Ask::Place => PlaceOffice::read(alloc, place, &mut source, limit).map(|_| ()),
+        Ask::Ledger => LedgerOffice::read(alloc, &mut source, limit).map(|_| ()),
+    }
+}
+
+/// Asserts that an office which knows the revision refuses a text for this fault and stays as it
+/// was.
+fn refuses(rt: &impl Abort, alloc: Global, how: Ask, text: &[u8], limit: u64, fault: StateFault) {
+    let mut office = office_of(rt, alloc, &[REVISION]);
+    let answer = read_in(rt, alloc, how, &mut office, text, limit);
+    same(rt, (how, answer), (how, Err(OfficeFault::State(fault))));
+    has(rt, alloc, &office, REVISION_STATE);
+}
+
+/// Asserts that the office refuses the text in each of these ways.
+fn refuses_by(
+    rt: &impl Abort,
+    alloc: Global,
+    ways: &[Ask],
+    text: &[u8],
+    limit: u64,
+    fault: StateFault,
+) {
+    for how in ways {
+        refuses(rt, alloc, *how, text, limit, fault);
+    }
+}
+
+/// A fault at this offset.
+fn fault(at: u64, cause: StateCause) -> StateFault {
+    StateFault { at, cause }
+}
+
+/// A text with these bytes at an offset.
+fn changed(rt: &impl Abort, alloc: Global, text: &[u8], at: usize, bytes: &[u8]) -> Vec<u8> {
+    let front = text.get(..at).expect(rt, "an offset");
+    let after = at.saturating_add(bytes.len());
+    let rest = text.get(after..).expect(rt, "an offset");
+    let mut other = Vec::new(alloc);
+    other.extend_from_slice(front).expect(rt, "room");
+    other.extend_from_slice(bytes).expect(rt, "room");
+    other.extend_from_slice(rest).expect(rt, "room");
+    other
+}
+
+/// An offset, the bytes to put there, and the fault.
+type Change = (usize, &'static [u8], u64, StateCause);
+
+/// Changes of the text of the state of one file: of the mark, the horizon, the ledger's day, the
+/// tag, the stamp, the op, the first line and the number of entries.
+const CHANGED: &[Change] = &[
+    (3, b"1", 0, StateCause::Mark),
+    (4, b"\x8e\xad", 4, StateCause::Horizon),
+    (4, b"\x5b\xf6", 41, StateCause::Body),
+    (14, b"\x8e\xad", 14, StateCause::Item),
+    (41, b"\x04", 41, StateCause::Tag),
+    (61, b"B", 41, StateCause::Stamp),
+    (66, b"\x03", 41, StateCause::Body),
+    (66, b"\x02", 67, StateCause::Tail),
+    (73, b"R", 41, StateCause::Body),
+    (
+        33,
+        b"\xff\xff\xff\xff\xff\xff\xff\xff",
+        311,
+        StateCause::Short,
+    ),
+];
+
+/// Asserts that a text with this change is refused in these ways.
+fn refuses_change(rt: &impl Abort, alloc: Global, ways: &[Ask], text: &[u8], change: &Change) {
+    let (offset, bytes, at, cause) = *change;
+    let other = changed(rt, alloc, text, offset, bytes);
+    let found = fault(at, cause);
+    refuses_by(rt, alloc, ways, other.as_slice(), 1000, found);
+}
+
+/// Asserts that a text is refused with each of these changes.
+fn refuses_changed(rt: &impl Abort, alloc: Global, ways: &[Ask], parts: Parts, changes: &[Change]) {
+    let text = text_of_parts(rt, alloc, parts);
+    for change in changes {
+        refuses_change(rt, alloc, ways, text.as_slice(), change);
+    }
+}
+
+#[test]
+fn changed_states(rt: HostRuntime) {
+    refuses_changed(&rt, rt.alloc(), NEWER, MORNING_STATE, CHANGED);
+}
+
+/// Changes of a text in the older format.
+const OLD_CHANGED: &[Change] = &[
+    (3, b"2", 0, StateCause::Mark),
+    (12, b"\x8e\xad", 12, StateCause::Item),
+    (39, b"\x04", 39, StateCause::Tag),
+    (59, b"B", 39, StateCause::Stamp),
+    (64, b"\x02", 39, StateCause::Body),
+    (71, b"R", 39, StateCause::Body),
+    (
+        31,
+        b"\xff\xff\xff\xff\xff\xff\xff\xff",
+        309,
+        StateCause::Short,
+    ),
+];
+
+#[test]
+fn changed_older_states(rt: HostRuntime) {
+    refuses_changed(&rt, rt.alloc(), OLDER, OLD_STATE, OLD_CHANGED);
+}
+
+/// What follows the mark, the limit, and the fault in the older format: an item twice, a full
+/// extract above the first item, an entry twice, a byte after the state, and a limit that is too
+/// low.
+type Other = (Parts, u64, u64, StateCause);
+
+const OTHERS: &[Other] = &[
+    (
+        train_after!(TWO, ITEM, ITEM, ONE),
+        1000,
+        31,
+        StateCause::Order,
+    ),
+    (
+        train_after!(TWO, ITEM_5A, ITEM_7B, ONE),
+        1000,
+        31,
+        StateCause::Floor,
+    ),
+    (
+        train_after!(
+            ONE,
+            ITEM,
+            TWO,
+            ENTRY,
+            THREE_LINES,
+            FIRST,
+            FROM_ASHFELD,
+            TO_BRAYTON
+        ),
+        1000,
+        309,
+        StateCause::Order,
+    ),
+    (
+        &[
+            ONE,
+            ITEM,
+            ONE,
+            ENTRY,
+            THREE_LINES,
+            FIRST,
+            FROM_ASHFELD,
+            TO_BRAYTON,
+            "\0",
+        ],
+        1000,
+        309,
+        StateCause::Tail,
+    ),
+    (train_after!(ONE, ITEM, ONE), 308, 308, StateCause::Long),
+];
+
+/// These parts after a mark.
+fn marked(rt: &impl Abort, alloc: Global, mark: &str, parts: Parts) -> Vec<u8> {
+    let mut text = text_of_parts(rt, alloc, &[mark]);
+    let rest = text_of_parts(rt, alloc, parts);
+    text.extend_from_slice(rest.as_slice()).expect(rt, "room");
+    text
+}
+
+/// Asserts that such a text is refused in the older format.
+fn refuses_older(rt: &impl Abort, alloc: Global, row: &Other) {
+    let (parts, limit, at, cause) = *row;
+    let text = marked(rt, alloc, OLD_MARK, parts);
+    let found = fault(at, cause);
+    refuses_by(rt, alloc, OLDER, text.as_slice(), limit, found);
+}
+
+/// Asserts that it is refused in the new format, whose mark is two bytes longer.
+fn refuses_newer(rt: &impl Abort, alloc: Global, row: &Other) {
+    let (parts, limit, at, cause) = *row;
+    let text = marked(rt, alloc, MARK, parts);
+    let found = fault(at.saturating_add(2), cause);
+    let limit = limit.saturating_add(2);
+    refuses_by(rt, alloc, NEWER, text.as_slice(), limit, found);
+}
+
+#[test]
+fn items_and_entries_out_of_place(rt: HostRuntime) {
+    for row in OTHERS {
+        refuses_older(&rt, rt.alloc(), row);
+        refuses_newer(&rt, rt.alloc(), row);
+    }
+}
+
+/// How many bytes of the text there are, and the offset at which it is too short.
+const CUT: &[(usize, u64)] = &[
+    (0, 0),
+    (3, 0),
+    (4, 4),
+    (5, 4),
+    (6, 6),
+    (13, 6),
+    (14, 14),
+    (32, 14),
+    (33, 33),
+    (40, 33),
+    (41, 41),
+    (310, 41),
+];
+
+/// Like `CUT`, for the older format.
+const OLD_CUT: &[(usize, u64)] = &[
+    (0, 0),
+    (3, 0),
+    (4, 4),
+    (11, 4),
+    (12, 12),
+    (30, 12),
+    (31, 31),
+    (38, 31),
+    (39, 39),
+    (308, 39),
+];
+
+/// Asserts that the first `bytes` bytes of a text are refused in these ways as too short at this
+/// offset.
+fn refuses_front(rt: &impl Abort, alloc: Global, ways: &[Ask], text: &[u8], bytes: usize, at: u64) {
+    let front = text.get(..bytes).expect(rt, "a length");
+    let found = fault(at, StateCause::Short);
+    refuses_by(rt, alloc, ways, front, 1000, found);
+}
+
+/// Asserts that a text is refused in these ways wherever it is cut.
+fn refuses_cut(rt: &impl Abort, alloc: Global, ways: &[Ask], parts: Parts, cuts: &[(usize, u64)]) {
+    let text = text_of_parts(rt, alloc, parts);
+    for (bytes, at) in cuts {
+        refuses_front(rt, alloc, ways, text.as_slice(), *bytes, *at);
+    }
+}
+
+#[test]
+fn states_that_are_cut(rt: HostRuntime) {
+    refuses_cut(&rt, rt.alloc(), NEWER, MORNING_STATE, CUT);
+    refuses_cut(&rt, rt.alloc(), OLDER, OLD_STATE, OLD_CUT);
+}
+
+#[test]
+fn a_horizon_on_the_last_day(rt: HostRuntime) {
+    let alloc = rt.alloc();
+    let text = text_of_parts(&rt, alloc, MORNING_STATE);
+    let raised = changed(&rt, alloc, text.as_slice(), 4, b"\x5b\xf5");
+    let mut office = Office::new(alloc);
+    let answer = office.receive(&mut Bytes::new(raised.as_slice(), 9), 311);
+    same(&rt, answer, Ok(()));
+    has_text(&rt, alloc, &office, raised.as_slice());
+}

@@ -1,0 +1,336 @@
+//! Runs of events: their replies, and what is known at the end.
+ghost use Rattle.std.specs.Prelude.{All};
+ghost use Rattle.docker_office.specs.RunEnds.{HasGoodLimit};
+ghost use Rattle.docker_office.specs.RunMeaning.{event_meant, events_meant};
+
+use crate::compare::same;
+use crate::dockers::{ASHFELD_0900, NONE_ON_18_JUNE, TWO_TRAINS};
+use crate::files::*;
+use crate::offices::{day_of, has, prints, refuses_day, text_of};
+use crate::state_texts::*;
+use cif_file::{FileCause, FileFault, MOST_RECORDS};
+use cif_line::Day;
+use docker_office::{Event, Exchange, Office, OfficeFault, Reply, RunFault, run};
+use std::alloc::Global;
+use std::process::Abort;
+
+/// A Take of a text under the greatest limit.
+fn take(office: usize, text: &[u8]) -> Event<'_>
+    ensures { HasGoodLimit (event_meant result) }
+{
+    Event::Take {
+        office,
+        text,
+        limit: MOST_RECORDS,
+    }
+}
+
+/// A Send.
+fn send<'a>(office: usize) -> Event<'a>
+    ensures { HasGoodLimit (event_meant result) }
+{
+    Event::Send { office }
+}
+
+/// A Deliver of a message.
+fn deliver<'a>(office: usize, message: usize) -> Event<'a>
+    ensures { HasGoodLimit (event_meant result) }
+{
+    Event::Deliver { office, message }
+}
+
+/// A Reload of a message.
+fn reload<'a>(office: usize, message: usize) -> Event<'a>
+    ensures { HasGoodLimit (event_meant result) }
+{
+    Event::Reload { office, message }
+}
+
+/// A Horizon.
+fn horizon<'a>(office: usize, day: Day) -> Event<'a>
+    ensures { HasGoodLimit (event_meant result) }
+{
+    Event::Horizon { office, day }
+}
+
+/// What a run of these events leaves.
+fn left_by(rt: &impl Abort, alloc: Global, offices: usize, events: &[Event<'_>]) -> Exchange
+    requires { All HasGoodLimit (events_meant events.now) }
+{
+    run(alloc, offices, events).expect(rt, "memory")
+}
+
+/// An office at the end.
+fn office_at<'a>(rt: &impl Abort, left: &'a Exchange, office: usize) -> &'a Office {
+    left.offices().get(office).expect(rt, "an office")
+}
+
+/// Asserts that an office prints this docker for Ashfeld on a day.
+fn prints_there(
+    rt: &impl Abort,
+    alloc: Global,
+    left: &Exchange,
+    office: usize,
+    day: &str,
+    docker: &str,
+) {
+    let office = office_at(rt, left, office);
+    prints(rt, alloc, office, "ASHFELD", day, docker);
+}
+
+/// Asserts that an office has this text at the end.
+fn ends(rt: &impl Abort, alloc: Global, left: &Exchange, office: usize, parts: Parts) {
+    has(rt, alloc, office_at(rt, left, office), parts);
+}
+
+/// Asserts that a message has this text.
+fn message_is(rt: &impl Abort, alloc: Global, left: &Exchange, message: usize, parts: Parts) {
+    let wanted = text_of_parts(rt, alloc, parts);
+    let kept = left.messages().get(message).expect(rt, "a message");
+    same(rt, (message, kept.bytes()), (message, wanted.as_slice()));
+}
+
+/// Asserts that the first `done` replies say that the event was done, and that the remaining
+/// replies are these.
+fn replies(rt: &impl Abort, left: &Exchange, done: usize, others: &[Reply]) {
+    let (first, rest) = left.replies().split_at(left.replies().len().min(done));
+    same(rt, first.len(), done);
+    for reply in first {
+        same(rt, *reply, Reply::Done);
+    }
+    same(rt, rest, others);
+}
+
+#[test]
+fn no_office(rt: HostRuntime) {
+    let left = left_by(&rt, rt.alloc(), 0, &[send(0)]);
+    replies(&rt, &left, 0, &[Reply::Refused(RunFault::NoOffice)]);
+    same(&rt, left.offices().len(), 0);
+    same(&rt, left.messages().len(), 0);
+}
+
+/// The events of three offices up to the reload of the first office, and further events.
+macro_rules! up_to_reload {
+    ([$early:expr, $full:expr, $late:expr], $($more:expr),*) => {
+        &[
+            take(0, $early),
+            send(0),
+            take(1, $full),
+            send(1),
+            take(2, $late),
+            send(2),
+            deliver(0, 2),
+            deliver(0, 2),
+            send(0),
+            deliver(1, 2),
+            deliver(1, 0),
+            send(1),
+            reload(0, 0),
+            $($more,)*
+        ]
+    };
+}
+
+/// The end of a run of three offices that ends with a refused file.
+fn three_left(rt: &impl Abort, alloc: Global) -> Exchange {
+    let early = text_of(rt, alloc, FIFTH);
+    let full = text_of(rt, alloc, SEVENTH);
+    let late = text_of(rt, alloc, NINTH);
+    let open = text_of(rt, alloc, NINTH_OPEN);
+    let events = up_to_reload!(
+        [early.as_slice(), full.as_slice(), late.as_slice()],
+        deliver(0, 4),
+        deliver(2, 1),
+        deliver(3, 0),
+        deliver(0, 5),
+        take(2, open.as_slice())
+    );
+    left_by(rt, alloc, 3, events)
+}
+
+/// The replies to the last three events of that run.
+const LAST_REPLIES: &[Reply] = &[
+    Reply::Refused(RunFault::NoOffice),
+    Reply::Refused(RunFault::NoMessage),
+    Reply::Refused(RunFault::Office(OfficeFault::File(FileFault {
+        number: 5,
+        cause: FileCause::NoEnd,
+    }))),
+];
+
+#[test]
+fn three_offices(rt: HostRuntime) {
+    let alloc = rt.alloc();
+    let left = three_left(&rt, alloc);
+    replies(&rt, &left, 15, LAST_REPLIES);
+    same(&rt, left.messages().len(), 5);
+    for office in 0..3 {
+        ends(&rt, alloc, &left, office, LATE_STATE);
+        prints_there(&rt, alloc, &left, office, "2024-06-10", TWO_TRAINS);
+    }
+    message_is(&rt, alloc, &left, 4, LATE_STATE);
+}
+
+/// The end of that run at the reload.
+fn reload_left(rt: &impl Abort, alloc: Global) -> Exchange {
+    let early = text_of(rt, alloc, FIFTH);
+    let full = text_of(rt, alloc, SEVENTH);
+    let late = text_of(rt, alloc, NINTH);
+    let events = up_to_reload!([early.as_slice(), full.as_slice(), late.as_slice()],);
+    left_by(rt, alloc, 3, events)
+}
+
+#[test]
+fn three_offices_up_to_a_reload(rt: HostRuntime) {
+    let alloc = rt.alloc();
+    let left = reload_left(&rt, alloc);
+    replies(&rt, &left, 13, &[]);
+    prints_there(&rt, alloc, &left, 0, "2024-06-10", ASHFELD_0900);
+    ends(&rt, alloc, &left, 0, FIFTH_STATE);
+    message_is(&rt, alloc, &left, 0, FIFTH_STATE);
+    ends(&rt, alloc, &left, 1, LATE_STATE);
+}
+
+/// The end of a run of two offices that ends with a horizon of a third.
+fn horizon_left(rt: &impl Abort, alloc: Global) -> Exchange {
+    let text = text_of(rt, alloc, MORNING);
+    let day = day_of(rt, "2024-06-15");
+    let events = &[
+        take(0, text.as_slice()),
+        send(0),
+        horizon(0, day),
+        send(0),
+        deliver(1, 0),
+        deliver(1, 1),
+        reload(0, 0),
+        horizon(2, day),
+    ];
+    left_by(rt, alloc, 2, events)
+}
+
+#[test]
+fn two_offices_and_a_horizon(rt: HostRuntime) {
+    let alloc = rt.alloc();
+    let left = horizon_left(&rt, alloc);
+    replies(&rt, &left, 7, &[Reply::Refused(RunFault::NoOffice)]);
+    message_is(&rt, alloc, &left, 1, LAPSED_STATE);
+    ends(&rt, alloc, &left, 1, LAPSED_STATE);
+    refuses_day(&rt, alloc, office_at(&rt, &left, 1), "2024-06-17");
+    prints_there(&rt, alloc, &left, 1, "2024-06-18", NONE_ON_18_JUNE);
+    message_is(&rt, alloc, &left, 0, MORNING_STATE);
+    ends(&rt, alloc, &left, 0, MORNING_STATE);
+    prints_there(&rt, alloc, &left, 0, "2024-06-10", ASHFELD_0900);
+}
+
+/// The end of a run in which the delivered state was sent before the horizon was set.
+fn delivery_left(rt: &impl Abort, alloc: Global) -> Exchange {
+    let text = text_of(rt, alloc, MORNING);
+    let day = day_of(rt, "2024-06-15");
+    let events = &[
+        take(0, text.as_slice()),
+        send(0),
+        horizon(0, day),
+        send(0),
+        deliver(1, 0),
+    ];
+    left_by(rt, alloc, 2, events)
+}
+
+#[test]
+fn a_delivery_before_the_horizon(rt: HostRuntime) {
+    let left = delivery_left(&rt, rt.alloc());
+    replies(&rt, &left, 5, &[]);
+    prints_there(&rt, rt.alloc(), &left, 1, "2024-06-10", ASHFELD_0900);
+}
+
+/// The events of one office up to the reload of its first message, and further events.
+macro_rules! up_to_loss {
+    ([$text:expr, $revision:expr], $($more:expr),*) => {
+        &[
+            take(0, $text),
+            send(0),
+            take(0, $revision),
+            send(0),
+            reload(0, 0),
+            $($more,)*
+        ]
+    };
+}
+
+/// What is left after a reload lost the revision.
+fn lost_left(rt: &impl Abort, alloc: Global) -> Exchange {
+    let text = text_of(rt, alloc, MORNING);
+    let revision = text_of(rt, alloc, REVISION);
+    let events = up_to_loss!([text.as_slice(), revision.as_slice()],);
+    left_by(rt, alloc, 1, events)
+}
+
+/// What is left after the revision comes again.
+fn found_left(rt: &impl Abort, alloc: Global) -> Exchange {
+    let text = text_of(rt, alloc, MORNING);
+    let revision = text_of(rt, alloc, REVISION);
+    let events = up_to_loss!([text.as_slice(), revision.as_slice()], deliver(0, 1));
+    left_by(rt, alloc, 1, events)
+}
+
+#[test]
+fn what_a_reload_lost_comes_again(rt: HostRuntime) {
+    let alloc = rt.alloc();
+    let lost = lost_left(&rt, alloc);
+    replies(&rt, &lost, 5, &[]);
+    ends(&rt, alloc, &lost, 0, MORNING_STATE);
+    let found = found_left(&rt, alloc);
+    replies(&rt, &found, 6, &[]);
+    message_is(&rt, alloc, &found, 1, REVISED_STATE);
+    ends(&rt, alloc, &found, 0, REVISED_STATE);
+}
+
+/// The end of a run of five offices: the first takes three files, and the last receives them from
+/// the others.
+fn five_left(rt: &impl Abort, alloc: Global, files: [File; 3]) -> Exchange {
+    let first = text_of(rt, alloc, files[0]);
+    let second = text_of(rt, alloc, files[1]);
+    let third = text_of(rt, alloc, files[2]);
+    let events = &[
+        take(0, first.as_slice()),
+        take(0, second.as_slice()),
+        take(0, third.as_slice()),
+        take(1, first.as_slice()),
+        send(1),
+        take(2, second.as_slice()),
+        send(2),
+        take(3, third.as_slice()),
+        send(3),
+        deliver(4, 0),
+        deliver(4, 1),
+        deliver(4, 2),
+    ];
+    left_by(rt, alloc, 5, events)
+}
+
+/// A full extract that arrives late, in each order.
+const ORDERS: &[[File; 3]] = &[
+    [FIFTH, SEVENTH, NINTH],
+    [FIFTH, NINTH, SEVENTH],
+    [SEVENTH, FIFTH, NINTH],
+    [SEVENTH, NINTH, FIFTH],
+    [NINTH, FIFTH, SEVENTH],
+    [NINTH, SEVENTH, FIFTH],
+];
+
+/// Asserts that the first office and the last know the same three files, taken in this order.
+fn is_late(rt: &impl Abort, alloc: Global, files: [File; 3]) {
+    let left = five_left(rt, alloc, files);
+    replies(rt, &left, 12, &[]);
+    ends(rt, alloc, &left, 0, LATE_STATE);
+    prints_there(rt, alloc, &left, 0, "2024-06-10", TWO_TRAINS);
+    ends(rt, alloc, &left, 4, LATE_STATE);
+    prints_there(rt, alloc, &left, 4, "2024-06-10", TWO_TRAINS);
+}
+
+#[test]
+fn a_late_full_extract(rt: HostRuntime) {
+    for files in ORDERS {
+        is_late(&rt, rt.alloc(), *files);
+    }
+}

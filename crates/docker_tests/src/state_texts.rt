@@ -1,0 +1,239 @@
+//! The texts of states, worked out by hand, part by part. Each character of a part stands for one
+//! byte, the one with its number.
+
+use crate::records::*;
+use std::alloc::Global;
+use std::process::Abort;
+
+/// The parts of a text, in turn.
+pub(crate) type Parts = &'static [&'static str];
+
+/// The mark of a text, and no horizon.
+pub(crate) const MARK: &str = "DKS2\0\0";
+
+/// The mark of a text under the horizon of 15 June 2024.
+const MARK_15: &str = "DKS2\x5b\u{f6}";
+
+/// The mark of a text of the older format.
+pub(crate) const OLD_MARK: &str = "DKS1";
+
+/// How many items or entries there are: zero, one or two.
+const NONE: &str = "\0\0\0\0\0\0\0\0";
+
+pub(crate) const ONE: &str = "\0\0\0\0\0\0\0\x01";
+
+pub(crate) const TWO: &str = "\0\0\0\0\0\0\0\x02";
+
+/// The ledger items of the update of 9 June, and of a full extract of the same minute.
+pub(crate) const ITEM: &str = "\x5b\u{f0}\x04\u{ec}DFROC1AUDFROC1Z";
+
+const ITEM_FULL: &str = "\x5b\u{f0}\x04\u{ec}DFROC1AFDFROC1Z";
+
+/// The ledger items of other files, named by their days in June and the last letters of their
+/// references.
+const ITEM_10B: &str = "\x5b\u{f1}\x04\u{ec}DFROC1BUDFROC1A";
+
+pub(crate) const ITEM_5A: &str = "\x5b\u{ec}\x04\u{ec}DFROC1AUDFROC1Z";
+
+pub(crate) const ITEM_7B: &str = "\x5b\u{ee}\x04\u{ec}DFROC1BFDFROC1A";
+
+const ITEM_8A: &str = "\x5b\u{ef}\x04\u{ec}DFROC1AUDFROC1Z";
+
+const ITEM_9B: &str = "\x5b\u{f0}\x04\u{ec}DFROC1BUDFROC1A";
+
+const ITEM_9C: &str = "\x5b\u{f0}\x04\u{ec}DFROC1CUDFROC1B";
+
+/// The entry of C10001 in the update of 9 June, up to its op, and the same entry as its fifth
+/// record.
+pub(crate) const ENTRY: &str = "\x03C10001\x5b\u{f1}P\x5b\u{f0}\x04\u{ec}DFROC1A\0\0\0\x02";
+
+const ENTRY_FIFTH: &str = "\x03C10001\x5b\u{f1}P\x5b\u{f0}\x04\u{ec}DFROC1A\0\0\0\x05";
+
+/// The entries of C10001 in other files, up to the op.
+const ENTRY_10B: &str = "\x03C10001\x5b\u{f1}P\x5b\u{f1}\x04\u{ec}DFROC1B\0\0\0\x02";
+
+const ENTRY_9B: &str = "\x03C10001\x5b\u{f1}P\x5b\u{f0}\x04\u{ec}DFROC1B\0\0\0\x02";
+
+const ENTRY_9C: &str = "\x03C10001\x5b\u{f1}P\x5b\u{f0}\x04\u{ec}DFROC1C\0\0\0\x02";
+
+/// Entries of the update of 5 June.
+const ENTRY_5A: &str = "\x03C10001\x5b\u{f1}P\x5b\u{ec}\x04\u{ec}DFROC1A\0\0\0\x03";
+
+const C10003_5A: &str = "\x03C10003\x5b\u{f1}P\x5b\u{ec}\x04\u{ec}DFROC1A\0\0\0\x02";
+
+/// The entry of C10002 in the full extract.
+const ENTRY_7B: &str = "\x03C10002\x5b\u{f1}P\x5b\u{ee}\x04\u{ec}DFROC1B\0\0\0\x02";
+
+/// The entries of two codes of a timing point, up to their ops.
+const ASHFELD_10B: &str = "\x01ASHFELD\x5b\u{f1}\x04\u{ec}DFROC1B\0\0\0\x02";
+
+const ASHFLDN_10B: &str = "\x01ASHFLDN\x5b\u{f1}\x04\u{ec}DFROC1B\0\0\0\x02";
+
+/// The ops of a deletion, a lapsed entry and a put, and a put of three lines.
+const GONE: &str = "\0";
+
+const PASSED: &str = "\x02";
+
+const PUT: &str = "\x01";
+
+pub(crate) const THREE_LINES: &str = "\x01\0\0\0\x03";
+
+/// Columns 10 to 72 of a timing point's record.
+const DESCRIBED: &str = "         ASHFIELD NEW                                          ";
+
+/// Lines of schedules.
+pub(crate) const FIRST: &str = BS;
+
+pub(crate) const FROM_ASHFELD: &str = LO;
+
+pub(crate) const TO_BRAYTON: &str = LT;
+
+/// Parts, followed by the schedule of the morning train.
+macro_rules! train_after {
+    ($($part:expr),*) => {
+        &[$($part,)* ENTRY, THREE_LINES, FIRST, FROM_ASHFELD, TO_BRAYTON]
+    };
+}
+
+pub(crate) use train_after;
+
+/// The state that knows no file.
+pub(crate) const EMPTY_STATE: Parts = &[MARK, NONE, NONE];
+
+/// The state that knows the morning train: 311 bytes.
+pub(crate) const MORNING_STATE: Parts = train_after!(MARK, ONE, ITEM, ONE);
+
+/// The state that knows the morning train, in the older format: 309 bytes.
+pub(crate) const OLD_STATE: Parts = train_after!(OLD_MARK, ONE, ITEM, ONE);
+
+/// The state that knows the morning train, under a horizon after its last day: 67 bytes.
+pub(crate) const LAPSED_STATE: Parts = &[MARK_15, ONE, ITEM, ONE, ENTRY, PASSED];
+
+/// The state that knows only the revision: 311 bytes.
+pub(crate) const REVISION_STATE: Parts = &[
+    MARK,
+    ONE,
+    ITEM_10B,
+    ONE,
+    ENTRY_10B,
+    THREE_LINES,
+    FIRST,
+    LO_0905,
+    LT_0935,
+];
+
+/// The state that knows the train and its revision: 330 bytes.
+pub(crate) const REVISED_STATE: Parts = &[
+    MARK,
+    TWO,
+    ITEM,
+    ITEM_10B,
+    ONE,
+    ENTRY_10B,
+    THREE_LINES,
+    FIRST,
+    LO_0905,
+    LT_0935,
+];
+
+/// The state that knows the update of 5 June: 337 bytes.
+pub(crate) const FIFTH_STATE: Parts = &[
+    MARK,
+    ONE,
+    ITEM_5A,
+    TWO,
+    ENTRY_5A,
+    THREE_LINES,
+    FIRST,
+    FROM_ASHFELD,
+    TO_BRAYTON,
+    C10003_5A,
+    GONE,
+];
+
+/// The state that knows the update of 5 June, the full extract of 7 June and the update of 9 June:
+/// 600 bytes.
+pub(crate) const LATE_STATE: Parts = &[
+    MARK,
+    TWO,
+    ITEM_7B,
+    ITEM_9C,
+    TWO,
+    ENTRY_9C,
+    THREE_LINES,
+    FIRST,
+    LO_1100,
+    LT_1130,
+    ENTRY_7B,
+    THREE_LINES,
+    BS_C10002,
+    LO_1000,
+    LT_1030,
+];
+
+/// A train of the day before, and its deletion: 86 bytes.
+pub(crate) const DELETED_STATE: Parts = &[MARK, TWO, ITEM_8A, ITEM_9B, ONE, ENTRY_9B, GONE];
+
+/// A train that its own file deletes: 67 bytes.
+pub(crate) const WITHDRAWN_STATE: Parts = &[MARK, ONE, ITEM, ONE, ENTRY_FIFTH, GONE];
+
+/// A timing point, and its new code: 171 bytes.
+pub(crate) const RENAMED_STATE: Parts = &[
+    MARK,
+    TWO,
+    ITEM,
+    ITEM_10B,
+    TWO,
+    ASHFELD_10B,
+    GONE,
+    ASHFLDN_10B,
+    PUT,
+    DESCRIBED,
+];
+
+/// Two files with one stamp, of which the train that runs longer wins: 311 bytes.
+pub(crate) const LONGER_STATE: Parts = &[
+    MARK,
+    ONE,
+    ITEM,
+    ONE,
+    ENTRY,
+    THREE_LINES,
+    BS_LONGER,
+    LO_0850,
+    TO_BRAYTON,
+];
+
+/// Two files with one stamp, of which the train with the greater bytes wins: 311 bytes.
+pub(crate) const LATER_STATE: Parts = &[
+    MARK,
+    ONE,
+    ITEM,
+    ONE,
+    ENTRY,
+    THREE_LINES,
+    FIRST,
+    LO_0905,
+    TO_BRAYTON,
+];
+
+/// An update and a full extract with one stamp: 330 bytes.
+pub(crate) const BOTH_STATE: Parts = train_after!(MARK, TWO, ITEM_FULL, ITEM, ONE);
+
+/// Adds a part to a text, one byte per character.
+fn add_part(rt: &impl Abort, text: &mut Vec<u8>, part: &str) {
+    for character in part.chars() {
+        if let Ok(byte) = u8::try_from(u32::from(character)) {
+            text.push(byte).expect(rt, "room");
+        }
+    }
+}
+
+/// The parts joined, one byte per character.
+pub(crate) fn text_of_parts(rt: &impl Abort, alloc: Global, parts: &[&str]) -> Vec<u8> {
+    let mut text = Vec::new(alloc);
+    for part in parts {
+        add_part(rt, &mut text, part);
+    }
+    text
+}

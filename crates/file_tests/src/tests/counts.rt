@@ -1,0 +1,80 @@
+//! Files that are judged without being kept.
+ghost use Rattle.std.specs.Prelude.{◌<◌};
+
+use super::{
+    AA, BS, BS_CANCELLED, BS_DELETED, BS_NIGHT, BS_OVERLAY, CR, F2, HD, LI_0010, LO, LO_0915,
+    LO_2355, LO_2400, LT, LT_0020, TA_RENAMED, TA_SAME, TI, ZZ, at, same, same_in, text,
+};
+use cif_file::{FileCause, ReadFault, judge_file};
+use cif_line::{Bytes, Extract};
+use std::alloc::Global;
+use std::process::Abort;
+
+/// The lines of a file, how many records and changes it has, and the row's name.
+type Row = (&'static [&'static [u8]], u32, u64, &'static str);
+
+const ROWS: &[Row] = &[
+    (&[HD, ZZ], 2, 0, "no unit"),
+    (&F2, 5, 1, "a schedule"),
+    (&[HD, BS_DELETED, ZZ], 3, 1, "a deletion"),
+    (
+        &[HD, BS_DELETED, LO_2400, LT, ZZ],
+        5,
+        1,
+        "a deletion's journey",
+    ),
+    (&[HD, TI, ZZ], 3, 1, "an insertion"),
+    (&[HD, TA_RENAMED, ZZ], 3, 2, "a rename"),
+    (&[HD, TA_SAME, ZZ], 3, 1, "an amendment of the same code"),
+    (
+        &[HD, BS, LO, LT, BS_OVERLAY, LO_0915, LT, BS_CANCELLED, ZZ],
+        9,
+        3,
+        "an overlay and a cancellation",
+    ),
+    (
+        &[
+            HD, BS, LO, LT, AA, BS_NIGHT, LO_2355, CR, LI_0010, LT_0020, ZZ,
+        ],
+        11,
+        3,
+        "an association between schedules",
+    ),
+];
+
+/// Asserts that a text has these counts when it is read in pieces of `step` bytes.
+fn check_count(rt: &impl Abort, alloc: Global, text: &[u8], step: usize, row: Row)
+    requires { 0 < step }
+{
+    let (_, records, changes, name) = row;
+    let mut source = Bytes::new(text, step);
+    let count = judge_file(alloc, &mut source, 1000).expect(rt, name);
+    same_in(rt, name, count.records(), records);
+    same_in(rt, name, count.changes(), changes);
+    same_in(rt, name, count.header().minute(), 1260);
+    same_in(rt, name, count.header().extract(), Extract::Update);
+    same_in(rt, name, source.left().is_empty(), true);
+}
+
+#[test]
+fn counts(rt: HostRuntime) {
+    let alloc = rt.alloc();
+    for row in ROWS {
+        let text = text(&rt, alloc, row.0, b"\n");
+        check_count(&rt, alloc, text.as_slice(), 1, *row);
+        check_count(&rt, alloc, text.as_slice(), 81, *row);
+        check_count(&rt, alloc, text.as_slice(), 4096, *row);
+    }
+}
+
+#[test]
+fn a_limit_on_records(rt: HostRuntime) {
+    let whole = text(&rt, rt.alloc(), &F2, b"\r\n");
+    let mut source = Bytes::new(whole.as_slice(), 7);
+    let count = judge_file(rt.alloc(), &mut source, 5).expect(&rt, "a file");
+    same(&rt, count.changes(), 1);
+    let mut source = Bytes::new(whole.as_slice(), 7);
+    let fault = judge_file(rt.alloc(), &mut source, 4).err();
+    let too_many = at(5, FileCause::TooMany);
+    same(&rt, fault, Some(ReadFault::File(too_many)));
+}

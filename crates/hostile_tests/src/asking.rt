@@ -1,0 +1,56 @@
+//! The calls with which an office reads a source.
+ghost use Rattle.std.specs.Prelude.{◌<◌, ◌^◌, ◌-◌};
+
+use crate::texts::MOST_RECORDS;
+use cif_line::Source;
+use docker_office::{Office, OfficeFault};
+
+/// What an office does with a source.
+#[derive(Clone, Copy, PartialEq, Eq)]
+pub(crate) enum Call {
+    /// It takes a file.
+    Take,
+    /// It receives a state.
+    Receive,
+    /// It reloads a state.
+    Reload,
+    /// It reloads a state of the older format.
+    Migrate,
+}
+
+/// The call with this name.
+pub(crate) fn call_of(name: &str) -> Call {
+    match name {
+        "Office::take" => Call::Take,
+        "Office::receive" => Call::Receive,
+        "Office::reload" => Call::Reload,
+        _ => Call::Migrate,
+    }
+}
+
+/// Asks an office, under a limit of records or of bytes.
+pub(crate) fn ask<S: Source>(
+    call: Call,
+    office: &mut Office,
+    source: &mut S,
+    limit: u64,
+) -> Result<(), OfficeFault>
+    requires { S.failures source.old < 2 ^ 64 - 1 }
+{
+    match call {
+        Call::Take => office.take(source, records_of(limit)),
+        Call::Receive => office.receive(source, limit),
+        Call::Reload => office.reload(source, limit),
+        Call::Migrate => office.migrate(source, limit),
+    }
+}
+
+/// A limit of records, at most the greatest possible one.
+fn records_of(limit: u64) -> u32
+    ensures { result < 2 ^ 32 - 1 }
+{
+    match u32::try_from(limit) {
+        Ok(records) => records.min(MOST_RECORDS),
+        Err(_) => MOST_RECORDS,
+    }
+}

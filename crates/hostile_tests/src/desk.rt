@@ -1,0 +1,94 @@
+//! Where a row runs: the texts that it names, and what is printed about it.
+
+use crate::endings::Ending;
+use std::alloc::Global;
+use std::fs;
+use std::io::Write;
+
+/// A row, and the runtime in which it runs.
+#[derive(Drop)]
+pub(crate) struct Desk<'a> {
+    rt: HostRuntime,
+    row: &'a str,
+}
+
+impl<'a> Desk<'a> {
+    /// A desk for this row.
+    pub(crate) fn of(rt: &HostRuntime, row: &'a str) -> Desk<'a> {
+        Desk { rt: *rt, row }
+    }
+
+    /// The allocator.
+    pub(crate) fn alloc(&self) -> Global {
+        self.rt.alloc()
+    }
+
+    /// The words of the row.
+    pub(crate) fn words(&self) -> Vec<&'a str> {
+        match self.row.split(' ').collect(self.alloc()) {
+            Ok(words) => words,
+            Err(_) => Vec::new(self.alloc()),
+        }
+    }
+
+    /// A text from the folder `data`.
+    pub(crate) fn text(&self, name: &str) -> Vec<u8> {
+        match fs::read(&self.rt, name) {
+            Ok(text) => text,
+            Err(_) => {
+                self.trouble(name);
+                Vec::new(self.alloc())
+            }
+        }
+    }
+
+    /// Prints bytes with one write.
+    pub(crate) fn print(&self, bytes: &[u8]) {
+        let _ = self.rt.stdout().write_all(bytes);
+    }
+
+    /// Prints the row with one write. What takes memory between this and the next write is the
+    /// row's call.
+    pub(crate) fn begin(&self) {
+        let row = self.row;
+        match format!(in self.alloc(); "{row}\n") {
+            Ok(line) => self.print(line.as_bytes()),
+            Err(_) => self.trouble("want of memory"),
+        }
+    }
+
+    /// Prints how the call ended, without taking memory.
+    pub(crate) fn end(&self, ending: Ending) {
+        self.print(ending.line());
+    }
+
+    /// Prints that something holds, or that it doesn't.
+    pub(crate) fn report(&self, holds: bool, what: &str) {
+        let front = if holds { "" } else { "not so: " };
+        let _ = println!(self.rt; "  {front}{what}");
+    }
+
+    /// Prints why the row can't run.
+    pub(crate) fn trouble(&self, what: &str) {
+        let _ = println!(self.rt; "  trouble: {what}");
+    }
+
+    /// Prints the numbers of a span, before its answer.
+    pub(crate) fn print_span(&self, from: u64, to: u64) {
+        if from == to {
+            let _ = print!(self.rt; "  {from}: ");
+        } else {
+            let _ = print!(self.rt; "  {from} to {to}: ");
+        }
+    }
+
+    /// Whether these bytes are the text with this name in the folder `data`.
+    pub(crate) fn is_text(&self, bytes: &[u8], name: &str) -> bool {
+        self.text(name).as_slice() == bytes
+    }
+
+    /// Prints the name of a text in the folder `data`, if these bytes are that text.
+    pub(crate) fn compare(&self, bytes: &[u8], name: &str) {
+        self.report(self.is_text(bytes, name), name);
+    }
+}

@@ -1,0 +1,143 @@
+//! Growths of the reader of files, and of the state of a file.
+
+use crate::desk::Desk;
+use crate::endings::{Ending, ending_of};
+use crate::texts::{MOST_RECORDS, STEP, compare_state, file_of};
+use cif_file::{CifFile, FileFault, FileParser};
+use docker_state::State;
+
+/// A parser for a file of any length.
+fn new_parser(desk: &Desk) -> FileParser {
+    FileParser::new(desk.alloc(), MOST_RECORDS)
+}
+
+/// Feeds a text in pieces, up to the first fault.
+fn feed_all(parser: &mut FileParser, text: &[u8]) -> Result<(), FileFault> {
+    for piece in text.chunks(STEP) {
+        parser.feed(piece)?;
+    }
+    Ok(())
+}
+
+/// Whether a parser returns the same fault from each later call.
+fn repeats(mut parser: FileParser, fault: FileFault) -> bool {
+    let fed = parser.feed(b"");
+    let again = parser.feed(b"ZZ\n");
+    let finished = parser.finish().err();
+    fed == Err(fault) && again == Err(fault) && finished == Some(fault)
+}
+
+/// Compares the text of the state of a file.
+fn compare(desk: &Desk, file: CifFile, wanted: &str) {
+    match State::of_file(desk.alloc(), file) {
+        Ok(state) => compare_state(desk, &state, wanted),
+        Err(_) => desk.trouble("no state of a file"),
+    }
+}
+
+/// Compares the text of the state of the file that a fed parser returns.
+fn compare_fed(desk: &Desk, parser: FileParser, wanted: &str) {
+    match parser.finish() {
+        Ok(file) => compare(desk, file, wanted),
+        Err(_) => desk.trouble("a file is refused"),
+    }
+}
+
+/// Feeds a file to another parser.
+fn feed_again(desk: &Desk, text: &[u8], wanted: &str) {
+    let mut parser = new_parser(desk);
+    match feed_all(&mut parser, text) {
+        Ok(()) => compare_fed(desk, parser, wanted),
+        Err(_) => desk.trouble("a file is refused"),
+    }
+}
+
+/// `FILE STATE`: the parser is fed the file.
+pub(crate) fn feed(desk: &Desk, words: &[&str]) {
+    let [name, wanted] = words else {
+        return desk.trouble("FILE STATE");
+    };
+    let text = desk.text(name);
+    let mut parser = new_parser(desk);
+    desk.begin();
+    let fed = feed_all(&mut parser, text.as_slice());
+    desk.end(ending_of(&fed));
+    match fed {
+        Ok(()) => compare_fed(desk, parser, wanted),
+        Err(fault) => {
+            desk.report(repeats(parser, fault), "each later call answers the same");
+            feed_again(desk, text.as_slice(), wanted);
+        }
+    }
+}
+
+/// `FILE STATE`: the parser, which was fed the file, is asked for it.
+pub(crate) fn finish(desk: &Desk, words: &[&str]) {
+    let [name, wanted] = words else {
+        return desk.trouble("FILE STATE");
+    };
+    let text = desk.text(name);
+    let mut parser = new_parser(desk);
+    if feed_all(&mut parser, text.as_slice()).is_err() {
+        desk.trouble("a file is refused");
+    }
+    desk.begin();
+    let finished = parser.finish();
+    desk.end(ending_of(&finished));
+    match finished {
+        Ok(file) => compare(desk, file, wanted),
+        Err(_) => feed_again(desk, text.as_slice(), wanted),
+    }
+}
+
+/// Whether two files are equal.
+fn are_same(one: &CifFile, other: &CifFile) -> bool {
+    are_same_headers(one, other)
+        && one.records() == other.records()
+        && one.changes() == other.changes()
+}
+
+/// Whether the headers of two files are equal.
+fn are_same_headers(one: &CifFile, other: &CifFile) -> bool {
+    let (first, second) = (one.header(), other.header());
+    first.day() == second.day()
+        && first.minute() == second.minute()
+        && first.reference() == second.reference()
+        && first.last_reference() == second.last_reference()
+        && first.extract() == second.extract()
+}
+
+/// `FILE STATE`: the state of the file.
+pub(crate) fn of_file(desk: &Desk, words: &[&str]) {
+    let [name, wanted] = words else {
+        return desk.trouble("FILE STATE");
+    };
+    let text = desk.text(name);
+    if let Some(file) = file_of(desk, text.as_slice()) {
+        of_this_file(desk, file, text.as_slice(), wanted);
+    }
+}
+
+/// Makes the state of a file with this text.
+fn of_this_file(desk: &Desk, file: CifFile, text: &[u8], wanted: &str) {
+    desk.begin();
+    let made = State::of_file(desk.alloc(), file);
+    match made {
+        Ok(state) => {
+            desk.end(Ending::Done);
+            compare_state(desk, &state, wanted);
+        }
+        Err(back) => {
+            desk.end(Ending::Memory);
+            report_returned(desk, &back, text);
+            compare(desk, back, wanted);
+        }
+    }
+}
+
+/// Prints whether a returned file is the file of the text.
+fn report_returned(desk: &Desk, back: &CifFile, text: &[u8]) {
+    if let Some(file) = file_of(desk, text) {
+        desk.report(are_same(back, &file), "the file is handed back");
+    }
+}

@@ -1,0 +1,251 @@
+//! What offices know after events, computed from the replies.
+
+use cif_file::{FileCause, FileFault};
+use docker_office::{OfficeFault, Reply, RunFault};
+use std::alloc::{AllocError, Global};
+
+/// How many offices there are.
+pub(crate) const OFFICES: usize = 3;
+
+/// Which of the three files are known.
+#[derive(Clone, Copy, PartialEq, Eq)]
+pub(crate) struct Known {
+    /// The update of 5 June.
+    pub(crate) fifth: bool,
+    /// The full extract of 7 June.
+    pub(crate) seventh: bool,
+    /// The update of 9 June.
+    pub(crate) ninth: bool,
+}
+
+/// No file.
+const NONE: Known = Known {
+    fifth: false,
+    seventh: false,
+    ninth: false,
+};
+
+/// The update of 5 June.
+const FIFTH: Known = Known {
+    fifth: true,
+    seventh: false,
+    ninth: false,
+};
+
+/// The full extract of 7 June.
+const SEVENTH: Known = Known {
+    fifth: false,
+    seventh: true,
+    ninth: false,
+};
+
+/// The update of 9 June.
+const NINTH: Known = Known {
+    fifth: false,
+    seventh: false,
+    ninth: true,
+};
+
+impl Known {
+    /// The files known to either.
+    fn with(self, other: Known) -> Known {
+        Known {
+            fifth: self.fifth | other.fifth,
+            seventh: self.seventh | other.seventh,
+            ninth: self.ninth | other.ninth,
+        }
+    }
+
+    /// The name of the text of their state. The full extract is the floor.
+    pub(crate) fn state<'a>(self) -> &'a str {
+        if self.seventh {
+            return if self.ninth {
+                "late.state"
+            } else {
+                "seventh.state"
+            };
+        }
+        match (self.fifth, self.ninth) {
+            (false, false) => "empty.state",
+            (false, true) => "ninth.state",
+            (true, false) => "fifth.state",
+            (true, true) => "fifth-and-ninth.state",
+        }
+    }
+
+    /// The name of their docker for Ashfeld on 10 June.
+    pub(crate) fn docker<'a>(self) -> &'a str {
+        match (self.seventh, self.ninth) {
+            (false, true) => "ninth.docker",
+            (true, false) => "seventh.docker",
+            (true, true) => "late.docker",
+            (false, false) => {
+                if self.fifth {
+                    "train.docker"
+                } else {
+                    "none.docker"
+                }
+            }
+        }
+    }
+}
+
+/// An event.
+#[derive(Clone, Copy, PartialEq, Eq)]
+pub(crate) enum Step {
+    /// An office takes a file.
+    Take(usize, Known),
+    /// An office takes the file of 9 June without its end.
+    TakeOpen(usize),
+    /// An office sends its state.
+    Send(usize),
+    /// A message is delivered to an office.
+    Deliver(usize, usize),
+    /// An office reloads a message.
+    Reload(usize, usize),
+}
+
+/// The events of the run, in order.
+pub(crate) const STEPS: [Step; 18] = [
+    Step::Take(0, FIFTH),
+    Step::Send(0),
+    Step::Take(1, SEVENTH),
+    Step::Send(1),
+    Step::Take(2, NINTH),
+    Step::Send(2),
+    Step::Deliver(0, 2),
+    Step::Deliver(0, 2),
+    Step::Send(0),
+    Step::Deliver(1, 2),
+    Step::Deliver(1, 0),
+    Step::Send(1),
+    Step::Reload(0, 0),
+    Step::Deliver(0, 4),
+    Step::Deliver(2, 1),
+    Step::Deliver(3, 0),
+    Step::Deliver(0, 5),
+    Step::TakeOpen(2),
+];
+
+/// The reply to an event that runs out of memory.
+const OUT_OF_MEMORY: Reply = Reply::Refused(RunFault::Office(OfficeFault::Memory));
+
+/// What each office knows and each message carries, so far.
+#[derive(Drop)]
+pub(crate) struct Book {
+    /// The offices.
+    pub(crate) offices: [Known; OFFICES],
+    /// The messages.
+    pub(crate) messages: Vec<Known>,
+    /// Whether each reply so far is one that its event may get.
+    pub(crate) fits: bool,
+    /// How many replies were out of memory.
+    pub(crate) wanting: u32,
+}
+
+impl Book {
+    /// Nothing is known.
+    pub(crate) fn new(alloc: Global) -> Book {
+        Book {
+            offices: [NONE; OFFICES],
+            messages: Vec::new(alloc),
+            fits: true,
+            wanting: 0,
+        }
+    }
+
+    /// Records an event and its reply.
+    pub(crate) fn enter(&mut self, step: Step, reply: Reply) -> Result<(), AllocError> {
+        let wanted = self.reply_to(step);
+        if reply == OUT_OF_MEMORY {
+            self.wanting = self.wanting.saturating_add(1);
+            self.fits &= is_tried(wanted);
+            return Ok(());
+        }
+        self.fits &= reply == wanted;
+        if reply == Reply::Done {
+            self.meet(step)?;
+        }
+        Ok(())
+    }
+
+    /// The reply to an event if memory suffices.
+    fn reply_to(&self, step: Step) -> Reply {
+        match step {
+            Step::Take(_, _) | Step::Send(_) => Reply::Done,
+            Step::TakeOpen(_) => Reply::Refused(RunFault::Office(OfficeFault::File(FileFault {
+                number: 5,
+                cause: FileCause::NoEnd,
+            }))),
+            Step::Deliver(office, message) | Step::Reload(office, message) => {
+                if office >= OFFICES {
+                    Reply::Refused(RunFault::NoOffice)
+                } else if message >= self.messages.len() {
+                    Reply::Refused(RunFault::NoMessage)
+                } else {
+                    Reply::Done
+                }
+            }
+        }
+    }
+
+    /// Records what an event that was done changed.
+    fn meet(&mut self, step: Step) -> Result<(), AllocError> {
+        match step {
+            Step::Take(office, file) => self.learn(office, file),
+            Step::TakeOpen(_) => {}
+            Step::Send(office) => {
+                let files = self.known(office);
+                self.messages.push(files)?;
+            }
+            Step::Deliver(office, message) => {
+                let files = self.known_by(message);
+                self.learn(office, files);
+            }
+            Step::Reload(office, message) => {
+                let files = self.known_by(message);
+                self.set(office, files);
+            }
+        }
+        Ok(())
+    }
+
+    /// What an office knows.
+    fn known(&self, office: usize) -> Known {
+        self.offices.get(office).copied().unwrap_or(NONE)
+    }
+
+    /// What a message carries.
+    fn known_by(&self, message: usize) -> Known {
+        self.messages.get(message).copied().unwrap_or(NONE)
+    }
+
+    /// Adds these files to what an office knows.
+    fn learn(&mut self, office: usize, files: Known) {
+        let all = self.known(office).with(files);
+        self.set(office, all);
+    }
+
+    /// Sets what an office knows to these files only.
+    fn set(&mut self, office: usize, files: Known) {
+        if let Some(known) = self.offices.get_mut(office) {
+            *known = files;
+        }
+    }
+}
+
+/// Whether a reply is out of memory.
+pub(crate) fn is_out_of_memory(reply: &Reply) -> bool {
+    *reply == OUT_OF_MEMORY
+}
+
+/// Whether an event with this reply is tried at all, so that it may run out of memory.
+fn is_tried(reply: Reply) -> bool {
+    match reply {
+        Reply::Done => true,
+        Reply::Refused(fault) => match fault {
+            RunFault::NoOffice | RunFault::NoMessage => false,
+            RunFault::Office(_) => true,
+        },
+    }
+}

@@ -1,0 +1,270 @@
+//! Growths of the join of states, of the readers of their texts, of dockers, and of a sink in
+//! memory.
+
+use crate::desk::Desk;
+use crate::endings::{Ending, ending_of};
+use crate::texts::{
+    MOST_BYTES, STEP, compare_state, has_text, occasion_of, sink, source_of, state_of,
+};
+use cif_line::{Kept, Memory, Sink, write_all};
+use docker_bytes::{ReadFault, StateFault, StateParser, join_state, migrate, read_state};
+use docker_day::{Docker, docker, write_docker};
+use docker_join::Merge;
+use docker_state::State;
+
+/// `STATE OTHER JOINED`: two states are joined.
+pub(crate) fn join(desk: &Desk, words: &[&str]) {
+    let [first, second, wanted] = words else {
+        return desk.trouble("STATE OTHER JOINED");
+    };
+    let (left, right) = (desk.text(first), desk.text(second));
+    let one = state_of(desk, left.as_slice());
+    let other = state_of(desk, right.as_slice());
+    desk.begin();
+    if let Err((one, other)) = joined(desk, one, other, wanted) {
+        let same = has_text(desk, &one, left.as_slice());
+        let both = same && has_text(desk, &other, right.as_slice());
+        desk.report(both, "both states are handed back");
+        join_again(desk, one, other, wanted);
+    }
+}
+
+/// Joins two states, and compares the result. If memory runs out, both are returned.
+fn joined(desk: &Desk, one: State, other: State, wanted: &str) -> Result<(), (State, State)> {
+    match one.join(desk.alloc(), other) {
+        Ok(state) => {
+            desk.end(Ending::Done);
+            compare_state(desk, &state, wanted);
+            Ok(())
+        }
+        Err(both) => {
+            desk.end(Ending::Memory);
+            Err(both)
+        }
+    }
+}
+
+/// Joins states that were returned.
+fn join_again(desk: &Desk, one: State, other: State, wanted: &str) {
+    match one.join(desk.alloc(), other) {
+        Ok(state) => compare_state(desk, &state, wanted),
+        Err(_) => desk.trouble("want of memory"),
+    }
+}
+
+/// A parser for a text of any length.
+fn new_parser(desk: &Desk) -> StateParser {
+    StateParser::new(desk.alloc(), MOST_BYTES)
+}
+
+/// Feeds a text in pieces, up to the first fault.
+fn feed_all(parser: &mut StateParser, text: &[u8]) -> Result<(), StateFault> {
+    for piece in text.chunks(STEP) {
+        parser.feed(piece)?;
+    }
+    Ok(())
+}
+
+/// Whether a parser returns the same fault from each later call.
+fn repeats(mut parser: StateParser, fault: StateFault) -> bool {
+    let fed = parser.feed(b"").err();
+    let again = parser.feed(b"DKS2").err();
+    let finished = parser.finish().err();
+    fed == Some(fault) && again == Some(fault) && finished == Some(fault)
+}
+
+/// Compares the text of the state that a fed parser returns.
+fn compare_fed(desk: &Desk, parser: StateParser, wanted: &str) {
+    match parser.finish() {
+        Ok(state) => compare_state(desk, &state, wanted),
+        Err(_) => desk.trouble("a state is refused"),
+    }
+}
+
+/// Feeds a text to another parser.
+fn feed_again(desk: &Desk, text: &[u8], wanted: &str) {
+    let mut parser = new_parser(desk);
+    match feed_all(&mut parser, text) {
+        Ok(()) => compare_fed(desk, parser, wanted),
+        Err(_) => desk.trouble("a state is refused"),
+    }
+}
+
+/// `STATE`: the parser is fed the text.
+pub(crate) fn feed(desk: &Desk, words: &[&str]) {
+    let [name] = words else {
+        return desk.trouble("STATE");
+    };
+    let text = desk.text(name);
+    let mut parser = new_parser(desk);
+    desk.begin();
+    let fed = feed_all(&mut parser, text.as_slice());
+    desk.end(ending_of(&fed));
+    match fed {
+        Ok(()) => compare_fed(desk, parser, name),
+        Err(fault) => {
+            desk.report(repeats(parser, fault), "each later call answers the same");
+            feed_again(desk, text.as_slice(), name);
+        }
+    }
+}
+
+/// `STATE`: the parser, which was fed the text, is asked for its state.
+pub(crate) fn finish(desk: &Desk, words: &[&str]) {
+    let [name] = words else {
+        return desk.trouble("STATE");
+    };
+    let text = desk.text(name);
+    let mut parser = new_parser(desk);
+    if feed_all(&mut parser, text.as_slice()).is_err() {
+        desk.trouble("a state is refused");
+    }
+    desk.begin();
+    let finished = parser.finish();
+    desk.end(ending_of(&finished));
+    match finished {
+        Ok(state) => compare_state(desk, &state, name),
+        Err(_) => feed_again(desk, text.as_slice(), name),
+    }
+}
+
+/// `STATE`: the state is read from a source.
+pub(crate) fn read(desk: &Desk, words: &[&str]) {
+    let [name] = words else {
+        return desk.trouble("STATE");
+    };
+    let text = desk.text(name);
+    desk.begin();
+    let read = read_state(desk.alloc(), &mut source_of(text.as_slice()), MOST_BYTES);
+    desk.end(ending_of(&read));
+    match read {
+        Ok(state) => compare_state(desk, &state, name),
+        Err(_) => compare_state(desk, &state_of(desk, text.as_slice()), name),
+    }
+}
+
+/// Lets a state receive the state of a text.
+fn receive(desk: &Desk, state: &mut State, text: &[u8]) -> Result<(), ReadFault> {
+    join_state(desk.alloc(), state, &mut source_of(text), MOST_BYTES)
+}
+
+/// `STATE OTHER JOINED`: a state receives the state from a source.
+pub(crate) fn join_text(desk: &Desk, words: &[&str]) {
+    let [own, other, wanted] = words else {
+        return desk.trouble("STATE OTHER JOINED");
+    };
+    let (before, text) = (desk.text(own), desk.text(other));
+    let mut state = state_of(desk, before.as_slice());
+    desk.begin();
+    let done = receive(desk, &mut state, text.as_slice());
+    desk.end(ending_of(&done));
+    if done.is_err() {
+        let same = has_text(desk, &state, before.as_slice());
+        desk.report(same, "the state is as it was");
+        if receive(desk, &mut state, text.as_slice()).is_err() {
+            desk.trouble("a state is refused");
+        }
+    }
+    compare_state(desk, &state, wanted);
+}
+
+/// The state of a text of the older format.
+fn migrated(desk: &Desk, text: &[u8]) -> Result<State, ReadFault> {
+    migrate(desk.alloc(), &mut source_of(text), MOST_BYTES)
+}
+
+/// `OLDER STATE`: the state is read from a source in the older format.
+pub(crate) fn migrate_text(desk: &Desk, words: &[&str]) {
+    let [name, wanted] = words else {
+        return desk.trouble("OLDER STATE");
+    };
+    let text = desk.text(name);
+    desk.begin();
+    let read = migrated(desk, text.as_slice());
+    desk.end(ending_of(&read));
+    match read {
+        Ok(state) => compare_state(desk, &state, wanted),
+        Err(_) => match migrated(desk, text.as_slice()) {
+            Ok(state) => compare_state(desk, &state, wanted),
+            Err(_) => desk.trouble("a state is refused"),
+        },
+    }
+}
+
+/// Compares the text of a docker.
+fn compare_docker(desk: &Desk, docker: &Docker<'_>, wanted: &str) {
+    if let Some(mut kept) = sink(desk) {
+        let whole = write_docker(docker, &mut kept).is_ok();
+        desk.report(whole && desk.is_text(kept.bytes(), wanted), wanted);
+    }
+}
+
+/// `STATE TIPLOC DATE DOCKER`: the docker for a place and a day.
+pub(crate) fn make_docker(desk: &Desk, words: &[&str]) {
+    let [name, place, day, wanted] = words else {
+        return desk.trouble("STATE TIPLOC DATE DOCKER");
+    };
+    let text = desk.text(name);
+    let state = state_of(desk, text.as_slice());
+    if !has_made(desk, &state, [place, day, wanted], true) {
+        let same = has_text(desk, &state, text.as_slice());
+        desk.report(same, "the state is as it was");
+        if !has_made(desk, &state, [place, day, wanted], false) {
+            desk.trouble("want of memory");
+        }
+    }
+}
+
+/// Makes a docker, prints how the first call ended, and compares the docker. Returns false if
+/// memory runs out.
+fn has_made(desk: &Desk, state: &State, words: [&str; 3], is_first: bool) -> bool {
+    let [place, day, wanted] = words;
+    let Some((place, day)) = occasion_of(desk, place, day) else {
+        return true;
+    };
+    if is_first {
+        desk.begin();
+    }
+    let made = docker(desk.alloc(), state, &place, day);
+    if is_first {
+        desk.end(ending_of(&made));
+    }
+    match made {
+        Ok(made) => {
+            compare_docker(desk, &made, wanted);
+            true
+        }
+        Err(_) => false,
+    }
+}
+
+/// A sink with room for a text.
+fn room_for(desk: &Desk, text: &[u8]) -> Result<Kept, Memory> {
+    Kept::new(desk.alloc(), text.len())
+}
+
+/// Compares a text with what a sink keeps.
+fn compare_kept(desk: &Desk, kept: Result<Kept, Memory>, text: &[u8], name: &str) {
+    match kept {
+        Ok(mut kept) => {
+            let whole = kept.failures() == 0 && write_all(&mut kept, text).is_ok();
+            desk.report(whole && kept.bytes() == text, name);
+        }
+        Err(_) => desk.trouble("want of memory"),
+    }
+}
+
+/// `TEXT`: a sink with room for the text.
+pub(crate) fn keep(desk: &Desk, words: &[&str]) {
+    let [name] = words else {
+        return desk.trouble("TEXT");
+    };
+    let text = desk.text(name);
+    desk.begin();
+    let kept = room_for(desk, text.as_slice());
+    desk.end(ending_of(&kept));
+    if kept.is_err() {
+        return compare_kept(desk, room_for(desk, text.as_slice()), text.as_slice(), name);
+    }
+    compare_kept(desk, kept, text.as_slice(), name);
+}

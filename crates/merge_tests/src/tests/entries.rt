@@ -1,0 +1,154 @@
+//! Stamps, entries and ops: their order, what their join is, and what lapses.
+
+use super::same;
+use cif_file::Body;
+use cif_line::{Day, Line};
+use docker_join::{Entry, FileStamp, Merge, Op, Pick, Stamp};
+use std::alloc::Global;
+use std::process::Abort;
+
+/// An association of C10001 and C20001 at Colwell that ends on 1 January 1960.
+const ENDS_1960: &[u8; 80] =
+    b"AANC10001C200012406106001011111100VVSCOLWELL  TP                               P";
+
+/// The same association, ending on 31 December 2059.
+const ENDS_2059: &[u8; 80] =
+    b"AANC10001C200012406105912311111100VVSCOLWELL  TP                               P";
+
+/// The same association without an end: the trains join.
+const JOIN: &[u8; 80] =
+    b"AANC10001C200012406109999991111100JJSCOLWELL  TP                               P";
+
+/// The same association without an end: the train divides.
+const DIVIDE: &[u8; 80] =
+    b"AANC10001C200012406109999991111100VVSCOLWELL  TP                               P";
+
+/// The horizon after 31 December 2059, the last day of the calendar.
+const AFTER_2059: u16 = 36525;
+
+/// The put of an association.
+fn put(rt: &impl Abort, line: &[u8; 80]) -> Op {
+    Op::Put(Body::Assoc(Line::new(line).expect(rt, "a line")))
+}
+
+/// The file stamp of a file.
+fn file(rt: &impl Abort, day: u16, minute: u16, reference: &[u8; 7]) -> FileStamp {
+    FileStamp {
+        day: Day::from_number(day).expect(rt, "a day"),
+        minute,
+        reference: *reference,
+    }
+}
+
+/// The op of the entry at this place in ascending order.
+fn op(rt: &impl Abort, place: u8) -> Op {
+    match place {
+        1 => Op::Deleted,
+        2 => Op::Lapsed,
+        3 => put(rt, ENDS_1960),
+        4 => put(rt, ENDS_2059),
+        5 => Op::Put(Body::Tiploc([b' '; 63])),
+        7 => put(rt, DIVIDE),
+        8 => Op::Deleted,
+        _ => put(rt, JOIN),
+    }
+}
+
+/// The record number of that entry.
+fn number(place: u8) -> u32 {
+    match place {
+        0 => 2,
+        8 => 4,
+        _ => 3,
+    }
+}
+
+/// The entry at this place in ascending order.
+pub(super) fn entry(rt: &impl Abort, place: u8) -> Entry {
+    let stamp = Stamp {
+        file: file(rt, 23536, 1260, b"DFROC1A"),
+        number: number(place),
+    };
+    let op = op(rt, place);
+    Entry { stamp, op }
+}
+
+/// Asserts that a file stamp is below another, and that their join is the greater one.
+fn file_is_below(rt: &impl Abort, alloc: Global, low: FileStamp, high: FileStamp) {
+    same(rt, low < high, true);
+    same(rt, low.pick(high), high);
+    same(rt, high.pick(low), high);
+    same(rt, low.join(alloc, high), Ok(high));
+    same(rt, high.join(alloc, low), Ok(high));
+}
+
+#[test]
+fn file_stamps(rt: HostRuntime) {
+    let alloc = rt.alloc();
+    let low = file(&rt, 23536, 1260, b"DFROC1B");
+    file_is_below(&rt, alloc, low, file(&rt, 23537, 0, b"DFROC1C"));
+    let low = file(&rt, 23537, 0, b"DFROC1C");
+    file_is_below(&rt, alloc, low, file(&rt, 23537, 1260, b"DFROC1A"));
+    let low = file(&rt, 23537, 1260, b"DFROC1A");
+    file_is_below(&rt, alloc, low, file(&rt, 23537, 1260, b"DFROC1B"));
+}
+
+#[test]
+fn stamps(rt: HostRuntime) {
+    let low = Stamp {
+        file: file(&rt, 23536, 1260, b"DFROC1A"),
+        number: 7,
+    };
+    let high = Stamp {
+        file: file(&rt, 23536, 1260, b"DFROC1B"),
+        number: 2,
+    };
+    let next = Stamp { number: 3, ..high };
+    same(&rt, low < high, true);
+    same(&rt, high < next, true);
+    same(&rt, high.pick(low), high);
+    same(&rt, high.join(rt.alloc(), next), Ok(next));
+}
+
+/// Asserts that one entry is below another, and that their join is the greater one.
+fn is_below(rt: &impl Abort, alloc: Global, low: u8, high: u8) {
+    same(rt, entry(rt, low) < entry(rt, high), true);
+    same(rt, entry(rt, low).pick(entry(rt, high)), entry(rt, high));
+    same(rt, entry(rt, high).pick(entry(rt, low)), entry(rt, high));
+    let joined = entry(rt, high).join(alloc, entry(rt, low));
+    same(rt, joined, Ok(entry(rt, high)));
+}
+
+#[test]
+fn entries(rt: HostRuntime) {
+    is_below(&rt, rt.alloc(), 0, 1);
+    is_below(&rt, rt.alloc(), 1, 2);
+    is_below(&rt, rt.alloc(), 2, 3);
+    is_below(&rt, rt.alloc(), 3, 4);
+    is_below(&rt, rt.alloc(), 4, 5);
+    is_below(&rt, rt.alloc(), 5, 6);
+    is_below(&rt, rt.alloc(), 6, 7);
+    is_below(&rt, rt.alloc(), 7, 8);
+}
+
+/// Asserts that a horizon leaves the op of an entry as it is.
+fn stays(rt: &impl Abort, place: u8, horizon: u16) {
+    same(rt, op(rt, place).lapse(horizon), op(rt, place));
+}
+
+/// Asserts that the entry lapses under the horizon.
+fn lapses(rt: &impl Abort, place: u8, horizon: u16) {
+    same(rt, op(rt, place).lapse(horizon), Op::Lapsed);
+}
+
+#[test]
+fn ops_lapse(rt: HostRuntime) {
+    stays(&rt, 1, 65535);
+    stays(&rt, 2, 65535);
+    stays(&rt, 3, 0);
+    stays(&rt, 4, AFTER_2059 - 1);
+    stays(&rt, 5, 65535);
+    stays(&rt, 6, 65535);
+    lapses(&rt, 3, 1);
+    lapses(&rt, 4, AFTER_2059);
+}

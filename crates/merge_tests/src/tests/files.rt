@@ -1,0 +1,285 @@
+//! The state of one file, and the join of several.
+
+use super::records::{
+    BS, BS_C10002, BS_C10003, BS_DELETED, BS_LONGER, BS_REVISED, HD_5A, HD_7B, HD_8A, HD_9A,
+    HD_9A_FULL, HD_9B, HD_9C, HD_10B, LO, LO_0850, LO_0905, LO_1000, LO_1100, LT, LT_0935, LT_1030,
+    LT_1130, NEW, TA, TI, ZZ,
+};
+use super::{file, joined, made_is, pair, same, shown, shown_again, state, state_is};
+use cif_file::{CifFile, Key};
+use cif_line::Tiploc;
+use docker_join::Merge;
+use docker_state::State;
+use std::alloc::Global;
+use std::process::Abort;
+
+/// Asserts that a state has nothing at a timing point.
+fn has_none_at(rt: &impl Abort, state: &State, code: &str) {
+    let code = Tiploc::from_text(code).expect(rt, "a TIPLOC");
+    same(rt, state.get(&Key::Tiploc(code)), None);
+}
+
+#[test]
+fn no_file(rt: HostRuntime) {
+    let alloc = rt.alloc();
+    let empty = State::empty(alloc);
+    state_is(&rt, alloc, &empty, &[]);
+    has_none_at(&rt, &empty, "ASHFELD");
+    let twice = joined(&rt, alloc, empty, State::empty(alloc));
+    state_is(&rt, alloc, &twice, &[]);
+    let one = state(&rt, alloc, &[HD_9A, TI, ZZ]);
+    let before = shown(&rt, alloc, &one);
+    same(&rt, before.is_empty(), false);
+    let all = joined(&rt, alloc, twice, one);
+    shown_again(&rt, alloc, &all, before.as_slice());
+    has_none_at(&rt, &all, "ASHFLDN");
+}
+
+/// Asserts that the state of a file is shown as these lines.
+fn file_is(rt: &impl Abort, alloc: Global, file: &[&[u8]], lines: &[&[u8]]) {
+    made_is(rt, alloc, state(rt, alloc, file), lines);
+}
+
+/// How the state of a file is shown that deletes an entry after putting it.
+const PUT_AND_DELETED: &[&[u8]] = &[
+    b"item 23536 1260 DFROC1A U DFROC1Z",
+    b"C10001 23537: record 5 of 23536 1260 DFROC1A",
+    b"deleted",
+];
+
+/// How the state of the same file is shown if it is a full extract.
+const PUT_AND_DELETED_IN_FULL: &[&[u8]] = &[
+    b"item 23536 1260 DFROC1A F DFROC1Z",
+    b"floor 23536 1260 DFROC1A",
+    b"C10001 23537: record 5 of 23536 1260 DFROC1A",
+    b"deleted",
+];
+
+#[test]
+fn one_file(rt: HostRuntime) {
+    let alloc = rt.alloc();
+    let update: &[&[u8]] = &[HD_9A, BS, LO, LT, BS_DELETED, ZZ];
+    file_is(&rt, alloc, update, PUT_AND_DELETED);
+    let full: &[&[u8]] = &[HD_9A_FULL, BS, LO, LT, BS_DELETED, ZZ];
+    file_is(&rt, alloc, full, PUT_AND_DELETED_IN_FULL);
+}
+
+/// Joins the states of two files, then joins the first once more.
+fn merged_back(rt: &impl Abort, alloc: Global, one: &[&[u8]], other: &[&[u8]]) -> State {
+    let both = pair(rt, alloc, one, other);
+    joined(rt, alloc, both, state(rt, alloc, one))
+}
+
+/// Joins the states of two files, then joins the second once more.
+fn merged_twice(rt: &impl Abort, alloc: Global, one: &[&[u8]], other: &[&[u8]]) -> State {
+    let second = state(rt, alloc, other);
+    joined(rt, alloc, second, merged_back(rt, alloc, one, other))
+}
+
+/// Asserts that the join of the states of two files is shown as these lines, in either order, and
+/// again after either is joined once more.
+fn pair_is(rt: &impl Abort, alloc: Global, one: &[&[u8]], other: &[&[u8]], lines: &[&[u8]]) {
+    made_is(rt, alloc, pair(rt, alloc, one, other), lines);
+    made_is(rt, alloc, pair(rt, alloc, other, one), lines);
+    made_is(rt, alloc, merged_back(rt, alloc, one, other), lines);
+    made_is(rt, alloc, merged_twice(rt, alloc, one, other), lines);
+}
+
+/// A file of one schedule.
+const ONE_SCHEDULE: &[&[u8]] = &[HD_9A, BS, LO, LT, ZZ];
+
+/// How the join of a schedule and its revision is shown.
+pub(super) const REVISED: &[&[u8]] = &[
+    b"item 23536 1260 DFROC1A U DFROC1Z",
+    b"item 23537 1260 DFROC1B U DFROC1A",
+    b"C10001 23537: record 2 of 23537 1260 DFROC1B",
+    BS,
+    LO_0905,
+    LT_0935,
+    b"live C10001 23537",
+    BS,
+    LO_0905,
+    LT_0935,
+];
+
+/// How the join of a deletion and an older schedule is shown.
+const DELETED_FIRST: &[&[u8]] = &[
+    b"item 23535 1260 DFROC1A U DFROC1Z",
+    b"item 23536 1260 DFROC1B U DFROC1A",
+    b"C10001 23537: record 2 of 23536 1260 DFROC1B",
+    b"deleted",
+];
+
+/// How the join of a timing point and its new code is shown.
+const RENAMED: &[&[u8]] = &[
+    b"item 23536 1260 DFROC1A U DFROC1Z",
+    b"item 23537 1260 DFROC1B U DFROC1A",
+    b"ASHFELD: record 2 of 23537 1260 DFROC1B",
+    b"deleted",
+    b"ASHFLDN: record 2 of 23537 1260 DFROC1B",
+    &NEW,
+    b"live ASHFLDN",
+    &NEW,
+];
+
+/// How the join of two files with one file stamp is shown.
+const OF_ONE_STAMP: &[&[u8]] = &[
+    b"item 23536 1260 DFROC1A F DFROC1Z",
+    b"item 23536 1260 DFROC1A U DFROC1Z",
+    b"floor 23536 1260 DFROC1A",
+    b"C10001 23537: record 2 of 23536 1260 DFROC1A",
+    BS,
+    LO,
+    LT,
+    b"live C10001 23537",
+    BS,
+    LO,
+    LT,
+];
+
+#[test]
+fn two_files(rt: HostRuntime) {
+    let alloc = rt.alloc();
+    let revision: &[&[u8]] = &[HD_10B, BS_REVISED, LO_0905, LT_0935, ZZ];
+    pair_is(&rt, alloc, ONE_SCHEDULE, revision, REVISED);
+    let deletion: &[&[u8]] = &[HD_9B, BS_DELETED, ZZ];
+    let older: &[&[u8]] = &[HD_8A, BS, LO, LT, ZZ];
+    pair_is(&rt, alloc, deletion, older, DELETED_FIRST);
+    let (inserted, amended): (&[&[u8]], &[&[u8]]) = (&[HD_9A, TI, ZZ], &[HD_10B, TA, ZZ]);
+    pair_is(&rt, alloc, inserted, amended, RENAMED);
+    let full: &[&[u8]] = &[HD_9A_FULL, BS, LO, LT, ZZ];
+    pair_is(&rt, alloc, ONE_SCHEDULE, full, OF_ONE_STAMP);
+}
+
+/// Asserts which of two schedules from files with the same stamp wins: the one with this basic
+/// record and this origin.
+fn stays(rt: &impl Abort, alloc: Global, other: &[&[u8]], basic: &[u8], origin: &[u8]) {
+    let lines: &[&[u8]] = &[
+        b"item 23536 1260 DFROC1A U DFROC1Z",
+        b"C10001 23537: record 2 of 23536 1260 DFROC1A",
+        basic,
+        origin,
+        LT,
+        b"live C10001 23537",
+        basic,
+        origin,
+        LT,
+    ];
+    pair_is(rt, alloc, ONE_SCHEDULE, other, lines);
+}
+
+#[test]
+fn equal_stamps(rt: HostRuntime) {
+    let alloc = rt.alloc();
+    let later_end: &[&[u8]] = &[HD_9A, BS_LONGER, LO_0850, LT, ZZ];
+    stays(&rt, alloc, later_end, BS_LONGER, LO_0850);
+    let greater_bytes: &[&[u8]] = &[HD_9A, BS, LO_0905, LT, ZZ];
+    stays(&rt, alloc, greater_bytes, BS, LO_0905);
+    stays(&rt, alloc, &[HD_9A, BS_DELETED, ZZ], BS, LO);
+}
+
+/// How the join of an update, a later full extract and a still later update is shown.
+const THREE_FILES: &[&[u8]] = &[
+    b"item 23534 1260 DFROC1B F DFROC1A",
+    b"item 23536 1260 DFROC1C U DFROC1B",
+    b"floor 23534 1260 DFROC1B",
+    b"C10001 23537: record 2 of 23536 1260 DFROC1C",
+    BS,
+    LO_1100,
+    LT_1130,
+    b"C10002 23537: record 2 of 23534 1260 DFROC1B",
+    BS_C10002,
+    LO_1000,
+    LT_1030,
+    b"live C10001 23537",
+    BS,
+    LO_1100,
+    LT_1130,
+    b"live C10002 23537",
+    BS_C10002,
+    LO_1000,
+    LT_1030,
+];
+
+/// Asserts that the join of the states of three files is shown as these lines, whichever two are
+/// joined first.
+fn three_are(rt: &impl Abort, alloc: Global, first: &[&[u8]], second: &[&[u8]], third: &[&[u8]]) {
+    let front = pair(rt, alloc, first, second);
+    let all = joined(rt, alloc, front, state(rt, alloc, third));
+    made_is(rt, alloc, all, THREE_FILES);
+    let front = state(rt, alloc, first);
+    let all = joined(rt, alloc, front, pair(rt, alloc, second, third));
+    made_is(rt, alloc, all, THREE_FILES);
+}
+
+#[test]
+fn a_late_full_extract(rt: HostRuntime) {
+    let alloc = rt.alloc();
+    let u5: &[&[u8]] = &[HD_5A, BS_C10003, BS, LO, LT, ZZ];
+    let f7: &[&[u8]] = &[HD_7B, BS_C10002, LO_1000, LT_1030, ZZ];
+    let u9: &[&[u8]] = &[HD_9C, BS, LO_1100, LT_1130, ZZ];
+    three_are(&rt, alloc, u5, f7, u9);
+    three_are(&rt, alloc, u5, u9, f7);
+    three_are(&rt, alloc, f7, u5, u9);
+    three_are(&rt, alloc, f7, u9, u5);
+    three_are(&rt, alloc, u9, u5, f7);
+    three_are(&rt, alloc, u9, f7, u5);
+}
+
+/// The join of two states. If memory runs out, a second try with the states that were returned.
+fn joined_again(
+    rt: &impl Abort,
+    alloc: Global,
+    one: State,
+    other: State,
+    before: [&[u8]; 2],
+) -> State {
+    match one.join(alloc, other) {
+        Ok(joined) => joined,
+        Err((one, other)) => {
+            shown_again(rt, alloc, &one, before[0]);
+            shown_again(rt, alloc, &other, before[1]);
+            joined(rt, alloc, one, other)
+        }
+    }
+}
+
+/// The state of a file of five records and one change. If memory runs out, a second try with the
+/// file that was returned.
+fn of_file_again(rt: &impl Abort, alloc: Global, file: CifFile) -> State {
+    match State::of_file(alloc, file) {
+        Ok(state) => state,
+        Err(file) => {
+            same(rt, file.records(), 5);
+            same(rt, file.changes().len(), 1);
+            State::of_file(alloc, file).expect(rt, "memory")
+        }
+    }
+}
+
+/// Asserts that two states are joined by the second try at the latest.
+fn join_succeeds(rt: &impl Abort, alloc: Global, one: State, other: State) {
+    let before = shown(rt, alloc, &one);
+    let before_other = shown(rt, alloc, &other);
+    let before = [before.as_slice(), before_other.as_slice()];
+    let joined = joined_again(rt, alloc, one, other, before);
+    same(rt, joined.entries().len(), 2);
+}
+
+/// Asserts that the state of a file of five records and one change is made by the second try at the
+/// latest.
+fn of_file_succeeds(rt: &impl Abort, alloc: Global, records: &[&[u8]]) {
+    let one = state(rt, alloc, records);
+    let before = shown(rt, alloc, &one);
+    let again = of_file_again(rt, alloc, file(rt, alloc, records));
+    shown_again(rt, alloc, &again, before.as_slice());
+}
+
+#[test]
+fn out_of_memory(rt: HostRuntime) {
+    let alloc = rt.alloc();
+    let one = state(&rt, alloc, ONE_SCHEDULE);
+    let other = state(&rt, alloc, &[HD_10B, TI, ZZ]);
+    join_succeeds(&rt, alloc, one, other);
+    of_file_succeeds(&rt, alloc, ONE_SCHEDULE);
+}

@@ -1,0 +1,126 @@
+//! What lapses under a horizon, and what stays.
+
+use super::records::{
+    AA_NO_END, BS, BS_C10003, BS_JULY, BS_NO_END, BS_REVISED, CENTRAL, HD_8A, HD_9A, HD_10B, LO,
+    LO_0905, LT, LT_0935, TI, ZZ,
+};
+use super::{joined, made_is, set, set_on};
+use docker_state::State;
+use std::alloc::Global;
+use std::process::Abort;
+
+/// How a schedule is shown on its last day.
+const LIVE: &[&[u8]] = &[
+    b"horizon 23541",
+    b"item 23536 1260 DFROC1A U DFROC1Z",
+    b"C10001 23537: record 2 of 23536 1260 DFROC1A",
+    BS,
+    LO,
+    LT,
+    b"live C10001 23537",
+    BS,
+    LO,
+    LT,
+];
+
+/// How it is shown the day after.
+const LAPSED: &[&[u8]] = &[
+    b"horizon 23542",
+    b"item 23536 1260 DFROC1A U DFROC1Z",
+    b"C10001 23537: record 2 of 23536 1260 DFROC1A",
+    b"lapsed",
+];
+
+/// Asserts that a schedule is shown as these lines after horizons are set one by one.
+fn under_is(rt: &impl Abort, alloc: Global, days: &[&str], lines: &[&[u8]]) {
+    let file: &[&[u8]] = &[HD_9A, BS, LO, LT, ZZ];
+    made_is(rt, alloc, set_on(rt, alloc, file, days), lines);
+}
+
+#[test]
+fn a_horizon(rt: HostRuntime) {
+    let alloc = rt.alloc();
+    under_is(&rt, alloc, &["2024-06-14"], LIVE);
+    under_is(&rt, alloc, &["2024-06-14", "2024-06-15"], LAPSED);
+    under_is(&rt, alloc, &["2024-06-15", "2024-06-10"], LAPSED);
+}
+
+/// The file of a revision.
+const REVISION: &[&[u8]] = &[HD_10B, BS_REVISED, LO_0905, LT_0935, ZZ];
+
+/// An older file, whose schedule ends later.
+const OLDER: &[&[u8]] = &[HD_8A, BS_JULY, LO, LT, ZZ];
+
+/// How the join of both is shown under a horizon after the end of the revision.
+const REVISION_LAPSED: &[&[u8]] = &[
+    b"horizon 23542",
+    b"item 23535 1260 DFROC1A U DFROC1Z",
+    b"item 23537 1260 DFROC1B U DFROC1A",
+    b"C10001 23537: record 2 of 23537 1260 DFROC1B",
+    b"lapsed",
+];
+
+/// Asserts that the revision has lapsed in the join of two states, after these days are set for the
+/// join.
+fn has_lapsed(rt: &impl Abort, alloc: Global, one: State, other: State, days: &[&str]) {
+    let both = joined(rt, alloc, one, other);
+    made_is(rt, alloc, set(rt, both, days), REVISION_LAPSED);
+}
+
+/// Asserts that the revision has lapsed whether these days are set for the first file, for the
+/// second, or after the join.
+fn lapses(
+    rt: &impl Abort,
+    alloc: Global,
+    (one, its): (&[&[u8]], &[&str]),
+    (other, theirs): (&[&[u8]], &[&str]),
+    last: &[&str],
+) {
+    let first = set_on(rt, alloc, one, its);
+    let second = set_on(rt, alloc, other, theirs);
+    has_lapsed(rt, alloc, first, second, last);
+}
+
+#[test]
+fn a_horizon_between_two_files(rt: HostRuntime) {
+    let alloc = rt.alloc();
+    let none: &[&str] = &[];
+    let day: &[&str] = &["2024-06-15"];
+    lapses(&rt, alloc, (REVISION, day), (OLDER, none), none);
+    lapses(&rt, alloc, (OLDER, day), (REVISION, none), none);
+    lapses(&rt, alloc, (OLDER, none), (REVISION, day), none);
+    lapses(&rt, alloc, (OLDER, day), (REVISION, day), none);
+    lapses(&rt, alloc, (REVISION, none), (OLDER, none), day);
+}
+
+/// A schedule without an end, and a deletion, under the last possible horizon.
+const WITHOUT_END: &[&[u8]] = &[
+    b"horizon 36524",
+    b"item 23536 1260 DFROC1A U DFROC1Z",
+    b"ASHFELD: record 2 of 23536 1260 DFROC1A",
+    &CENTRAL,
+    b"C10001: record 3 of 23536 1260 DFROC1A",
+    AA_NO_END,
+    b"C10001 23537: record 4 of 23536 1260 DFROC1A",
+    BS_NO_END,
+    LO,
+    LT,
+    b"C10003 23537: record 7 of 23536 1260 DFROC1A",
+    b"deleted",
+    b"live ASHFELD",
+    &CENTRAL,
+    b"live C10001",
+    AA_NO_END,
+    b"live C10001 23537",
+    BS_NO_END,
+    LO,
+    LT,
+];
+
+#[test]
+fn what_has_no_end_stays(rt: HostRuntime) {
+    let alloc = rt.alloc();
+    let file: &[&[u8]] = &[HD_9A, TI, AA_NO_END, BS_NO_END, LO, LT, BS_C10003, ZZ];
+    let one = set_on(&rt, alloc, file, &["2059-12-31"]);
+    made_is(&rt, alloc, one, WITHOUT_END);
+}

@@ -1,0 +1,211 @@
+//! Indexes of rows: which rows call or are linked at which places, what a lapse removes, and what a
+//! join contains.
+
+use super::same;
+use cif_file::{AssocKey, Body, Key, Lines, ScheduleKey};
+use cif_line::{Day, Line, Stp, Tiploc, Uid};
+use docker_index::{Index, Mark, Moves, Room, notes_of_rows};
+use docker_join::{Entry, FileStamp, Merge, Op, Stamp, Table};
+use std::alloc::Global;
+use std::process::Abort;
+
+/// An association at Colwell.
+const AT_COLWELL: &[u8; 80] =
+    b"AANC10001C200012406109999991111100JJSCOLWELL  TP                               P";
+
+/// A schedule that calls at Ashfeld twice, at Brayton and at Colwell, and is changed at Denham.
+const ROUND: &[&[u8; 80]] = &[
+    b"BSNC100012406109999991111100                                                    ",
+    b"LOASHFELD  1200                                                                 ",
+    b"LIBRAYTON  1210                                                                 ",
+    b"CRDENHAM                                                                        ",
+    b"LIASHFELD 21220                                                                 ",
+    b"LTCOLWELL  1230                                                                 ",
+];
+
+/// A schedule from Brayton to Ashfeld that ends on 1 January 1960.
+const SHORT: &[&[u8; 80]] = &[
+    b"BSNC200012406106001011111100                                                    ",
+    b"LOBRAYTON  1300                                                                 ",
+    b"LTASHFELD  1310                                                                 ",
+];
+
+/// A TIPLOC.
+fn tiploc(rt: &impl Abort, code: &str) -> Tiploc {
+    Tiploc::from_text(code).expect(rt, "a TIPLOC")
+}
+
+/// A UID.
+fn uid(rt: &impl Abort, text: &[u8; 6]) -> Uid {
+    Uid::from_field(text).expect(rt, "a UID")
+}
+
+/// The file stamp of a file dated this day.
+fn file(rt: &impl Abort, day: u16) -> FileStamp {
+    FileStamp {
+        day: Day::from_number(day).expect(rt, "a day"),
+        minute: 1260,
+        reference: *b"DFROC1A",
+    }
+}
+
+/// The put of an association.
+fn link(rt: &impl Abort, record: &[u8; 80]) -> Op {
+    Op::Put(Body::Assoc(Line::new(record).expect(rt, "a line")))
+}
+
+/// The put of a schedule of these records.
+fn put(rt: &impl Abort, alloc: Global, records: &[&[u8; 80]]) -> Op {
+    let mut lines = Vec::new(alloc);
+    for record in records {
+        let line = Line::new(*record).expect(rt, "a line");
+        lines.push(line).expect(rt, "memory");
+    }
+    Op::Put(Body::Schedule(Lines::of(lines)))
+}
+
+/// The key of a schedule.
+fn schedule(rt: &impl Abort, text: &[u8; 6]) -> Key {
+    Key::Schedule(ScheduleKey {
+        uid: uid(rt, text),
+        runs_from: Day::from_number(23536).expect(rt, "a day"),
+        stp: Stp::Permanent,
+    })
+}
+
+/// The key of the association at Colwell.
+fn association(rt: &impl Abort) -> Key {
+    Key::Assoc(AssocKey {
+        base: uid(rt, b"C10001"),
+        associated: uid(rt, b"C20001"),
+        start: Day::from_number(23536).expect(rt, "a day"),
+        location: tiploc(rt, "COLWELL"),
+        suffix: b' ',
+        stp: Stp::Permanent,
+    })
+}
+
+/// A table with one more row, from a file dated this day.
+fn and(
+    rt: &impl Abort,
+    alloc: Global,
+    table: Table<Entry>,
+    key: Key,
+    day: u16,
+    op: Op,
+) -> Table<Entry> {
+    let stamp = Stamp {
+        file: file(rt, day),
+        number: 2,
+    };
+    let mut rows = Vec::new(alloc);
+    rows.push((key, Entry { stamp, op })).expect(rt, "memory");
+    table
+        .join(alloc, Table::from_rows(rows))
+        .expect(rt, "memory")
+}
+
+/// The table of an association, a round trip, a short trip, and a schedule that is deleted.
+fn timetable(rt: &impl Abort, alloc: Global) -> Table<Entry> {
+    let all = Table::new(alloc);
+    let all = and(rt, alloc, all, association(rt), 23536, link(rt, AT_COLWELL));
+    let round = put(rt, alloc, ROUND);
+    let all = and(rt, alloc, all, schedule(rt, b"C10001"), 23536, round);
+    let short = put(rt, alloc, SHORT);
+    let all = and(rt, alloc, all, schedule(rt, b"C20001"), 23536, short);
+    and(rt, alloc, all, schedule(rt, b"C30001"), 23536, Op::Deleted)
+}
+
+/// A later table: another short trip, and the round trip is deleted.
+fn update(rt: &impl Abort, alloc: Global) -> Table<Entry> {
+    let short = put(rt, alloc, SHORT);
+    let all = Table::new(alloc);
+    let all = and(rt, alloc, all, schedule(rt, b"A00001"), 23537, short);
+    and(rt, alloc, all, schedule(rt, b"C10001"), 23537, Op::Deleted)
+}
+
+/// The index of a table's rows.
+fn indexed(rt: &impl Abort, alloc: Global, table: &Table<Entry>) -> Index {
+    let rows = table.as_slice();
+    let notes = notes_of_rows(alloc, rows).expect(rt, "memory");
+    let room = Room::for_notes(alloc, &notes).expect(rt, "memory");
+    Index::of_rows(room, notes, rows)
+}
+
+/// The index of the join of the timetable and the update, under a floor.
+fn joined(rt: &impl Abort, alloc: Global, floor: &Option<FileStamp>) -> Index {
+    let own = timetable(rt, alloc);
+    let other = update(rt, alloc);
+    let (rows, others) = (own.as_slice(), other.as_slice());
+    let moves = Moves::with_room(alloc, rows.len(), others.len()).expect(rt, "memory");
+    let moves = moves.of_tables(rows, others, floor, 0);
+    let first = indexed(rt, alloc, &own);
+    let second = indexed(rt, alloc, &other);
+    Index::of_join(alloc, &first, &second, &moves).expect(rt, "memory")
+}
+
+/// Asserts that a mark points to this row at this place.
+fn mark_is(rt: &impl Abort, index: &Index, mark: &Mark, code: &str, at: u32) {
+    let place = index.places.get(mark.place as usize).expect(rt, "a place");
+    same(rt, place, tiploc(rt, code).bytes());
+    same(rt, mark.at, at);
+}
+
+/// Asserts that marks point to these rows at these places.
+fn marks_are(rt: &impl Abort, index: &Index, marks: &[Mark], wanted: &[(&str, u32)]) {
+    same(rt, marks.len(), wanted.len());
+    for (mark, (code, at)) in marks.iter().zip(wanted) {
+        mark_is(rt, index, mark, code, *at);
+    }
+}
+
+/// Asserts that these rows call, and that the association is linked at Colwell.
+fn index_is(rt: &impl Abort, index: &Index, calls: &[(&str, u32)]) {
+    marks_are(rt, index, index.calls.as_slice(), calls);
+    marks_are(rt, index, index.links.as_slice(), &[("COLWELL", 0)]);
+}
+
+#[test]
+fn places_of_a_timetable(rt: HostRuntime) {
+    let table = timetable(&rt, rt.alloc());
+    let index = indexed(&rt, rt.alloc(), &table);
+    let calls = [
+        ("ASHFELD", 1),
+        ("ASHFELD", 2),
+        ("BRAYTON", 1),
+        ("BRAYTON", 2),
+        ("COLWELL", 1),
+    ];
+    index_is(&rt, &index, &calls);
+}
+
+#[test]
+fn a_lapse_takes_marks_out(rt: HostRuntime) {
+    let mut table = timetable(&rt, rt.alloc());
+    let mut index = indexed(&rt, rt.alloc(), &table);
+    table.lapse(1);
+    index.lapse(table.as_slice());
+    let calls = [("ASHFELD", 1), ("BRAYTON", 1), ("COLWELL", 1)];
+    index_is(&rt, &index, &calls);
+}
+
+#[test]
+fn a_join_has_both(rt: HostRuntime) {
+    let index = joined(&rt, rt.alloc(), &None);
+    let calls = [
+        ("ASHFELD", 1),
+        ("ASHFELD", 3),
+        ("BRAYTON", 1),
+        ("BRAYTON", 3),
+    ];
+    index_is(&rt, &index, &calls);
+}
+
+#[test]
+fn a_join_keeps_what_the_floor_does(rt: HostRuntime) {
+    let floor = Some(file(&rt, 23537));
+    let index = joined(&rt, rt.alloc(), &floor);
+    let calls = [("ASHFELD", 0), ("BRAYTON", 0)];
+    marks_are(&rt, &index, index.calls.as_slice(), &calls);
+    same(&rt, index.links.len(), 0);
+}

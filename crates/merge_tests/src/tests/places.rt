@@ -1,0 +1,152 @@
+//! What calls and what is linked at a TIPLOC.
+
+use super::records::{
+    AA_COLWELL, BS, BS_C30001, BS_C30002, BS_C30002_DELETED, BS_DELETED, HD_8A, HD_9A, HD_9B,
+    HD_10B, LI_COLWELL, LI_COLWELL_AGAIN, LO, LO_1000_PLAIN, LO_COLWELL, LT, LT_1100_PLAIN,
+    LT_DUNMERE, ZZ,
+};
+use super::shown::{add, add_body, add_key};
+use super::{joined, pair, same, set_on, state, text};
+use cif_file::{Body, Key};
+use cif_line::{Tiploc, Uid};
+use docker_state::State;
+use std::alloc::Global;
+use std::process::Abort;
+
+/// Adds a word, then a key that was found and its body, to a text.
+fn add_found(
+    rt: &impl Abort,
+    alloc: Global,
+    text: &mut Vec<u8>,
+    word: &[u8],
+    key: &Key,
+    body: &Body,
+) {
+    add(rt, text, word);
+    add_key(rt, alloc, text, key);
+    add(rt, text, b"\n");
+    add_body(rt, text, body);
+}
+
+/// Adds the schedules that call at a TIPLOC to a text.
+fn add_calling(rt: &impl Abort, alloc: Global, text: &mut Vec<u8>, state: &State, at: &Tiploc) {
+    for (key, body) in state.calling(at) {
+        add_found(rt, alloc, text, b"calls ", key, body);
+    }
+}
+
+/// Adds the associations that are linked at a TIPLOC to a text.
+fn add_linked(rt: &impl Abort, alloc: Global, text: &mut Vec<u8>, state: &State, at: &Tiploc) {
+    for (key, body) in state.linked(at) {
+        add_found(rt, alloc, text, b"linked ", key, body);
+    }
+}
+
+/// Adds the schedules of a UID to a text.
+fn add_of_uid(rt: &impl Abort, alloc: Global, text: &mut Vec<u8>, state: &State, uid: &Uid) {
+    for (key, body) in state.of_uid(uid) {
+        add_found(rt, alloc, text, b"of it ", key, body);
+    }
+}
+
+/// Asserts that what calls and what is linked at a TIPLOC, and the schedules of C30002, are shown
+/// as these lines.
+fn found_is(rt: &impl Abort, alloc: Global, state: &State, tiploc: &str, lines: &[&[u8]]) {
+    let mut found = Vec::new(alloc);
+    let tiploc = Tiploc::from_text(tiploc).expect(rt, "a TIPLOC");
+    add_calling(rt, alloc, &mut found, state, &tiploc);
+    add_linked(rt, alloc, &mut found, state, &tiploc);
+    let uid = Uid::from_field(b"C30002").expect(rt, "a UID");
+    add_of_uid(rt, alloc, &mut found, state, &uid);
+    let wanted = text(rt, alloc, lines);
+    same(rt, found.as_slice(), wanted.as_slice());
+}
+
+/// A file of two schedules that call at Colwell, one of them twice, and of their association there.
+const FILE: &[&[u8]] = &[
+    HD_9A,
+    BS_C30001,
+    LO_1000_PLAIN,
+    LI_COLWELL,
+    LI_COLWELL_AGAIN,
+    LT_1100_PLAIN,
+    BS_C30002,
+    LO_COLWELL,
+    LT_DUNMERE,
+    AA_COLWELL,
+    ZZ,
+];
+
+/// What is shown at Colwell for that file.
+const AT_COLWELL: &[&[u8]] = &[
+    b"calls C30001 23537",
+    BS_C30001,
+    LO_1000_PLAIN,
+    LI_COLWELL,
+    LI_COLWELL_AGAIN,
+    LT_1100_PLAIN,
+    b"calls C30002 23537",
+    BS_C30002,
+    LO_COLWELL,
+    LT_DUNMERE,
+    b"linked C30001",
+    AA_COLWELL,
+    b"of it C30002 23537",
+    BS_C30002,
+    LO_COLWELL,
+    LT_DUNMERE,
+];
+
+/// What is shown at a place where nothing calls.
+const AT_ELM: &[&[u8]] = &[b"of it C30002 23537", BS_C30002, LO_COLWELL, LT_DUNMERE];
+
+/// What is shown at Colwell after C30002 is deleted.
+const LEFT_AT_COLWELL: &[&[u8]] = &[
+    b"calls C30001 23537",
+    BS_C30001,
+    LO_1000_PLAIN,
+    LI_COLWELL,
+    LI_COLWELL_AGAIN,
+    LT_1100_PLAIN,
+    b"linked C30001",
+    AA_COLWELL,
+];
+
+/// What calls at Ashfeld when C10001 is put too.
+const AT_ASHFELD: &[&[u8]] = &[
+    b"calls C10001 23537",
+    BS,
+    LO,
+    LT,
+    b"calls C30001 23537",
+    BS_C30001,
+    LO_1000_PLAIN,
+    LI_COLWELL,
+    LI_COLWELL_AGAIN,
+    LT_1100_PLAIN,
+];
+
+#[test]
+fn places(rt: HostRuntime) {
+    let alloc = rt.alloc();
+    let one = state(&rt, alloc, FILE);
+    found_is(&rt, alloc, &one, "COLWELL", AT_COLWELL);
+    found_is(&rt, alloc, &one, "ELM", AT_ELM);
+    let later = state(&rt, alloc, &[HD_10B, BS_C30002_DELETED, BS, LO, LT, ZZ]);
+    let both = joined(&rt, alloc, later, one);
+    found_is(&rt, alloc, &both, "COLWELL", LEFT_AT_COLWELL);
+    found_is(&rt, alloc, &both, "ASHFELD", AT_ASHFELD);
+    let lapsed = set_on(&rt, alloc, FILE, &["2024-06-11"]);
+    found_is(&rt, alloc, &lapsed, "COLWELL", &[]);
+}
+
+#[test]
+fn places_of_what_was_deleted(rt: HostRuntime) {
+    let alloc = rt.alloc();
+    let deletion: &[&[u8]] = &[HD_9B, BS_DELETED, ZZ];
+    let before: &[&[u8]] = &[HD_8A, BS, LO, LT, ZZ];
+    let one = pair(&rt, alloc, deletion, before);
+    found_is(&rt, alloc, &one, "ASHFELD", &[]);
+    let other = pair(&rt, alloc, before, deletion);
+    found_is(&rt, alloc, &other, "ASHFELD", &[]);
+}

@@ -1,0 +1,148 @@
+//! Receiving the entries of another state.
+ghost use Rattle.std.specs.Prelude.{◌≡◌, ◌++◌, [], map};
+ghost use Rattle.docker_model.specs.state.Stamp.{IsFloor};
+ghost use Rattle.docker_model.specs.state.State.{AreEntries, IsGoodEntry};
+ghost use Rattle.cif_file.specs.Meaning.{key_meant};
+ghost use Rattle.docker_join.specs.Meaning.{entry_meant, op_meant};
+ghost use Rattle.docker_state.specs.Meaning.{row_meant};
+ghost use Rattle.docker_state.specs.Staging.{IsAboveStaged, IsOffered};
+
+use super::files::REVISED;
+use super::records::{
+    BS, BS_C10002, BS_C10003, BS_REVISED, HD_5A, HD_7B, HD_9A, HD_10B, LO, LO_0905, LO_1000, LT,
+    LT_0935, LT_1030, ZZ,
+};
+use super::{pair, same, state, state_is};
+use cif_file::{Body, Key, Lines};
+use docker_join::{Entry, Op};
+use docker_state::{Staging, State};
+use std::alloc::Global;
+use std::process::Abort;
+
+/// A copy of this op.
+fn copied(rt: &impl Abort, alloc: Global, op: &Op) -> Op
+    ensures { op_meant result ≡ op_meant op.now }
+{
+    match op {
+        Op::Deleted => Op::Deleted,
+        Op::Lapsed => Op::Lapsed,
+        Op::Put(Body::Tiploc(details)) => Op::Put(Body::Tiploc(*details)),
+        Op::Put(Body::Assoc(line)) => Op::Put(Body::Assoc(*line)),
+        Op::Put(Body::Schedule(lines)) => {
+            let lines = Vec::from_slice(alloc, lines.as_slice()).expect(rt, "memory");
+            Op::Put(Body::Schedule(Lines::of(lines)))
+        }
+    }
+}
+
+/// Offers a copy of this entry.
+fn offer(rt: &impl Abort, alloc: Global, own: &State, staging: &mut Staging, row: &(Key, Entry))
+    requires floor { IsFloor (own.now.ledger ++ staging.old.items) staging.old.floor }
+    requires above { IsAboveStaged staging.old.staged (key_meant row.now.0) }
+    requires good { IsGoodEntry staging.old.items (row_meant row.now) }
+    ensures { IsOffered own.now staging.old (key_meant row.now.0) (entry_meant row.now.1)
+        staging.new }
+{
+    let stamp = row.1.stamp;
+    let op = copied(rt, alloc, &row.1.op);
+    staging
+        .offer(own, row.0, Entry { stamp, op })
+        .expect(rt, "memory");
+}
+
+/// Offers copies of these entries, one by one.
+fn offer_all(
+    rt: &impl Abort,
+    alloc: Global,
+    own: &State,
+    staging: &mut Staging,
+    rows: &[(Key, Entry)],
+)
+    requires floor { IsFloor (own.now.ledger ++ staging.old.items) staging.old.floor }
+    requires none { staging.old.staged ≡ [] }
+    requires rows { AreEntries staging.old.items (map row_meant rows.now) }
+    ensures { IsFloor (own.now.ledger ++ staging.new.items) staging.new.floor }
+{
+    let mut rest = rows;
+    while let Some((row, behind)) = rest.split_first() {
+        offer(rt, alloc, own, staging, row);
+        rest = behind;
+    }
+}
+
+/// Receives another state entry by entry, and returns how many entries were staged at the commit.
+fn receive(rt: &impl Abort, alloc: Global, own: &mut State, other: &State) -> u64 {
+    let ledger = Vec::from_slice(alloc, other.ledger()).expect(rt, "memory");
+    let mut staging = Staging::new(alloc, own, ledger).expect(rt, "memory");
+    offer_all(rt, alloc, own, &mut staging, other.entries());
+    let count = staging.len();
+    own.commit(staging).expect(rt, "memory");
+    count
+}
+
+/// Asserts how many entries are staged, and that the state is then shown as these lines.
+fn receive_is(
+    rt: &impl Abort,
+    alloc: Global,
+    own: &mut State,
+    received: &State,
+    wanted: u64,
+    lines: &[&[u8]],
+) {
+    same(rt, receive(rt, alloc, own, received), wanted);
+    state_is(rt, alloc, own, lines);
+}
+
+/// Asserts that a state receives the state of a file as expected, and nothing more from a second
+/// try.
+fn received_is(
+    rt: &impl Abort,
+    alloc: Global,
+    mut own: State,
+    file: &[&[u8]],
+    wanted: u64,
+    lines: &[&[u8]],
+) {
+    let received = state(rt, alloc, file);
+    receive_is(rt, alloc, &mut own, &received, wanted, lines);
+    receive_is(rt, alloc, &mut own, &received, 0, lines);
+}
+
+/// A file of one schedule.
+const SCHEDULE: &[&[u8]] = &[HD_9A, BS, LO, LT, ZZ];
+
+/// Its revision.
+const REVISION: &[&[u8]] = &[HD_10B, BS_REVISED, LO_0905, LT_0935, ZZ];
+
+/// An update that deletes a schedule and puts another.
+const UPDATE: &[&[u8]] = &[HD_5A, BS_C10003, BS, LO, LT, ZZ];
+
+/// A later full extract with a third schedule.
+const EXTRACT: &[&[u8]] = &[HD_7B, BS_C10002, LO_1000, LT_1030, ZZ];
+
+/// How a state of only that extract is shown.
+const EXTRACT_ONLY: &[&[u8]] = &[
+    b"item 23534 1260 DFROC1B F DFROC1A",
+    b"floor 23534 1260 DFROC1B",
+    b"C10002 23537: record 2 of 23534 1260 DFROC1B",
+    BS_C10002,
+    LO_1000,
+    LT_1030,
+    b"live C10002 23537",
+    BS_C10002,
+    LO_1000,
+    LT_1030,
+];
+
+#[test]
+fn staging(rt: HostRuntime) {
+    let alloc = rt.alloc();
+    let schedule = state(&rt, alloc, SCHEDULE);
+    received_is(&rt, alloc, schedule, REVISION, 1, REVISED);
+    let both = pair(&rt, alloc, SCHEDULE, REVISION);
+    received_is(&rt, alloc, both, SCHEDULE, 0, REVISED);
+    let extract = state(&rt, alloc, EXTRACT);
+    received_is(&rt, alloc, extract, UPDATE, 0, EXTRACT_ONLY);
+    let update = state(&rt, alloc, UPDATE);
+    received_is(&rt, alloc, update, EXTRACT, 1, EXTRACT_ONLY);
+}

@@ -1,0 +1,6 @@
+//! Worked rows for records: devices, fields, and for each kind of record its view and its leftmost
+//! bad field. This crate holds only tests.
+#![tactic(auto)]
+
+#[cfg(test)]
+mod tests;

@@ -1,0 +1,462 @@
+//! Records of each kind that has a view, and their leftmost bad fields.
+use super::{prints, same};
+use cif_line::{
+    Assoc, Basic, Call, ChangeEnRoute, Days, Extract, FieldFault, Header, Kind, Line, Origin, Stp,
+    Terminus, Time, Tiploc, TiplocRecord, Transaction, Until, assoc, basic, call, change, header,
+    kind, origin, terminus, tiploc,
+};
+use std::process::Abort;
+
+// A line of this text, padded with spaces, and the last byte.
+fn record(rt: &impl Abort, text: &[u8], last: u8) -> Line {
+    let mut bytes = [b' '; 80];
+    let n = text.len().min(79);
+    bytes[..n].copy_from_slice(&text[..n]);
+    bytes[79] = last;
+    Line::new(&bytes).expect(rt, "a line")
+}
+
+fn header_of<'a>(rt: &impl Abort, line: &'a Line) -> Header<'a> {
+    match kind(line) {
+        Some(Kind::Header) => header(line).expect(rt, "a header"),
+        _ => panic!(rt; "a header"),
+    }
+}
+
+fn tiploc_of<'a>(rt: &impl Abort, line: &'a Line) -> TiplocRecord<'a> {
+    match kind(line) {
+        Some(Kind::TiplocInsert) => tiploc(line).expect(rt, "a TIPLOC record"),
+        Some(Kind::TiplocAmend) => tiploc(line).expect(rt, "a TIPLOC record"),
+        Some(Kind::TiplocDelete) => tiploc(line).expect(rt, "a TIPLOC record"),
+        _ => panic!(rt; "a TIPLOC record"),
+    }
+}
+
+fn assoc_of<'a>(rt: &impl Abort, line: &'a Line) -> Assoc<'a> {
+    match kind(line) {
+        Some(Kind::Association) => assoc(line).expect(rt, "an association"),
+        _ => panic!(rt; "an association"),
+    }
+}
+
+fn call_of<'a>(rt: &impl Abort, line: &'a Line) -> Call<'a> {
+    match kind(line) {
+        Some(Kind::IntermediateLocation) => call(line).expect(rt, "an intermediate location"),
+        _ => panic!(rt; "an intermediate location"),
+    }
+}
+
+fn change_of<'a>(rt: &impl Abort, line: &'a Line) -> ChangeEnRoute<'a> {
+    match kind(line) {
+        Some(Kind::ChangeEnRoute) => change(line).expect(rt, "a change en route"),
+        _ => panic!(rt; "a change en route"),
+    }
+}
+
+fn basic_of<'a>(rt: &impl Abort, line: &'a Line) -> Basic<'a> {
+    match kind(line) {
+        Some(Kind::BasicSchedule) => basic(line).expect(rt, "a basic schedule"),
+        _ => panic!(rt; "a basic schedule"),
+    }
+}
+
+fn origin_of<'a>(rt: &impl Abort, line: &'a Line) -> Origin<'a> {
+    match kind(line) {
+        Some(Kind::OriginLocation) => origin(line).expect(rt, "an origin"),
+        _ => panic!(rt; "an origin"),
+    }
+}
+
+fn terminus_of<'a>(rt: &impl Abort, line: &'a Line) -> Terminus<'a> {
+    match kind(line) {
+        Some(Kind::TerminatingLocation) => terminus(line).expect(rt, "a terminus"),
+        _ => panic!(rt; "a terminus"),
+    }
+}
+
+// Asserts the leftmost bad field of a line of this text, padded with spaces, and the last byte.
+fn bad_field_is(rt: &impl Abort, text: &[u8], last: u8, wanted: Option<u8>) {
+    let line = record(rt, text, last);
+    let fault = match kind(&line) {
+        Some(Kind::Header) => header(&line).err(),
+        Some(Kind::TiplocInsert) => tiploc(&line).err(),
+        Some(Kind::TiplocAmend) => tiploc(&line).err(),
+        Some(Kind::TiplocDelete) => tiploc(&line).err(),
+        Some(Kind::Association) => assoc(&line).err(),
+        Some(Kind::BasicSchedule) => basic(&line).err(),
+        Some(Kind::OriginLocation) => origin(&line).err(),
+        Some(Kind::IntermediateLocation) => call(&line).err(),
+        Some(Kind::TerminatingLocation) => terminus(&line).err(),
+        Some(Kind::ChangeEnRoute) => change(&line).err(),
+        _ => None,
+    };
+    same(rt, fault, wanted.map(FieldFault));
+}
+
+fn half_minutes_are(rt: &impl Abort, time: Option<Time>, wanted: Option<u16>) {
+    let half_minutes = match time {
+        Some(time) => Some(time.half_minutes()),
+        None => None,
+    };
+    same(rt, half_minutes, wanted);
+}
+
+#[test]
+fn a_header(rt: HostRuntime) {
+    let line = record(
+        &rt,
+        b"HDTPS.UDFROC1.PD2406090906242100DFROC1ADFROC1ZUA",
+        b' ',
+    );
+    let head = header_of(&rt, &line);
+    same(&rt, head.day().number(), 23536);
+    same(&rt, head.minute(), 1260);
+    same(&rt, head.reference(), b"DFROC1A");
+    same(&rt, head.last_reference(), b"DFROC1Z");
+    same(&rt, head.extract(), Extract::Update);
+}
+
+#[test]
+fn a_basic_schedule(rt: HostRuntime) {
+    let line = record(&rt, b"BSNC100012406102406141111100 POO1A10", b'P');
+    let schedule = basic_of(&rt, &line);
+    same(&rt, schedule.transaction(), Transaction::New);
+    same(&rt, schedule.uid().bytes(), b"C10001");
+    same(&rt, schedule.runs_from().number(), 23537);
+    same(&rt, schedule.runs_to(), Until::from_field(b"240614"));
+    same(
+        &rt,
+        schedule.runs_to().expect(&rt, "an end").number(),
+        23541,
+    );
+    same(&rt, schedule.days(), Days::from_field(b"1111100"));
+    same(&rt, schedule.identity(), b"1A10");
+    same(&rt, schedule.stp(), Stp::Permanent);
+}
+
+#[test]
+fn a_deletion_of_a_schedule(rt: HostRuntime) {
+    let line = record(&rt, b"BSDC10001240610", b'C');
+    let schedule = basic_of(&rt, &line);
+    same(&rt, schedule.transaction(), Transaction::Delete);
+    same(&rt, schedule.runs_to(), None);
+    same(&rt, schedule.days(), None);
+    same(&rt, schedule.stp(), Stp::Cancellation);
+}
+
+#[test]
+fn an_origin(rt: HostRuntime) {
+    let line = record(&rt, b"LOASHFELD 0900 09001  SL", b' ');
+    let from = origin_of(&rt, &line);
+    same(&rt, from.tiploc().bytes(), b"ASHFELD");
+    same(&rt, from.suffix(), b' ');
+    same(&rt, from.departure().text(), *b"0900 ");
+    half_minutes_are(&rt, from.public_departure(), Some(1080));
+    same(&rt, from.platform(), b"1  ");
+    same(&rt, from.track(), b"SL ");
+}
+
+#[test]
+fn origins_without_a_public_time(rt: HostRuntime) {
+    for text in [b"LOASHFELD20900H0000", b"LOASHFELD20900H    "] {
+        let line = record(&rt, text, b' ');
+        let from = origin_of(&rt, &line);
+        same(&rt, from.suffix(), b'2');
+        same(&rt, from.departure().half_minutes(), 1081);
+        same(&rt, from.public_departure(), None);
+    }
+}
+
+#[test]
+fn a_terminus(rt: HostRuntime) {
+    let line = record(&rt, b"LTBRAYTON 0930 09322  FL", b' ');
+    let to = terminus_of(&rt, &line);
+    same(&rt, to.tiploc().bytes(), b"BRAYTON");
+    same(&rt, to.suffix(), b' ');
+    same(&rt, to.arrival().text(), *b"0930 ");
+    half_minutes_are(&rt, to.public_arrival(), Some(1144));
+    same(&rt, to.platform(), b"2  ");
+    same(&rt, to.path(), b"FL ");
+}
+
+#[test]
+fn a_timing_point(rt: HostRuntime) {
+    let line = record(&rt, b"TIASHFELD         ASHFIELD CENTRAL", b' ');
+    let point = tiploc_of(&rt, &line);
+    same(&rt, point.code().bytes(), b"ASHFELD");
+    same(&rt, point.description(), b"ASHFIELD CENTRAL          ");
+    same(
+        &rt,
+        point.details(),
+        b"         ASHFIELD CENTRAL                                      ",
+    );
+    same(&rt, point.new_code(), None);
+}
+
+#[test]
+fn a_timing_point_renamed(rt: HostRuntime) {
+    let line = record(
+        &rt,
+        b"TAASHFELD         ASHFIELD NEW                                          ASHFLDN",
+        b' ',
+    );
+    let point = tiploc_of(&rt, &line);
+    same(&rt, point.code().bytes(), b"ASHFELD");
+    same(&rt, point.new_code(), Tiploc::from_text("ASHFLDN"));
+    let line = record(&rt, b"TAASHFELD         ASHFIELD NEW", b' ');
+    same(&rt, tiploc_of(&rt, &line).new_code(), None);
+    let line = record(
+        &rt,
+        b"TIASHFELD         ASHFIELD NEW                                          ASHFLDN",
+        b' ',
+    );
+    same(&rt, tiploc_of(&rt, &line).new_code(), None);
+}
+
+#[test]
+fn an_association(rt: HostRuntime) {
+    let line = record(
+        &rt,
+        b"AANC30001C300022406102406141000000VVSCOLWELL23TP",
+        b'P',
+    );
+    let joined = assoc_of(&rt, &line);
+    same(&rt, joined.transaction(), Transaction::New);
+    same(&rt, joined.base().bytes(), b"C30001");
+    same(&rt, joined.associated().bytes(), b"C30002");
+    same(&rt, joined.start().number(), 23537);
+    same(&rt, joined.end().expect(&rt, "an end").number(), 23541);
+    same(&rt, joined.days(), Days::from_field(b"1000000"));
+    same(&rt, joined.category(), b"VV");
+    same(&rt, joined.date_indicator(), b'S');
+    same(&rt, joined.location().bytes(), b"COLWELL");
+    same(&rt, joined.base_suffix(), b'2');
+    same(&rt, joined.associated_suffix(), b'3');
+    same(&rt, joined.stp(), Stp::Permanent);
+}
+
+#[test]
+fn a_deletion_of_an_association(rt: HostRuntime) {
+    let line = record(
+        &rt,
+        b"AADC30001C30002240610                COLWELL2 TP",
+        b'C',
+    );
+    let joined = assoc_of(&rt, &line);
+    same(&rt, joined.transaction(), Transaction::Delete);
+    same(&rt, joined.end(), None);
+    same(&rt, joined.days(), None);
+    same(&rt, joined.stp(), Stp::Cancellation);
+    let kept = line.as_new();
+    same(&rt, kept.bytes()[2], b'N');
+    same(&rt, kept.bytes()[3], b'C');
+}
+
+#[test]
+fn a_call(rt: HostRuntime) {
+    let line = record(&rt, b"LICOLWELL 0000H0000H     000000012  SL FL", b' ');
+    let at = call_of(&rt, &line);
+    same(&rt, at.tiploc().bytes(), b"COLWELL");
+    same(&rt, at.suffix(), b' ');
+    half_minutes_are(&rt, at.arrival(), Some(1));
+    half_minutes_are(&rt, at.departure(), Some(1));
+    same(&rt, at.pass(), None);
+    same(&rt, at.public_arrival(), None);
+    half_minutes_are(&rt, at.public_departure(), Some(2));
+    same(&rt, at.platform(), b"2  ");
+    same(&rt, at.track(), b"SL ");
+    same(&rt, at.path(), b"FL ");
+}
+
+#[test]
+fn calls_of_which_parts_are_blank(rt: HostRuntime) {
+    let line = record(&rt, b"LIDUNMERE           0010", b' ');
+    let passed = call_of(&rt, &line);
+    same(&rt, passed.arrival(), None);
+    same(&rt, passed.departure(), None);
+    half_minutes_are(&rt, passed.pass(), Some(20));
+    same(&rt, passed.public_arrival(), None);
+    same(&rt, passed.public_departure(), None);
+    let line = record(&rt, b"LICOLWELL21040 1042      1041    4", b' ');
+    let second = call_of(&rt, &line);
+    same(&rt, second.suffix(), b'2');
+    half_minutes_are(&rt, second.arrival(), Some(1280));
+    half_minutes_are(&rt, second.departure(), Some(1284));
+    half_minutes_are(&rt, second.public_arrival(), Some(1282));
+    same(&rt, second.public_departure(), None);
+    same(&rt, second.platform(), b"4  ");
+    same(&rt, second.track(), b"   ");
+}
+
+#[test]
+fn a_change_en_route(rt: HostRuntime) {
+    let line = record(&rt, b"CRCOLWELL OO5E51", b' ');
+    same(&rt, change_of(&rt, &line).identity(), b"5E51");
+    let line = record(&rt, b"CR        ", b' ');
+    same(&rt, change_of(&rt, &line).identity(), b"    ");
+}
+
+#[test]
+fn leftmost_bad_fields_of_timing_points(rt: HostRuntime) {
+    bad_field_is(&rt, b"TI SHFELD         A", b' ', Some(3));
+    bad_field_is(
+        &rt,
+        b"TA SHFELD         A                                                      SHFLDN",
+        b' ',
+        Some(3),
+    );
+    bad_field_is(
+        &rt,
+        b"TAASHFELD         A                                                      SHFLDN",
+        b' ',
+        Some(73),
+    );
+    bad_field_is(
+        &rt,
+        b"TAASHFELD         A                                                           N",
+        b' ',
+        Some(73),
+    );
+    bad_field_is(
+        &rt,
+        b"TIASHFELD         A                                                      SHFLDN",
+        b' ',
+        None,
+    );
+    bad_field_is(&rt, b"TD SHFELD", b' ', Some(3));
+    bad_field_is(&rt, b"TDASHFELD", b' ', None);
+}
+
+#[test]
+fn leftmost_bad_fields_of_associations(rt: HostRuntime) {
+    bad_field_is(
+        &rt,
+        b"AAXC30001C300022302299999981000002VVS OLWELL2 TP",
+        b'X',
+        Some(3),
+    );
+    bad_field_is(
+        &rt,
+        b"AANC30001C300022302299999981000002VVS OLWELL2 TP",
+        b'X',
+        Some(16),
+    );
+    bad_field_is(
+        &rt,
+        b"AANC30001C300022406109999981000002VVS OLWELL2 TP",
+        b'X',
+        Some(22),
+    );
+    bad_field_is(
+        &rt,
+        b"AANC30001C300022406102406101000002VVS OLWELL2 TP",
+        b'X',
+        Some(28),
+    );
+    bad_field_is(
+        &rt,
+        b"AANC30001C300022406102406101000000VVS OLWELL2 TP",
+        b'X',
+        Some(38),
+    );
+    bad_field_is(
+        &rt,
+        b"AANC30001C300022406102406101000000VVSCOLWELL2 TP",
+        b'X',
+        Some(80),
+    );
+    bad_field_is(
+        &rt,
+        b"AANC30001C300022406102406101000000VVSCOLWELL2 TP",
+        b'N',
+        None,
+    );
+    bad_field_is(
+        &rt,
+        b"AANC30001C300022406109999991000000VVSCOLWELL2 TP",
+        b'P',
+        None,
+    );
+    bad_field_is(
+        &rt,
+        b"AADC30001C300022302292406101000000VVS OLWELL2 TP",
+        b'X',
+        Some(16),
+    );
+    bad_field_is(
+        &rt,
+        b"AADC30001C30002240610             VVS OLWELL2 TP",
+        b'X',
+        Some(38),
+    );
+    bad_field_is(
+        &rt,
+        b"AADC30001C30002240610             VVSCOLWELL2 TP",
+        b'X',
+        Some(80),
+    );
+    bad_field_is(
+        &rt,
+        b"AADC30001C300022406109999981000002VVSCOLWELL2 TP",
+        b'O',
+        None,
+    );
+    bad_field_is(
+        &rt,
+        b"AARC30001C300022406109999981000000VVSCOLWELL2 TP",
+        b'X',
+        Some(22),
+    );
+}
+
+#[test]
+fn leftmost_bad_fields_of_calls(rt: HostRuntime) {
+    bad_field_is(&rt, b"LI OLWELL 2400 1060 1010h240010 23", b' ', Some(3));
+    bad_field_is(&rt, b"LICOLWELL 2400 1060 1010h240010 23", b' ', Some(11));
+    bad_field_is(&rt, b"LICOLWELL 1010 1060 1010h240010 23", b' ', Some(16));
+    bad_field_is(&rt, b"LICOLWELL 1010 1012 1010h240010 23", b' ', Some(21));
+    bad_field_is(&rt, b"LICOLWELL 1010 1012      240010 23", b' ', Some(26));
+    bad_field_is(&rt, b"LICOLWELL 1010 1012      101010 23", b' ', Some(30));
+    bad_field_is(&rt, b"LICOLWELL 1010 1012      101010123", b' ', None);
+    bad_field_is(&rt, b"LICOLWELL                        3", b' ', None);
+    bad_field_is(&rt, b"LICOLWELL     H1012      101010123", b' ', Some(11));
+    bad_field_is(&rt, b"LICOLWELL 1010 1012       01010123", b' ', Some(26));
+}
+
+#[test]
+fn leftmost_bad_fields(rt: HostRuntime) {
+    bad_field_is(
+        &rt,
+        b"HDTPS.UDFROC1.PD2406090906242100DFROC1ADFROC1ZXA",
+        b' ',
+        Some(47),
+    );
+    bad_field_is(
+        &rt,
+        b"HDTPS.UDFROC1.PD2406090906242460DFROC1ADFROC1ZXA",
+        b' ',
+        Some(29),
+    );
+    bad_field_is(
+        &rt,
+        b"HDTPS.UDFROC1.PD2406093106242460DFROC1ADFROC1ZXA",
+        b' ',
+        Some(23),
+    );
+    bad_field_is(&rt, b"BSNC100012302292406141111100 POO1A10", b'P', Some(10));
+    bad_field_is(&rt, b"BSXC100012302292406141111100 POO1A10", b'P', Some(3));
+    bad_field_is(&rt, b"BSNC10001240610      1111100 POO1A10", b'P', Some(16));
+    bad_field_is(&rt, b"BSNC100012406109999991111120 POO1A10", b'P', Some(22));
+    bad_field_is(&rt, b"BSNC100012406109999991111100 POO1A10", b'X', Some(80));
+    bad_field_is(&rt, b"BSNC100012406109999991111100 POO1A10", b'O', None);
+    bad_field_is(&rt, b"LO ASHFEL 2400 09001  SL", b' ', Some(3));
+    bad_field_is(&rt, b"LOASHFELD 2400 09001  SL", b' ', Some(11));
+    bad_field_is(&rt, b"LOASHFELD      09001  SL", b' ', Some(11));
+    bad_field_is(&rt, b"LOASHFELD 0900 9   1  SL", b' ', Some(16));
+    bad_field_is(&rt, b"LTBRAYTON 0930H24002  FL", b' ', Some(16));
+}
+
+#[test]
+fn a_fault_in_words(rt: HostRuntime) {
+    prints(&rt, rt.alloc(), FieldFault(47), "Field 47");
+}

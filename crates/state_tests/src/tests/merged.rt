@@ -1,0 +1,179 @@
+//! Texts of states of several files, joined and received in every order.
+ghost use Rattle.std.specs.Prelude.{◌<◌};
+
+use super::records::{
+    BS, BS_C10002, BS_C10003, BS_DELETED, BS_LONGER, BS_REVISED, HD, HD_5A, HD_7B, HD_9C, HD_10B,
+    HEAD, HEAD_9C, HEAD_10B, HEAD_C10002, ITEM, ITEM_7B, ITEM_9C, ITEM_10B, LO, LO_0850, LO_0905,
+    LO_1000, LO_1100, LT, LT_0935, LT_1030, LT_1130, MARK, ONE, TWO, ZZ,
+};
+use super::{goes_round, join, joined_text, same, same_in, state, text_is, written};
+use cif_line::Bytes;
+use docker_bytes::join_state;
+use docker_state::State;
+use std::alloc::Global;
+use std::process::Abort;
+
+/// The join of the states of these files, one after the other.
+fn merged(rt: &impl Abort, alloc: Global, files: &[&[&[u8]]]) -> State {
+    let mut all = State::empty(alloc);
+    for file in files {
+        let other = state(rt, alloc, file);
+        all = join(rt, alloc, all, other);
+    }
+    all
+}
+
+/// Receives a text, `step` bytes per read.
+fn receive(rt: &impl Abort, alloc: Global, all: &mut State, text: &[u8], step: usize)
+    requires { 0 < step }
+{
+    let answer = join_state(alloc, all, &mut Bytes::new(text, step), 1000);
+    same(rt, answer, Ok(()));
+}
+
+/// Receives the text of the state of a file.
+fn receive_file(rt: &impl Abort, alloc: Global, all: &mut State, file: &[&[u8]], step: usize)
+    requires { 0 < step }
+{
+    let other = state(rt, alloc, file);
+    let text = written(rt, alloc, &other);
+    receive(rt, alloc, all, text.bytes(), step);
+}
+
+/// Asserts that a state ends with this text if it receives the texts of the states of these files
+/// in this order, `step` bytes per read. Receiving them once more changes nothing.
+fn receives(rt: &impl Abort, alloc: Global, files: &[&[&[u8]]], wanted: &[u8], step: usize)
+    requires { 0 < step }
+{
+    let mut all = State::empty(alloc);
+    for file in files {
+        receive_file(rt, alloc, &mut all, file, step);
+    }
+    text_is(rt, alloc, &all, wanted);
+    receive(rt, alloc, &mut all, wanted, step);
+    text_is(rt, alloc, &all, wanted);
+}
+
+/// Asserts that the states of these files, joined in this order, have this text, and so does a
+/// state that receives their texts.
+fn merges_to(rt: &impl Abort, alloc: Global, files: &[&[&[u8]]], pieces: &[&[u8]], name: &str) {
+    let all = merged(rt, alloc, files);
+    let wanted = joined_text(rt, alloc, pieces);
+    let text = written(rt, alloc, &all);
+    same_in(rt, name, text.bytes(), wanted.as_slice());
+    receives(rt, alloc, files, wanted.as_slice(), 1);
+    receives(rt, alloc, files, wanted.as_slice(), 4096);
+    goes_round(rt, alloc, &all, wanted.len(), 80);
+}
+
+/// Asserts that pieces are a text of `len` bytes.
+fn len_is(rt: &impl Abort, alloc: Global, pieces: &[&[u8]], len: usize) {
+    let text = joined_text(rt, alloc, pieces);
+    same(rt, text.len(), len);
+}
+
+/// The records of a file.
+type Records = &'static [&'static [u8]];
+
+/// The schedule.
+const PLAIN: Records = &[HD, BS, LO, LT, ZZ];
+
+/// Its text.
+const OF_PLAIN: Records = &[MARK, ONE, ITEM, ONE, HEAD, BS, LO, LT];
+
+/// Its revision, a day later.
+const REVISION: Records = &[HD_10B, BS_REVISED, LO_0905, LT_0935, ZZ];
+
+/// The text of both.
+const OF_REVISION: Records = &[
+    MARK, TWO, ITEM, ITEM_10B, ONE, HEAD_10B, BS, LO_0905, LT_0935,
+];
+
+#[test]
+fn a_revision(rt: HostRuntime) {
+    let alloc = rt.alloc();
+    len_is(&rt, alloc, OF_REVISION, 330);
+    let files = [PLAIN, REVISION];
+    merges_to(&rt, alloc, &files, OF_REVISION, "old and new");
+    let files = [REVISION, PLAIN, REVISION];
+    merges_to(&rt, alloc, &files, OF_REVISION, "new and old");
+}
+
+/// An update of 5 June.
+const FIFTH: Records = &[HD_5A, BS_C10003, BS, LO, LT, ZZ];
+
+/// A full extract of 7 June.
+const SEVENTH: Records = &[HD_7B, BS_C10002, LO_1000, LT_1030, ZZ];
+
+/// An update of 9 June.
+const NINTH: Records = &[HD_9C, BS, LO_1100, LT_1130, ZZ];
+
+/// The text of the three.
+const OF_LATE: Records = &[
+    MARK,
+    TWO,
+    ITEM_7B,
+    ITEM_9C,
+    TWO,
+    HEAD_9C,
+    BS,
+    LO_1100,
+    LT_1130,
+    HEAD_C10002,
+    BS_C10002,
+    LO_1000,
+    LT_1030,
+];
+
+/// The three files in each order, and the row's name.
+const ORDERS: &[(&[Records], &str)] = &[
+    (&[FIFTH, SEVENTH, NINTH], "5, 7, 9"),
+    (&[FIFTH, NINTH, SEVENTH], "5, 9, 7"),
+    (&[SEVENTH, FIFTH, NINTH], "7, 5, 9"),
+    (&[SEVENTH, NINTH, FIFTH], "7, 9, 5"),
+    (&[NINTH, FIFTH, SEVENTH], "9, 5, 7"),
+    (&[NINTH, SEVENTH, FIFTH], "9, 7, 5"),
+];
+
+#[test]
+fn a_late_full_extract(rt: HostRuntime) {
+    let alloc = rt.alloc();
+    len_is(&rt, alloc, OF_LATE, 600);
+    for (files, name) in ORDERS {
+        merges_to(&rt, alloc, files, OF_LATE, name);
+    }
+}
+
+/// The schedule up to 21 June, ten minutes earlier.
+const LONGER: Records = &[HD, BS_LONGER, LO_0850, LT, ZZ];
+
+/// The schedule, five minutes later.
+const LATER: Records = &[HD, BS, LO_0905, LT, ZZ];
+
+/// Its deletion.
+const DELETION: Records = &[HD, BS_DELETED, ZZ];
+
+/// The texts of these files.
+const OF_LONGER: Records = &[MARK, ONE, ITEM, ONE, HEAD, BS_LONGER, LO_0850, LT];
+
+const OF_LATER: Records = &[MARK, ONE, ITEM, ONE, HEAD, BS, LO_0905, LT];
+
+/// Files with one stamp in some order, the text of both, and the row's name.
+const TIES: &[(&[Records], Records, &str)] = &[
+    (&[PLAIN, PLAIN], OF_PLAIN, "the same"),
+    (&[PLAIN, LONGER], OF_LONGER, "longer"),
+    (&[LONGER, PLAIN], OF_LONGER, "longer first"),
+    (&[PLAIN, LATER], OF_LATER, "later"),
+    (&[LATER, PLAIN], OF_LATER, "later first"),
+    (&[PLAIN, DELETION], OF_PLAIN, "deleted"),
+    (&[DELETION, PLAIN], OF_PLAIN, "deleted first"),
+];
+
+#[test]
+fn equal_stamps(rt: HostRuntime) {
+    let alloc = rt.alloc();
+    len_is(&rt, alloc, OF_LONGER, 311);
+    for (files, text, name) in TIES {
+        merges_to(&rt, alloc, files, text, name);
+    }
+}
