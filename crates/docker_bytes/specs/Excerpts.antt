@@ -1,4 +1,4 @@
--- What is made of a state for one place, and of its ledger.
+-- What is made of a state for one place.
 use Rattle.std.specs.Prelude.{◌≡◌, ℕ, List}
 use Rattle.docker_model.specs.state.State.{State}
 use Rattle.docker_excerpt.specs.Values.{Excerpt}
@@ -6,7 +6,3 @@ use Rattle.docker_excerpt.specs.Values.{Excerpt}
 -- the excerpt is of this place and this state
 abbrev pub IsExcerptAt : List ℕ → Excerpt → State → Type 0
 IsExcerptAt place excerpt state = excerpt ≡ record { place = place; state = state }
-
--- the ledger is the state's; it is kept as a state without a horizon
-abbrev pub IsLedgerOf : State → State → Type 0
-IsLedgerOf kept state = kept.ledger ≡ state.ledger

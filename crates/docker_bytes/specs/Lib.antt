@@ -6,3 +6,4 @@ pub mod SourceRead
 pub mod StateTaken
 pub mod Excerpts
 pub use Rattle.docker_parts.specs.FaultMeaning
+pub use Rattle.docker_excerpt.specs.Values

@@ -2,12 +2,12 @@
 //! ledger.
 ghost use Rattle.std.specs.Prelude.{◌≡◌, ◌≢◌, ◌+◌, ◌-◌, ◌^◌, ◌<◌, ◌↔◌, IfOk, Err};
 ghost use Rattle.docker_model.specs.state.StateText.{dks_2};
-ghost use Rattle.docker_bytes.specs.Excerpts.{IsExcerptAt, IsLedgerOf};
-ghost use Rattle.docker_bytes.specs.SourceRead.{ReadsMade, RefusesState, ReadsOnePieceMore, WantsMemory};
+ghost use Rattle.docker_bytes.specs.Excerpts.{IsExcerptAt};
+ghost use Rattle.docker_bytes.specs.SourceRead.{ReadsMade, ReadsState, RefusesState, ReadsOnePieceMore, WantsMemory};
 
 use crate::read::{ReadFault, read_format};
 use cif_line::{Source, Tiploc};
-use docker_excerpt::{Excerpt, ExcerptingAt, Ledger, Place};
+use docker_excerpt::{Excerpt, ExcerptingAt, KeptLedger, Ledger, Place};
 use docker_parts::format::Format;
 use std::alloc::Global;
 use std::marker::Brand;
@@ -67,9 +67,9 @@ pub fn read_ledger<S: Source>(
     alloc: Global,
     source: &mut S,
     limit: u64,
-) -> Result<Ledger, ReadFault>
+) -> Result<KeptLedger, ReadFault>
     requires { S.failures source.old < 2 ^ 64 - 1 }
-    ensures ok { IfOk result (ReadsMade IsLedgerOf dks_2 limit (S.left source.old)) }
+    ensures ok { IfOk result (ReadsState dks_2 limit (S.left source.old)) }
     ensures state { (fault : _) → result ≡ Err (ReadFault.State fault) →
         RefusesState dks_2 limit (S.left source.old) fault }
     ensures memory { result ≡ Err ReadFault.Memory →

@@ -12,7 +12,7 @@ mod read;
 mod reading;
 mod state_parser;
 
-pub use docker_excerpt::{Excerpt, Ledger};
+pub use docker_excerpt::{Excerpt, KeptLedger};
 pub use docker_parts::{StateCause, encoded_len, write_state};
 pub use excerpt::{read_excerpt, read_ledger};
 pub use fault::{StateFault, Step};

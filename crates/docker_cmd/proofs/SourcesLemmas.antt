@@ -8,9 +8,11 @@ use Rattle.state_laws.proofs.states.PlainLive.{live_table_is_plain}
 use Rattle.state_laws.proofs.states.SummaryLaws.{join_is_summary}
 use Rattle.docker_office.specs.Office.{TakesFile, no_state}
 use Rattle.docker_office.specs.declared.fault.OfficeFault.{OfficeFault}
-use Rattle.docker_cmd.specs.Job.{JobView, TaskView, new_task, check_task, day_task, take_task, merge_task, print_task, files_task, horizon_task, migrate_task}
+use Rattle.docker_cmd.specs.Job.{JobView, TaskView, task_meant, new_task, check_task, day_task, take_task, merge_task, print_task, files_task, horizon_task, migrate_task}
 use Rattle.docker_cmd.specs.Reads.{Sources, checked_file, taken_file, sources_of, horizon_of}
-use Rattle.docker_cmd.specs.Prepared.{DeviceBytes, HasReadToEnd, HasSecondSource, IsContentOf, IsOfOneFile, IsPreparedFor, IsReadOf, IsStateOf, IsWhyRefused, ReadView, ReadsFew, file_read, office_read, under}
+use Rattle.docker_cmd.specs.Writes.{Output, output_of}
+use Rattle.docker_cmd.specs.declared.tasks.Task.{Task}
+use Rattle.docker_cmd.specs.Prepared.{DeviceBytes, HasNoSource, HasReadToEnd, HasSecondSource, IsContentOf, IsOfOneFile, IsPreparedFor, IsReadOf, IsStateOf, IsWhyRefused, IsWrittenOf, ReadView, ReadsFew, file_read, office_read, under}
 
 -- no file, and no horizon
 no_files : IsSummary [] 0 no_state
@@ -89,32 +91,96 @@ read_of task first second (file_read file) is =
     subst (λ task. IsReadOf task first second (under (horizon_of task) (file_read file))) (sym (checked task is.0)) (refl, is.1)
 read_of task first second (office_read state) is = state_of task first second state is
 
--- the result is what a job has read of its sources
-pub prepared_read : (job : JobView) (asked : TaskView) (sources : Sources) (horizon : Option ℕ) (first left second second_left : DeviceBytes)
-    (own made : ReadView) → asked ≡ job.task → sources ≡ sources_of asked → horizon ≡ horizon_of asked → made ≡ under horizon own
+-- what a task writes of a state is no count
+state_written_of : (task : TaskView) (first second : DeviceBytes) (state : State) → IsStateOf (sources_of task) first second state
+    → IsWrittenOf (output_of task) (office_read state)
+state_written_of new_task first second state is = λ same. cc
+state_written_of check_task first second state is = elim is [ ]
+state_written_of (day_task place day) first second state is = λ same. cc
+state_written_of take_task first second state is = λ same. cc
+state_written_of merge_task first second state is = λ same. cc
+state_written_of (print_task place day) first second state is = λ same. cc
+state_written_of files_task first second state is = λ same. cc
+state_written_of (horizon_task day) first second state is = λ same. cc
+state_written_of migrate_task first second state is = λ same. cc
+
+-- so its output is written of what was read
+written_of : (task : TaskView) (first second : DeviceBytes) (read : ReadView) → IsContentOf (sources_of task) first second read
+    → IsWrittenOf (output_of task) read
+written_of task first second (file_read file) is = ap output_of (checked task is.0)
+written_of task first second (office_read state) is = state_written_of task first second state is
+
+-- under a horizon too
+still_written : (output : Output) (horizon : Option ℕ) (read : ReadView) → IsWrittenOf output read → IsWrittenOf output (under horizon read)
+still_written output None read is = is
+still_written output (Some day) (file_read file) is = is
+still_written output (Some day) (office_read state) is = is
+
+-- what was read, and then put under the horizon of its task, can be written
+pub held_written : (task : TaskView) (sources : Sources) (horizon : Option ℕ) (first second : DeviceBytes) (own made : ReadView) → sources ≡ sources_of task
+    → made ≡ under horizon own → IsContentOf sources first second own → IsWrittenOf (output_of task) made
+held_written task sources horizon first second own made same_sources same_made content =
+    subst (λ read. IsWrittenOf (output_of task) read) (sym same_made)
+    (still_written (output_of task) horizon own
+    (written_of task first second own (subst (λ s. IsContentOf s first second own) same_sources content)))
+
+-- it is what a task has read of its sources
+pub task_read : (task : TaskView) (sources : Sources) (horizon : Option ℕ) (first left second second_left : DeviceBytes) (own made : ReadView)
+    → sources ≡ sources_of task → horizon ≡ horizon_of task → made ≡ under horizon own
     → ReadsFew sources first left second second_left (IsContentOf sources first second own × HasReadToEnd sources left second_left)
-    → ReadsFew (sources_of job.task) first left second second_left
-    (IsPreparedFor job first second (record { job = job; read = made }) × HasReadToEnd (sources_of job.task) left second_left)
-prepared_read job asked sources horizon first left second second_left own made same_task same_sources same_horizon same_made reads =
-    let at : sources ≡ sources_of job.task = same_sources ∙ ap sources_of same_task in
-    let is : made ≡ under (horizon_of job.task) own = same_made ∙ ap (λ h. under h own) (same_horizon ∙ ap horizon_of same_task) in
-    let moved : ReadsFew (sources_of job.task) first left second second_left
-    (IsContentOf (sources_of job.task) first second own × HasReadToEnd (sources_of job.task) left second_left) =
-    subst (λ s. ReadsFew s first left second second_left (IsContentOf s first second own × HasReadToEnd s left second_left)) at reads in
+    → ReadsFew (sources_of task) first left second second_left (IsReadOf task first second made × HasReadToEnd (sources_of task) left second_left)
+task_read task sources horizon first left second second_left own made same_sources same_horizon same_made reads =
+    let is : made ≡ under (horizon_of task) own = same_made ∙ ap (λ h. under h own) same_horizon in
+    let moved : ReadsFew (sources_of task) first left second second_left
+    (IsContentOf (sources_of task) first second own × HasReadToEnd (sources_of task) left second_left) =
+    subst (λ s. ReadsFew s first left second second_left (IsContentOf s first second own × HasReadToEnd s left second_left)) same_sources reads in
     record {
       first_few = moved.first_few;
       second_few = moved.second_few;
-      ends = ((refl, subst (λ read. IsReadOf job.task first second read) (sym is) (read_of job.task first second own moved.ends.0)), moved.ends.1);
+      ends = (subst (λ read. IsReadOf task first second read) (sym is) (read_of task first second own moved.ends.0), moved.ends.1);
     }
 
--- sources that were refused, as the sources of the job
-pub refused_for : (job : JobView) (asked : TaskView) (sources : Sources) (first left second second_left : DeviceBytes) (fault : OfficeFault)
-    → asked ≡ job.task → sources ≡ sources_of asked
+-- why the sources were refused, for the task
+pub refused_for : (sources others : Sources) (first left second second_left : DeviceBytes) (fault : OfficeFault) → sources ≡ others
     → ReadsFew sources first left second second_left (IsWhyRefused sources first left second second_left fault)
-    → ReadsFew (sources_of job.task) first left second second_left (IsWhyRefused (sources_of job.task) first left second second_left fault)
-refused_for job asked sources first left second second_left fault same_task same_sources reads =
-    subst (λ s. ReadsFew s first left second second_left (IsWhyRefused s first left second second_left fault))
-    (same_sources ∙ ap sources_of same_task) reads
+    → ReadsFew others first left second second_left (IsWhyRefused others first left second second_left fault)
+refused_for sources others first left second second_left fault same reads =
+    subst (λ s. ReadsFew s first left second second_left (IsWhyRefused s first left second second_left fault)) same reads
+
+-- what a job's task has read, the job has
+pub prepared_read : (job : JobView) (task : TaskView) (first left second second_left : DeviceBytes) (read : ReadView) → task ≡ job.task
+    → ReadsFew (sources_of task) first left second second_left (IsReadOf task first second read × HasReadToEnd (sources_of task) left second_left)
+    → ReadsFew (sources_of job.task) first left second second_left
+    (IsPreparedFor job first second (record { job = job; read = read }) × HasReadToEnd (sources_of job.task) left second_left)
+prepared_read job task first left second second_left read same reads =
+    let moved : ReadsFew (sources_of job.task) first left second second_left
+    (IsReadOf job.task first second read × HasReadToEnd (sources_of job.task) left second_left) =
+    subst (λ t. ReadsFew (sources_of t) first left second second_left (IsReadOf t first second read × HasReadToEnd (sources_of t) left second_left)) same reads in
+    record { first_few = moved.first_few; second_few = moved.second_few; ends = ((refl, moved.ends.0), moved.ends.1) }
+
+-- ---- a task that holds a part of what it has read
+
+-- what the task that was asked for has read
+pub read_of_task : (asked task : Task) (first left second second_left : DeviceBytes) (state : State) → asked ≡ task
+    → ReadsFew (sources_of (task_meant task)) first left second second_left
+    (IsReadOf (task_meant task) first second (office_read state) × HasReadToEnd (sources_of (task_meant task)) left second_left)
+    → ReadsFew (sources_of (task_meant asked)) first left second second_left
+    (IsReadOf (task_meant asked) first second (office_read state) × HasReadToEnd (sources_of (task_meant asked)) left second_left)
+read_of_task asked task first left second second_left state is reads =
+    subst (λ (t : Task). ReadsFew (sources_of (task_meant t)) first left second second_left
+    (IsReadOf (task_meant t) first second (office_read state) × HasReadToEnd (sources_of (task_meant t)) left second_left)) (sym is) reads
+
+-- and why its sources were refused
+pub refused_of_task : (asked task : Task) (first left second second_left : DeviceBytes) (fault : OfficeFault) → asked ≡ task
+    → ReadsFew (sources_of (task_meant task)) first left second second_left (IsWhyRefused (sources_of (task_meant task)) first left second second_left fault)
+    → ReadsFew (sources_of (task_meant asked)) first left second second_left (IsWhyRefused (sources_of (task_meant asked)) first left second second_left fault)
+refused_of_task asked task first left second second_left fault is reads =
+    refused_for (sources_of (task_meant task)) (sources_of (task_meant asked)) first left second second_left fault
+    (sym (ap (λ (t : Task). sources_of (task_meant t)) is)) reads
+
+-- it has some source
+pub some_of_task : (P : Type 0) (asked task : Task) → asked ≡ task → ¬ HasNoSource (sources_of (task_meant task)) → HasNoSource (sources_of (task_meant asked)) → P
+some_of_task P asked task is some none = absurd (some (subst (λ (t : Task). HasNoSource (sources_of (task_meant t))) is none))
 
 -- a second source was read only after the first
 pub second_for : {First Good Kept : Type 0} (sources others : Sources) → sources ≡ others → First ⊎ (HasSecondSource sources × Good × Kept)

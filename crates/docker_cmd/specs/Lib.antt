@@ -8,6 +8,7 @@ pub mod Writes
 pub mod CheckLine
 pub mod Content
 pub mod FaultLine
+pub mod Holding
 pub mod Prepared
 pub use Rattle.docker_office.specs.Faults
 pub use Rattle.docker_office.specs.StateFault

@@ -219,6 +219,11 @@ abbrev pub ReadsContent : {A : Type 0} → (A → ReadView) → Sources → Devi
 ReadsContent meant sources first left second second_left result =
     ReadsSources (λ made. IsContentOf sources first second (meant made)) sources first left second second_left result
 
+-- the sources of a task were read, and the result has what the task has read of them
+abbrev pub ReadsTask : {A : Type 0} → (A → ReadView) → TaskView → DeviceBytes → DeviceBytes → DeviceBytes → DeviceBytes → Result A OfficeFault → Type 0
+ReadsTask meant task first left second second_left result =
+    ReadsSources (λ made. IsReadOf task first second (meant made)) (sources_of task) first left second second_left result
+
 -- it holds this job, and what the job has read of its sources
 abbrev pub IsPreparedFor : JobView → DeviceBytes → DeviceBytes → PreparedView → Type 0
 IsPreparedFor job first second prepared = (prepared.job ≡ job) × IsReadOf job.task first second prepared.read

@@ -6,6 +6,7 @@ mod check_line;
 mod fault;
 mod fault_line;
 mod grammar;
+mod holding;
 mod job_fault;
 mod job_of_words;
 mod jobs;

@@ -2,15 +2,16 @@
 ghost use Rattle.std.specs.Prelude.{◌≡◌, ◌≢◌, ◌+◌, ◌-◌, ◌^◌, ◌<◌, ◌↔◌, IfErr, OnErr, OnOk, Err};
 ghost use Rattle.cif_line.specs.Device.{Takes, TakesPart};
 ghost use Rattle.docker_cmd.specs.Writes.{output_meant};
-ghost use Rattle.docker_cmd.specs.Prepared.{EndsEmitting, IsRefused, IsRefusedDocker, counts_written, file_read, office_read, output_of};
+ghost use Rattle.docker_cmd.specs.Prepared.{EndsEmitting, IsRefused, IsRefusedDocker, counts_written, docker_written, file_read, files_written, office_read, output_of};
 
 use crate::check_line::check_line;
+use crate::holding::Holding;
 use crate::prepared_job::Prepared;
 use crate::sources::Content;
 use crate::writes::Output;
 use cif_file::FileCount;
-use cif_line::{Sink, write_all};
-use docker_office::{Office, OfficeFault};
+use cif_line::{Day, Sink, write_all};
+use docker_office::{LedgerOffice, Office, OfficeFault, PlaceOffice};
 
 /// Writes what the job prints, or the text of the state that is to be kept. `check` writes the line
 /// of its file's counts, `day` and `print` write the docker of their timing point on their day, and
@@ -25,9 +26,13 @@ pub fn emit<K: Sink>(prepared: &Prepared<'_>, sink: &mut K) -> Result<(), Office
         prepared.now.read sink.old sink.new result }
     ensures lapsed { IsRefused prepared.now → result ≡ Err OfficeFault.Lapsed }
 {
-    match prepared.content() {
-        Content::File(file) => write_counts(file, sink),
-        Content::Office(office) => write_office(office, &prepared.job().task().writes(), sink),
+    match prepared.held() {
+        Holding::Whole(Content::File(file)) => write_counts(file, sink),
+        Holding::Whole(Content::Office(office)) => {
+            write_office(office, &prepared.job().task().writes(), sink)
+        }
+        Holding::Place { office, day } => write_place(office, *day, sink),
+        Holding::Ledger(office) => write_ledger(office, sink),
     }
 }
 
@@ -68,4 +73,24 @@ fn write_office<K: Sink>(office: &Office, output: &Output, sink: &mut K) -> Resu
         Output::Files => office.files(sink),
         Output::State | Output::Counts => office.send(sink),
     }
+}
+
+/// Prints the docker of an office at a timing point.
+fn write_place<K: Sink>(office: &PlaceOffice, day: Day, sink: &mut K) -> Result<(), OfficeFault>
+    requires { K.failures sink.old < 2 ^ 64 - 1 }
+    ensures ends { EndsEmitting K.taken K.failures (docker_written office.now.place day)
+        (office_read office.now.state) sink.old sink.new result }
+    ensures lapsed { IsRefusedDocker (docker_written office.now.place day)
+        (office_read office.now.state) → result ≡ Err OfficeFault.Lapsed }
+{
+    office.print(day, sink)
+}
+
+/// Lists the files of a ledger.
+fn write_ledger<K: Sink>(office: &LedgerOffice, sink: &mut K) -> Result<(), OfficeFault>
+    requires { K.failures sink.old < 2 ^ 64 - 1 }
+    ensures { EndsEmitting K.taken K.failures files_written (office_read office.now)
+        sink.old sink.new result }
+{
+    office.files(sink)
 }

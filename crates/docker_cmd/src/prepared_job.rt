@@ -1,10 +1,10 @@
 //! What a job has read.
 ghost use Rattle.std.specs.Prelude.{◌≡◌, ◌-◌, ◌^◌, ◌<◌, ◌⊎◌, IfOk};
-ghost use Rattle.docker_cmd.specs.Content.{content_meant};
-ghost use Rattle.docker_cmd.specs.Prepared.{CountsSources, HasNoSource, HasSecondSource, HoldsSomeState, IsOfOneFile, IsWrittenOf, ReadsInOrder, output_of, sources_of, taken_file};
+ghost use Rattle.docker_cmd.specs.Holding.{IsWrittenFrom, held_meant};
+ghost use Rattle.docker_cmd.specs.Prepared.{CountsSources, HasNoSource, HasSecondSource, HoldsSomeState, IsOfOneFile, ReadsInOrder, output_of, sources_of, taken_file};
 
+use crate::holding::{Holding, hold};
 use crate::jobs::Job;
-use crate::sources::{Content, read_sources};
 use cif_line::Source;
 use docker_office::OfficeFault;
 use std::alloc::Global;
@@ -14,22 +14,22 @@ use std::marker::Model;
 #[derive(Debug, Drop)]
 pub struct Prepared<'a> {
     job: &'a Job,
-    content: Content,
+    held: Holding,
 }
 
 impl<'a> Model for Prepared<'a> {
-    ghost use Rattle.docker_cmd.specs.Prepared.{IsWrittenOf, PreparedView, output_of};
-    ghost use Rattle.docker_cmd.specs.Content.{content_meant};
+    ghost use Rattle.docker_cmd.specs.Prepared.{PreparedView, output_of};
+    ghost use Rattle.docker_cmd.specs.Holding.{IsWrittenFrom, held_meant};
 
     ghost Value = { PreparedView };
 
     ghost view = { λ prepared. record {
       job = prepared.job.now;
-      read = content_meant prepared.content;
+      read = held_meant prepared.held;
     } };
 
-    ghost invariant = { λ prepared. IsWrittenOf (output_of prepared.job.now.task)
-        (content_meant prepared.content) };
+    ghost invariant = { λ prepared. IsWrittenFrom (output_of prepared.job.now.task)
+        prepared.held };
 }
 
 impl<'a> Prepared<'a> {
@@ -40,12 +40,13 @@ impl<'a> Prepared<'a> {
         self.job
     }
 
-    /// What was read: for `check` the counts of a file, for any other job an office.
-    pub(crate) fn content(&self) -> &Content
-        ensures content { self.now.read ≡ content_meant result.now }
-        ensures written { IsWrittenOf (output_of self.now.job.task) (content_meant result.now) }
+    /// What it holds of what was read: for `check` the counts of a file, for any other job an
+    /// office, or the part of one that is written.
+    pub(crate) fn held(&self) -> &Holding
+        ensures held { self.now.read ≡ held_meant result.now }
+        ensures written { IsWrittenFrom (output_of self.now.job.task) result.now }
     {
-        &self.content
+        &self.held
     }
 }
 
@@ -76,9 +77,6 @@ pub fn prepare<'a, S: Source, T: Source>(
     ensures counted { CountsSources result (S.failures first.old) (S.failures first.new)
         (T.failures second.old) (T.failures second.new) }
 {
-    let content = read_sources(alloc, job.task().reads(), first, second)?;
-    Ok(Prepared {
-        job,
-        content: content.under(job.task().horizon()),
-    })
+    let held = hold(alloc, job.task(), first, second)?;
+    Ok(Prepared { job, held })
 }

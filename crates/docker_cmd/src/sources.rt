@@ -12,7 +12,7 @@ use docker_office::{Office, OfficeFault};
 use std::alloc::Global;
 
 /// The most bytes that a state's text may have.
-const MOST_BYTES: u64 = 1_099_511_627_776;
+pub(crate) const MOST_BYTES: u64 = 1_099_511_627_776;
 
 /// What a job has read.
 #[derive(Debug, Drop)]

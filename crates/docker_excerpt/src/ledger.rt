@@ -11,9 +11,9 @@ ghost use Rattle.docker_parts.specs.Told.{with_item};
 ghost use Rattle.docker_excerpt.specs.Values.{with_entries};
 
 use cif_file::Key;
-use cif_line::{Day, Memory};
+use cif_line::Memory;
 use docker_join::Entry;
-use docker_parts::{Given, Keeper, Maker};
+use docker_parts::{Given, Keeper};
 use docker_state::{LedgerItem, Parts};
 use std::alloc::Global;
 use std::fmt;
@@ -168,18 +168,5 @@ impl Keeper for Ledger {
             Some(key) => Some(key),
             None => None,
         }
-    }
-}
-
-impl Maker for Ledger {
-    ghost use Rattle.std.specs.Prelude.{◌≡◌};
-
-    type Made = Ledger;
-
-    ghost makes = { λ made state. made.ledger ≡ state.ledger };
-
-    /// The ledger itself, whatever the horizon is.
-    fn finish(self, _horizon: Option<Day>) -> Result<Ledger, Memory> {
-        Ok(self)
     }
 }

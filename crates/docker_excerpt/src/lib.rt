@@ -4,6 +4,7 @@
 
 mod excerpt;
 mod excerpting;
+mod kept_ledger;
 mod ledger;
 mod needs;
 mod place;
@@ -11,5 +12,6 @@ mod walk;
 
 pub use excerpt::Excerpt;
 pub use excerpting::Excerpting;
+pub use kept_ledger::KeptLedger;
 pub use ledger::Ledger;
 pub use place::{ExcerptingAt, Place};

@@ -1,5 +1,5 @@
 -- What an office's calls promise, from what the calls below promise.
-use Rattle.std.proofs.Common.{◌≡◌, ℕ, List, [], ◌∷◌, ◌++◌, sym, ◌∙◌, subst, Ok, Err}
+use Rattle.std.proofs.Common.{◌≡◌, ℕ, List, [], ◌∷◌, ◌++◌, ap, sym, ◌∙◌, subst, Ok, Err}
 use Rattle.std.specs.Prelude.{Option, Result, max, IsOk, OnOk, OnErr}
 use Rattle.std.specs.Result.{is_ok}
 use Rattle.std.proofs.Math.Nat.{zero-max}
@@ -14,7 +14,9 @@ use Rattle.cif_file.specs.SourceRead.{ReadsText}
 use Rattle.cif_file.specs.declared.fault.FileFault.{FileFault}
 use Rattle.cif_file.specs.declared.fault.ReadFault as files
 use Rattle.cif_file.specs.declared.fault.ReadFault.TheVariants as file_faults
-use Rattle.docker_bytes.specs.SourceRead.{Held, ReadsState, JoinsState}
+use Rattle.docker_bytes.specs.Excerpts.{IsExcerptAt}
+use Rattle.docker_bytes.specs.SourceRead.{Held, ReadsMade, ReadsState, JoinsState}
+use Rattle.docker_bytes.specs.Values.{Excerpt}
 use Rattle.docker_office.specs.declared.fault.OfficeFault.TheVariants.{File}
 use Rattle.docker_office.specs.Faults.{told_of_file}
 use Rattle.docker_office.specs.Office.{TakesFile, KnowsFileToo, HoldsState}
@@ -91,3 +93,23 @@ pub joins_summaries : (limit : ℕ) (left : Option (List ℕ)) (old new : State)
 joins_summaries limit left old new joins files others g h sent of_files of_others holds =
     join_is_summary files others g h old joins.received new of_files
     (subst (IsSummary others h) (sym (one_read dks_2 limit left joins.received sent joins.read holds)) of_others) joins.join
+
+-- ---- excerpts
+
+-- an excerpt that was read is of the place that was asked for
+pub place_read : (place : List ℕ) (limit : ℕ) (left : Option (List ℕ)) (excerpt : Excerpt) → ReadsMade (IsExcerptAt place) dks_2 limit left excerpt
+    → excerpt.place ≡ place
+place_read place limit left excerpt reads = ap (λ (it : Excerpt). it.place) reads.of.made_of
+
+-- and of the state whose text the source held
+pub state_read : (place : List ℕ) (limit : ℕ) (left : Option (List ℕ)) (excerpt : Excerpt) → ReadsMade (IsExcerptAt place) dks_2 limit left excerpt
+    → ReadsState dks_2 limit left excerpt.state
+state_read place limit left excerpt reads =
+    subst (ReadsState dks_2 limit left) (sym (ap (λ (it : Excerpt). it.state) reads.of.made_of))
+    (record { text = reads.text; held = reads.held; is = reads.of.is })
+
+-- which is the one that the source held
+pub one_excerpt : (place : List ℕ) (limit : ℕ) (left : Option (List ℕ)) (excerpt : Excerpt) → ReadsMade (IsExcerptAt place) dks_2 limit left excerpt
+    → (sent : State) → HoldsState dks_2 limit left sent → excerpt.state ≡ sent
+one_excerpt place limit left excerpt reads sent holds =
+    one_read dks_2 limit left excerpt.state sent (state_read place limit left excerpt reads) holds

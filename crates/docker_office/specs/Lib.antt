@@ -6,3 +6,4 @@ pub mod RunEnds
 pub use Rattle.docker_bytes.specs.SourceRead
 pub use Rattle.docker_bytes.specs.FaultText
 pub use Rattle.docker_bytes.specs.declared.fault.StateFault
+pub use Rattle.docker_bytes.specs.Values

@@ -3,11 +3,11 @@ ghost use Rattle.std.specs.Prelude.{◌<◌};
 
 use crate::compare::same;
 use crate::files::*;
-use crate::offices::{day_of, has, office_of, place_of, text_of};
+use crate::offices::{at_place, day_of, has, ledger_of, office_of, place_of, text_of};
 use crate::state_texts::{MORNING_STATE, REVISED_STATE, REVISION_STATE, text_of_parts};
 use cif_file::{FileCause, FileFault};
 use cif_line::{Bytes, Endless, Fuse, Kept};
-use docker_office::{Office, OfficeFault, StateCause, StateFault};
+use docker_office::{LedgerOffice, Office, OfficeFault, PlaceOffice, StateCause, StateFault};
 use std::alloc::Global;
 use std::process::Abort;
 
@@ -67,6 +67,34 @@ fn reloaded(office: &mut Office, text: &[u8], read: u64) -> Result<(), OfficeFau
     office.reload(&mut Fuse::new(Bytes::new(text, 1), read), 1000)
 }
 
+/// Why an office at Ashfeld isn't made of a state from such a source, if it isn't.
+fn read_at_place(rt: &impl Abort, alloc: Global, text: &[u8], read: u64) -> Option<OfficeFault>
+    requires { 0 < read }
+{
+    let mut source = Fuse::new(Bytes::new(text, 1), read);
+    PlaceOffice::read(alloc, place_of(rt, "ASHFELD"), &mut source, 1000).err()
+}
+
+/// Why an office with a ledger isn't.
+fn read_ledger(alloc: Global, text: &[u8], read: u64) -> Option<OfficeFault>
+    requires { 0 < read }
+{
+    let mut source = Fuse::new(Bytes::new(text, 1), read);
+    LedgerOffice::read(alloc, &mut source, 1000).err()
+}
+
+#[test]
+fn a_part_of_a_state_from_a_source_that_fails_once(rt: HostRuntime) {
+    let alloc = rt.alloc();
+    let known = text_of_parts(&rt, alloc, MORNING_STATE);
+    let known = known.as_slice();
+    let failed = Some(OfficeFault::Source);
+    same(&rt, read_at_place(&rt, alloc, known, 312), failed);
+    same(&rt, read_at_place(&rt, alloc, known, 313), None);
+    same(&rt, read_ledger(alloc, known, 312), failed);
+    same(&rt, read_ledger(alloc, known, 313), None);
+}
+
 #[test]
 fn a_source_that_fails_once(rt: HostRuntime) {
     let alloc = rt.alloc();
@@ -92,6 +120,9 @@ fn fills_by_send(rt: &impl Abort, alloc: Global, office: &Office) {
     same(rt, kept.bytes(), front_of(rt, text.as_slice()));
 }
 
+/// The first seventy bytes of the docker of Ashfeld.
+const FRONT: &[u8] = b"DOCKER ASHFELD 2024-06-10                               \n0900  D 1A10 ";
+
 /// Asserts that printing to a sink with room for seventy bytes fills it.
 fn fills_by_print(rt: &impl Abort, alloc: Global, office: &Office) {
     let place = place_of(rt, "ASHFELD");
@@ -99,8 +130,16 @@ fn fills_by_print(rt: &impl Abort, alloc: Global, office: &Office) {
     let mut kept = Kept::new(alloc, 70).expect(rt, "room");
     let answer = office.print(&place, day, &mut kept);
     same(rt, answer, Err(OfficeFault::Sink));
-    let front = b"DOCKER ASHFELD 2024-06-10                               \n0900  D 1A10 ";
-    same(rt, kept.bytes(), front.as_slice());
+    same(rt, kept.bytes(), FRONT);
+}
+
+/// Asserts that printing at Ashfeld to such a sink fills it.
+fn fills_at_place(rt: &impl Abort, alloc: Global, office: &Office) {
+    let office = at_place(rt, alloc, office, place_of(rt, "ASHFELD"));
+    let mut kept = Kept::new(alloc, 70).expect(rt, "room");
+    let answer = office.print(day_of(rt, "2024-06-10"), &mut kept);
+    same(rt, answer, Err(OfficeFault::Sink));
+    same(rt, kept.bytes(), FRONT);
 }
 
 /// Asserts that listing files to a sink with room for ten bytes fills it.
@@ -110,12 +149,22 @@ fn fills_by_files(rt: &impl Abort, alloc: Global, office: &Office) {
     same(rt, kept.bytes(), b"2024-06-09".as_slice());
 }
 
+/// Asserts that listing by the ledger to such a sink fills it.
+fn fills_by_ledger(rt: &impl Abort, alloc: Global, office: &Office) {
+    let ledger = ledger_of(rt, alloc, office);
+    let mut kept = Kept::new(alloc, 10).expect(rt, "room");
+    same(rt, ledger.files(&mut kept), Err(OfficeFault::Sink));
+    same(rt, kept.bytes(), b"2024-06-09".as_slice());
+}
+
 #[test]
 fn a_sink_that_is_full(rt: HostRuntime) {
     let office = office_of(&rt, rt.alloc(), &[MORNING]);
     fills_by_send(&rt, rt.alloc(), &office);
     fills_by_print(&rt, rt.alloc(), &office);
+    fills_at_place(&rt, rt.alloc(), &office);
     fills_by_files(&rt, rt.alloc(), &office);
+    fills_by_ledger(&rt, rt.alloc(), &office);
 }
 
 #[test]

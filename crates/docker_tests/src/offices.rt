@@ -4,7 +4,7 @@ use crate::compare::{same, same_in};
 use crate::files::File;
 use crate::state_texts::{Parts, text_of_parts};
 use cif_line::{Bytes, Day, Kept, Tiploc};
-use docker_office::{Office, OfficeFault};
+use docker_office::{LedgerOffice, Office, OfficeFault, PlaceOffice};
 use std::alloc::Global;
 use std::process::Abort;
 
@@ -62,6 +62,25 @@ pub(crate) fn sent(rt: &impl Abort, alloc: Global, office: &Office) -> Kept {
     kept
 }
 
+/// An office at a timing point that reads the state of another office.
+pub(crate) fn at_place(
+    rt: &impl Abort,
+    alloc: Global,
+    office: &Office,
+    place: Tiploc,
+) -> PlaceOffice {
+    let text = sent(rt, alloc, office);
+    let mut source = Bytes::new(text.bytes(), 7);
+    PlaceOffice::read(alloc, place, &mut source, 1000).expect(rt, "a state")
+}
+
+/// An office with the ledger of the state of another office.
+pub(crate) fn ledger_of(rt: &impl Abort, alloc: Global, office: &Office) -> LedgerOffice {
+    let text = sent(rt, alloc, office);
+    let mut source = Bytes::new(text.bytes(), 7);
+    LedgerOffice::read(alloc, &mut source, 1000).expect(rt, "a state")
+}
+
 /// Asserts that an office has the state with this text.
 pub(crate) fn has_text(rt: &impl Abort, alloc: Global, office: &Office, text: &[u8]) {
     let own = sent(rt, alloc, office);
@@ -84,7 +103,8 @@ pub(crate) fn day_of(rt: &impl Abort, date: &str) -> Day {
     Day::from_iso(date).expect(rt, "a day")
 }
 
-/// Asserts that an office prints this docker for a place and a day.
+/// Asserts that an office prints this docker for a place and a day, and so does an office at the
+/// place.
 pub(crate) fn prints(
     rt: &impl Abort,
     alloc: Global,
@@ -99,14 +119,26 @@ pub(crate) fn prints(
     let answer = office.print(&place, day, &mut kept);
     same_in(rt, date, answer, Ok(()));
     same_in(rt, date, kept.bytes(), docker.as_bytes());
+    let office = at_place(rt, alloc, office, place);
+    prints_there(rt, alloc, &office, date, docker);
 }
 
-/// Asserts that an office refuses to print a docker of Ashfeld on a day.
+/// Asserts that an office at a place prints this docker for a day.
+fn prints_there(rt: &impl Abort, alloc: Global, office: &PlaceOffice, date: &str, docker: &str) {
+    let mut kept = Kept::new(alloc, ROOM).expect(rt, "room");
+    let answer = office.print(day_of(rt, date), &mut kept);
+    same_in(rt, date, answer, Ok(()));
+    same_in(rt, date, kept.bytes(), docker.as_bytes());
+}
+
+/// Asserts that an office refuses to print a docker of Ashfeld on a day, and so does one at Ashfeld.
 pub(crate) fn refuses_day(rt: &impl Abort, alloc: Global, office: &Office, date: &str) {
     let place = place_of(rt, "ASHFELD");
     let day = day_of(rt, date);
     let mut kept = Kept::new(alloc, ROOM).expect(rt, "room");
     let answer = office.print(&place, day, &mut kept);
+    same_in(rt, date, answer, Err(OfficeFault::Lapsed));
+    let answer = at_place(rt, alloc, office, place).print(day, &mut kept);
     same_in(rt, date, answer, Err(OfficeFault::Lapsed));
     same_in(rt, date, kept.bytes().is_empty(), true);
 }

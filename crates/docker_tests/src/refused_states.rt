@@ -2,10 +2,10 @@
 
 use crate::compare::same;
 use crate::files::*;
-use crate::offices::{has, has_text, office_of};
+use crate::offices::{has, has_text, office_of, place_of};
 use crate::state_texts::*;
 use cif_line::Bytes;
-use docker_office::{Office, OfficeFault, StateCause, StateFault};
+use docker_office::{LedgerOffice, Office, OfficeFault, PlaceOffice, StateCause, StateFault};
 use std::alloc::Global;
 use std::process::Abort;
 
@@ -15,21 +15,34 @@ enum Ask {
     Receive,
     Reload,
     Migrate,
+    Place,
+    Ledger,
 }
 
 /// How an office reads a state of the new format.
-const NEWER: &[Ask] = &[Ask::Receive, Ask::Reload];
+const NEWER: &[Ask] = &[Ask::Receive, Ask::Reload, Ask::Place, Ask::Ledger];
 
 /// How an office reads a state of the older format.
 const OLDER: &[Ask] = &[Ask::Migrate];
 
-/// Asks an office to read a text of at most `limit` bytes, in pieces of 9 bytes.
-fn read_in(how: Ask, office: &mut Office, text: &[u8], limit: u64) -> Result<(), OfficeFault> {
+/// Asks an office, or one at a place or with a ledger, to read a text of at most `limit` bytes, in
+/// pieces of 9 bytes.
+fn read_in(
+    rt: &impl Abort,
+    alloc: Global,
+    how: Ask,
+    office: &mut Office,
+    text: &[u8],
+    limit: u64,
+) -> Result<(), OfficeFault> {
     let mut source = Bytes::new(text, 9);
+    let place = place_of(rt, "ASHFELD");
     match how {
         Ask::Receive => office.receive(&mut source, limit),
         Ask::Reload => office.reload(&mut source, limit),
         Ask::Migrate => office.migrate(&mut source, limit),
+        Ask::Place => PlaceOffice::read(alloc, place, &mut source, limit).map(|_| ()),
+        Ask::Ledger => LedgerOffice::read(alloc, &mut source, limit).map(|_| ()),
     }
 }
 
@@ -37,7 +50,7 @@ fn read_in(how: Ask, office: &mut Office, text: &[u8], limit: u64) -> Result<(),
 /// was.
 fn refuses(rt: &impl Abort, alloc: Global, how: Ask, text: &[u8], limit: u64, fault: StateFault) {
     let mut office = office_of(rt, alloc, &[REVISION]);
-    let answer = read_in(how, &mut office, text, limit);
+    let answer = read_in(rt, alloc, how, &mut office, text, limit);
     same(rt, (how, answer), (how, Err(OfficeFault::State(fault))));
     has(rt, alloc, &office, REVISION_STATE);
 }

@@ -3,7 +3,7 @@ ghost use Rattle.std.specs.Prelude.{◌<◌};
 
 use crate::compare::same;
 use crate::files::*;
-use crate::offices::{day_of, has, merged, office_of, text_of};
+use crate::offices::{day_of, has, ledger_of, merged, office_of, text_of};
 use crate::state_texts::*;
 use cif_line::{Bytes, Kept};
 use docker_office::Office;
@@ -91,11 +91,15 @@ const LISTS: &[(&[File], &str)] = &[
     (&[EARLY], "2000-01-01 0307 DFROC1A U DFROC1Z\n"),
 ];
 
-/// Asserts what an office lists that took these files in turn.
+/// Asserts what an office lists that took these files in turn, and what one with its ledger lists.
 fn lists(rt: &impl Abort, alloc: Global, files: &[File], wanted: &str) {
     let office = office_of(rt, alloc, files);
     let mut text = Kept::new(alloc, 100).expect(rt, "room");
     same(rt, office.files(&mut text), Ok(()));
+    same(rt, text.bytes(), wanted.as_bytes());
+    let ledger = ledger_of(rt, alloc, &office);
+    let mut text = Kept::new(alloc, 100).expect(rt, "room");
+    same(rt, ledger.files(&mut text), Ok(()));
     same(rt, text.bytes(), wanted.as_bytes());
 }
 

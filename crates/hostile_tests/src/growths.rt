@@ -38,6 +38,9 @@ fn do_office_row(desk: &Desk, call: &str, words: &[&str]) {
             office_growths::read(desk, call, words)
         }
         "Office::print" => office_growths::print(desk, words),
+        "PlaceOffice::read" => office_growths::read_at_place(desk, words),
+        "PlaceOffice::print" => office_growths::print_at_place(desk, words),
+        "LedgerOffice::read" => office_growths::read_ledger(desk, words),
         "job" => job_growths::words_of_job(desk, words),
         "job_line" => job_growths::line_of_job(desk, words),
         "prepare" => job_growths::read_for_job(desk, words),

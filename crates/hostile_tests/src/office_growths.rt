@@ -4,8 +4,8 @@ use crate::asking::{ask, call_of};
 use crate::desk::Desk;
 use crate::endings::ending_of;
 use crate::texts::{MOST_BYTES, compare_state, has_text, occasion_of, office_of, sink, source_of};
-use cif_line::Sink;
-use docker_office::Office;
+use cif_line::{Day, Sink, Tiploc};
+use docker_office::{LedgerOffice, Office, OfficeFault, PlaceOffice};
 
 /// `STATE TEXT STATE`: an office with the first state reads the text, and then has the last state.
 pub(crate) fn read(desk: &Desk, call: &str, words: &[&str]) {
@@ -82,4 +82,99 @@ fn has_printed(desk: &Desk, office: &Office, words: [&str; 3], is_first: bool) -
     }
     desk.report(done.is_ok() && desk.is_text(kept.bytes(), wanted), wanted);
     true
+}
+
+/// An office at a timing point with the state of a text.
+fn at_place(desk: &Desk, text: &[u8], place: Tiploc) -> Result<PlaceOffice, OfficeFault> {
+    PlaceOffice::read(desk.alloc(), place, &mut source_of(text), MOST_BYTES)
+}
+
+/// Compares what an office at a timing point prints.
+fn compare_docker(desk: &Desk, office: &PlaceOffice, day: Day, wanted: &str) {
+    if let Some(mut kept) = sink(desk) {
+        let done = office.print(day, &mut kept).is_ok();
+        desk.tell(done && desk.is_text(kept.bytes(), wanted), wanted);
+    }
+}
+
+/// `STATE TIPLOC DATE DOCKER`: an office at the timing point reads the state. It prints then.
+pub(crate) fn read_at_place(desk: &Desk, words: &[&str]) {
+    let [name, place, day, wanted] = words else {
+        return desk.trouble("STATE TIPLOC DATE DOCKER");
+    };
+    let text = desk.text(name);
+    let Some((place, day)) = occasion_of(desk, place, day) else {
+        return;
+    };
+    desk.begin();
+    let read = at_place(desk, text.as_slice(), place);
+    desk.end(ending_of(&read));
+    match read {
+        Ok(office) => compare_docker(desk, &office, day, wanted),
+        Err(_) => match at_place(desk, text.as_slice(), place) {
+            Ok(office) => compare_docker(desk, &office, day, wanted),
+            Err(_) => desk.trouble("refused again"),
+        },
+    }
+}
+
+/// `STATE TIPLOC DATE DOCKER`: an office at the timing point, which has read the state, prints.
+pub(crate) fn print_at_place(desk: &Desk, words: &[&str]) {
+    let [name, place, day, wanted] = words else {
+        return desk.trouble("STATE TIPLOC DATE DOCKER");
+    };
+    let text = desk.text(name);
+    let Some((place, day)) = occasion_of(desk, place, day) else {
+        return;
+    };
+    match at_place(desk, text.as_slice(), place) {
+        Ok(office) => print_there(desk, &office, day, wanted),
+        Err(_) => desk.trouble("an office's state is refused"),
+    }
+}
+
+/// Has an office at a timing point print, once more if nothing is written.
+fn print_there(desk: &Desk, office: &PlaceOffice, day: Day, wanted: &str) {
+    let Some(mut kept) = sink(desk) else {
+        return;
+    };
+    desk.begin();
+    let done = office.print(day, &mut kept);
+    desk.end(ending_of(&done));
+    if done.is_err() && kept.bytes().is_empty() && kept.failures() == 0 {
+        desk.tell(true, "nothing is written");
+        return compare_docker(desk, office, day, wanted);
+    }
+    desk.tell(done.is_ok() && desk.is_text(kept.bytes(), wanted), wanted);
+}
+
+/// An office with the ledger of the state of a text.
+fn with_ledger(desk: &Desk, text: &[u8]) -> Result<LedgerOffice, OfficeFault> {
+    LedgerOffice::read(desk.alloc(), &mut source_of(text), MOST_BYTES)
+}
+
+/// Compares the files that an office with a ledger lists.
+fn compare_files(desk: &Desk, office: &LedgerOffice, wanted: &str) {
+    if let Some(mut kept) = sink(desk) {
+        let done = office.files(&mut kept).is_ok();
+        desk.tell(done && desk.is_text(kept.bytes(), wanted), wanted);
+    }
+}
+
+/// `STATE FILES`: an office reads the ledger of the state. It lists the files then.
+pub(crate) fn read_ledger(desk: &Desk, words: &[&str]) {
+    let [name, wanted] = words else {
+        return desk.trouble("STATE FILES");
+    };
+    let text = desk.text(name);
+    desk.begin();
+    let read = with_ledger(desk, text.as_slice());
+    desk.end(ending_of(&read));
+    match read {
+        Ok(office) => compare_files(desk, &office, wanted),
+        Err(_) => match with_ledger(desk, text.as_slice()) {
+            Ok(office) => compare_files(desk, &office, wanted),
+            Err(_) => desk.trouble("refused again"),
+        },
+    }
 }

@@ -1,9 +1,10 @@
 ghost use Rattle.std.specs.Prelude.{◌<◌};
 
 use cif_file::read_pieces;
-use cif_line::{Bytes, Kept};
+use cif_line::{Bytes, Kept, Tiploc};
 use docker_bytes::{
-    ReadFault, StateCause, StateFault, StateParser, Step, encoded_len, read_state, write_state,
+    ReadFault, StateCause, StateFault, StateParser, Step, encoded_len, read_excerpt, read_ledger,
+    read_state, write_state,
 };
 use docker_join::Merge;
 use docker_state::State;
@@ -88,6 +89,15 @@ fn read(rt: &impl Abort, alloc: Global, text: &[u8], step: usize, limit: u64) ->
     read_state(alloc, &mut source, limit).expect(rt, "a state")
 }
 
+/// The number of files that the ledger of a text has, read by a step of bytes.
+fn files_in(rt: &impl Abort, alloc: Global, text: &[u8], step: usize, limit: u64) -> usize
+    requires { 0 < step }
+{
+    let mut source = Bytes::new(text, step);
+    let ledger = read_ledger(alloc, &mut source, limit).expect(rt, "a state");
+    ledger.items().len()
+}
+
 /// The text of the file of 9 June with its schedule: 311 bytes.
 fn known_text(rt: &impl Abort, alloc: Global) -> Vec<u8> {
     joined_text(rt, alloc, &[MARK, ONE, ITEM, ONE, HEAD, BS, LO, LT])
@@ -107,6 +117,11 @@ fn goes_round(rt: &impl Abort, alloc: Global, state: &State, len: usize, step: u
     same(rt, encoded_len(state), len as u128);
     let again = read(rt, alloc, text.bytes(), step, len as u64);
     text_is(rt, alloc, &again, text.bytes());
+    let files = files_in(rt, alloc, text.bytes(), step, len as u64);
+    same(rt, files, state.ledger().len());
+    let mut source = Bytes::new(text.bytes(), step);
+    let excerpt = read_excerpt(alloc, &mut source, place(rt), len as u64);
+    same(rt, excerpt.is_ok(), true);
 }
 
 #[test]
@@ -189,6 +204,11 @@ fn fault_fed(alloc: Global, text: &[u8], limit: u64, step: usize) -> Option<Stat
     parser.finish().err()
 }
 
+/// The timing point for which excerpts are read.
+fn place(rt: &impl Abort) -> Tiploc {
+    Tiploc::from_text("ASHFELD").expect(rt, "a TIPLOC")
+}
+
 /// Asserts that a text has this fault under this limit, both when it is read and when a parser is
 /// fed, `step` bytes at a time.
 fn refused_by(
@@ -205,6 +225,12 @@ fn refused_by(
     let read = read_state(alloc, &mut source, limit).err();
     same(rt, read, Some(ReadFault::State(fault)));
     same(rt, fault_fed(alloc, text, limit, step), Some(fault));
+    let mut source = Bytes::new(text, step);
+    let read = read_excerpt(alloc, &mut source, place(rt), limit).err();
+    same(rt, read, Some(ReadFault::State(fault)));
+    let mut source = Bytes::new(text, step);
+    let read = read_ledger(alloc, &mut source, limit).err();
+    same(rt, read, Some(ReadFault::State(fault)));
 }
 
 /// Asserts that each way of reading finds this fault in a text of these pieces under this limit.

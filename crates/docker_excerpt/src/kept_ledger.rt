@@ -1,0 +1,63 @@
+//! What is kept of a state for the list of its files.
+ghost use Rattle.std.specs.Prelude.{◌≡◌, map};
+ghost use Rattle.docker_model.specs.state.State.{IsValid};
+ghost use Rattle.docker_state.specs.Meaning.{item_meant};
+ghost use Rattle.docker_parts.specs.Told.{horizon_meant, under};
+
+use crate::ledger::Ledger;
+use cif_line::{Day, Memory};
+use docker_parts::Maker;
+use docker_state::LedgerItem;
+use std::marker::Model;
+
+/// The ledger of a state, and its horizon, without the entries. Its value is the whole state, as an
+/// excerpt's is. It serves only for the list of the state's files: it is no state to write, join or
+/// send.
+#[derive(Debug, Drop)]
+pub struct KeptLedger {
+    ledger: Ledger,
+    horizon: Option<Day>,
+}
+
+impl Model for KeptLedger {
+    ghost use Rattle.docker_model.specs.state.State as states;
+    ghost use Rattle.docker_model.specs.state.State.{IsValid};
+    ghost use Rattle.docker_parts.specs.Told.{horizon_meant, under};
+
+    ghost Value = { states.State };
+
+    ghost view = { λ it. under (horizon_meant it.horizon) it.ledger };
+
+    ghost invariant = { λ it. IsValid (under (horizon_meant it.horizon) it.ledger) };
+}
+
+impl KeptLedger {
+    /// The ledger of the state whose parts were given, under the horizon that was read, if one was.
+    pub(crate) fn of(ledger: Ledger, horizon: Option<Day>) -> KeptLedger
+        requires { IsValid (under (horizon_meant horizon) ledger) }
+        ensures { result ≡ under (horizon_meant horizon) ledger }
+    {
+        KeptLedger { ledger, horizon }
+    }
+
+    /// The ledger items, ascending.
+    pub fn items(&self) -> &[LedgerItem]
+        ensures items { map item_meant result.now ≡ self.now.ledger }
+        ensures valid { IsValid self.now }
+    {
+        self.ledger.items()
+    }
+}
+
+impl Maker for Ledger {
+    ghost use Rattle.std.specs.Prelude.{◌≡◌};
+
+    type Made = KeptLedger;
+
+    ghost makes = { λ made state. made ≡ state };
+
+    /// The ledger under the horizon that was read. It takes no memory.
+    fn finish(self, horizon: Option<Day>) -> Result<KeptLedger, Memory> {
+        Ok(KeptLedger::of(self, horizon))
+    }
+}

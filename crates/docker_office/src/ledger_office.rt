@@ -1,0 +1,77 @@
+//! An office that lists the files that a state knows, and keeps of the state only its ledger.
+ghost use Rattle.std.specs.Prelude.{◌≡◌, ◌≢◌, ◌+◌, ◌-◌, ◌^◌, ◌<◌, ◌↔◌, IfOk, IfErr, OnOk, OnErr, Err};
+ghost use Rattle.cif_line.specs.Device.{Takes, TakesPart};
+ghost use Rattle.docker_bytes.specs.SourceRead.{ReadsOnePieceMore, ReadsState, RefusesState, WantsMemory};
+ghost use Rattle.docker_model.specs.docker.DockerText.{files_text};
+ghost use Rattle.docker_model.specs.state.State as states;
+ghost use Rattle.docker_model.specs.state.StateText.{dks_2};
+ghost use Rattle.docker_office.specs.Faults.{IsOfState};
+ghost use Rattle.docker_office.specs.Office.{HoldsState};
+
+use crate::fault::OfficeFault;
+use crate::files::write_files;
+use cif_line::{Sink, Source};
+use docker_bytes::{KeptLedger, read_ledger};
+use std::alloc::Global;
+use std::marker::Model;
+
+/// An office with the ledger of a state. Its value is the whole state. It lists the files, and does
+/// nothing else: no call writes, joins or sends its state.
+#[derive(Debug, Drop)]
+pub struct LedgerOffice {
+    ledger: KeptLedger,
+}
+
+impl Model for LedgerOffice {
+    ghost use Rattle.docker_model.specs.state.State as states;
+
+    ghost Value = { states.State };
+
+    ghost view = { λ office. office.ledger };
+}
+
+impl LedgerOffice {
+    /// The office with the state whose text a source holds, of at most `limit` bytes. It refuses,
+    /// by `State`, `Source` or `Memory`, what `Office::reload` refuses: every part of the text is
+    /// judged, and no entry is kept.
+    pub fn read<S: Source>(
+        alloc: Global,
+        source: &mut S,
+        limit: u64,
+    ) -> Result<LedgerOffice, OfficeFault>
+        requires { S.failures source.old < 2 ^ 64 - 1 }
+        ensures ok { IfOk result (ReadsState dks_2 limit (S.left source.old)) }
+        ensures sent { IfOk result (λ office. (sent : states.State)
+            → HoldsState dks_2 limit (S.left source.old) sent → office ≡ sent) }
+        ensures state { (fault : _) → result ≡ Err (OfficeFault.State fault)
+            → RefusesState dks_2 limit (S.left source.old) fault }
+        ensures memory { result ≡ Err OfficeFault.Memory
+            → WantsMemory dks_2 65536 limit (S.left source.old) (S.left source.new) }
+        ensures few { ReadsOnePieceMore dks_2 65536 limit (S.left source.old) (S.left source.new) }
+        ensures source { (result ≡ Err OfficeFault.Source)
+            ↔ (S.failures source.new ≡ S.failures source.old + 1) }
+        ensures no_failure { result ≢ Err OfficeFault.Source
+            → S.failures source.new ≡ S.failures source.old }
+        ensures only { IfErr result IsOfState }
+    {
+        let ledger = read_ledger(alloc, source, limit)?;
+        Ok(LedgerOffice { ledger })
+    }
+
+    /// Writes a line for each file that the state knows, in the order of the ledger. Takes no
+    /// memory: only `Sink` refuses, and leaves the sink with a beginning of the text, and not all
+    /// of it.
+    pub fn files<K: Sink>(&self, sink: &mut K) -> Result<(), OfficeFault>
+        requires { K.failures sink.old < 2 ^ 64 - 1 }
+        ensures whole { OnOk result
+            (Takes (K.taken sink.old) (files_text self.now.ledger) (K.taken sink.new)) }
+        ensures part { OnErr result
+            (TakesPart (K.taken sink.old) (files_text self.now.ledger) (K.taken sink.new)) }
+        ensures no_failure { OnOk result (K.failures sink.new ≡ K.failures sink.old) }
+        ensures sink { (result ≡ Err OfficeFault.Sink)
+            ↔ (K.failures sink.new ≡ K.failures sink.old + 1) }
+        ensures only { IfErr result (λ fault. fault ≡ OfficeFault.Sink) }
+    {
+        write_files(self.ledger.items(), sink).map_err(|_| OfficeFault::Sink)
+    }
+}
