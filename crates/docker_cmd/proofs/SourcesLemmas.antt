@@ -1,5 +1,5 @@
 -- What a job has of its sources, from what was read of them.
-use Rattle.std.proofs.Common.{◌≡◌, ℕ, [], ◌∷◌, ◌⊎◌, Option, None, refl, sym, ◌∙◌, ap, subst}
+use Rattle.std.proofs.Common.{◌≡◌, ℕ, [], ◌∷◌, ◌⊎◌, Option, None, refl, sym, ◌∙◌, ap, subst, Some}
 use Rattle.cif_laws.proofs.lists.Membership.{Contains-single, nil-Contains}
 use Rattle.docker_model.specs.file.File.{most_records}
 use Rattle.docker_model.specs.state.State.{State}
@@ -8,10 +8,9 @@ use Rattle.state_laws.proofs.states.PlainLive.{live_table_is_plain}
 use Rattle.state_laws.proofs.states.SummaryLaws.{join_is_summary}
 use Rattle.docker_office.specs.Office.{TakesFile, no_state}
 use Rattle.docker_office.specs.declared.fault.OfficeFault.{OfficeFault}
-use Rattle.docker_cmd.specs.Job.{JobView, TaskView, task_meant, new_task, check_task, day_task, take_task, merge_task, print_task, files_task, horizon_task, migrate_task}
+use Rattle.docker_cmd.specs.Job.{JobView, TaskView, new_task, check_task, day_task, take_task, merge_task, print_task, files_task, horizon_task, migrate_task}
 use Rattle.docker_cmd.specs.Reads.{Sources, checked_file, taken_file, sources_of, horizon_of}
 use Rattle.docker_cmd.specs.Writes.{Output, output_of}
-use Rattle.docker_cmd.specs.declared.tasks.Task.{Task}
 use Rattle.docker_cmd.specs.Prepared.{DeviceBytes, HasNoSource, HasReadToEnd, HasSecondSource, IsContentOf, IsOfOneFile, IsPreparedFor, IsReadOf, IsStateOf, IsWhyRefused, IsWrittenOf, ReadView, ReadsFew, file_read, office_read, under}
 
 -- no file, and no horizon
@@ -148,39 +147,25 @@ refused_for sources others first left second second_left fault same reads =
     subst (λ s. ReadsFew s first left second second_left (IsWhyRefused s first left second second_left fault)) same reads
 
 -- what a job's task has read, the job has
-pub prepared_read : (job : JobView) (task : TaskView) (first left second second_left : DeviceBytes) (read : ReadView) → task ≡ job.task
-    → ReadsFew (sources_of task) first left second second_left (IsReadOf task first second read × HasReadToEnd (sources_of task) left second_left)
+pub prepared_read : (job : JobView) (first left second second_left : DeviceBytes) (read : ReadView)
+    → ReadsFew (sources_of job.task) first left second second_left (IsReadOf job.task first second read × HasReadToEnd (sources_of job.task) left second_left)
     → ReadsFew (sources_of job.task) first left second second_left
     (IsPreparedFor job first second (record { job = job; read = read }) × HasReadToEnd (sources_of job.task) left second_left)
-prepared_read job task first left second second_left read same reads =
-    let moved : ReadsFew (sources_of job.task) first left second second_left
-    (IsReadOf job.task first second read × HasReadToEnd (sources_of job.task) left second_left) =
-    subst (λ t. ReadsFew (sources_of t) first left second second_left (IsReadOf t first second read × HasReadToEnd (sources_of t) left second_left)) same reads in
-    record { first_few = moved.first_few; second_few = moved.second_few; ends = ((refl, moved.ends.0), moved.ends.1) }
+prepared_read job first left second second_left read reads =
+    record { first_few = reads.first_few; second_few = reads.second_few; ends = ((refl, reads.ends.0), reads.ends.1) }
 
 -- ---- a task that holds a part of what it has read
 
 -- what the task that was asked for has read
-pub read_of_task : (asked task : Task) (first left second second_left : DeviceBytes) (state : State) → asked ≡ task
-    → ReadsFew (sources_of (task_meant task)) first left second second_left
-    (IsReadOf (task_meant task) first second (office_read state) × HasReadToEnd (sources_of (task_meant task)) left second_left)
-    → ReadsFew (sources_of (task_meant asked)) first left second second_left
-    (IsReadOf (task_meant asked) first second (office_read state) × HasReadToEnd (sources_of (task_meant asked)) left second_left)
-read_of_task asked task first left second second_left state is reads =
-    subst (λ (t : Task). ReadsFew (sources_of (task_meant t)) first left second second_left
-    (IsReadOf (task_meant t) first second (office_read state) × HasReadToEnd (sources_of (task_meant t)) left second_left)) (sym is) reads
-
--- and why its sources were refused
-pub refused_of_task : (asked task : Task) (first left second second_left : DeviceBytes) (fault : OfficeFault) → asked ≡ task
-    → ReadsFew (sources_of (task_meant task)) first left second second_left (IsWhyRefused (sources_of (task_meant task)) first left second second_left fault)
-    → ReadsFew (sources_of (task_meant asked)) first left second second_left (IsWhyRefused (sources_of (task_meant asked)) first left second second_left fault)
-refused_of_task asked task first left second second_left fault is reads =
-    refused_for (sources_of (task_meant task)) (sources_of (task_meant asked)) first left second second_left fault
-    (sym (ap (λ (t : Task). sources_of (task_meant t)) is)) reads
+pub read_of_task : (asked task : TaskView) (first left second second_left : DeviceBytes) (read : ReadView) → asked ≡ task
+    → ReadsFew (sources_of task) first left second second_left (IsReadOf task first second read × HasReadToEnd (sources_of task) left second_left)
+    → ReadsFew (sources_of asked) first left second second_left (IsReadOf asked first second read × HasReadToEnd (sources_of asked) left second_left)
+read_of_task asked task first left second second_left read is reads =
+    subst (λ t. ReadsFew (sources_of t) first left second second_left (IsReadOf t first second read × HasReadToEnd (sources_of t) left second_left)) (sym is) reads
 
 -- it has some source
-pub some_of_task : (P : Type 0) (asked task : Task) → asked ≡ task → ¬ HasNoSource (sources_of (task_meant task)) → HasNoSource (sources_of (task_meant asked)) → P
-some_of_task P asked task is some none = absurd (some (subst (λ (t : Task). HasNoSource (sources_of (task_meant t))) is none))
+pub some_of_task : (P : Type 0) (asked task : TaskView) → asked ≡ task → ¬ HasNoSource (sources_of task) → HasNoSource (sources_of asked) → P
+some_of_task P asked task is some none = absurd (some (subst (λ t. HasNoSource (sources_of t)) is none))
 
 -- a second source was read only after the first
 pub second_for : {First Good Kept : Type 0} (sources others : Sources) → sources ≡ others → First ⊎ (HasSecondSource sources × Good × Kept)

@@ -1,11 +1,11 @@
 //! What a job holds of what it has read: `print` and `files` hold no more of a state than they
 //! write.
 ghost use Rattle.std.specs.Prelude.{◌≡◌, ◌+◌, ◌-◌, ◌^◌, ◌<◌, ◌⊎◌, ℕ, IfOk};
-ghost use Rattle.docker_cmd.specs.Job.{task_meant};
 ghost use Rattle.docker_model.specs.state.StateText.{dks_2};
 ghost use Rattle.docker_cmd.specs.Holding.{IsWrittenFrom, held_meant, place_read};
 ghost use Rattle.docker_cmd.specs.Prepared.{CountsSources, DeviceBytes, HasNoSource, HasSecondSource, HoldsSomeState, ReadsContent, ReadsTask, office_read, one_state, output_of, sources_of};
 
+use crate::jobs::Job;
 use crate::sources::{Content, MOST_BYTES, read_sources};
 use crate::tasks::Task;
 use cif_line::{Day, Source, Tiploc};
@@ -28,25 +28,25 @@ pub(crate) enum Holding {
     Ledger(LedgerOffice),
 }
 
-/// Reads what a task reads, and holds what the task writes is made of.
+/// Reads what a job reads, and holds what its output is made of.
 pub(crate) fn hold<S: Source, T: Source>(
     alloc: Global,
-    task: Task,
+    job: &Job,
     first: &mut S,
     second: &mut T,
 ) -> Result<Holding, OfficeFault>
     requires first { S.failures first.old < 2 ^ 64 - 1 }
     requires second { T.failures second.old < 2 ^ 64 - 1 }
-    ensures reads { ReadsTask held_meant (task_meant task)
+    ensures reads { ReadsTask held_meant job.now.task
         (S.left first.old) (S.left first.new) (T.left second.old) (T.left second.new) result }
-    ensures none { HasNoSource (sources_of (task_meant task)) → first.new ≡ first.old }
-    ensures order { (second.new ≡ second.old) ⊎ (HasSecondSource (sources_of (task_meant task)) ×
+    ensures none { HasNoSource (sources_of job.now.task) → first.new ≡ first.old }
+    ensures order { (second.new ≡ second.old) ⊎ (HasSecondSource (sources_of job.now.task) ×
         HoldsSomeState (S.left first.old) × (S.failures first.new ≡ S.failures first.old)) }
     ensures counted { CountsSources result (S.failures first.old) (S.failures first.new)
         (T.failures second.old) (T.failures second.new) }
-    ensures written { IfOk result (IsWrittenFrom (output_of (task_meant task))) }
+    ensures written { IfOk result (IsWrittenFrom (output_of job.now.task)) }
 {
-    match task {
+    match job.task() {
         Task::Print { place, day } => {
             let office = place_of_state(alloc, place, first)?;
             Ok(Holding::Place { office, day })
@@ -55,30 +55,30 @@ pub(crate) fn hold<S: Source, T: Source>(
             let ledger = ledger_of_state(alloc, first)?;
             Ok(Holding::Ledger(ledger))
         }
-        _ => hold_all(alloc, task, first, second),
+        _ => hold_all(alloc, job, first, second),
     }
 }
 
-/// Reads what a task reads, and holds all of it.
+/// Reads what a job reads, and holds all of it.
 fn hold_all<S: Source, T: Source>(
     alloc: Global,
-    task: Task,
+    job: &Job,
     first: &mut S,
     second: &mut T,
 ) -> Result<Holding, OfficeFault>
     requires first { S.failures first.old < 2 ^ 64 - 1 }
     requires second { T.failures second.old < 2 ^ 64 - 1 }
-    ensures reads { ReadsTask held_meant (task_meant task)
+    ensures reads { ReadsTask held_meant job.now.task
         (S.left first.old) (S.left first.new) (T.left second.old) (T.left second.new) result }
-    ensures none { HasNoSource (sources_of (task_meant task)) → first.new ≡ first.old }
-    ensures order { (second.new ≡ second.old) ⊎ (HasSecondSource (sources_of (task_meant task)) ×
+    ensures none { HasNoSource (sources_of job.now.task) → first.new ≡ first.old }
+    ensures order { (second.new ≡ second.old) ⊎ (HasSecondSource (sources_of job.now.task) ×
         HoldsSomeState (S.left first.old) × (S.failures first.new ≡ S.failures first.old)) }
     ensures counted { CountsSources result (S.failures first.old) (S.failures first.new)
         (T.failures second.old) (T.failures second.new) }
-    ensures written { IfOk result (IsWrittenFrom (output_of (task_meant task))) }
+    ensures written { IfOk result (IsWrittenFrom (output_of job.now.task)) }
 {
-    let content = read_sources(alloc, task.reads(), first, second)?;
-    Ok(Holding::Whole(content.under(task.horizon())))
+    let content = read_sources(alloc, job.task().reads(), first, second)?;
+    Ok(Holding::Whole(content.under(job.task().horizon())))
 }
 
 /// An office at a timing point, of the state that a source holds.

@@ -77,6 +77,6 @@ pub fn prepare<'a, S: Source, T: Source>(
     ensures counted { CountsSources result (S.failures first.old) (S.failures first.new)
         (T.failures second.old) (T.failures second.new) }
 {
-    let held = hold(alloc, job.task(), first, second)?;
+    let held = hold(alloc, job, first, second)?;
     Ok(Prepared { job, held })
 }

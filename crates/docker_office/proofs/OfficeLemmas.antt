@@ -17,8 +17,10 @@ use Rattle.cif_file.specs.declared.fault.ReadFault.TheVariants as file_faults
 use Rattle.docker_bytes.specs.Excerpts.{IsExcerptAt}
 use Rattle.docker_bytes.specs.SourceRead.{Held, ReadsMade, ReadsState, JoinsState}
 use Rattle.docker_bytes.specs.Values.{Excerpt}
-use Rattle.docker_office.specs.declared.fault.OfficeFault.TheVariants.{File}
-use Rattle.docker_office.specs.Faults.{told_of_file}
+use Rattle.docker_bytes.specs.declared.read.ReadFault as states
+use Rattle.docker_bytes.specs.declared.read.ReadFault.TheVariants as state_faults
+use Rattle.docker_office.specs.declared.fault.OfficeFault.TheVariants.{File, Memory}
+use Rattle.docker_office.specs.Faults.{told_of_file, told_of_state}
 use Rattle.docker_office.specs.Office.{TakesFile, KnowsFileToo, HoldsState}
 
 -- ---- answers that are Ok or Err together
@@ -51,6 +53,12 @@ pub same_file_fault : (cause : files.ReadFault) (fault : FileFault) → told_of_
 same_file_fault file_faults.Source fault same = let never : ⊥ = cc in absurd never
 same_file_fault (file_faults.File other) fault same = cc
 same_file_fault file_faults.Memory fault same = let never : ⊥ = cc in absurd never
+
+-- it is out of memory only if the reader of a state is
+pub same_memory : (cause : states.ReadFault) → told_of_state cause ≡ Memory → cause ≡ state_faults.Memory
+same_memory state_faults.Source same = let never : ⊥ = cc in absurd never
+same_memory (state_faults.State fault) same = let never : ⊥ = cc in absurd never
+same_memory state_faults.Memory same = cc
 
 -- ---- states
 
