@@ -73,6 +73,11 @@ impl<'a> Desk<'a> {
         let _ = println!(self.rt; "  trouble: {what}");
     }
 
+    /// Prints the record at which memory ran out.
+    pub(crate) fn print_record(&self, number: u32) {
+        let _ = println!(self.rt; "  out of memory at record {number}");
+    }
+
     /// Prints the numbers of a span, before its answer.
     pub(crate) fn print_span(&self, from: u64, to: u64) {
         if from == to {

@@ -3,7 +3,7 @@
 use crate::desk::Desk;
 use crate::endings::{Ending, ending_of};
 use crate::texts::{MOST_RECORDS, STEP, compare_state, file_of};
-use cif_file::{CifFile, FileFault, FileParser};
+use cif_file::{CifFile, FileFault, FileParser, read_pieces};
 use docker_state::State;
 
 /// A parser for a file of any length.
@@ -87,6 +87,42 @@ pub(crate) fn finish(desk: &Desk, words: &[&str]) {
     match finished {
         Ok(file) => compare(desk, file, wanted),
         Err(_) => feed_again(desk, text.as_slice(), wanted),
+    }
+}
+
+/// The file that a parser returns which is fed these pieces.
+fn fed(desk: &Desk, pieces: &[&[u8]]) -> Result<CifFile, FileFault> {
+    let mut parser = new_parser(desk);
+    for piece in pieces {
+        parser.feed(piece)?;
+    }
+    parser.finish()
+}
+
+/// `FILE STATE`: the file is read from its pieces by `read_pieces`, or by a parser that is fed them.
+/// If memory runs out, both have to name the same record, and no clause says so.
+pub(crate) fn read(desk: &Desk, call: &str, words: &[&str]) {
+    let [name, wanted] = words else {
+        return desk.trouble("FILE STATE");
+    };
+    let text = desk.text(name);
+    let Ok(pieces) = text.chunks(STEP).collect::<Vec<&[u8]>>(desk.alloc()) else {
+        return desk.trouble("want of memory");
+    };
+    let pieces = pieces.as_slice();
+    desk.begin();
+    let read = if call == "read_pieces" {
+        read_pieces(desk.alloc(), pieces, MOST_RECORDS)
+    } else {
+        fed(desk, pieces)
+    };
+    desk.end(ending_of(&read));
+    match read {
+        Ok(file) => compare(desk, file, wanted),
+        Err(fault) => {
+            desk.print_record(fault.number);
+            feed_again(desk, text.as_slice(), wanted);
+        }
     }
 }
 

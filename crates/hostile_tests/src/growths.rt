@@ -8,6 +8,7 @@ pub(crate) fn do_row(desk: &Desk, call: &str, words: &[&str]) {
     match call {
         "FileParser::feed" => file_growths::feed(desk, words),
         "FileParser::finish" => file_growths::finish(desk, words),
+        "FileParser" | "read_pieces" => file_growths::read(desk, call, words),
         "State::of_file" => file_growths::of_file(desk, words),
         "Parts::item" | "Parts::entry" | "Parts::finish" => part_growths::parts(desk, call, words),
         "Staging::offer" | "State::commit" => part_growths::staging(desk, call, words),

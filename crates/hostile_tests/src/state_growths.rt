@@ -254,12 +254,27 @@ fn compare_kept(desk: &Desk, kept: Result<Kept, Memory>, text: &[u8], name: &str
     }
 }
 
-/// `TEXT`: a sink with room for the text.
-pub(crate) fn keep(desk: &Desk, words: &[&str]) {
-    let [name] = words else {
-        return desk.trouble("TEXT");
-    };
+/// A text this many times. If there is none, that is printed.
+fn repeated(desk: &Desk, name: &str, times: &str) -> Option<Vec<u8>> {
     let text = desk.text(name);
+    let mut all = Vec::new(desk.alloc());
+    for _ in 0..times.parse::<u16>().unwrap_or(0) {
+        if all.extend_from_slice(text.as_slice()).is_err() {
+            desk.trouble("want of memory");
+            return None;
+        }
+    }
+    Some(all)
+}
+
+/// `TEXT TIMES`: a sink with room for the text this many times.
+pub(crate) fn keep(desk: &Desk, words: &[&str]) {
+    let [name, times] = words else {
+        return desk.trouble("TEXT TIMES");
+    };
+    let Some(text) = repeated(desk, name, times) else {
+        return;
+    };
     desk.begin();
     let kept = room_for(desk, text.as_slice());
     desk.end(ending_of(&kept));
