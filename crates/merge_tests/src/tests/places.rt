@@ -5,47 +5,43 @@ use super::records::{
     HD_10B, LI_COLWELL, LI_COLWELL_AGAIN, LO, LO_1000_PLAIN, LO_COLWELL, LT, LT_1100_PLAIN,
     LT_DUNMERE, ZZ,
 };
-use super::shown::{add, add_body, add_key};
+use super::shown::{add, add_body, add_key, add_number};
 use super::{joined, pair, same, set_on, state, text};
 use cif_file::{Body, Key};
 use cif_line::{Tiploc, Uid};
-use docker_state::State;
+use docker_state::{Standing, State};
 use std::alloc::Global;
 use std::process::Abort;
 
-/// Adds a word, then a key that was found and its body, to a text.
-fn add_found(
-    rt: &impl Abort,
-    alloc: Global,
-    text: &mut Vec<u8>,
-    word: &[u8],
-    key: &Key,
-    body: &Body,
-) {
-    add(rt, text, word);
+/// Adds a key that was found and its body to a text.
+fn add_found(rt: &impl Abort, alloc: Global, text: &mut Vec<u8>, key: &Key, body: &Body) {
     add_key(rt, alloc, text, key);
     add(rt, text, b"\n");
     add_body(rt, text, body);
 }
 
-/// Adds the schedules that call at a TIPLOC to a text.
-fn add_calling(rt: &impl Abort, alloc: Global, text: &mut Vec<u8>, state: &State, at: &Tiploc) {
-    for (key, body) in state.calling(at) {
-        add_found(rt, alloc, text, b"calls ", key, body);
-    }
-}
-
-/// Adds the associations that are linked at a TIPLOC to a text.
-fn add_linked(rt: &impl Abort, alloc: Global, text: &mut Vec<u8>, state: &State, at: &Tiploc) {
-    for (key, body) in state.linked(at) {
-        add_found(rt, alloc, text, b"linked ", key, body);
+/// Adds rows that were found at a place to a text: for each a word, and its number among the
+/// state's rows, from 0. No clause says the number, because no answer rests on it.
+fn add_standing(
+    rt: &impl Abort,
+    alloc: Global,
+    text: &mut Vec<u8>,
+    word: &[u8],
+    standing: Standing<'_>,
+) {
+    for (number, key, body) in standing.numbered() {
+        add(rt, text, word);
+        add_number(rt, alloc, text, number as u64);
+        add(rt, text, b": ");
+        add_found(rt, alloc, text, key, body);
     }
 }
 
 /// Adds the schedules of a UID to a text.
 fn add_of_uid(rt: &impl Abort, alloc: Global, text: &mut Vec<u8>, state: &State, uid: &Uid) {
     for (key, body) in state.of_uid(uid) {
-        add_found(rt, alloc, text, b"of it ", key, body);
+        add(rt, text, b"of it ");
+        add_found(rt, alloc, text, key, body);
     }
 }
 
@@ -54,8 +50,8 @@ fn add_of_uid(rt: &impl Abort, alloc: Global, text: &mut Vec<u8>, state: &State,
 fn found_is(rt: &impl Abort, alloc: Global, state: &State, tiploc: &str, lines: &[&[u8]]) {
     let mut found = Vec::new(alloc);
     let tiploc = Tiploc::from_text(tiploc).expect(rt, "a TIPLOC");
-    add_calling(rt, alloc, &mut found, state, &tiploc);
-    add_linked(rt, alloc, &mut found, state, &tiploc);
+    add_standing(rt, alloc, &mut found, b"calls ", state.calling(&tiploc));
+    add_standing(rt, alloc, &mut found, b"linked ", state.linked(&tiploc));
     let uid = Uid::from_field(b"C30002").expect(rt, "a UID");
     add_of_uid(rt, alloc, &mut found, state, &uid);
     let wanted = text(rt, alloc, lines);
@@ -63,6 +59,7 @@ fn found_is(rt: &impl Abort, alloc: Global, state: &State, tiploc: &str, lines: 
 }
 
 /// A file of two schedules that call at Colwell, one of them twice, and of their association there.
+/// The rows of its state are the association, C30001 and C30002.
 const FILE: &[&[u8]] = &[
     HD_9A,
     BS_C30001,
@@ -79,17 +76,17 @@ const FILE: &[&[u8]] = &[
 
 /// What is shown at Colwell for that file.
 const AT_COLWELL: &[&[u8]] = &[
-    b"calls C30001 23537",
+    b"calls 1: C30001 23537",
     BS_C30001,
     LO_1000_PLAIN,
     LI_COLWELL,
     LI_COLWELL_AGAIN,
     LT_1100_PLAIN,
-    b"calls C30002 23537",
+    b"calls 2: C30002 23537",
     BS_C30002,
     LO_COLWELL,
     LT_DUNMERE,
-    b"linked C30001",
+    b"linked 0: C30001",
     AA_COLWELL,
     b"of it C30002 23537",
     BS_C30002,
@@ -100,25 +97,25 @@ const AT_COLWELL: &[&[u8]] = &[
 /// What is shown at a place where nothing calls.
 const AT_ELM: &[&[u8]] = &[b"of it C30002 23537", BS_C30002, LO_COLWELL, LT_DUNMERE];
 
-/// What is shown at Colwell after C30002 is deleted.
+/// What is shown at Colwell after C10001 is put and C30002 deleted: rows 1 and 3 of four.
 const LEFT_AT_COLWELL: &[&[u8]] = &[
-    b"calls C30001 23537",
+    b"calls 2: C30001 23537",
     BS_C30001,
     LO_1000_PLAIN,
     LI_COLWELL,
     LI_COLWELL_AGAIN,
     LT_1100_PLAIN,
-    b"linked C30001",
+    b"linked 0: C30001",
     AA_COLWELL,
 ];
 
-/// What calls at Ashfeld when C10001 is put too.
+/// What calls at Ashfeld then.
 const AT_ASHFELD: &[&[u8]] = &[
-    b"calls C10001 23537",
+    b"calls 1: C10001 23537",
     BS,
     LO,
     LT,
-    b"calls C30001 23537",
+    b"calls 2: C30001 23537",
     BS_C30001,
     LO_1000_PLAIN,
     LI_COLWELL,

@@ -19,16 +19,16 @@ pub(super) fn add_line(rt: &impl Abort, text: &mut Vec<u8>, line: &[u8]) {
 }
 
 /// Adds a number to a text.
-fn add_number(rt: &impl Abort, alloc: Global, text: &mut Vec<u8>, number: u32) {
+pub(super) fn add_number(rt: &impl Abort, alloc: Global, text: &mut Vec<u8>, number: u64) {
     let digits = format!(in alloc; "{number}").expect(rt, "memory");
     add(rt, text, digits.as_bytes());
 }
 
 /// Adds a file stamp to a text.
 fn add_stamp(rt: &impl Abort, alloc: Global, text: &mut Vec<u8>, stamp: &FileStamp) {
-    add_number(rt, alloc, text, u32::from(stamp.day.number()));
+    add_number(rt, alloc, text, u64::from(stamp.day.number()));
     add(rt, text, b" ");
-    add_number(rt, alloc, text, u32::from(stamp.minute));
+    add_number(rt, alloc, text, u64::from(stamp.minute));
     add(rt, text, b" ");
     add(rt, text, &stamp.reference);
 }
@@ -51,7 +51,7 @@ pub(super) fn add_key(rt: &impl Abort, alloc: Global, text: &mut Vec<u8>, key: &
         Key::Schedule(key) => {
             add(rt, text, key.uid.bytes());
             add(rt, text, b" ");
-            add_number(rt, alloc, text, u32::from(key.runs_from.number()));
+            add_number(rt, alloc, text, u64::from(key.runs_from.number()));
         }
     }
 }
@@ -85,7 +85,7 @@ fn add_op(rt: &impl Abort, text: &mut Vec<u8>, op: &Op) {
 fn add_row(rt: &impl Abort, alloc: Global, text: &mut Vec<u8>, row: &(Key, Entry)) {
     add_key(rt, alloc, text, &row.0);
     add(rt, text, b": record ");
-    add_number(rt, alloc, text, row.1.stamp.number);
+    add_number(rt, alloc, text, u64::from(row.1.stamp.number));
     add(rt, text, b" of ");
     add_stamp(rt, alloc, text, &row.1.stamp.file);
     add(rt, text, b"\n");
@@ -96,7 +96,7 @@ fn add_row(rt: &impl Abort, alloc: Global, text: &mut Vec<u8>, row: &(Key, Entry
 fn add_horizon(rt: &impl Abort, alloc: Global, text: &mut Vec<u8>, horizon: u16) {
     if horizon > 0 {
         add(rt, text, b"horizon ");
-        add_number(rt, alloc, text, u32::from(horizon));
+        add_number(rt, alloc, text, u64::from(horizon));
         add(rt, text, b"\n");
     }
 }
