@@ -93,7 +93,7 @@ fn at_place(desk: &Desk, text: &[u8], place: Tiploc) -> Result<PlaceOffice, Offi
 fn compare_docker(desk: &Desk, office: &PlaceOffice, day: Day, wanted: &str) {
     if let Some(mut kept) = sink(desk) {
         let done = office.print(day, &mut kept).is_ok();
-        desk.tell(done && desk.is_text(kept.bytes(), wanted), wanted);
+        desk.report(done && desk.is_text(kept.bytes(), wanted), wanted);
     }
 }
 
@@ -142,10 +142,10 @@ fn print_there(desk: &Desk, office: &PlaceOffice, day: Day, wanted: &str) {
     let done = office.print(day, &mut kept);
     desk.end(ending_of(&done));
     if done.is_err() && kept.bytes().is_empty() && kept.failures() == 0 {
-        desk.tell(true, "nothing is written");
+        desk.report(true, "nothing is written");
         return compare_docker(desk, office, day, wanted);
     }
-    desk.tell(done.is_ok() && desk.is_text(kept.bytes(), wanted), wanted);
+    desk.report(done.is_ok() && desk.is_text(kept.bytes(), wanted), wanted);
 }
 
 /// An office with the ledger of the state of a text.
@@ -157,7 +157,7 @@ fn with_ledger(desk: &Desk, text: &[u8]) -> Result<LedgerOffice, OfficeFault> {
 fn compare_files(desk: &Desk, office: &LedgerOffice, wanted: &str) {
     if let Some(mut kept) = sink(desk) {
         let done = office.files(&mut kept).is_ok();
-        desk.tell(done && desk.is_text(kept.bytes(), wanted), wanted);
+        desk.report(done && desk.is_text(kept.bytes(), wanted), wanted);
     }
 }
 
