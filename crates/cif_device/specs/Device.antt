@@ -65,7 +65,8 @@ pub record Round : Type 0 where
   pub again : List ℕ
   pub step : ℕ
 
--- what was left, and then the other text some times over, is these bytes and then what is left now
+-- these bytes were taken off what was left, after the other text had been added to it some times;
+-- the other text and the step stay
 abbrev pub Goes : Round → List ℕ → Round → Type 0
 Goes old bytes new = (new.again ≡ old.again) × (new.step ≡ old.step)
     × (times : ℕ) × (old.left ++ concat (replicate times old.again) ≡ bytes ++ new.left)

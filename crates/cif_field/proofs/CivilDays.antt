@@ -151,7 +151,7 @@ day_at (suc number) low = let before = day_at number (omega arith) in by before.
         (λ last. by_lt month 12 (λ lt. (year, month + 1, 1, next_month number year month day low h last lt))
         (λ end. (year + 1, 1, 1, next_year number year month day low h last end)))
 
--- a date of these parts has their day number
+-- a date with this year, month and day has their day number, which is at most the last one
 pub day_of_parts : (date : Date) (days year month day : ℕ) → 1960 ≤ year → year ≤ 2059 → date.year ≡ pos year → pos date.month ≡ pos month
     → pos date.day ≡ pos day
     → epoch_day date +ℤ pos 4_371_587 ≡ pos days → (days ≡ day_number year month day + 4_367_934) × (day_number year month day ≤ last_day)

@@ -561,7 +561,7 @@ later_end keeps wants reading fault told = λ limit text is.
     let number = (told limit text is).0 in
     (omega arith, no_want wants fault no_end (told limit text is).1)
 
--- it isn't out of memory
+-- the fault that a text has no end isn't out of memory
 pub last_end : {K : Type 0} (keeps : Keeps K) (reading : Reading K) (fault : FileFault)
     → ((limit : ℕ) (text : List ℕ) → IsReading keeps reading limit text → IsNoEndOf (lines_of text) fault)
     → IsLast keeps reading fault

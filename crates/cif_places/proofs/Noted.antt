@@ -382,7 +382,7 @@ picked_noted names numbers items pieces are (n ∷ order) (item ∷ picked) is =
 
 -- ---- parts of a list
 
--- dropping more elements than there are drops them all
+-- the number of elements to drop may be cut to the length of the list
 pub drop_min : (n : ℕ) (xs : List ℕ) → drop (min n (length xs)) xs ≡ drop n xs
 drop_min n xs = by (cases_lt n (length xs))
   where
@@ -390,7 +390,7 @@ drop_min n xs = by (cases_lt n (length xs))
     by (inl few) = ap (λ k. drop k xs) (omega arith)
     by (inr past) = drop_all (min n (length xs)) xs (omega arith) ∙ sym (drop_all n xs past)
 
--- taking more elements than there are takes them all
+-- the number of elements to take may be cut to the length of the list
 pub take_min : (n : ℕ) (xs : List ℕ) → take (min n (length xs)) xs ≡ take n xs
 take_min n xs = by (cases_lt n (length xs))
   where

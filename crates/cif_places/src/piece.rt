@@ -46,7 +46,7 @@ fn behind(numbers: &[u32], from: usize) -> &[u32]
     rest
 }
 
-/// The first numbers, up to a count.
+/// The first `count` numbers, or all of them if there are fewer.
 fn first_of(numbers: &[u32], count: usize) -> &[u32]
     ensures { result.now ≡ take count numbers.entry.now }
 {

@@ -126,8 +126,8 @@ RefusesFileOf (one_state format) first second fault = ⊥
 RefusesFileOf state_and_file first second fault = HoldsSomeState first × RefusesText most_records second fault
 RefusesFileOf two_states first second fault = ⊥
 
--- the fault is the fault of a state. If there are two, it is the fault of the first, or of the
--- second after a good first one
+-- the fault is the fault of a source that should have held a state. If there are two such sources,
+-- it is the first one's, or the second one's after a good first one
 abbrev pub RefusesStateOf : Sources → DeviceBytes → DeviceBytes → StateFault → Type 0
 RefusesStateOf no_source first second fault = ⊥
 RefusesStateOf checked_file first second fault = ⊥

@@ -77,7 +77,7 @@ fn found_subcommand<'a>(found: &ArgMatches<'a>) -> Option<(Subcommand, Behind<'a
     Some((subcommand, words))
 }
 
-/// The words that `clap` found at these ids.
+/// The words that `clap` found at these ids. None if it found no word at one of them.
 fn words_at<'a>(words: &ArgMatches<'a>, ids: &[&str]) -> Option<Behind<'a>>
     requires { length ids.now ≤ 3 }
     ensures { option_map (λ found. texts found.items) result

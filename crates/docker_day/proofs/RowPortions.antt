@@ -15,13 +15,13 @@ use Rattle.docker_day.specs.Lines.{row_may_run}
 use Rattle.docker_day.specs.Portions.{AreLeft, ArePassedOver, HaveMoved}
 use Rattle.docker_day.proofs.PassedOver.{not_lately, row_idle}
 
--- a row that may have no line has none
+-- a row that can't run on the day or on the two days before it has no line
 no_lines : (place : List ℕ) (day : ℕ) (key : Key) (body : Body) (live : Table) (rows : List Row) → AreRowsOf live rows → live key ≡ Some body
     → IsBodyOf key body → row_may_run key body day ≡ false → row_lines (train_in rows) (link_in rows) place day key body ≡ []
 no_lines place day key body live rows are is_live of never =
     sym (not_lately place day key body live [] is_live (row_idle key body day of never) rows are)
 
--- so it is passed over
+-- a row that can't run on the day or on the two days before it may be passed over
 pub row_passed : (day : ℕ) (key : Key) (body : Body) (before after : List Row) (may : Bool) → before ≡ (key, body) ∷ after → AreGoodRows before
     → may ≡ row_may_run key body day → ◌≡◌ {A = Option Bool} (Some may) (Some false) → ArePassedOver day before after
 row_passed day key body before after may is good told never = λ place live are_live rows are.
@@ -32,7 +32,7 @@ row_passed day key body before after may is good told never = λ place live are_
     idle : row_may_run key body day ≡ false
     idle = let same : may ≡ false = cc in sym told ∙ same
 
--- what is left of the rows that are left
+-- rows that are left of rows that are left of a walk are left of the walk
 pub left_again : (all rest fewer : List Row) → AreLeft all rest → AreLeft rest fewer → AreLeft all fewer
 left_again all rest fewer first second = record {
   good = λ good. second.good (first.good good);
@@ -40,7 +40,7 @@ left_again all rest fewer first second = record {
   fewer = (let some = first.fewer in let less = second.fewer in omega arith);
 }
 
--- what is passed over of them
+-- if rows are passed over, and then some of the rows that are left, all of these are passed over
 pub passed_again : (day : ℕ) (all rest fewer : List Row) → AreLeft all rest → ArePassedOver day all rest → ArePassedOver day rest fewer
     → ArePassedOver day all fewer
 passed_again day all rest fewer left first second = λ place live are_live rows are.

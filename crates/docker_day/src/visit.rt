@@ -18,10 +18,10 @@ use docker_train::{DayLinks, DayTrains, Identities, Occurrence, ScheduleView};
 use std::alloc::Global;
 use std::marker::Model;
 
-/// The visit to a place on a day by the trains that start on one day, which is not after it. What
-/// was looked up for it is kept: which trains and associations count on the start day, where base
-/// trains call, and the identities of associated trains. So each row is read once, however many
-/// rows need it.
+/// The visit to a place on a day by the trains that start on that day or on an earlier one. What was
+/// looked up for it is kept: which trains and associations count on the start day, where base trains
+/// call, and the identities of associated trains. So each row is read once, however many rows need
+/// it.
 #[derive(Debug, Drop)]
 pub(crate) struct Visit<'a> {
     place: Tiploc,

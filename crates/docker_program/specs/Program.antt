@@ -67,12 +67,12 @@ pub record IsOpened (given : Given) (job : JobView) (rest : DeviceBytes) : Type 
   pub second_few : ReadsFewOfSecond (sources_of job.task) (first_held (names_of job) rest given)
       (second_held (names_of job) rest given) (second_left (names_of job) given)
 
--- the fault is the fault of a file that a source of the job held
+-- the fault is the fault of a source of the job that should have held a file
 abbrev pub RefusesFile : Given → FileFault → JobView → DeviceBytes → Type 0
 RefusesFile given fault job rest = IsOpened given job rest
     × RefusesFileOf (sources_of job.task) (first_held (names_of job) rest given) (second_held (names_of job) rest given) fault
 
--- the fault is the fault of a state that a source of the job held
+-- the fault is the fault of a source of the job that should have held a state
 abbrev pub RefusesState : Given → StateFault → JobView → DeviceBytes → Type 0
 RefusesState given fault job rest = IsOpened given job rest
     × RefusesStateOf (sources_of job.task) (first_held (names_of job) rest given) (second_held (names_of job) rest given) fault

@@ -29,11 +29,11 @@ pub trait Stores {
     // The bytes that the file of a name holds, or None if they can't be known.
     ghost held: { Self → List ℕ → Option (List ℕ) };
 
-    // The name of the file that a draft was made for.
+    // The name of the file that the last draft was made for, or None if there was none.
     ghost target: { Self → Option (List ℕ) };
 
-    // Whether there is a draft that was neither put in the place of its file nor removed. Failing
-    // to remove a draft is a failure.
+    // Whether there is a draft that was neither put in the place of its file nor given up. To give
+    // up a draft removes it. If that fails, a failure is counted, and the draft stays.
     ghost has_draft: { Self → Bool };
 
     // How often it has failed so far, with the failures of the drafts that were given back to it.

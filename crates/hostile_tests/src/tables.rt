@@ -11,7 +11,7 @@ use cif_line::{Bytes, Endless};
 use docker_cmd::Fault;
 use docker_office::{Office, OfficeFault};
 
-/// The greatest numbers of bytes per read that are tried, besides one.
+/// How many bytes a read gives at most: these numbers are tried, and one.
 const STEPS: [usize; 2] = [7, 4096];
 
 /// What an office is asked to do: a call under a limit, for an office with the state of one text,

@@ -65,22 +65,22 @@ le_decided a b = by (leb_tells a b)
 pub lt_decided : (a b : ℕ) → Decided (a < b)
 lt_decided a b = le_decided (suc a) b
 
--- a decided fact of each element, by recursion
+-- if a fact is decided for each element, it is decided whether all have it, by recursion
 pub all_decided : {A : Type 0} (P : A → Type 0) → ((x : A) → Decided (P x)) → (xs : List A) → Decided (AllByRecursion P xs)
 all_decided P test [] = inl tt
 all_decided P test (x ∷ xs) = both_decided (test x) (all_decided P test xs)
 
--- a decided fact of each element
+-- like `all_decided`, for `All`
 pub All_decided : {A : Type 0} (P : A → Type 0) → ((x : A) → Decided (P x)) → (xs : List A) → Decided (All P xs)
 All_decided P test xs = decided_along (All-from_recursion P xs) (recursion_from_All P xs) (all_decided P test xs)
 
--- an order's answer is Less or not
+-- whether an order's answer is Less is decided
 pub less_decided : (o : Ordering) → Decided (o ≡ Less)
 less_decided Less = inl refl
 less_decided Equal = inr (λ e. cc)
 less_decided Greater = inr (λ e. cc)
 
--- an order's answer is Equal or not
+-- whether an order's answer is Equal is decided
 pub equal_decided : (o : Ordering) → Decided (o ≡ Equal)
 equal_decided Less = inr (λ e. cc)
 equal_decided Equal = inl refl

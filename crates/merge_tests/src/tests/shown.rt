@@ -72,7 +72,7 @@ pub(super) fn add_body(rt: &impl Abort, text: &mut Vec<u8>, body: &Body) {
     }
 }
 
-/// Adds the entry of a key to a text.
+/// Adds an op to a text.
 fn add_op(rt: &impl Abort, text: &mut Vec<u8>, op: &Op) {
     match op {
         Op::Deleted => add_line(rt, text, b"deleted"),

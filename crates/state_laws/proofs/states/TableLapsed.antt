@@ -18,7 +18,7 @@ use Rattle.state_laws.proofs.states.PlainTable.{Keyed}
 pub body_gone : (horizon : ℕ) (body : Body) → body_end body < horizon → unlapsed horizon body ≡ None
 body_gone horizon body below = λ i. cond (lt-ltb (body_end body) horizon below i) None (Some body)
 
--- any other body stays
+-- a body that doesn't end before the horizon stays
 pub body_stays : (horizon : ℕ) (body : Body) → horizon ≤ body_end body → unlapsed horizon body ≡ Some body
 body_stays horizon body above = λ i. cond (le-ltb (body_end body) horizon above i) None (Some body)
 

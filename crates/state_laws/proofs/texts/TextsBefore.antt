@@ -72,7 +72,7 @@ after_items_text format horizon count ledger within = by (leb_tells count (lengt
         (λ i. text_before format (cond (told.0 i) (before_entry_count horizon ledger) (before_item horizon count ledger)))
         ∙ append-nil (ledger_text format horizon count ledger)
 
--- the text before the place after entries
+-- what stands before the place after these entries is the text up to the last of them
 pub after_entries_text : (format : Format) → (count : ℕ) (state : State) → length state.entries ≤ count
     → text_before format (after_entries count state) ≡ entries_text format count state
 after_entries_text format count state within = by (leb_tells count (length state.entries))

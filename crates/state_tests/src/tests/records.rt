@@ -48,7 +48,7 @@ pub(super) const AA: &[u8] =
 pub(super) const ZZ: &[u8] =
     b"ZZ                                                                              ";
 
-/// A text up to the number of ledger items: its mark, and no horizon.
+/// The beginning of a text: its mark, and the horizon 0.
 pub(super) const MARK: &[u8] = b"DKS2\0\0";
 
 /// The mark of a text of the older format, which has no horizon.
