@@ -16,7 +16,8 @@ held_meant (Whole content) = content_meant content
 held_meant (Place office day) = place_read office
 held_meant (Ledger office) = office_read office
 
--- such an output is written of what is held: of an office at a timing point a docker there on its day, and of a ledger its files
+-- such an output is written of what is held: of an office at a timing point, a docker there on its
+-- day, and of a ledger, its files
 abbrev pub IsWrittenFrom : Output → Holding → Type 0
 IsWrittenFrom output (Whole content) = IsWrittenOf output (content_meant content)
 IsWrittenFrom output (Place office day) = output ≡ docker_written office.place day
