@@ -1,6 +1,6 @@
 -- The lines of standard input. A line can be a request if it has at most 255 printable bytes and
 -- then a line feed.
-use Rattle.std.specs.Prelude.{◌≡◌, ◌≢◌, ℕ, ◌-◌, ◌^◌, ◌≤◌, List, [], ◌∷◌, ◌++◌, length, Option, Some, None, option_map, Result, Ok, Err, ⊤}
+use Rattle.std.specs.Prelude.{◌≡◌, ◌≢◌, ℕ, ◌-◌, ◌^◌, ◌≤◌, Bool, true, false, List, [], ◌∷◌, ◌++◌, length, Option, Some, None, option_map, Result, Ok, Err, ⊤}
 use Rattle.std.specs.List.{AllByRecursion}
 use Rattle.cif_line.specs.Device.{Reads, IsEnd}
 use Rattle.docker_cmd.specs.JobLine.{IsLineText, IsJobLine}
@@ -82,6 +82,26 @@ abbrev pub EndsLine : Option (List ℕ) → Result Asked InputFault → Option (
 EndsLine old (Ok asked) new = ReadsAsked old (asked_meant asked) new
 EndsLine old (Err Failed) new = ReadsMany 0 old new
 EndsLine old (Err Endless) new = ReadsMany (2 ^ 64 - 1) old new
+
+-- a source that hadn't reported its end has reported it now or not, as `at_end` says, and wasn't
+-- read after it
+pub record MeetsEnd (at_end ended now_ended passed now_passed : Bool) : Type 0 where
+  pub told : ended ≡ false → now_ended ≡ at_end
+  pub kept : ended ≡ false → now_passed ≡ passed
+
+-- whether the end of the source was met, if no byte was left of it; it wasn't met where it failed
+abbrev pub is_end_of_bytes : {A E : Type 0} → Result (Option A) E → Bool
+is_end_of_bytes (Ok (Some byte)) = false
+is_end_of_bytes (Ok None) = true
+is_end_of_bytes (Err fault) = false
+
+-- whether the end of the source was met with a line, or with what stands after the last one
+abbrev pub is_end_of_lines : Result Asked InputFault → Bool
+is_end_of_lines (Ok (asked.Line line)) = false
+is_end_of_lines (Ok asked.Bad) = false
+is_end_of_lines (Ok asked.Cut) = true
+is_end_of_lines (Ok asked.End) = true
+is_end_of_lines (Err fault) = false
 
 -- a line that ends without a line feed after these bytes: none if there are no bytes, else one
 -- whose line feed is missing

@@ -1,8 +1,8 @@
 //! The bytes that were read ahead from a source.
-ghost use Rattle.std.specs.Prelude.{◌≡◌, ◌≢◌, ◌+◌, ◌-◌, ◌^◌, ◌<◌, ◌↔◌, [], ◌∷◌, IsTrue, IfOk, OnOk, OnErr, MatchOption};
+ghost use Rattle.std.specs.Prelude.{◌≡◌, ◌≢◌, ◌+◌, ◌-◌, ◌^◌, ◌<◌, ◌↔◌, [], ◌∷◌, false, true, IsTrue, IfOk, OnOk, OnErr, MatchOption};
 ghost use Rattle.cif_line.specs.Device.{IsEnd};
 ghost use Rattle.docker_cmd.specs.JobLine.{ReadsByte};
-ghost use Rattle.docker_desk.specs.Lines.{with_ahead};
+ghost use Rattle.docker_desk.specs.Lines.{MeetsEnd, is_end_of_bytes, with_ahead};
 
 use cif_line::{Failed, Source};
 use std::marker::Model;
@@ -67,6 +67,11 @@ impl Ahead {
             ≡ with_ahead self.old (S.left source.old) }
         ensures end { OnOk result (self.new ≡ []
             → IsEnd (with_ahead self.new (S.left source.new))) }
+        ensures ended { OnOk result (self.new ≡ [] → S.ended source.new ≡ true) }
+        ensures going { OnOk result (self.new ≢ [] → S.ended source.new ≡ S.ended source.old) }
+        ensures still { OnErr result (S.ended source.new ≡ S.ended source.old) }
+        ensures not_passed { S.ended source.old ≡ false
+            → S.passed source.new ≡ S.passed source.old }
         ensures no_failure { OnOk result (S.failures source.new ≡ S.failures source.old) }
         ensures counted { OnErr result (S.failures source.new ≡ S.failures source.old + 1) }
     {
@@ -79,13 +84,16 @@ impl Ahead {
         Ok(())
     }
 
-    /// Takes the next byte of a source. Returns `None` at the source's end.
+    /// Takes the next byte of a source. Returns `None` at the source's end, which the source then
+    /// has reported.
     pub(crate) fn next_byte<S: Source>(&mut self, source: &mut S) -> Result<Option<u8>, Failed>
         requires { S.failures source.old < 2 ^ 64 - 1 }
         ensures byte { IfOk result (λ byte. ReadsByte (with_ahead self.old (S.left source.old))
             byte (with_ahead self.new (S.left source.new))) }
         ensures unmoved { OnErr result (with_ahead self.new (S.left source.new)
             ≡ with_ahead self.old (S.left source.old)) }
+        ensures meets_end { MeetsEnd (is_end_of_bytes result) (S.ended source.old) (S.ended source.new)
+            (S.passed source.old) (S.passed source.new) }
         ensures no_failure { OnOk result (S.failures source.new ≡ S.failures source.old) }
         ensures counted { OnErr result (S.failures source.new ≡ S.failures source.old + 1) }
     {

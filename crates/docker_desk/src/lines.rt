@@ -1,6 +1,6 @@
 //! The lines of a source.
-ghost use Rattle.std.specs.Prelude.{◌≡◌, ◌≢◌, ◌+◌, ◌-◌, ◌^◌, ◌<◌, ◌↔◌, Option, List, ℕ, Err};
-ghost use Rattle.docker_desk.specs.Lines.{EndsLine, EndsSkipping, asked_meant, cut_or_end, with_ahead};
+ghost use Rattle.std.specs.Prelude.{◌≡◌, ◌≢◌, ◌+◌, ◌-◌, ◌^◌, ◌<◌, ◌↔◌, Option, List, ℕ, Err, false};
+ghost use Rattle.docker_desk.specs.Lines.{EndsLine, EndsSkipping, MeetsEnd, asked_meant, cut_or_end, is_end_of_lines, with_ahead};
 
 use crate::ahead::Ahead;
 use arrayvec::ArrayVec;
@@ -46,7 +46,8 @@ impl From<cif_line::Failed> for InputFault {
 }
 
 /// Reads the next line of a source, whose bytes may have been read ahead. The source is left after
-/// the line's line feed.
+/// the line's line feed. With `Cut` and `End` the source has reported its end, so a caller that wants
+/// to read nothing after it stops at either.
 pub fn next_line<S: Source>(ahead: &mut Ahead, source: &mut S) -> Result<Asked, InputFault>
     requires { S.failures source.old < 2 ^ 64 - 1 }
     ensures ends { EndsLine (with_ahead ahead.old (S.left source.old)) result
@@ -55,6 +56,8 @@ pub fn next_line<S: Source>(ahead: &mut Ahead, source: &mut S) -> Result<Asked, 
         ↔ (S.failures source.new ≡ S.failures source.old + 1) }
     ensures no_failure { result ≢ Err InputFault.Failed
         → S.failures source.new ≡ S.failures source.old }
+    ensures meets_end { MeetsEnd (is_end_of_lines result) (S.ended source.old) (S.ended source.new)
+        (S.passed source.old) (S.passed source.new) }
 {
     let mut line = Line::new();
     for _ in 0..=LONGEST {
@@ -92,6 +95,8 @@ fn skip_line<S: Source>(ahead: &mut Ahead, source: &mut S) -> Result<Asked, Inpu
         ↔ (S.failures source.new ≡ S.failures source.old + 1) }
     ensures no_failure { result ≢ Err InputFault.Failed
         → S.failures source.new ≡ S.failures source.old }
+    ensures meets_end { MeetsEnd (is_end_of_lines result) (S.ended source.old) (S.ended source.new)
+        (S.passed source.old) (S.passed source.new) }
 {
     for _ in 0..u64::MAX {
         match ahead.next_byte(source)? {

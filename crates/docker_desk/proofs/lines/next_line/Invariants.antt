@@ -1,4 +1,4 @@
-use Rattle.std.proofs.Common.{◌≡◌, ◌≤◌, length}
+use Rattle.std.proofs.Common.{◌≡◌, ◌≤◌, length, false}
 use Rattle.cif_line.specs.Device.{Reads}
 use Rattle.docker_desk.specs.Lines.{with_ahead}
 use Rattle.docker_desk.proofs.LineLemmas.{ArePrintable}
@@ -12,4 +12,6 @@ invariant-loop g l = record {
   short : length l.line.items ≤ 255;
   counted : length l.line.items ≡ l.counter;
   no_failure : g.S.Source.failures l.source ≡ g.S.Source.failures l.fn.source;
+  not_ended : g.S.Source.ended l.fn.source ≡ false → g.S.Source.ended l.source ≡ false;
+  not_passed : g.S.Source.ended l.fn.source ≡ false → g.S.Source.passed l.source ≡ g.S.Source.passed l.fn.source;
 }

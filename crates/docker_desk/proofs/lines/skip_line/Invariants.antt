@@ -1,4 +1,4 @@
-use Rattle.std.proofs.Common.{◌≡◌, ℕ, List}
+use Rattle.std.proofs.Common.{◌≡◌, ℕ, List, false}
 use Rattle.std.specs.Prelude.{Option}
 use Rattle.docker_desk.specs.Lines.{ReadsMany, SkipsLine, SkipsAll, with_ahead}
 use Rattle.docker_desk.proofs.lines.skip_line.Given as goal
@@ -12,4 +12,6 @@ invariant-loop g l = record {
       → SkipsAll (with_ahead l.fn.ahead (g.S.Source.left l.fn.source)) new;
   many : ReadsMany l.counter (with_ahead l.fn.ahead (g.S.Source.left l.fn.source)) (with_ahead l.ahead (g.S.Source.left l.source));
   no_failure : g.S.Source.failures l.source ≡ g.S.Source.failures l.fn.source;
+  not_ended : g.S.Source.ended l.fn.source ≡ false → g.S.Source.ended l.source ≡ false;
+  not_passed : g.S.Source.ended l.fn.source ≡ false → g.S.Source.passed l.source ≡ g.S.Source.passed l.fn.source;
 }
