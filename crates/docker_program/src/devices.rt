@@ -6,6 +6,7 @@ use crate::files::{Files, OpenFault};
 use cif_line::{Failed, Sink, Source};
 use std::fs::File;
 use std::io::{ErrorKind, Read, Stderr, Stdin, Stdout, Write};
+use std::marker::Model;
 
 /// Standard input, or a file.
 #[derive(Drop)]
@@ -16,19 +17,31 @@ enum From {
     Closed,
 }
 
-/// A source of real bytes.
+/// A source of real bytes: standard input, or a file once one is opened.
 #[derive(Drop)]
-pub(crate) struct Input {
+pub struct Input {
     rt: HostRuntime,
     from: From,
-    pub(crate) failures: u64,
-    pub(crate) ended: bool,
-    pub(crate) passed: bool,
+    failures: u64,
+    ended: bool,
+    passed: bool,
+}
+
+impl Model for Input {
+    ghost use Rattle.docker_program.specs.RealDevices.{InputView};
+
+    ghost Value = { InputView };
+
+    ghost view = { λ input. record {
+      failures = input.failures;
+      ended = input.ended;
+      passed = input.passed;
+    } };
 }
 
 impl Input {
-    /// Standard input.
-    pub(crate) fn stdin(rt: &HostRuntime) -> Input
+    /// Standard input, from where it stands.
+    pub fn stdin(rt: &HostRuntime) -> Input
         ensures { result.failures ≡ 0 }
     {
         Input {
@@ -40,8 +53,8 @@ impl Input {
         }
     }
 
-    /// No file yet.
-    pub(crate) fn without_file(rt: &HostRuntime) -> Input
+    /// No file yet. A read before one is opened fails.
+    pub fn without_file(rt: &HostRuntime) -> Input
         ensures { result.failures ≡ 0 }
     {
         Input {
@@ -132,14 +145,22 @@ enum To {
 
 /// A sink of real bytes. It isn't buffered: what it takes is written.
 #[derive(Drop)]
-pub(crate) struct Output {
+pub struct Output {
     to: To,
-    pub(crate) failures: u64,
+    failures: u64,
+}
+
+impl Model for Output {
+    ghost use Rattle.docker_program.specs.RealDevices.{OutputView};
+
+    ghost Value = { OutputView };
+
+    ghost view = { λ output. record { failures = output.failures } };
 }
 
 impl Output {
-    /// Standard output.
-    pub(crate) fn stdout(rt: &HostRuntime) -> Output
+    /// Standard output. Nobody has to be reading it.
+    pub fn stdout(rt: &HostRuntime) -> Output
         ensures { result.failures ≡ 0 }
     {
         Output {
@@ -148,8 +169,8 @@ impl Output {
         }
     }
 
-    /// Standard error.
-    pub(crate) fn stderr(rt: &HostRuntime) -> Output
+    /// Standard error. Nobody has to be reading it.
+    pub fn stderr(rt: &HostRuntime) -> Output
         ensures { result.failures ≡ 0 }
     {
         Output {

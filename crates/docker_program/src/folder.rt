@@ -1,7 +1,7 @@
 //! The real files that are written anew. A regular file is written beside its place, and then
 //! renamed over it. Whenever that ends, the file is whole, as it was or as it is to be. A pipe or a
 //! device is written in its place.
-ghost use Rattle.std.specs.Prelude.{◌≡◌, ◌≢◌, ◌↔◌, ◌<◌, ◌^◌, ◌-◌, ◌+◌, None, Some, Err, IfOk, OnOk, OnErr, is_some, option_map, string_bytes};
+ghost use Rattle.std.specs.Prelude.{◌≡◌, ◌≢◌, ◌↔◌, ◌<◌, ◌^◌, ◌-◌, ◌+◌, None, Some, Err, IfOk, OnOk, OnErr};
 
 use crate::beside::Beside;
 use crate::devices::write_some;
@@ -11,12 +11,13 @@ use cif_line::{Failed, Sink};
 use std::alloc::AllocError;
 use std::fs::{File, Metadata};
 use std::io::ErrorKind;
+use std::marker::Model;
 use std::os::unix::fs::MetadataExt;
 use std::{fs, io};
 
 /// Which file was under a name, and when it was last written.
 #[derive(Clone, Copy, PartialEq, Eq)]
-pub(crate) struct Seen {
+pub struct Seen {
     device: u64,
     node: u64,
     size: u64,
@@ -37,20 +38,44 @@ impl Seen {
     }
 }
 
-/// A file that is written anew, by its name.
+/// A file that is written anew, by its name. Once a draft took its place, the next look at that name
+/// sees the draft itself, which may not be what is under the name by then: another program may have
+/// put another file there. So what comes after a look never takes that file's place unseen.
 #[derive(Drop)]
-pub(crate) struct Folder {
+pub struct Folder {
     rt: HostRuntime,
     target: Option<String>,
     beside: Option<Beside>,
-    pub(crate) failures: u64,
+    placed: Option<Seen>,
+    failures: u64,
+}
+
+impl Model for Folder {
+    ghost use Rattle.docker_program.specs.RealDevices.{FolderView};
+    ghost use Rattle.std.specs.Prelude.{is_some, option_map, string_bytes};
+
+    ghost Value = { FolderView };
+
+    ghost view = { λ folder. record {
+      target = option_map (λ name. string_bytes name) folder.target;
+      has_draft = is_some folder.beside;
+      failures = folder.failures;
+    } };
 }
 
 /// A new text of a file, as far as it is written.
 #[derive(Drop)]
-pub(crate) struct Draft {
+pub struct Draft {
     file: File,
-    pub(crate) failures: u64,
+    failures: u64,
+}
+
+impl Model for Draft {
+    ghost use Rattle.docker_program.specs.RealDevices.{OutputView};
+
+    ghost Value = { OutputView };
+
+    ghost view = { λ draft. record { failures = draft.failures } };
 }
 
 impl Sink for Draft {
@@ -102,16 +127,28 @@ impl From<AllocError> for OpenFault {
 }
 
 impl Folder {
-    /// No file yet.
-    pub(crate) fn new(rt: &HostRuntime) -> Folder
+    /// No file yet. Nothing has failed.
+    pub fn new(rt: &HostRuntime) -> Folder
         ensures { result.failures ≡ 0 }
     {
         Folder {
             rt: *rt,
             target: None,
             beside: None,
+            placed: None,
             failures: 0,
         }
+    }
+
+    /// What is seen of the draft that took the place of the file of this name, if no look has seen it
+    /// yet.
+    fn take_placed(&mut self, name: &str) -> Option<Seen>
+        ensures { self.new ≡ self.old }
+    {
+        if self.target.as_ref()?.as_str() != name {
+            return None;
+        }
+        self.placed.take()
     }
 
     /// Which file is under a name, if there is one.
@@ -165,9 +202,9 @@ impl Stores for Folder {
 
     ghost held = { λ _ _. None };
 
-    ghost target = { λ folder. option_map (λ name. string_bytes name) folder.target };
+    ghost target = { λ folder. folder.target };
 
-    ghost has_draft = { λ folder. is_some folder.beside };
+    ghost has_draft = { λ folder. folder.has_draft };
 
     ghost failures = { λ folder. folder.failures };
 
@@ -176,23 +213,24 @@ impl Stores for Folder {
     ghost number = { λ _. 0 };
 
     fn look<'a>(&mut self, name: &'a str) -> Looked<'a, Option<Seen>> {
-        Looked {
-            name,
-            seen: self.look_under(name),
-        }
+        let seen = match self.take_placed(name) {
+            Some(placed) => Some(placed),
+            None => self.look_under(name),
+        };
+        Looked { name, seen }
     }
 
     fn create(&mut self, looked: Looked<'_, Option<Seen>>) -> Result<Draft, OpenFault>
         requires { self.old.failures < 2 ^ 64 - 1 }
-        ensures target { OnOk result
-            (option_map (λ name. string_bytes name) self.new.target ≡ Some looked.entry.name.now) }
-        ensures no_draft { OnErr result (is_some self.new.beside ≡ is_some self.old.beside) }
+        ensures target { OnOk result (self.new.target ≡ Some looked.entry.name.now) }
+        ensures no_draft { OnErr result (self.new.has_draft ≡ self.old.has_draft) }
         ensures sound { IfOk result (λ draft. draft.failures ≡ 0) }
         ensures counted { (result ≡ Err OpenFault.Failed)
             ↔ (self.new.failures ≡ self.old.failures + 1) }
         ensures no_failure { result ≢ Err OpenFault.Failed
             → self.new.failures ≡ self.old.failures }
     {
+        self.placed = None;
         let opened = match String::from_str(self.rt.alloc(), looked.name) {
             Ok(target) => {
                 self.target = Some(target);
@@ -218,11 +256,15 @@ impl Stores for Folder {
         let Some(beside) = self.beside.take() else {
             return Ok(());
         };
+        // The draft is looked at while it is open and before it has the file's name, so that nothing
+        // but the draft is seen.
+        let placed = draft.file.metadata().ok().map(|file| Seen::of(&file));
         if beside.replace(&self.rt, &draft.file).is_err() {
             beside.remove(&self.rt);
             self.failures += 1;
             return Err(Failed);
         }
+        self.placed = placed;
         Ok(())
     }
 

@@ -51,7 +51,7 @@ fn run_strings(rt: &HostRuntime, words: &[String]) -> Result<u8, JobFault> {
 }
 
 /// The words after the program's name. A word that is no text is a usage fault.
-fn own_words(rt: &HostRuntime) -> Result<Vec<String>, JobFault> {
+pub fn own_words(rt: &HostRuntime) -> Result<Vec<String>, JobFault> {
     let all = match env::args(rt) {
         Ok(all) => all,
         Err(error) if error.kind() == ErrorKind::OutOfMemory => return Err(JobFault::Memory),

@@ -16,8 +16,11 @@ mod request;
 mod standard;
 mod stores;
 
+pub use devices::{Input, Output};
 pub use fault_report::tell;
 pub use files::{Files, OpenFault};
-pub use host::{run, run_words};
+pub use folder::{Draft, Folder, Seen};
+pub use host::{own_words, run, run_words};
 pub use program::perform;
+pub use standard::{Standard, hold_standard};
 pub use stores::{Looked, Stores};
