@@ -59,11 +59,11 @@ is_old() {
   [ -n "$(find "${folders[@]}" -name out -prune -o \( -name '*.rt' -o -name '*.antt' \) -newer "$program" -print -quit)" ]
 }
 
-# Runs `rt COMMAND` in a crate's folder, in a session of its own, so that it can be ended with all
+# Runs `rt COMMAND..` in a crate's folder, in a session of its own, so that it can be ended with all
 # that it started.
 begin() {
-  local crate=$1 command=$2 log=$3 input=$4
-  (cd "$root/crates/$crate" && exec setsid rt "$command") <"$input" >"$log" 2>&1 &
+  local crate=$1 log=$2 input=$3
+  (cd "$root/crates/$crate" && exec setsid rt "${@:4}") <"$input" >"$log" 2>&1 &
   under_way[$!]=$crate
   began[$!]=$SECONDS
 }
@@ -114,7 +114,7 @@ begin_more() {
       if [ -z "$pause" ]; then sleep 10 & pause=$!; fi
       return
     fi
-    begin "${waiting[next]}" check "$logs/${waiting[next]}.log" /dev/null
+    begin "${waiting[next]}" "$logs/${waiting[next]}.log" /dev/null check
     unset 'waiting[next]'
   done
 }
@@ -156,8 +156,19 @@ prove() {
   [ -z "$failed" ]
 }
 
+# The words of a program's first run, one a line: those in its `args`. If one names a file in its
+# `data`, that file is meant.
+first_words() {
+  local folder=$root/crates/$1 word
+  [ -f "$folder/args" ] || return 0
+  while read -r word; do
+    if [ -f "$folder/data/$word" ]; then word=data/$word; fi
+    echo "$word"
+  done <"$folder/args"
+}
+
 build() {
-  local program=$1 logs=$root/crates/$1/out/proving input=/dev/null
+  local program=$1 logs=$root/crates/$1/out/proving input=/dev/null words
   command -v rt >/dev/null 2>&1 || { say "the program isn't built, and the kit's command rt isn't on the PATH to prove and build it"; return 1; }
   mkdir -p "$logs"
   trap 'stop 130' INT
@@ -166,7 +177,8 @@ build() {
   prove "$program" "$logs" || return 1
   # Machine code, and a first run.
   if [ -f "$root/crates/$program/stdin" ]; then input=$root/crates/$program/stdin; fi
-  begin "$program" run "$logs/$program.log" "$input"
+  mapfile -t words < <(first_words "$program")
+  begin "$program" "$logs/$program.log" "$input" run -- "${words[@]}"
   wait "${!under_way[@]}" || { say "the program isn't built: see $logs/$program.log"; return 1; }
   trap - INT TERM HUP
   touch "$root/crates/$program/out/$program"

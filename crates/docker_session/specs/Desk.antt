@@ -1,11 +1,12 @@
 -- What a desk knows, and what each request makes of it.
-use Rattle.std.specs.Prelude.{◌≡◌, ℕ, Bool, List, Option, option_map, ◌⊎◌, Result, Ok, Err, ⊤}
+use Rattle.std.specs.Prelude.{◌≡◌, ◌<◌, ℕ, Bool, List, Option, option_map, ◌⊎◌, Result, Ok, Err, ⊤}
 use Rattle.docker_model.specs.file.File.{most_records}
 use Rattle.docker_model.specs.state.State.{State, live_table}
 use Rattle.docker_model.specs.state.StateText.{dks_2, state_text}
 use Rattle.docker_model.specs.state.Lapse.{IsDayRefused}
 use Rattle.docker_model.specs.docker.DockerText.{IsDockerText, files_text}
 use Rattle.cif_file.specs.SourceRead.{Held, RefusesText}
+use Rattle.docker_chosen.specs.TrainText.{IsTrainText}
 use Rattle.docker_office.specs.SourceRead.{JoinsState, RefusesState}
 use Rattle.docker_office.specs.Office.{TakesFile}
 use Rattle.docker_cmd.specs.OfficeFault.{OfficeFault}
@@ -36,6 +37,21 @@ abbrev pub IsDockerAnswer : State → List ℕ → ℕ → AnswerView → Type 0
 IsDockerAnswer state place day (done_with text) = IsDockerText (live_table state) place day text × (¬ IsDayRefused state.horizon day)
 IsDockerAnswer state place day (refused_for fault) = IsDockerRefused state day fault
 IsDockerAnswer state place day no_request = ⊥
+
+-- a train is refused for its day or, if not for its day, because memory ran out
+abbrev pub IsTrainRefused : State → ℕ → OfficeFault → Type 0
+IsTrainRefused state day office.Lapsed = day < state.horizon
+IsTrainRefused state day office.Memory = ¬ (day < state.horizon)
+IsTrainRefused state day (office.File fault) = ⊥
+IsTrainRefused state day (office.State fault) = ⊥
+IsTrainRefused state day office.Source = ⊥
+IsTrainRefused state day office.Sink = ⊥
+
+-- the answer to a request for a train
+abbrev pub IsTrainAnswer : State → List ℕ → ℕ → AnswerView → Type 0
+IsTrainAnswer state uid day (done_with text) = IsTrainText state uid day text × (¬ (day < state.horizon))
+IsTrainAnswer state uid day (refused_for fault) = IsTrainRefused state day fault
+IsTrainAnswer state uid day no_request = ⊥
 
 -- the answer to a request for the files
 abbrev pub IsFilesAnswer : State → AnswerView → Type 0

@@ -4,13 +4,14 @@ ghost use Rattle.docker_model.specs.state.State.{raise_horizon};
 ghost use Rattle.docker_program.specs.Devices.{IsCounted, LeavesNoDraft};
 ghost use Rattle.docker_program.specs.Past.{with_look};
 ghost use Rattle.docker_program.specs.Program.{result_status};
-ghost use Rattle.docker_session.specs.Desk.{EndsReceiving, EndsSaving, EndsTaking, IsDockerAnswer, IsFilesAnswer, past_of_saving};
+ghost use Rattle.docker_session.specs.Desk.{EndsReceiving, EndsSaving, EndsTaking, IsDockerAnswer, IsFilesAnswer, IsTrainAnswer, past_of_saving};
 ghost use Rattle.docker_session.specs.Replies.{answer_meant};
 
 use crate::reply::Answer;
 use crate::saving::store_office;
 use cif_file::MOST_RECORDS;
-use cif_line::{Day, Tiploc};
+use cif_line::{Day, Tiploc, Uid};
+use docker_chosen::{TrainFault, print_train};
 use docker_cmd::OfficeFault;
 use docker_desk::Page;
 use docker_office::Office;
@@ -19,7 +20,7 @@ use std::alloc::Global;
 use std::marker::Model;
 
 /// The most bytes that a state's text may have.
-const MOST_BYTES: u64 = 1_099_511_627_776;
+pub const MOST_BYTES: u64 = 1_099_511_627_776;
 
 /// A desk: an office, and whether something was taken, merged or set since it was last saved.
 #[derive(Debug, Drop)]
@@ -65,6 +66,19 @@ impl Desk {
             Ok(()) => Answer::Text(page),
             Err(OfficeFault::Sink) => Answer::Refused(OfficeFault::Memory),
             Err(fault) => Answer::Refused(fault),
+        }
+    }
+
+    /// The schedule that is chosen for a train on a day, or that none is. The text is whole before
+    /// it is returned.
+    pub fn train(&self, uid: &Uid, day: Day) -> Answer
+        ensures { IsTrainAnswer self.now.state uid.now day (answer_meant result) }
+    {
+        let mut page = Page::new(self.alloc);
+        match print_train(self.office.state(), uid, day, &mut page) {
+            Ok(()) => Answer::Text(page),
+            Err(TrainFault::Lapsed) => Answer::Refused(OfficeFault::Lapsed),
+            Err(TrainFault::Sink) => Answer::Refused(OfficeFault::Memory),
         }
     }
 

@@ -5,6 +5,6 @@ mod desk;
 mod reply;
 mod saving;
 
-pub use desk::Desk;
+pub use desk::{Desk, MOST_BYTES};
 pub use docker_desk::Page;
-pub use reply::{Answer, write_reply};
+pub use reply::{Answer, USAGE, write_reply};

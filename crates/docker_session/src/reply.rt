@@ -11,7 +11,7 @@ use docker_cmd::{Fault, OfficeFault, fault_text, status};
 use docker_desk::{Page, write_answer};
 
 /// The line that answers a line that asks for nothing.
-const USAGE: &[u8] =
+pub const USAGE: &[u8] =
     b"desk: usage: [--write] STATE, and then a line for each request: print TIPLOC DATE | train UID DATE | files | renew | with --write take FILE | merge OTHER | horizon DATE | save\n";
 
 /// The answer to a request.

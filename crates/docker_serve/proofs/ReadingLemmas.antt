@@ -1,0 +1,88 @@
+-- A text has at most one list of lines.
+use Rattle.std.proofs.Common.{◌≡◌, ◌≢◌, ℕ, List, [], ◌∷◌, ◌++◌, true, refl, sym, ◌∙◌, ap, subst}
+use Rattle.std.specs.List.{AllByRecursion}
+use Rattle.std.proofs.lemmas.List.Elements.{recursion_from_All}
+use Rattle.docker_model.specs.records.Record.{is_printable}
+use Rattle.docker_cmd.specs.JobLine.{IsJobLine, IsLineText}
+use Rattle.docker_desk.specs.Lines.{AreLines, IsBadLine, IsNextLine, IsWithoutFeed, LineView, whole_line, bad_line, cut_line}
+
+-- ---- the first line feed of a text
+
+-- the line before it is the same, whichever way the text is split there, and so is the rest
+one_split : (line other rest last : List ℕ) → IsWithoutFeed line → IsWithoutFeed other → line ++ 10 ∷ rest ≡ other ++ 10 ∷ last → (line ≡ other) × (rest ≡ last)
+one_split [] [] rest last first second same = (refl, cc)
+one_split [] (b ∷ other) rest last first second same = absurd (second.0 (cc))
+one_split (a ∷ line) [] rest last first second same = absurd (first.0 (cc))
+one_split (a ∷ line) (b ∷ other) rest last first second same =
+    let head : a ≡ b = cc in
+    let tail : line ++ 10 ∷ rest ≡ other ++ 10 ∷ last = cc in
+    let split = one_split line other rest last first.1 second.1 tail in
+    (both a b line other head split.0, split.1)
+  where
+    both : (a b : ℕ) (line other : List ℕ) → a ≡ b → line ≡ other → a ∷ line ≡ b ∷ other
+    both a b line other head tail = cc
+
+-- a text without a line feed has no such split
+no_split : (text line rest : List ℕ) → IsWithoutFeed text → ¬ (text ≡ line ++ 10 ∷ rest)
+no_split [] [] rest without same = let never : ⊥ = cc in never
+no_split [] (b ∷ line) rest without same = let never : ⊥ = cc in never
+no_split (a ∷ text) [] rest without same = without.0 (cc)
+no_split (a ∷ text) (b ∷ line) rest without same = let tail : text ≡ line ++ 10 ∷ rest = cc in no_split text line rest without.1 tail
+
+-- printable bytes are no line feed
+text_without : (line : List ℕ) → IsLineText line → IsWithoutFeed line
+text_without line text = by line (recursion_from_All (λ byte. is_printable byte ≡ true) line text.printable)
+  where
+    other : (byte : ℕ) → is_printable byte ≡ true → byte ≢ 10
+    other byte here = λ same. let feed : is_printable 10 ≡ true = subst (λ c. is_printable c ≡ true) same here in cc
+
+    by : (line : List ℕ) → AllByRecursion (λ byte. is_printable byte ≡ true) line → IsWithoutFeed line
+    by [] good = tt
+    by (byte ∷ line) good = (other byte good.0, by line good.1)
+
+-- ---- the next line
+
+module _ (text rest last : List ℕ) where
+  two_whole : (line other : List ℕ) → IsJobLine text line rest → IsJobLine text other last → (whole_line line ≡ whole_line other) × (rest ≡ last)
+  two_whole line other first second =
+      let split = one_split line other rest last (text_without line first.line_text) (text_without other second.line_text) (sym first.whole ∙ second.whole) in
+      (ap whole_line split.0, split.1)
+
+  not_both : (line : List ℕ) → IsJobLine text line rest → ¬ IsBadLine text last
+  not_both line first second =
+      let split = one_split line second.line rest last (text_without line first.line_text) second.one (sym first.whole ∙ second.whole) in
+      second.bad (subst IsLineText split.0 first.line_text)
+
+  two_bad : IsBadLine text rest → IsBadLine text last → rest ≡ last
+  two_bad first second = (one_split first.line second.line rest last first.one second.one (sym first.whole ∙ second.whole)).1
+
+-- the next line is the same, whichever way it is read, and so is the rest
+one_line : (text rest last : List ℕ) (line other : LineView) → IsNextLine text line rest → IsNextLine text other last → (line ≡ other) × (rest ≡ last)
+one_line text rest last (whole_line line) (whole_line other) first second = two_whole text rest last line other first second
+one_line text rest last (whole_line line) bad_line first second = absurd (not_both text rest last line first second)
+one_line text rest last (whole_line line) cut_line first second = absurd (no_split text line rest second.0.one first.whole)
+one_line text rest last bad_line (whole_line other) first second = absurd (not_both text last rest other second first)
+one_line text rest last bad_line bad_line first second = (refl, two_bad text rest last first second)
+one_line text rest last bad_line cut_line first second = absurd (no_split text first.line rest second.0.one first.whole)
+one_line text rest last cut_line (whole_line other) first second = absurd (no_split text other last first.0.one second.whole)
+one_line text rest last cut_line bad_line first second = absurd (no_split text second.line last first.0.one second.whole)
+one_line text rest last cut_line cut_line first second = (refl, first.1 ∙ sym second.1)
+
+-- no line begins where the text ends
+no_line : (line : LineView) (rest : List ℕ) → ¬ IsNextLine [] line rest
+no_line (whole_line line) rest next = no_split [] line rest tt next.whole
+no_line bad_line rest next = no_split [] next.line rest tt next.whole
+no_line cut_line rest next = next.0.some refl
+
+-- a text has one list of lines
+pub one_reading : (text : List ℕ) (lines others : List LineView) → AreLines text lines → AreLines text others → lines ≡ others
+one_reading text [] [] first second = refl
+one_reading text [] (other ∷ others) first second = absurd (no_line other second.0 (subst (λ t. IsNextLine t other second.0) first second.1.0))
+one_reading text (line ∷ lines) [] first second = absurd (no_line line first.0 (subst (λ t. IsNextLine t line first.0) second first.1.0))
+one_reading text (line ∷ lines) (other ∷ others) first second =
+    let next = one_line text first.0 second.0 line other first.1.0 second.1.0 in
+    let more = one_reading second.0 lines others (subst (λ t. AreLines t lines) next.1 first.1.1) second.1.1 in
+    both line other lines others next.0 more
+  where
+    both : (line other : LineView) (lines others : List LineView) → line ≡ other → lines ≡ others → line ∷ lines ≡ other ∷ others
+    both line other lines others head tail = cc

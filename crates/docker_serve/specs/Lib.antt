@@ -1,0 +1,5 @@
+pub mod Moments
+pub mod Doing
+pub mod Answering
+pub mod Serving
+pub mod Learning
