@@ -1,0 +1,158 @@
+//! The bytes of answers.
+ghost use Rattle.std.specs.Prelude.{◌<◌};
+
+use crate::compare::{same, same_in};
+use cif_file::{FileCause, FileFault};
+use cif_line::{Failed, Fuse, Kept, Sink, write_all};
+use docker_cmd::OfficeFault;
+use docker_desk::write_answer;
+use docker_office::{StateCause, StateFault};
+use docker_session::{Answer, Page, write_reply};
+use std::alloc::Global;
+use std::process::Abort;
+
+/// More bytes than an answer of these rows has.
+const ROOM: usize = 1000;
+
+/// The line that answers a line that asks for nothing: 176 bytes.
+pub(crate) const USAGE: &str = "\
+2 1 176
+desk: usage: [--write] STATE, and then a line for each request: print TIPLOC DATE \
+| train UID DATE | files | renew | with --write take FILE | merge OTHER | horizon DATE | save
+";
+
+/// A status, a text, and the bytes of the answer with them.
+type Row = (u8, &'static str, &'static str);
+
+/// Asserts the bytes of the answer with a status and a text.
+fn is_answer(rt: &impl Abort, alloc: Global, row: &Row) {
+    let (status, text, bytes) = *row;
+    let mut kept = Kept::new(alloc, ROOM).expect(rt, "room");
+    let done = write_answer(status, text.as_bytes(), &mut kept);
+    same_in(rt, text, done, Ok(()));
+    same_in(rt, text, kept.bytes(), bytes.as_bytes());
+}
+
+/// Answers with their lines and bytes counted: no text, text without a line feed, and lines.
+const COUNTED: &[Row] = &[
+    (0, "", "0 0 0\n"),
+    (4, "", "4 0 0\n"),
+    (0, "a", "0 0 1\na"),
+    (0, "\n", "0 1 1\n\n"),
+    (1, "no\n", "1 1 3\nno\n"),
+    (0, "one\ntwo\nthree", "0 2 13\none\ntwo\nthree"),
+    (3, "0 1 2\n0 1 2\n", "3 2 12\n0 1 2\n0 1 2\n"),
+    (
+        0,
+        "0\n1\n2\n3\n4\n5\n6\n7\n8\n9\n",
+        "0 10 20\n0\n1\n2\n3\n4\n5\n6\n7\n8\n9\n",
+    ),
+    (255, "\n\n", "255 2 2\n\n\n"),
+];
+
+#[test]
+fn headers(rt: HostRuntime) {
+    for row in COUNTED {
+        is_answer(&rt, rt.alloc(), row);
+    }
+}
+
+/// The bytes of an answer.
+fn bytes_of(rt: &impl Abort, alloc: Global, answer: &Answer) -> Kept {
+    let mut kept = Kept::new(alloc, ROOM).expect(rt, "room");
+    write_reply(answer, &mut kept).expect(rt, "an answer");
+    kept
+}
+
+/// Asserts the bytes of an answer.
+pub(crate) fn answers(rt: &impl Abort, alloc: Global, answer: &Answer, wanted: &str) {
+    let kept = bytes_of(rt, alloc, answer);
+    same(rt, kept.bytes(), wanted.as_bytes());
+}
+
+/// Asserts the bytes of the answer to a request that is refused.
+fn refuses(rt: &impl Abort, alloc: Global, fault: OfficeFault, wanted: &str) {
+    answers(rt, alloc, &Answer::Refused(fault), wanted);
+}
+
+/// A file that is refused at this record.
+fn file_fault(number: u32, cause: FileCause) -> OfficeFault {
+    OfficeFault::File(FileFault { number, cause })
+}
+
+/// A state that is refused at this offset.
+fn state_fault(at: u64, cause: StateCause) -> OfficeFault {
+    OfficeFault::State(StateFault { at, cause })
+}
+
+#[test]
+fn answers_without_a_text(rt: HostRuntime) {
+    answers(&rt, rt.alloc(), &Answer::Done, "0 0 0\n");
+    answers(&rt, rt.alloc(), &Answer::Usage, USAGE);
+    let page = Page::new(rt.alloc());
+    answers(&rt, rt.alloc(), &Answer::Text(page), "0 0 0\n");
+}
+
+#[test]
+fn answers_to_refused_requests(rt: HostRuntime) {
+    let alloc = rt.alloc();
+    let lapsed = "1 1 52\ndocker: day refused: before horizon plus three days\n";
+    refuses(&rt, alloc, OfficeFault::Lapsed, lapsed);
+    let memory = "3 1 23\ndocker: want of memory\n";
+    refuses(&rt, alloc, OfficeFault::Memory, memory);
+    let device = "4 1 22\ndocker: device failed\n";
+    refuses(&rt, alloc, OfficeFault::Source, device);
+    refuses(&rt, alloc, OfficeFault::Sink, device);
+    let no_end = "1 1 38\ndocker: file refused: record 5: NoEnd\n";
+    refuses(&rt, alloc, file_fault(5, FileCause::NoEnd), no_end);
+    let byte = "1 1 40\ndocker: file refused: record 2: Byte 20\n";
+    refuses(&rt, alloc, file_fault(2, FileCause::Byte(20)), byte);
+    let mark = "1 1 38\ndocker: state refused: offset 0: Mark\n";
+    refuses(&rt, alloc, state_fault(0, StateCause::Mark), mark);
+}
+
+/// Pieces, and the answer with their bytes as its text.
+#[test]
+fn an_answer_with_a_text(rt: HostRuntime) {
+    let mut page = Page::new(rt.alloc());
+    write_all(&mut page, b"one\n").expect(&rt, "room");
+    write_all(&mut page, b"two\n").expect(&rt, "room");
+    same(&rt, page.text(), b"one\ntwo\n".as_slice());
+    same(&rt, page.failures(), 0);
+    answers(&rt, rt.alloc(), &Answer::Text(page), "0 2 8\none\ntwo\n");
+}
+
+/// What comes of the answer that has no request, on a sink that takes one byte per write and fails
+/// at this write, and the bytes that the sink has.
+fn broken_at(rt: &impl Abort, alloc: Global, write: u64) -> (Result<(), Failed>, Fuse<Kept>)
+    requires { 0 < write }
+{
+    let kept = Kept::new(alloc, ROOM).expect(rt, "room");
+    let mut sink = Fuse::new(kept, write);
+    let done = write_reply(&Answer::Usage, &mut sink);
+    (done, sink)
+}
+
+/// Asserts that a sink that fails at this write has the bytes before it, and that the failure is
+/// reported.
+fn stops_at(rt: &impl Abort, alloc: Global, write: u64, bytes: &str)
+    requires { 0 < write }
+{
+    let (done, sink) = broken_at(rt, alloc, write);
+    same(rt, done, Err(Failed));
+    same(rt, sink.device().bytes(), bytes.as_bytes());
+    same(rt, sink.failures(), 1);
+}
+
+#[test]
+fn an_output_that_fails_within_an_answer(rt: HostRuntime) {
+    let alloc = rt.alloc();
+    stops_at(&rt, alloc, 1, "");
+    stops_at(&rt, alloc, 3, "2 ");
+    stops_at(&rt, alloc, 8, "2 1 176");
+    stops_at(&rt, alloc, 9, "2 1 176\n");
+    stops_at(&rt, alloc, 14, "2 1 176\ndesk:");
+    let (done, sink) = broken_at(&rt, alloc, 185);
+    same(&rt, done, Ok(()));
+    same(&rt, sink.device().bytes(), USAGE.as_bytes());
+}

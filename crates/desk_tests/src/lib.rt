@@ -1,0 +1,30 @@
+//! Worked rows of a desk: the lines that it reads, what they ask for, how it answers, what it does
+//! with files, and whole sessions. This crate holds only tests.
+#![tactic(auto)]
+
+#[cfg(test)]
+mod answers;
+#[cfg(test)]
+mod beginnings;
+#[cfg(test)]
+mod compare;
+#[cfg(test)]
+mod desks;
+#[cfg(test)]
+mod failures;
+#[cfg(test)]
+mod files;
+#[cfg(test)]
+mod lines;
+#[cfg(test)]
+mod records;
+#[cfg(test)]
+mod requests;
+#[cfg(test)]
+mod saving;
+#[cfg(test)]
+mod sessions;
+#[cfg(test)]
+mod store;
+#[cfg(test)]
+mod trains;

@@ -1,0 +1,190 @@
+//! The lines of an input that comes in pieces of several sizes.
+ghost use Rattle.std.specs.Prelude.{◌<◌};
+
+use crate::compare::same;
+use cif_line::{Bytes, Fuse, Source};
+use docker_desk::{Ahead, Asked, next_line};
+use std::alloc::Global;
+use std::process::Abort;
+
+/// What a line is, and the bytes of one that can be a request.
+type Told<'a> = (&'static str, &'a [u8]);
+
+/// A line that can be a request.
+const LINE: &str = "line";
+
+/// A line that is too long, or has another byte.
+const BAD: Told<'static> = ("bad", b"");
+
+/// What stands after the last line feed.
+const CUT: Told<'static> = ("cut", b"");
+
+/// The end of the input.
+const END: Told<'static> = ("end", b"");
+
+/// A text, and its lines in order.
+type Row = (&'static [u8], &'static [Told<'static>]);
+
+/// Asserts that the next line of a source is this one.
+fn is_next(rt: &impl Abort, ahead: &mut Ahead, source: &mut Bytes<'_>, wanted: Told<'_>) {
+    match next_line(ahead, source) {
+        Ok(Asked::Line(text)) => same(rt, (LINE, text.as_slice()), wanted),
+        Ok(Asked::Bad) => same(rt, BAD, wanted),
+        Ok(Asked::Cut) => same(rt, CUT, wanted),
+        Ok(Asked::End) => same(rt, END, wanted),
+        Err(_) => panic!(rt; "a source in memory fails"),
+    }
+}
+
+/// Asserts that these are the lines of a text that comes in pieces of at most `step` bytes, and
+/// that its end follows them.
+fn are_lines(rt: &impl Abort, text: &[u8], step: usize, lines: &[Told<'_>])
+    requires { 0 < step }
+{
+    let mut ahead = Ahead::new();
+    let mut source = Bytes::new(text, step);
+    for line in lines {
+        is_next(rt, &mut ahead, &mut source, *line);
+    }
+    is_next(rt, &mut ahead, &mut source, END);
+    same(rt, source.left().len(), 0);
+}
+
+/// Asserts that these are the lines of a text, whatever the size of its pieces.
+fn are_lines_in_pieces(rt: &impl Abort, text: &[u8], lines: &[Told<'_>]) {
+    are_lines(rt, text, 1, lines);
+    are_lines(rt, text, 2, lines);
+    are_lines(rt, text, 4096, lines);
+    are_lines(rt, text, 10_000, lines);
+}
+
+/// Asserts that each of these texts has its lines.
+fn have_lines(rt: &impl Abort, rows: &[Row]) {
+    for (text, lines) in rows {
+        are_lines_in_pieces(rt, text, lines);
+    }
+}
+
+/// Texts of whole lines, empty ones among them.
+const WHOLE: &[Row] = &[
+    (b"", &[]),
+    (b"files\n", &[(LINE, b"files")]),
+    (
+        b"print ASHFELD 2024-06-10\n files \n",
+        &[(LINE, b"print ASHFELD 2024-06-10"), (LINE, b" files ")],
+    ),
+    (b"\n\nsave\n", &[(LINE, b""), (LINE, b""), (LINE, b"save")]),
+    (b" ~\n", &[(LINE, b" ~")]),
+];
+
+/// Texts with a byte that no line has. The line after it is read.
+const OTHER_BYTES: &[Row] = &[
+    (b"files\r\nsave\n", &[BAD, (LINE, b"save")]),
+    (b"fi\tles\nsave\n", &[BAD, (LINE, b"save")]),
+    (b"\0files\nsave\n", &[BAD, (LINE, b"save")]),
+    (b"files\x1f\nsave\n", &[BAD, (LINE, b"save")]),
+    (b"files\x7f\nsave\n", &[BAD, (LINE, b"save")]),
+    (b"files\x80\nsave\n", &[BAD, (LINE, b"save")]),
+    (b"take \xc3\xa9\nsave\n", &[BAD, (LINE, b"save")]),
+    (b"\xff\n\xff\n", &[BAD, BAD]),
+];
+
+/// Texts whose last line has no line feed.
+const CUTS: &[Row] = &[
+    (b"save", &[CUT]),
+    (b"files\nsave", &[(LINE, b"files"), CUT]),
+    (b"\n ", &[(LINE, b""), CUT]),
+    (b"sa\rve", &[CUT]),
+    (b"\r", &[CUT]),
+];
+
+#[test]
+fn lines_of_texts(rt: HostRuntime) {
+    have_lines(&rt, WHOLE);
+    have_lines(&rt, OTHER_BYTES);
+    have_lines(&rt, CUTS);
+}
+
+/// This many letters.
+fn letters(rt: &impl Abort, alloc: Global, many: usize) -> Vec<u8> {
+    let mut text = Vec::new(alloc);
+    for _ in 0..many {
+        text.push(b'x').expect(rt, "room");
+    }
+    text
+}
+
+/// Asserts that a line of this many letters is read whole or, if it is too long, is read to its
+/// line feed, and that the line after it is read.
+fn is_line_of(rt: &impl Abort, alloc: Global, many: usize, is_whole: bool) {
+    let long = letters(rt, alloc, many);
+    let mut text = letters(rt, alloc, many);
+    text.extend_from_slice(b"\nsave\n").expect(rt, "room");
+    let first = if is_whole {
+        (LINE, long.as_slice())
+    } else {
+        BAD
+    };
+    are_lines_in_pieces(rt, text.as_slice(), &[first, (LINE, b"save".as_slice())]);
+}
+
+/// Asserts that this many letters without a line feed are a line that is cut.
+fn is_cut_of(rt: &impl Abort, alloc: Global, many: usize) {
+    let text = letters(rt, alloc, many);
+    are_lines_in_pieces(rt, text.as_slice(), &[CUT]);
+}
+
+#[test]
+fn lines_of_many_bytes(rt: HostRuntime) {
+    let alloc = rt.alloc();
+    is_line_of(&rt, alloc, 254, true);
+    is_line_of(&rt, alloc, 255, true);
+    is_line_of(&rt, alloc, 256, false);
+    is_line_of(&rt, alloc, 4090, false);
+    is_line_of(&rt, alloc, 4095, false);
+    is_line_of(&rt, alloc, 4096, false);
+    is_line_of(&rt, alloc, 10_000, false);
+    is_cut_of(&rt, alloc, 255);
+    is_cut_of(&rt, alloc, 256);
+    is_cut_of(&rt, alloc, 5000);
+}
+
+/// A thousand lines, so that some cross the end of a piece.
+fn many_lines(rt: &impl Abort, alloc: Global) -> Vec<u8> {
+    let mut text = Vec::new(alloc);
+    for _ in 0..1000 {
+        text.extend_from_slice(b"renew\n").expect(rt, "room");
+    }
+    text
+}
+
+#[test]
+fn a_thousand_lines(rt: HostRuntime) {
+    let text = many_lines(&rt, rt.alloc());
+    are_lines_in_pieces(&rt, text.as_slice(), &[(LINE, b"renew".as_slice()); 1000]);
+}
+
+/// How often a source failed from which one line is read, and whether reading it failed. The source
+/// gives one byte per read, and fails at only this read.
+fn read_with_fuse(text: &[u8], read: u64) -> (u64, bool)
+    requires { 0 < read }
+{
+    let mut source = Fuse::new(Bytes::new(text, 1), read);
+    let failed = match next_line(&mut Ahead::new(), &mut source) {
+        Err(_) => true,
+        Ok(Asked::Line(_text)) => false,
+        Ok(Asked::Bad) => false,
+        Ok(Asked::Cut) => false,
+        Ok(Asked::End) => false,
+    };
+    (source.failures(), failed)
+}
+
+#[test]
+fn an_input_that_fails(rt: HostRuntime) {
+    same(&rt, read_with_fuse(b"save\n", 1), (1, true));
+    same(&rt, read_with_fuse(b"save\n", 5), (1, true));
+    same(&rt, read_with_fuse(b"save\n", 6), (0, false));
+    same(&rt, read_with_fuse(b"s\xffve\n", 4), (1, true));
+    same(&rt, read_with_fuse(b"save", 5), (1, true));
+}

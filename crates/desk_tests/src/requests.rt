@@ -1,0 +1,191 @@
+//! What lines ask for.
+
+use crate::compare::same_in;
+use cif_line::Bytes;
+use docker_desk::{Ahead, Asked, Request, next_line, request_in};
+use std::alloc::Global;
+use std::process::Abort;
+
+/// A line, and the request that it is, with one space between two words.
+type Row = (&'static str, &'static str);
+
+/// Adds a word after a space.
+fn add(rt: &impl Abort, text: &mut Vec<u8>, word: &[u8]) {
+    text.push(b' ').expect(rt, "room");
+    text.extend_from_slice(word).expect(rt, "room");
+}
+
+/// Adds the words of a request that names a day, and nothing of another.
+fn add_dated(rt: &impl Abort, text: &mut Vec<u8>, request: &Request<'_>) {
+    match request {
+        Request::Print { place, day } => {
+            text.extend_from_slice(b"print").expect(rt, "room");
+            add(rt, text, place.bytes());
+            add(rt, text, &day.iso());
+        }
+        Request::Train { uid, day } => {
+            text.extend_from_slice(b"train").expect(rt, "room");
+            add(rt, text, uid.bytes());
+            add(rt, text, &day.iso());
+        }
+        Request::Horizon { day } => {
+            text.extend_from_slice(b"horizon").expect(rt, "room");
+            add(rt, text, &day.iso());
+        }
+        _ => {}
+    }
+}
+
+/// The first word of a request that names no day, and the file that it names; nothing of another.
+fn file_words<'a>(request: &Request<'a>) -> (&'static str, Option<&'a str>) {
+    match request {
+        Request::Take(file) => ("take", Some(*file)),
+        Request::Merge(other) => ("merge", Some(*other)),
+        Request::Files => ("files", None),
+        Request::Renew => ("renew", None),
+        Request::Save => ("save", None),
+        _ => ("", None),
+    }
+}
+
+/// The words of a request, with one space between two of them.
+fn words_of(rt: &impl Abort, alloc: Global, request: &Request<'_>) -> Vec<u8> {
+    let mut text = Vec::new(alloc);
+    add_dated(rt, &mut text, request);
+    let (verb, file) = file_words(request);
+    text.extend_from_slice(verb.as_bytes()).expect(rt, "room");
+    if let Some(file) = file {
+        add(rt, &mut text, file.as_bytes());
+    }
+    text
+}
+
+/// The words of the request that the first line of a text is. Nothing if it asks for nothing.
+fn asked_by(rt: &impl Abort, alloc: Global, text: &[u8], may_write: bool) -> Vec<u8> {
+    let mut source = Bytes::new(text, 4096);
+    match next_line(&mut Ahead::new(), &mut source) {
+        Ok(Asked::Line(line)) => match request_in(line.as_slice(), may_write) {
+            Some(request) => words_of(rt, alloc, &request),
+            None => Vec::new(alloc),
+        },
+        Ok(Asked::Bad) | Ok(Asked::Cut) | Ok(Asked::End) => panic!(rt; "no request can be so"),
+        Err(_) => panic!(rt; "a source in memory fails"),
+    }
+}
+
+/// Asserts that a line is the request with these words, or none if there are no words.
+fn asks(rt: &impl Abort, alloc: Global, line: &str, may_write: bool, words: &str) {
+    let mut text = Vec::new(alloc);
+    text.extend_from_slice(line.as_bytes()).expect(rt, "room");
+    text.push(b'\n').expect(rt, "room");
+    let asked = asked_by(rt, alloc, text.as_slice(), may_write);
+    same_in(rt, line, asked.as_slice(), words.as_bytes());
+}
+
+/// Requests that every desk does.
+const READING: &[Row] = &[
+    ("print ASHFELD 2024-06-10", "print ASHFELD 2024-06-10"),
+    ("  print  ELM   1960-01-01 ", "print ELM     1960-01-01"),
+    ("print A-1 2059-12-31", "print A-1     2059-12-31"),
+    ("train C10001 2024-02-29", "train C10001 2024-02-29"),
+    ("train -10001 2024-06-10", "train -10001 2024-06-10"),
+    ("files", "files"),
+    (" files  ", "files"),
+    ("renew", "renew"),
+    ("renew ", "renew"),
+];
+
+/// Requests that only a desk that may write does. A file's name is all that stands after the first
+/// word and its spaces.
+const WRITING: &[Row] = &[
+    ("take F2", "take F2"),
+    (" take   F2", "take F2"),
+    ("take of 9 June.cif", "take of 9 June.cif"),
+    ("take F2  ", "take F2  "),
+    ("take stdin ", "take stdin "),
+    ("take STDIN", "take STDIN"),
+    ("take F2 -x", "take F2 -x"),
+    ("merge S2", "merge S2"),
+    ("merge  two words ", "merge two words "),
+    ("horizon 2024-06-15", "horizon 2024-06-15"),
+    (" horizon  2024-06-15 ", "horizon 2024-06-15"),
+    ("save", "save"),
+    ("  save ", "save"),
+];
+
+/// Lines that ask for nothing.
+const NOTHING: &[&str] = &[
+    "",
+    "   ",
+    "help",
+    "Files",
+    "file",
+    "filess",
+    "files now",
+    "renew S",
+    "save S",
+    "print",
+    "print ASHFELD",
+    "print 2024-06-10",
+    "print 2024-06-10 ASHFELD",
+    "print ASHFELD 2024-06-10 twice",
+    "print ASHFELDS 2024-06-10",
+    "print -SHFELD 2024-06-10",
+    "print ASHFELD 2024-6-10",
+    "print ASHFELD 240610",
+    "print ASHFELD 2024-02-30",
+    "print ASHFELD 2023-02-29",
+    "print ASHFELD 1959-12-31",
+    "print ASHFELD 2060-01-01",
+    "train C10001",
+    "train C1000 2024-06-10",
+    "train C100011 2024-06-10",
+    "train C10001 2024-13-01",
+    "train C10001 2024-06-10 twice",
+    "take",
+    "take  ",
+    "take stdin",
+    "take -F2",
+    "merge",
+    "merge stdin",
+    "merge --write",
+    "horizon",
+    "horizon 2024-06-31",
+    "horizon 2024-06-15 now",
+    "--write",
+    "print\u{7e}ASHFELD 2024-06-10",
+];
+
+/// Asserts what each of these lines asks a desk.
+fn ask(rt: &impl Abort, alloc: Global, rows: &[Row], may_write: bool) {
+    for (line, words) in rows {
+        asks(rt, alloc, line, may_write, words);
+    }
+}
+
+/// Asserts that each of these lines asks for nothing.
+fn ask_nothing(rt: &impl Abort, alloc: Global, lines: &[&str]) {
+    for line in lines {
+        asks(rt, alloc, line, false, "");
+        asks(rt, alloc, line, true, "");
+    }
+}
+
+#[test]
+fn requests_of_every_desk(rt: HostRuntime) {
+    ask(&rt, rt.alloc(), READING, false);
+    ask(&rt, rt.alloc(), READING, true);
+}
+
+#[test]
+fn requests_of_a_desk_that_writes(rt: HostRuntime) {
+    ask(&rt, rt.alloc(), WRITING, true);
+    for (line, _) in WRITING {
+        asks(&rt, rt.alloc(), line, false, "");
+    }
+}
+
+#[test]
+fn lines_that_ask_for_nothing(rt: HostRuntime) {
+    ask_nothing(&rt, rt.alloc(), NOTHING);
+}

@@ -1,0 +1,285 @@
+//! Whole sessions: their words, the lines that they are asked, and how they end.
+ghost use Rattle.std.specs.Prelude.{◌≡◌, ◌<◌};
+
+use crate::answers::USAGE;
+use crate::compare::same_in;
+use crate::desks::{ANSWER_18_JUNE, ANSWER_0900, ANSWER_0905, DAY_REFUSED};
+use crate::files::{Named, Shelf};
+use crate::records::*;
+use crate::store::Drawer;
+use cif_line::{Bytes, Kept};
+use docker_serve::serve;
+use std::alloc::Global;
+use std::process::Abort;
+
+/// The words of a session that may write, and of one that may not.
+pub(crate) const WRITING: &[&str] = &["--write", "S"];
+
+pub(crate) const READING: &[&str] = &["S"];
+
+/// The answer to a request that was done and has no text.
+pub(crate) const DONE: &str = "0 0 0\n";
+
+/// The answer to a request whose file, or store, fails.
+pub(crate) const FAILED: &str = "4 1 22\ndocker: device failed\n";
+
+/// The line of a session whose own device fails.
+pub(crate) const DEVICE: &str = "docker: device failed\n";
+
+/// The line of a session that ends with changes that weren't saved.
+pub(crate) const UNSAVED: &str = "desk: changes not saved\n";
+
+/// The files of the morning train, and of both.
+pub(crate) const FILES: &str = "0 1 34\n2024-06-09 2100 DFROC1A U DFROC1Z\n";
+
+const BOTH_FILES: &str = "\
+0 2 68
+2024-06-09 2100 DFROC1A U DFROC1Z
+2024-06-10 2100 DFROC1B U DFROC1A
+";
+
+/// A session over the state of the morning train: its words, its input, the answers, the line of
+/// faults, its status, and the state that its file then has.
+type Row = (
+    &'static [&'static str],
+    &'static str,
+    &'static [&'static str],
+    &'static str,
+    u8,
+    Parts,
+);
+
+/// A sink with room for this many bytes.
+pub(crate) fn room(rt: &impl Abort, alloc: Global, bytes: usize) -> Kept
+    ensures { result.failures ≡ 0 }
+{
+    Kept::new(alloc, bytes).expect(rt, "room")
+}
+
+/// Texts as one text.
+pub(crate) fn joined(rt: &impl Abort, alloc: Global, texts: &[&str]) -> Vec<u8> {
+    let mut all = Vec::new(alloc);
+    for text in texts {
+        all.extend_from_slice(text.as_bytes()).expect(rt, "room");
+    }
+    all
+}
+
+/// The texts of the files that the sessions may open: the state of the morning train, its revision,
+/// that revision without its trailer, and the state of the revision.
+#[derive(Drop)]
+pub(crate) struct Texts {
+    state: Vec<u8>,
+    revision: Vec<u8>,
+    open: Vec<u8>,
+    other: Vec<u8>,
+}
+
+impl Texts {
+    /// These texts.
+    pub(crate) fn new(rt: &impl Abort, alloc: Global) -> Texts {
+        Texts {
+            state: state_text(rt, alloc, MORNING_STATE),
+            revision: file_text(rt, alloc, REVISION),
+            open: file_text(rt, alloc, OPEN),
+            other: state_text(rt, alloc, REVISION_STATE),
+        }
+    }
+
+    /// The files with these texts.
+    pub(crate) fn named(&self) -> [Named<'_>; 4] {
+        [
+            ("S", self.state.as_slice()),
+            ("F2", self.revision.as_slice()),
+            ("F3", self.open.as_slice()),
+            ("S2", self.other.as_slice()),
+        ]
+    }
+}
+
+/// The store of the morning train's state.
+pub(crate) fn store_of_morning(rt: &impl Abort, alloc: Global) -> Drawer
+    ensures { result.failures ≡ 0 }
+{
+    Drawer::of(alloc, state_text(rt, alloc, MORNING_STATE))
+}
+
+/// Asserts what a session does whose input comes in pieces of at most `step` bytes.
+fn goes_in_pieces(rt: &impl Abort, alloc: Global, row: &Row, step: usize)
+    requires { 0 < step }
+{
+    let (words, input, answers, line, status, state) = *row;
+    let texts = Texts::new(rt, alloc);
+    let mut stdin = Bytes::new(input.as_bytes(), step);
+    let mut store = store_of_morning(rt, alloc);
+    let (mut output, mut faults) = (room(rt, alloc, 1000), room(rt, alloc, 1000));
+    let files = texts.named();
+    let mut shelf = Shelf::of(&files);
+    let ended = serve(
+        alloc,
+        words,
+        &mut stdin,
+        &mut shelf,
+        &mut store,
+        &mut output,
+        &mut faults,
+    );
+    same_in(rt, input, ended, status);
+    let wanted = joined(rt, alloc, answers);
+    same_in(rt, input, output.bytes(), wanted.as_slice());
+    same_in(rt, input, faults.bytes(), line.as_bytes());
+    let kept = state_text(rt, alloc, state);
+    same_in(rt, input, store.text(), kept.as_slice());
+}
+
+/// Asserts what each of these sessions does.
+fn go(rt: &impl Abort, alloc: Global, rows: &[Row]) {
+    for row in rows {
+        goes_in_pieces(rt, alloc, row, 1);
+        goes_in_pieces(rt, alloc, row, 2);
+        goes_in_pieces(rt, alloc, row, 4096);
+    }
+}
+
+/// Sessions that only read.
+const READ: &[Row] = &[
+    (READING, "", &[], "", 0, MORNING_STATE),
+    (
+        READING,
+        "print ASHFELD 2024-06-10\nfiles\nrenew\nprint ASHFELD 2024-06-18\n",
+        &[ANSWER_0900, FILES, DONE, ANSWER_18_JUNE],
+        "",
+        0,
+        MORNING_STATE,
+    ),
+    (
+        READING,
+        "take F2\nmerge S2\nhorizon 2024-06-15\nsave\nprint ASHFELD 2024-06-10\n",
+        &[USAGE, USAGE, USAGE, USAGE, ANSWER_0900],
+        "",
+        0,
+        MORNING_STATE,
+    ),
+    (
+        READING,
+        "\nfiles now\nfiles\r\nfiles",
+        &[USAGE, USAGE, USAGE, USAGE],
+        "",
+        0,
+        MORNING_STATE,
+    ),
+];
+
+/// Sessions that change what is known.
+const CHANGED: &[Row] = &[
+    (
+        WRITING,
+        "take F2\nprint ASHFELD 2024-06-10\nsave\nfiles\nsave\n",
+        &[DONE, ANSWER_0905, DONE, BOTH_FILES, DONE],
+        "",
+        0,
+        BOTH_STATE,
+    ),
+    (
+        WRITING,
+        "merge S2\nrenew\nfiles\nsave\n",
+        &[DONE, DONE, BOTH_FILES, DONE],
+        "",
+        0,
+        BOTH_STATE,
+    ),
+    (
+        WRITING,
+        "horizon 2024-06-15\nprint ASHFELD 2024-06-17\nprint ASHFELD 2024-06-18\nsave\n",
+        &[DONE, DAY_REFUSED, ANSWER_18_JUNE, DONE],
+        "",
+        0,
+        LAPSED_STATE,
+    ),
+    (
+        WRITING,
+        "save\nprint ASHFELD 2024-06-10\n",
+        &[DONE, ANSWER_0900],
+        "",
+        0,
+        MORNING_STATE,
+    ),
+];
+
+/// Sessions that end with changes that weren't saved.
+const LEFT_UNSAVED: &[Row] = &[
+    (WRITING, "take F2\n", &[DONE], UNSAVED, 1, MORNING_STATE),
+    (WRITING, "merge S2\n", &[DONE], UNSAVED, 1, MORNING_STATE),
+    (
+        WRITING,
+        "horizon 2024-06-15\n",
+        &[DONE],
+        UNSAVED,
+        1,
+        MORNING_STATE,
+    ),
+    (
+        WRITING,
+        "take F2\nsave\nmerge S2\n",
+        &[DONE, DONE, DONE],
+        UNSAVED,
+        1,
+        BOTH_STATE,
+    ),
+    (
+        WRITING,
+        "take F2\nsave",
+        &[DONE, USAGE],
+        UNSAVED,
+        1,
+        MORNING_STATE,
+    ),
+];
+
+/// Sessions with requests that are refused. What was refused is no change.
+const REFUSED: &[Row] = &[
+    (
+        WRITING,
+        "take F9\nprint ASHFELD 2024-06-10\n",
+        &[FAILED, ANSWER_0900],
+        "",
+        0,
+        MORNING_STATE,
+    ),
+    (
+        WRITING,
+        "take F3\nmerge S9\nfiles\n",
+        &[
+            "1 1 38\ndocker: file refused: record 5: NoEnd\n",
+            FAILED,
+            FILES,
+        ],
+        "",
+        0,
+        MORNING_STATE,
+    ),
+    (
+        WRITING,
+        "merge F2\ntake S2\nfiles\n",
+        &[
+            "1 1 38\ndocker: state refused: offset 0: Mark\n",
+            "1 1 39\ndocker: file refused: record 1: Length\n",
+            FILES,
+        ],
+        "",
+        0,
+        MORNING_STATE,
+    ),
+];
+
+#[test]
+fn sessions_that_read(rt: HostRuntime) {
+    go(&rt, rt.alloc(), READ);
+}
+
+#[test]
+fn sessions_that_write(rt: HostRuntime) {
+    go(&rt, rt.alloc(), CHANGED);
+    go(&rt, rt.alloc(), LEFT_UNSAVED);
+    go(&rt, rt.alloc(), REFUSED);
+}
