@@ -2,6 +2,7 @@
 //! them.
 
 mod commands;
+mod desk;
 mod flip;
 mod growth;
 mod judge;
@@ -19,12 +20,12 @@ mod state;
 mod tests;
 
 use std::fs::File;
-use std::io::Result;
+use std::io::{Error, Result};
 use std::process::ExitCode;
 
 const USAGE: &str = "usage: extract full SCHEDULES SEED FILE | extract update SCHEDULES BASE_SEED SEED DAY FILE | \
 extract judge FILE | extract flip FILE SEED | extract compare DOCKER FILE SEED FLIPS | extract measure DOCKER FILE.. | extract state STATE_TIMES FILE UPDATE FOLDER | \
-extract commands DOCKER FILE UPDATE FOLDER | extract shapes DOCKER RECORDS SEED FOLDER | extract growth DOCKER FOLDER WORD.. | extract plain WORD.. | extract mutate DOCKER FOLDER SEED TIMES FILE..";
+extract commands DOCKER FILE UPDATE FOLDER | extract desk DOCKER DESK STATE_TIMES FILE UPDATE FOLDER DAY SEED | extract shapes DOCKER RECORDS SEED FOLDER | extract growth DOCKER FOLDER WORD.. | extract plain WORD.. | extract mutate DOCKER FOLDER SEED TIMES FILE..";
 
 fn main() -> ExitCode {
     let words: Vec<String> = std::env::args().skip(1).collect();
@@ -67,10 +68,27 @@ fn job(words: &[&str]) -> Option<Result<u8>> {
         ["growth", program, folder, words @ ..] => growth::tables(program, folder, words).map(|passes| u8::from(!passes)),
         ["plain", words @ ..] if !words.is_empty() => plain::run(words),
         ["commands", program, path, update, folder] => commands::table(program, path, update, folder).map(|()| 0),
+        ["desk", docker, desk, state_times, path, update, folder, day, seed] => {
+            desk_tables([docker, desk, state_times], path, update, folder, day, number(seed)?).map(|()| 0)
+        }
         ["shapes", program, records, seed, folder] => shapes::table(program, count(records)?, number(seed)?, folder).map(|()| 0),
         ["state", program, path, update, folder] => state::table(program, path, update, folder).map(|()| 0),
         _ => return None,
     })
+}
+
+/// Measures a desk, with this program as the plain one.
+fn desk_tables(
+    [docker, desk, state_times]: [&str; 3],
+    path: &str,
+    update: &str,
+    folder: &str,
+    day: &str,
+    seed: u64,
+) -> Result<()> {
+    let plain = std::env::current_exe()?;
+    let plain = plain.to_str().ok_or_else(|| Error::other("this program's path isn't text"))?;
+    desk::tables(&desk::Programs { docker, desk, state_times, plain }, path, update, folder, day, seed)
 }
 
 /// Prints what `docker check` would.

@@ -149,7 +149,7 @@ fn middle_end(extract: &str) -> Result<String> {
 }
 
 /// What the program printed on standard error, if its run succeeded.
-fn said_by(spent: &Spent) -> Result<&str> {
+pub fn said_by(spent: &Spent) -> Result<&str> {
     match spent.status {
         0 => Ok(&spent.errors),
         status => Err(Error::other(format!("state_times ended with {status}: {}", spent.errors))),
@@ -158,7 +158,7 @@ fn said_by(spent: &Spent) -> Result<&str> {
 
 /// The seconds that the program printed for a stage. The first line of its name counts, because a
 /// join reads two texts. For a walk, which is made often, the least counts.
-fn seconds(said: &str, stage: &str) -> Option<f64> {
+pub fn seconds(said: &str, stage: &str) -> Option<f64> {
     let mut told = said.lines().filter_map(|line| line.strip_prefix(stage)?.strip_prefix(": "));
     let first = told.next()?;
     match first.strip_suffix(" ms") {
