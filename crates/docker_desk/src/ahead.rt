@@ -92,8 +92,8 @@ impl Ahead {
             byte (with_ahead self.new (S.left source.new))) }
         ensures unmoved { OnErr result (with_ahead self.new (S.left source.new)
             ≡ with_ahead self.old (S.left source.old)) }
-        ensures meets_end { MeetsEnd (is_end_of_bytes result) (S.ended source.old) (S.ended source.new)
-            (S.passed source.old) (S.passed source.new) }
+        ensures meets_end { MeetsEnd (is_end_of_bytes result)
+            (S.ended source.old) (S.ended source.new) (S.passed source.old) (S.passed source.new) }
         ensures no_failure { OnOk result (S.failures source.new ≡ S.failures source.old) }
         ensures counted { OnErr result (S.failures source.new ≡ S.failures source.old + 1) }
     {

@@ -46,8 +46,8 @@ impl From<cif_line::Failed> for InputFault {
 }
 
 /// Reads the next line of a source, whose bytes may have been read ahead. The source is left after
-/// the line's line feed. With `Cut` and `End` the source has reported its end, so a caller that wants
-/// to read nothing after it stops at either.
+/// the line's line feed. With `Cut` and `End` the source has reported its end, so a caller that
+/// wants to read nothing after it stops at either.
 pub fn next_line<S: Source>(ahead: &mut Ahead, source: &mut S) -> Result<Asked, InputFault>
     requires { S.failures source.old < 2 ^ 64 - 1 }
     ensures ends { EndsLine (with_ahead ahead.old (S.left source.old)) result

@@ -38,9 +38,9 @@ impl Seen {
     }
 }
 
-/// A file that is written anew, by its name. Once a draft took its place, the next look at that name
-/// sees the draft itself, which may not be what is under the name by then: another program may have
-/// put another file there. So what comes after a look never takes that file's place unseen.
+/// A file that is written anew, by its name. Once a draft took its place, the next look at that
+/// name sees the draft itself, even if another program has put another file there since. So what
+/// comes after a look never takes that file's place unseen.
 #[derive(Drop)]
 pub struct Folder {
     rt: HostRuntime,
@@ -140,8 +140,8 @@ impl Folder {
         }
     }
 
-    /// What is seen of the draft that took the place of the file of this name, if no look has seen it
-    /// yet.
+    /// What is seen of the draft that took the place of the file of this name, if no look has seen
+    /// it yet.
     fn take_placed(&mut self, name: &str) -> Option<Seen>
         ensures { self.new ≡ self.old }
     {
@@ -256,8 +256,8 @@ impl Stores for Folder {
         let Some(beside) = self.beside.take() else {
             return Ok(());
         };
-        // The draft is looked at while it is open and before it has the file's name, so that nothing
-        // but the draft is seen.
+        // The draft is looked at while it is open and before it has the file's name, so that
+        // nothing but the draft is seen.
         let placed = draft.file.metadata().ok().map(|file| Seen::of(&file));
         if beside.replace(&self.rt, &draft.file).is_err() {
             beside.remove(&self.rt);

@@ -12,8 +12,8 @@ pub struct Standard {
     _streams: [Option<File>; 3],
 }
 
-/// Takes the numbers of the standard streams that are closed, until what it returns is dropped. So no
-/// file is opened under such a number, and then read or written as that stream.
+/// Takes the numbers of the standard streams that are closed, until what it returns is dropped. So
+/// no file is opened under such a number, and then read or written as that stream.
 pub fn hold_standard(rt: &HostRuntime) -> Standard {
     Standard {
         _streams: [hold_one(rt), hold_one(rt), hold_one(rt)],
