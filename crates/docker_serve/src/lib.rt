@@ -12,7 +12,7 @@ mod terms;
 
 pub use answering::answer_line;
 pub use ending::Ending;
-pub use lines::serve_lines;
+pub use lines::{serve_lines, serve_next};
 pub use opening::open_session;
 pub use program::serve;
 pub use session::Session;

@@ -54,8 +54,10 @@ where
     Ending::InputEndless
 }
 
-/// Reads one line and answers it. Returns how the session ends, if it ends there.
-fn serve_next<S: Source, F: Files, W: Stores, K: Sink>(
+/// Reads one line and answers it. Returns how the session ends, if it ends there. When it returns,
+/// the answer is written, and the lines after this one are left. So each line that is read gets its
+/// answer, even of an input that never ends.
+pub fn serve_next<S: Source, F: Files, W: Stores, K: Sink>(
     terms: &Terms<'_>,
     ahead: &mut Ahead,
     session: &mut Session<W::Seen>,
