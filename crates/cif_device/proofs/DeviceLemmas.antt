@@ -1,11 +1,12 @@
 -- One write after another.
-use Rattle.std.proofs.Common.{◌≡◌, ℕ, ◌+◌, ◌-◌, List, ◌++◌, arith, length, take, drop, replicate, Option, None, Some, ap, sym, subst, ◌∙◌, append_assoc}
+use Rattle.std.proofs.Common.{◌≡◌, ℕ, ◌+◌, ◌-◌, List, ◌++◌, arith, length, take, drop, replicate, Option, None, Some, refl, ap, sym, subst, ◌∙◌, append_assoc}
 use Rattle.std.proofs.lemmas.Grind.{common_steps}
+use Rattle.std.specs.Prelude.{◌≢◌, true, false, Result, Ok, Err, IsErr, OnOk, OnErr}
 use Rattle.std.specs.List.{concat}
 use Rattle.std.proofs.lemmas.List.{replicate-append-replicate}
 use Rattle.std.proofs.lemmas.List.Folds.{concat-append}
 use Rattle.std.proofs.Math.Seq.{take-add}
-use Rattle.cif_device.specs.Device.{Takes, Round, Goes}
+use Rattle.cif_device.specs.Device.{CountsFailure, Takes, Round, Goes}
 
 -- two writes one after the other take both pieces
 pub Takes-append : (old middle new : Option (List ℕ)) (front back : List ℕ) →
@@ -47,3 +48,28 @@ Goes-append old middle new front back (again, step, m, first) (again', step', n,
         ∙ append_assoc front middle.left (concat (replicate n old.again))
         ∙ ap (λ more. front ++ more) then
         ∙ sym (append_assoc front back new.left)
+
+-- ---- how often a device failed
+
+one_more_is_other : (before after : ℕ) → after ≡ before → after ≢ before + 1
+one_more_is_other before after same more = grind (arith, common_steps)
+
+false_is_not_true : false ≢ true
+false_is_not_true is = cc
+
+-- the failures rose by one exactly in an error
+pub counts_error : {A E : Type 0} (result : Result A E) (before after : ℕ) →
+    OnOk result (after ≡ before) → OnErr result (after ≡ before + 1) → CountsFailure (IsErr result) before after
+counts_error (Ok value) before after same more =
+    ((λ error. absurd (false_is_not_true error), λ one_more. absurd (one_more_is_other before after same one_more)), λ no_error. same)
+counts_error (Err fault) before after same more = ((λ error. more, λ one_more. refl), λ no_error. absurd (no_error refl))
+
+-- they stayed if there is none
+pub same_if_ok : {A E : Type 0} (result : Result A E) (before after : ℕ) → CountsFailure (IsErr result) before after → OnOk result (after ≡ before)
+same_if_ok (Ok value) before after counted = counted.1 false_is_not_true
+same_if_ok (Err fault) before after counted = tt
+
+-- they rose by one if there is one
+pub one_more_if_err : {A E : Type 0} (result : Result A E) (before after : ℕ) → CountsFailure (IsErr result) before after → OnErr result (after ≡ before + 1)
+one_more_if_err (Ok value) before after counted = tt
+one_more_if_err (Err fault) before after counted = counted.0.0 refl

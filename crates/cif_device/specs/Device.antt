@@ -1,6 +1,6 @@
 -- What a read takes from the bytes that a source has left, and a write adds to those a sink took.
 -- A device that can't name its bytes has None in their place.
-use Rattle.std.specs.Prelude.{◌≡◌, ℕ, ◌-◌, ◌<◌, min, Bool, true, false, List, [], ◌++◌, length, take, replicate, ⊤, Option, None, Some, option_map}
+use Rattle.std.specs.Prelude.{◌≡◌, ℕ, ◌+◌, ◌-◌, ◌<◌, ◌↔◌, min, Bool, true, false, List, [], ◌++◌, length, take, replicate, ⊤, Option, None, Some, option_map}
 use Rattle.std.specs.List.{concat}
 
 -- what was left is these bytes and then what is left now
@@ -28,6 +28,10 @@ Takes old bytes new = new ≡ option_map (λ taken. taken ++ bytes) old
 -- a beginning of the piece was taken, but not all of it
 abbrev pub TakesPart : Option (List ℕ) → List ℕ → Option (List ℕ) → Type 0
 TakesPart old piece new = (n : ℕ) × (n < length piece) × Takes old (take n piece) new
+
+-- how often a device failed, before and after: once more exactly if this holds, and else as often
+abbrev pub CountsFailure : Type 0 → ℕ → ℕ → Type 0
+CountsFailure failed before after = (failed ↔ (after ≡ before + 1)) × (¬ failed → after ≡ before)
 
 -- a source over a slice: the bytes that are left, the most that one read gives, whether it has
 -- reported its end, and whether it was read after that

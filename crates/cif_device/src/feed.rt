@@ -6,8 +6,8 @@ ghost use Rattle.cif_device.specs.Taken.{BehindEach, HasFed, HasRefused, IsTakin
 use crate::device::Source;
 use std::alloc::Global;
 
-/// How many bytes are read at once.
-const PIECE: usize = 65_536;
+/// How many bytes of a source are read at once.
+pub const PIECE: usize = 65_536;
 
 /// Why a source was not fed to its end.
 #[derive(Clone, Copy, Debug, PartialEq, Eq)]

@@ -10,6 +10,6 @@ mod memory;
 
 pub use device::{Failed, Memory, Sink, Source, write_all};
 pub use endless::Endless;
-pub use feed::{FeedFault, Taker, feed_all};
+pub use feed::{FeedFault, PIECE, Taker, feed_all};
 pub use fuse::Fuse;
 pub use memory::{Bytes, Kept};

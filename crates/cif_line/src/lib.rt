@@ -21,7 +21,8 @@ pub use basic_schedule::Basic;
 pub use change_en_route::ChangeEnRoute;
 pub use check::FieldFault;
 pub use cif_device::{
-    Bytes, Endless, Failed, FeedFault, Fuse, Kept, Memory, Sink, Source, Taker, feed_all, write_all,
+    Bytes, Endless, Failed, FeedFault, Fuse, Kept, Memory, PIECE, Sink, Source, Taker, feed_all,
+    write_all,
 };
 pub use cif_field::{
     Day, Days, Extract, Line, LineFault, NO_END, Stp, Time, Tiploc, Transaction, Uid, Until,

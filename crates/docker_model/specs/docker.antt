@@ -13,3 +13,4 @@ pub mod ChoiceWalk
 pub mod Gathering
 pub mod Excerpt
 pub mod ExcerptWalk
+pub mod NearDay

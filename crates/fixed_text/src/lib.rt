@@ -1,0 +1,6 @@
+//! Texts of a fixed width, put together piece by piece.
+#![tactic(auto)]
+
+mod text;
+
+pub use text::{put, whole};

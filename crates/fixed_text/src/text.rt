@@ -1,0 +1,27 @@
+//! Bytes in a text of a fixed capacity.
+ghost use Rattle.std.specs.Prelude.{◌≡◌, ◌+◌, ◌≤◌, ◌++◌, length};
+ghost use Rattle.arrayvec.specs.ArrayVec.{array_vec_len};
+
+use arrayvec::ArrayVec;
+
+/// Appends bytes that there is room for.
+pub fn put<const N: usize>(text: &mut ArrayVec<u8, N>, bytes: &[u8])
+    requires room { array_vec_len text.old + length bytes.now ≤ N }
+    ensures items { text.new.items ≡ text.old.items ++ bytes.now }
+    ensures len { array_vec_len text.new ≡ array_vec_len text.old + length bytes.now }
+{
+    if text.try_extend_from_slice(bytes).is_err() {
+        unreachable!()
+    }
+}
+
+/// The bytes of a full text.
+pub fn whole<const N: usize>(text: ArrayVec<u8, N>) -> [u8; N]
+    requires full { array_vec_len text ≡ N }
+    ensures { result ≡ text.entry.items }
+{
+    match text.into_inner() {
+        Ok(bytes) => bytes,
+        Err(_) => unreachable!(),
+    }
+}
