@@ -465,7 +465,7 @@ cut_first piece =
     take_none [] = refl
     take_none (b ∷ l) = refl
 
--- a line with its line feed comes before what is behind it
+-- the text is the line with its line feed, then what comes after them
 pub cut_whole : (rest front behind : List ℕ) → IsCut rest front behind → rest ≡ (front ++ 10 ∷ []) ++ behind
 cut_whole rest front behind cut = cut.whole ∙ sym (append_assoc front (10 ∷ []) behind)
 
