@@ -1,12 +1,13 @@
 //! Reads a state for a command that writes none: what the dockers of a place are made of, or the
 //! ledger.
-ghost use Rattle.std.specs.Prelude.{◌≡◌, ◌≢◌, ◌+◌, ◌-◌, ◌^◌, ◌<◌, ◌↔◌, IfOk, Err};
+ghost use Rattle.std.specs.Prelude.{◌≡◌, ◌-◌, ◌^◌, ◌<◌, IfOk, Err};
+ghost use Rattle.cif_line.specs.Device.{CountsFailure};
 ghost use Rattle.docker_model.specs.state.StateText.{dks_2};
 ghost use Rattle.docker_bytes.specs.Excerpts.{IsExcerptAt};
 ghost use Rattle.docker_bytes.specs.SourceRead.{ReadsMade, ReadsState, RefusesState, ReadsOnePieceMore, WantsMemory};
 
 use crate::read::{ReadFault, read_format};
-use cif_line::{Source, Tiploc};
+use cif_line::{PIECE, Source, Tiploc};
 use docker_excerpt::{Excerpt, ExcerptingAt, KeptLedger, Ledger, Place};
 use docker_parts::format::Format;
 use std::alloc::Global;
@@ -26,12 +27,10 @@ pub fn read_excerpt<S: Source>(
     ensures state { (fault : _) → result ≡ Err (ReadFault.State fault) →
         RefusesState dks_2 limit (S.left source.old) fault }
     ensures memory { result ≡ Err ReadFault.Memory →
-        WantsMemory dks_2 65536 limit (S.left source.old) (S.left source.new) }
-    ensures few { ReadsOnePieceMore dks_2 65536 limit (S.left source.old) (S.left source.new) }
-    ensures source { (result ≡ Err ReadFault.Source) ↔
-        (S.failures source.new ≡ S.failures source.old + 1) }
-    ensures no_failure { result ≢ Err ReadFault.Source →
-        S.failures source.new ≡ S.failures source.old }
+        WantsMemory dks_2 PIECE limit (S.left source.old) (S.left source.new) }
+    ensures few { ReadsOnePieceMore dks_2 PIECE limit (S.left source.old) (S.left source.new) }
+    ensures failures { CountsFailure (result ≡ Err ReadFault.Source) (S.failures source.old)
+        (S.failures source.new) }
 {
     excerpt_at::<Brand, S>(alloc, source, place, limit)
 }
@@ -49,12 +48,10 @@ fn excerpt_at<P: Place, S: Source>(
     ensures state { (fault : _) → result ≡ Err (ReadFault.State fault) →
         RefusesState dks_2 limit (S.left source.old) fault }
     ensures memory { result ≡ Err ReadFault.Memory →
-        WantsMemory dks_2 65536 limit (S.left source.old) (S.left source.new) }
-    ensures few { ReadsOnePieceMore dks_2 65536 limit (S.left source.old) (S.left source.new) }
-    ensures source { (result ≡ Err ReadFault.Source) ↔
-        (S.failures source.new ≡ S.failures source.old + 1) }
-    ensures no_failure { result ≢ Err ReadFault.Source →
-        S.failures source.new ≡ S.failures source.old }
+        WantsMemory dks_2 PIECE limit (S.left source.old) (S.left source.new) }
+    ensures few { ReadsOnePieceMore dks_2 PIECE limit (S.left source.old) (S.left source.new) }
+    ensures failures { CountsFailure (result ≡ Err ReadFault.Source) (S.failures source.old)
+        (S.failures source.new) }
 {
     let keeper: ExcerptingAt<P> = ExcerptingAt::new(alloc, place);
     read_format(alloc, Format::Dks2, keeper, source, limit)
@@ -73,12 +70,10 @@ pub fn read_ledger<S: Source>(
     ensures state { (fault : _) → result ≡ Err (ReadFault.State fault) →
         RefusesState dks_2 limit (S.left source.old) fault }
     ensures memory { result ≡ Err ReadFault.Memory →
-        WantsMemory dks_2 65536 limit (S.left source.old) (S.left source.new) }
-    ensures few { ReadsOnePieceMore dks_2 65536 limit (S.left source.old) (S.left source.new) }
-    ensures source { (result ≡ Err ReadFault.Source) ↔
-        (S.failures source.new ≡ S.failures source.old + 1) }
-    ensures no_failure { result ≢ Err ReadFault.Source →
-        S.failures source.new ≡ S.failures source.old }
+        WantsMemory dks_2 PIECE limit (S.left source.old) (S.left source.new) }
+    ensures few { ReadsOnePieceMore dks_2 PIECE limit (S.left source.old) (S.left source.new) }
+    ensures failures { CountsFailure (result ≡ Err ReadFault.Source) (S.failures source.old)
+        (S.failures source.new) }
 {
     read_format(alloc, Format::Dks2, Ledger::new(alloc), source, limit)
 }
