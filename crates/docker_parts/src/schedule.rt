@@ -46,8 +46,8 @@ fn let_go(journey: &mut Journey, lines: &mut Vec<Line>)
     lines.clear();
 }
 
-/// Takes room for `count` lines in place of what an empty buffer has. If memory runs out, the buffer
-/// stays as it is.
+/// Takes room for `count` lines in place of what an empty buffer has. If memory runs out, the
+/// buffer stays as it is.
 fn room_for(lines: &mut Vec<Line>, alloc: Global, count: usize)
     requires { lines.old.items ≡ [] }
     ensures { lines.new.items ≡ [] }
