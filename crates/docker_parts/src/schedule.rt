@@ -16,8 +16,7 @@ use cif_line::Line;
 use docker_encode::format::LINE;
 use std::alloc::{AllocError, Global};
 use std::marker::Model;
-use std::mem;
-use std::slice;
+use std::{mem, slice};
 
 /// The lines of a schedule so far, in one buffer, and their reader.
 #[derive(Debug, Drop)]
