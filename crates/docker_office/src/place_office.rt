@@ -1,6 +1,7 @@
 //! An office that prints the dockers of one timing point, and keeps no more of a state than they
 //! are made of.
-ghost use Rattle.std.specs.Prelude.{◌≡◌, ◌≢◌, ◌+◌, ◌-◌, ◌^◌, ◌<◌, ◌⊎◌, ◌↔◌, IsOk, IfOk, IfErr, Err};
+ghost use Rattle.std.specs.Prelude.{◌≡◌, ◌-◌, ◌^◌, ◌<◌, ◌⊎◌, ◌↔◌, IsOk, IfOk, IfErr, Err};
+ghost use Rattle.cif_line.specs.Device.{CountsFailure};
 ghost use Rattle.docker_bytes.specs.SourceRead.{ReadsOnePieceMore, ReadsState, RefusesState, WantsMemory};
 ghost use Rattle.docker_model.specs.state.Lapse.{IsDayRefused};
 ghost use Rattle.docker_model.specs.state.State as states;
@@ -9,7 +10,7 @@ ghost use Rattle.docker_office.specs.Faults.{IsOfDocker, IsOfState};
 ghost use Rattle.docker_office.specs.Office.{HoldsState, PrintsDocker, PrintsPart};
 
 use crate::fault::OfficeFault;
-use cif_line::{Day, Sink, Source, Tiploc};
+use cif_line::{Day, PIECE, Sink, Source, Tiploc};
 use docker_bytes::{Excerpt, read_excerpt};
 use docker_day::write_docker;
 use std::alloc::Global;
@@ -50,12 +51,10 @@ impl PlaceOffice {
         ensures state { (fault : _) → result ≡ Err (OfficeFault.State fault)
             → RefusesState dks_2 limit (S.left source.old) fault }
         ensures memory { result ≡ Err OfficeFault.Memory
-            → WantsMemory dks_2 65536 limit (S.left source.old) (S.left source.new) }
-        ensures few { ReadsOnePieceMore dks_2 65536 limit (S.left source.old) (S.left source.new) }
-        ensures source { (result ≡ Err OfficeFault.Source)
-            ↔ (S.failures source.new ≡ S.failures source.old + 1) }
-        ensures no_failure { result ≢ Err OfficeFault.Source
-            → S.failures source.new ≡ S.failures source.old }
+            → WantsMemory dks_2 PIECE limit (S.left source.old) (S.left source.new) }
+        ensures few { ReadsOnePieceMore dks_2 PIECE limit (S.left source.old) (S.left source.new) }
+        ensures failures { CountsFailure (result ≡ Err OfficeFault.Source)
+            (S.failures source.old) (S.failures source.new) }
         ensures only { IfErr result IsOfState }
     {
         let excerpt = read_excerpt(alloc, source, place, limit)?;
@@ -76,10 +75,8 @@ impl PlaceOffice {
             ↔ IsDayRefused self.now.state.horizon day }
         ensures unwritten { (result ≡ Err OfficeFault.Lapsed) ⊎ (result ≡ Err OfficeFault.Memory)
             → sink.new ≡ sink.old }
-        ensures sink { (result ≡ Err OfficeFault.Sink)
-            ↔ (K.failures sink.new ≡ K.failures sink.old + 1) }
-        ensures no_failure { result ≢ Err OfficeFault.Sink
-            → K.failures sink.new ≡ K.failures sink.old }
+        ensures failures { CountsFailure (result ≡ Err OfficeFault.Sink)
+            (K.failures sink.old) (K.failures sink.new) }
         ensures only { IfErr result IsOfDocker }
     {
         let docker = self.excerpt.docker(self.alloc, day)?;
