@@ -1,6 +1,6 @@
 //! What a job writes.
-ghost use Rattle.std.specs.Prelude.{◌≡◌, ◌≢◌, ◌+◌, ◌-◌, ◌^◌, ◌<◌, ◌↔◌, IfErr, OnErr, OnOk, Err};
-ghost use Rattle.cif_line.specs.Device.{Takes, TakesPart};
+ghost use Rattle.std.specs.Prelude.{◌≡◌, ◌≢◌, ◌-◌, ◌^◌, ◌<◌, IfErr, OnErr, OnOk, Err};
+ghost use Rattle.cif_line.specs.Device.{CountsFailure, Takes, TakesPart};
 ghost use Rattle.docker_cmd.specs.Writes.{output_meant};
 ghost use Rattle.docker_cmd.specs.Prepared.{EndsEmitting, IsRefused, IsRefusedDocker, counts_written, docker_written, file_read, files_written, office_read, output_of};
 
@@ -51,9 +51,8 @@ fn write<K: Sink>(sink: &mut K, text: &[u8]) -> Result<(), OfficeFault>
     requires { K.failures sink.old < 2 ^ 64 - 1 }
     ensures whole { OnOk result (Takes (K.taken sink.old) text.now (K.taken sink.new)) }
     ensures part { OnErr result (TakesPart (K.taken sink.old) text.now (K.taken sink.new)) }
-    ensures no_failure { OnOk result (K.failures sink.new ≡ K.failures sink.old) }
-    ensures sink { (result ≡ Err OfficeFault.Sink) ↔
-        (K.failures sink.new ≡ K.failures sink.old + 1) }
+    ensures failures { CountsFailure (result ≡ Err OfficeFault.Sink)
+        (K.failures sink.old) (K.failures sink.new) }
     ensures only { IfErr result (λ fault. fault ≡ OfficeFault.Sink) }
 {
     write_all(sink, text).map_err(|_| OfficeFault::Sink)
