@@ -10,7 +10,7 @@ use crate::prepared_job::Prepared;
 use crate::sources::Content;
 use crate::writes::Output;
 use cif_file::FileCount;
-use cif_line::{Day, Sink, write_all};
+use cif_line::{Sink, write_all};
 use docker_office::{LedgerOffice, Office, OfficeFault, PlaceOffice};
 
 /// Writes what the job prints, or the text of the state that is to be kept. `check` writes the line
@@ -31,7 +31,7 @@ pub fn emit<K: Sink>(prepared: &Prepared<'_>, sink: &mut K) -> Result<(), Office
         Holding::Whole(Content::Office(office)) => {
             write_office(office, &prepared.job().task().writes(), sink)
         }
-        Holding::Place { office, day } => write_place(office, *day, sink),
+        Holding::Place(office) => write_place(office, sink),
         Holding::Ledger(office) => write_ledger(office, sink),
     }
 }
@@ -74,15 +74,15 @@ fn write_office<K: Sink>(office: &Office, output: &Output, sink: &mut K) -> Resu
     }
 }
 
-/// Prints the docker of an office at a timing point.
-fn write_place<K: Sink>(office: &PlaceOffice, day: Day, sink: &mut K) -> Result<(), OfficeFault>
+/// Prints the docker of an office at a timing point for a day.
+fn write_place<K: Sink>(office: &PlaceOffice, sink: &mut K) -> Result<(), OfficeFault>
     requires { K.failures sink.old < 2 ^ 64 - 1 }
-    ensures ends { EndsEmitting K.taken K.failures (docker_written office.now.place day)
+    ensures ends { EndsEmitting K.taken K.failures (docker_written office.now.place office.now.day)
         (office_read office.now.state) sink.old sink.new result }
-    ensures lapsed { IsRefusedDocker (docker_written office.now.place day)
+    ensures lapsed { IsRefusedDocker (docker_written office.now.place office.now.day)
         (office_read office.now.state) → result ≡ Err OfficeFault.Lapsed }
 {
-    office.print(day, sink)
+    office.print(sink)
 }
 
 /// Lists the files of a ledger.

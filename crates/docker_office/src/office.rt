@@ -97,8 +97,6 @@ impl Office {
         ensures unchanged { IsErr result → self.new ≡ self.old }
         ensures only { IfErr result (λ fault. fault ≡ OfficeFault.Memory) }
     {
-        // Called for its contract: the state is valid.
-        let _ledger = self.state.ledger();
         let own = mem::replace(&mut self.state, State::empty(self.alloc));
         match own.join(self.alloc, other) {
             Ok(joined) => {
