@@ -1,5 +1,5 @@
 -- The lines that a parser has taken, and the faults that it returns.
-use Rattle.std.proofs.Common.{◌≡◌, ℕ, ◌+◌, ◌-◌, ◌≤◌, ◌<◌, inl, inr, Bool, true, false, cond, List, [], ◌∷◌, ◌++◌, length, subst, refl, ap, sym, ◌∙◌, Some, None, arith, append_assoc, length-append, eqb-true, take, drop, get_or, suc, drop-cons}
+use Rattle.std.proofs.Common.{◌≡◌, ℕ, ◌+◌, ◌-◌, ◌≤◌, ◌<◌, inl, inr, Bool, true, false, cond, List, [], ◌∷◌, ◌++◌, length, subst, refl, ap, sym, ◌∙◌, Some, None, arith, append_assoc, append-nil, length-append, eqb-true, take, drop, get_or, suc, drop-cons}
 use Rattle.std.specs.Prelude.{⊤, Option, ◌↔◌, ◌==◌, ◌&&◌, nat_le}
 use Rattle.std.specs.Str.Lines.{strip_carriage_return}
 use Rattle.std.specs.Prelude.{position}
@@ -32,11 +32,12 @@ use Rattle.cif_file.specs.declared.ended.Ended.{Ended}
 use Rattle.cif_file.specs.declared.kept.Kept.{Kept}
 use Rattle.cif_file.specs.declared.records.Records.{Records}
 use Rattle.cif_file.specs.declared.parser.Reading.{Reading}
-use Rattle.cif_file.specs.Cut.{IsCut}
+use Rattle.cif_file.specs.Cut.{IsCut, BeginsWithEighty, before_rest}
+use Rattle.cif_file.proofs.TextLemmas.{record_cut}
 use Rattle.cif_journey.specs.Cause.{cause_meant}
 use Rattle.cif_file.specs.KeeperRead.{Keeps, KeepsAll}
 use Rattle.cif_file.specs.RecordsRead.{HasRecords, GoesOnWith, IsNoNextCause}
-use Rattle.cif_file.specs.ParserRead.{IsEndedText, ParserState, HasRead, IsReadingOrFault, HasCounted, IsCauseNext, IsCauseBehind, IsFaultNext, IsNoEndOf, FaultsNext, EndsCounted, EndsUnended, IsLongNext, IsReading, WantsMemoryAt, IsToldSoFar, IsFaultTold, IsCauseOf, IsRefused, HasNotFailed, IsLater, NamesLater, IsLast, NamesLast, GoesOn}
+use Rattle.cif_file.specs.ParserRead.{IsEndedText, ParserState, HasRead, IsReadingOrFault, HasCounted, IsCauseNext, IsCauseBehind, IsFaultNext, IsNoEndOf, FaultsNext, EndsCounted, EndsUnended, IsLongNext, IsReading, WantsMemoryAt, IsToldSoFar, IsFaultTold, IsCauseOf, IsRefused, HasNotFailed, IsLater, NamesLater, IsLast, NamesLast, GoesOn, TakesUpTo, TellsFault, refusal, IsRefusedNext, CountsNext}
 
 abbrev Lines : Type 0
 Lines = List (List ℕ)
@@ -99,31 +100,42 @@ after_cause keeps limit front records line has is under = record {
     none true = refl
     none false = refl
 
--- a line that is no record
-pub line_cause : {K : Type 0} (keeps : Keeps K) (wants : Type 0) (limit : ℕ) (front : Front K) (records : Lines) (line : List ℕ)
-    (cause : Option model.FileCause) → HasRecords keeps front records → ¬ IsFile records
-    → length records < limit → ¬ IsRecord line
-    → ((place : Place) → cause ≡ Some (length_cause place line)) → IsCauseBehind wants limit records line cause
-line_cause keeps wants limit front records line None has unended under bad told = absurd (let never = told has.place in cc)
-line_cause keeps wants limit front records line (Some cause) has unended under bad told = record {
-  place = has.place;
-  at = has.at;
-  here = inr (by (next_place has.place line) refl);
-  is =
-      (λ i. cond (lt-leb limit (length records) under i) too_many (end_cause has.place line))
-      ∙ (λ i. cond (open_end i) after_trailer (length_cause has.place line)) ∙ some_is (length_cause has.place line) cause (sym (told has.place));
-}
+-- a line that is no record leads nowhere
+no_next : (place : Place) (line : List ℕ) → ¬ IsRecord line → next_place place line ≡ None
+no_next place line bad = by (next_place place line) refl
   where
-    by : (next : Option Place) → next_place has.place line ≡ next → next_place has.place line ≡ None
+    by : (next : Option Place) → next_place place line ≡ next → next_place place line ≡ None
     by None h = h
-    by (Some next) h = absurd (bad (next_by_test has.place line next h).is)
+    by (Some next) h = absurd (bad (next_by_test place line next h).is)
 
-    open_end : is_after_end has.place ≡ false
-    open_end = test (is_after_end has.place) refl
-      where
-        test : (b : Bool) → is_after_end has.place ≡ b → is_after_end has.place ≡ false
-        test false h = h
-        test true h = absurd (unended ((file_iff_place records).1 (has.at ∙ ap Some (end_by_test has.place h))))
+-- the cause of a line is some cause
+some_cause : (over ended : Bool) (first second third : model.FileCause)
+    → cond over (Some first) (cond ended (Some second) (Some third)) ≡ Some (cond over first (cond ended second third))
+some_cause true ended first second third = refl
+some_cause false true first second third = refl
+some_cause false false first second third = refl
+
+-- the fault of a line that is no record
+pub refused_line : (wants : Type 0) (limit : ℕ) (records : Lines) (line : List ℕ) (cause : Option model.FileCause) (fault : FileFault)
+    → IsRefusedNext limit records cause fault → ¬ IsRecord line
+    → ((place : Place) → cause ≡ Some (length_cause place line)) → IsFaultNext wants limit records line fault
+refused_line wants limit records line cause fault next bad told = record {
+  number = next.number;
+  cause =
+      subst (IsCauseBehind wants limit records line) (sym (next.is
+      ∙ ap (refusal limit (length records) next.place) (told next.place)
+      ∙ some_cause (nat_le limit (length records)) (is_after_end next.place) too_many after_trailer (length_cause next.place line)))
+      (record { place = next.place; at = next.at; here = inr (no_next next.place line bad); is = refl });
+}
+
+-- the fault of a line that is too long
+pub refused_long : (limit : ℕ) (records : Lines) (fault : FileFault) → IsRefusedNext limit records (Some bad_length) fault → IsLongNext limit records fault
+refused_long limit records fault next = record {
+  number = next.number;
+  place = next.place;
+  at = next.at;
+  cause = next.is ∙ some_cause (nat_le limit (length records)) (is_after_end next.place) too_many after_trailer bad_length;
+}
 
 -- a record that the front refuses
 pub front_cause : (wants : Type 0) (limit : ℕ) (records : Lines) (line : List ℕ) (cause : FileCause) → length records < limit
@@ -290,35 +302,36 @@ told_refused limit text fault told = by (cause_meant fault.cause) told
         (memory_more limit (told_lines text) (line_left (open_line text)) fault.number here)
     by (Some cause) here = inl here.is
 
--- ---- a line that is too long
+-- ---- a line that is no record
 
--- a line that is too long, above the limit
-pub long_over : {K : Type 0} (keeps : Keeps K) (records : Records K) (limit : ℕ) (taken : Lines) (fault : FileFault) → HasCounted keeps records limit taken
+-- a line that is no record, above the limit
+pub refused_over : {K : Type 0} (keeps : Keeps K) (records : Records K) (limit : ℕ) (taken : Lines) (cause : Option model.FileCause) (fault : FileFault)
+    → HasCounted keeps records limit taken
     → fault.number ≡ records.next
     → records.limit < records.next → cause_meant fault.cause ≡ Some too_many
-    → IsLongNext limit taken fault
-long_over keeps records limit taken fault counted number over told = record {
+    → IsRefusedNext limit taken cause fault
+refused_over keeps records limit taken cause fault counted number over told = record {
   number = number ∙ counted.next_is;
   place = counted.has.place;
   at = counted.has.at;
-  cause =
+  is =
       told ∙ (let next = counted.next_is in let same = counted.limit_is in let most : limit ≤ length taken = omega arith in
-      λ i. Some (cond (sym (le-leb limit (length taken) most) i) too_many (cond (is_after_end counted.has.place) after_trailer bad_length)));
+      λ i. cond (sym (le-leb limit (length taken) most) i) (Some too_many) (cond (is_after_end counted.has.place) (Some after_trailer) cause));
 }
 
--- a line that is too long, within the limit
-pub long_within : {K : Type 0} (keeps : Keeps K) (records : Records K) (limit : ℕ) (taken : Lines) (fault : FileFault) (ended : Bool)
-    → HasCounted keeps records limit taken
+-- a line that is no record, within the limit
+pub refused_within : {K : Type 0} (keeps : Keeps K) (records : Records K) (limit : ℕ) (taken : Lines) (cause : Option model.FileCause) (fault : FileFault)
+    (ended : Bool) → HasCounted keeps records limit taken
     → fault.number ≡ records.next → records.next ≤ records.limit
-    → (ended ≡ true) ↔ IsFile taken → cause_meant fault.cause ≡ Some (cond ended after_trailer bad_length) → IsLongNext limit taken fault
-long_within keeps records limit taken fault ended counted number within iff told = record {
+    → (ended ≡ true) ↔ IsFile taken → cause_meant fault.cause ≡ cond ended (Some after_trailer) cause → IsRefusedNext limit taken cause fault
+refused_within keeps records limit taken cause fault ended counted number within iff told = record {
   number = number ∙ counted.next_is;
   place = counted.has.place;
   at = counted.has.at;
-  cause =
-      told ∙ (λ i. Some (cond (same i) after_trailer bad_length))
+  is =
+      told ∙ (λ i. cond (same i) (Some after_trailer) cause)
       ∙ (let next = counted.next_is in let limits = counted.limit_is in let under : length taken < limit = omega arith in
-      λ i. Some (cond (sym (lt-leb limit (length taken) under) i) too_many (cond (is_after_end counted.has.place) after_trailer bad_length)));
+      λ i. cond (sym (lt-leb limit (length taken) under) i) (Some too_many) (cond (is_after_end counted.has.place) (Some after_trailer) cause));
 }
   where
     same : ended ≡ is_after_end counted.has.place
@@ -429,25 +442,20 @@ no_feed_by text none = λ k d below.
     let past = no_place (position_or_len (λ b. b == 10) text) (length text) _ refl none in
     fails_before_first (λ b. b == 10) text k d (omega arith)
 
--- the bytes before what is left of a piece
-abbrev pub before_rest : List ℕ → List ℕ → List ℕ
-before_rest piece rest = take (length piece - length rest) piece
-
--- what comes before the rest, with the line that ended
-pub cut_more : (piece rest front behind : List ℕ) → before_rest piece rest ++ rest ≡ piece → IsCut rest front behind
-    → (before_rest piece behind ≡ before_rest piece rest ++ (front ++ 10 ∷ [])) × (before_rest piece behind ++ behind ≡ piece)
+-- what comes before the rest, with the bytes that were taken after it
+cut_more : (piece rest front behind : List ℕ) → before_rest piece rest ++ rest ≡ piece → rest ≡ front ++ behind
+    → (before_rest piece behind ≡ before_rest piece rest ++ front) × (before_rest piece behind ++ behind ≡ piece)
 cut_more piece rest front behind whole cut =
-    let done = before_rest piece rest ++ (front ++ 10 ∷ []) in
+    let done = before_rest piece rest ++ front in
     let all : done ++ behind ≡ piece =
-    append_assoc (before_rest piece rest) (front ++ 10 ∷ []) behind ∙ ap (λ l. before_rest piece rest ++ l)
-    (append_assoc front (10 ∷ []) behind ∙ sym cut.whole) ∙ whole in
+    append_assoc (before_rest piece rest) front behind ∙ ap (λ l. before_rest piece rest ++ l) (sym cut) ∙ whole in
     let size = ap (λ (l : List ℕ). length l) (sym all) ∙ length-append done behind in
     let count : length piece - length behind ≡ length done = omega arith in
     let same : before_rest piece behind ≡ done = (λ i. take (count i) (sym all i)) ∙ take-append_seam done behind in
     (same, ap (λ l. l ++ behind) same ∙ all)
 
 -- at first nothing comes before the rest
-pub cut_first : (piece : List ℕ) → (before_rest piece piece ≡ []) × (before_rest piece piece ++ piece ≡ piece)
+cut_first : (piece : List ℕ) → (before_rest piece piece ≡ []) × (before_rest piece piece ++ piece ≡ piece)
 cut_first piece =
     let none : length piece - length piece ≡ 0 = omega arith in
     let same : before_rest piece piece ≡ [] = ap (λ n. take n piece) none ∙ take_none piece in
@@ -457,27 +465,67 @@ cut_first piece =
     take_none [] = refl
     take_none (b ∷ l) = refl
 
--- a fault of the beginning of a piece is a fault of the piece
-pub told_of_piece : (limit : ℕ) (text piece rest front behind : List ℕ) (fault : FileFault) → before_rest piece rest ++ rest ≡ piece → IsCut rest front behind
-    → IsFaultTold limit ((text ++ before_rest piece rest) ++ (front ++ 10 ∷ [])) fault → IsFaultTold limit (text ++ piece) fault
-told_of_piece limit text piece rest front behind fault whole cut told =
-    let more = cut_more piece rest front behind whole cut in
-    let here = append_assoc text (before_rest piece rest) (front ++ 10 ∷ []) ∙ ap (λ l. text ++ l) (sym more.0) in
-    let all = append_assoc text (before_rest piece behind) behind ∙ ap (λ l. text ++ l) more.1 in
-    subst (λ t. IsFaultTold limit t fault) all (told_stays limit (text ++ before_rest piece behind) behind fault
-    (subst (λ t. IsFaultTold limit t fault) here told))
+-- the text is the line with its line feed, then what comes after them
+pub cut_whole : (rest front behind : List ℕ) → IsCut rest front behind → rest ≡ (front ++ 10 ∷ []) ++ behind
+cut_whole rest front behind cut = cut.whole ∙ sym (append_assoc front (10 ∷ []) behind)
 
--- one more line was read
-pub read_on : {K : Type 0} (keeps : Keeps K) (reading : Reading K) (limit : ℕ) (text piece rest front behind : List ℕ)
-    → before_rest piece rest ++ rest ≡ piece → IsCut rest front behind
-    → IsReading keeps reading limit ((text ++ before_rest piece rest) ++ (front ++ 10 ∷ [])) → IsReading keeps reading limit (text ++ before_rest piece behind)
-read_on keeps reading limit text piece rest front behind whole cut is =
-    let more = cut_more piece rest front behind whole cut in
-    subst (IsReading keeps reading limit) (append_assoc text (before_rest piece rest) (front ++ 10 ∷ []) ∙ ap (λ l. text ++ l) (sym more.0)) is
+-- ---- a text that was taken up to its rest
 
--- with the rest, the whole piece was read
-pub whole_read : (text piece rest : List ℕ) → before_rest piece rest ++ rest ≡ piece → (text ++ before_rest piece rest) ++ rest ≡ text ++ piece
-whole_read text piece rest whole = append_assoc text (before_rest piece rest) rest ∙ ap (λ l. text ++ l) whole
+abbrev Told : Type 1
+Told = ℕ → List ℕ → Type 0
+
+-- at first nothing was taken
+pub takes_none : (before : Told) (text : List ℕ) → TakesUpTo before text text before
+takes_none before text =
+    let first = cut_first text in
+    record {
+      whole = first.1;
+      read = λ limit told is. subst (λ l. before limit (told ++ l)) (sym first.0) (subst (before limit) (sym (append-nil told)) is);
+    }
+
+-- more bytes were taken
+pub takes_further : (before middle after : Told) (text rest front behind : List ℕ) → TakesUpTo before text rest middle → rest ≡ front ++ behind
+    → GoesOn middle front after → TakesUpTo before text behind after
+takes_further before middle after text rest front behind up_to cut on =
+    let more = cut_more text rest front behind up_to.whole cut in
+    record {
+      whole = more.1;
+      read = λ limit told is.
+          subst (after limit) (append_assoc told (before_rest text rest) front ∙ ap (λ l. told ++ l) (sym more.0))
+          (on limit (told ++ before_rest text rest) (up_to.read limit told is));
+    }
+
+-- one more line was taken
+pub takes_line : (before middle next : Told) (text rest front behind : List ℕ) → TakesUpTo before text rest middle → IsCut rest front behind
+    → GoesOn middle (front ++ 10 ∷ []) next → TakesUpTo before text behind next
+takes_line before middle next text rest front behind up_to cut on =
+    takes_further before middle next text rest (front ++ 10 ∷ []) behind up_to (cut_whole rest front behind cut) on
+
+-- and then more of the text
+pub takes_more : (before middle after : Told) (text rest left : List ℕ) → TakesUpTo before text rest middle → TakesUpTo middle rest left after
+    → TakesUpTo before text left after
+takes_more before middle after text rest left up_to more =
+    takes_further before middle after text rest (before_rest rest left) left up_to (sym more.whole) more.read
+
+-- the rest was taken too
+pub takes_whole : (before middle after : Told) (text rest : List ℕ) → TakesUpTo before text rest middle → GoesOn middle rest after → GoesOn before text after
+takes_whole before middle after text rest up_to on = λ limit told is.
+    subst (after limit) (append_assoc told (before_rest text rest) rest ∙ ap (λ l. told ++ l) up_to.whole)
+    (on limit (told ++ before_rest text rest) (up_to.read limit told is))
+
+-- a fault of the rest is the text's
+pub fault_of_rest : (before middle : Told) (text rest : List ℕ) (fault : FileFault) → TakesUpTo before text rest middle → TellsFault middle rest fault
+    → TellsFault before text fault
+fault_of_rest before middle text rest fault up_to tells = λ limit told is.
+    subst (λ t. IsFaultTold limit t fault) (append_assoc told (before_rest text rest) rest ∙ ap (λ l. told ++ l) up_to.whole)
+    (tells limit (told ++ before_rest text rest) (up_to.read limit told is))
+
+-- a fault of the beginning of a text is the text's
+pub fault_of_front : (before : Told) (text front behind : List ℕ) (fault : FileFault) → text ≡ front ++ behind → TellsFault before front fault
+    → TellsFault before text fault
+fault_of_front before text front behind fault cut tells = λ limit told is.
+    subst (λ t. IsFaultTold limit t fault) (append_assoc told front behind ∙ ap (λ l. told ++ l) (sym cut))
+    (told_stays limit (told ++ front) behind fault (tells limit told is))
 
 -- ---- a parser with a fault, and without one
 
@@ -587,3 +635,28 @@ pub names_last : (parser : ParserState) (reading : Reading Kept) (fault : FileFa
     → NamesLast parser fault
 names_last parser reading fault none same told =
     λ _ memory limit text has. told memory limit text (reading_of parser reading limit text none same has)
+
+-- ---- a record that a text begins with
+
+-- the record was taken
+pub record_read : {K : Type 0} (keeps : Keeps K) (before : Told) (old new : Reading K) (text rest front line behind : List ℕ)
+    → TakesUpTo before text rest (IsReading keeps old) → BeginsWithEighty rest front behind → line ≡ front → IsRecord front
+    → old.partial.items ≡ [] → CountsNext keeps old.records line new.records → new.partial.items ≡ []
+    → TakesUpTo before text behind (IsReading keeps new)
+record_read keeps before old new text rest front line behind up_to begins same is none taken after =
+    let at = record_cut rest front behind is begins in
+    takes_line before (IsReading keeps old) (IsReading keeps new) text rest at.front behind up_to at.cut
+    (λ limit told reading. ended_ok keeps old new limit told at.front line reading at.cut.plain
+    (taken_is keeps old limit told at.front at.front line reading (ap (λ l. l ++ at.front) (sym none)) (same ∙ at.line_is))
+    (taken limit (told_lines told) reading.counted) after)
+
+-- its fault is the text's
+pub record_fault : {K : Type 0} (keeps : Keeps K) (wants : Type 0) (old : Reading K) (rest front line behind : List ℕ) (fault : FileFault)
+    → BeginsWithEighty rest front behind → line ≡ front → IsRecord front → old.partial.items ≡ []
+    → FaultsNext keeps wants old.records line fault
+    → TellsFault (IsReading keeps old) rest fault
+record_fault keeps wants old rest front line behind fault begins same is none tells =
+    let at = record_cut rest front behind is begins in
+    fault_of_front (IsReading keeps old) rest (at.front ++ 10 ∷ []) behind fault (cut_whole rest at.front behind at.cut)
+    (λ limit told reading. ended_err keeps wants old limit told at.front line fault reading at.cut.plain
+    (taken_is keeps old limit told at.front at.front line reading (ap (λ l. l ++ at.front) (sym none)) (same ∙ at.line_is)) tells)

@@ -1,67 +1,80 @@
--- The first line feed of a text that begins with the bytes of a record.
-use Rattle.std.proofs.Common.{◌≡◌, ℕ, ◌+◌, ◌<◌, ◌≤◌, Bool, true, false, cond, List, [], ◌∷◌, ◌++◌, length, take, drop, refl, sym, ap, ◌∙◌, Some, None, arith, length-append}
-use Rattle.std.specs.Prelude.{option_map, position, ◌==◌, ◌&&◌, not, nat_lt}
-use Rattle.std.specs.List.{list_all, position_or_len}
-use Rattle.std.proofs.lemmas.Bool.{lt-ltb, le-ltb, ltb-true, ltb-false}
+-- A record at the beginning of a text.
+use Rattle.std.proofs.Common.{◌≡◌, ℕ, ◌-◌, ◌≤◌, inl, inr, true, false, cond, List, [], ◌∷◌, ◌++◌, length, take, drop, get_or, refl, sym, ap, ◌∙◌, subst, arith, length-append, append_assoc}
+use Rattle.std.proofs.lemmas.Grind.{common_steps}
+use Rattle.std.specs.Prelude.{◌==◌}
+use Rattle.std.specs.Str.Lines.{strip_carriage_return}
+use Rattle.std.proofs.lemmas.Bool.{eq-eqb}
 use Rattle.std.proofs.lemmas.Bool.Decides.{nat_tests}
 use Rattle.std.proofs.lemmas.List.{take-append-drop, length-take-le}
-use Rattle.std.proofs.lemmas.List.Sums.{list_all-from_AllPass}
+use Rattle.std.proofs.lemmas.List.Elements.{All-append, All-from_recursion}
+use Rattle.std.proofs.Math.Seq.{drop-append_seam}
 use Rattle.docker_model.specs.records.Record.{IsRecord, is_printable}
+use Rattle.cif_laws.specs.LinesTold.{HasNoFeed}
+use Rattle.cif_file.specs.Cut.{IsCut, BeginsWithEnd, BeginsWithEighty}
 
-abbrev is_feed : ℕ → Bool
-is_feed b = b == 10
-
-no_feed : (b : ℕ) → is_printable b ≡ true → is_feed b ≡ false
+no_feed : (b : ℕ) → is_printable b ≡ true → (b == 10) ≡ false
 no_feed b printable = grind (arith, nat_tests)
 
-first_holds : (a b : Bool) → (a && b) ≡ true → a ≡ true
-first_holds true b both = refl
-first_holds false b both = both
+no_return : (b : ℕ) → is_printable b ≡ true → (b == 13) ≡ false
+no_return b printable = grind (arith, nat_tests)
 
-second_holds : (a b : Bool) → (a && b) ≡ true → b ≡ true
-second_holds true b both = both
-second_holds false b both = absurd cc
+-- a record has no line feed
+record_plain : (line : List ℕ) → IsRecord line → HasNoFeed line
+record_plain line is = λ k d below. no_feed (get_or line k d) (is.1 k d below)
 
--- printable bytes come before the first line feed
-place_behind : (front rest : List ℕ) → list_all is_printable front ≡ true
-    → position_or_len is_feed (front ++ rest) ≡ length front + position_or_len is_feed rest
-place_behind [] rest plain = omega arith
-place_behind (b ∷ front) rest plain =
-    (λ i. cond (not (no_feed b (first_holds (is_printable b) (list_all is_printable front) plain) i)) (1 + position_or_len is_feed (front ++ rest)) 0)
-    ∙ ap (λ n. 1 + n) (place_behind front rest (second_holds (is_printable b) (list_all is_printable front) plain))
-    ∙ omega arith
+-- a record has no carriage return at its end
+strip_record : (line : List ℕ) → IsRecord line → strip_carriage_return line ≡ line
+strip_record line is =
+    let size = is.0 in
+    λ i. cond (no_return (get_or line (length line - 1) 0) (is.1 (length line - 1) 0 (omega (arith, size))) i) (take (length line - 1) line) line
 
-told_behind : (front rest : List ℕ) → list_all is_printable front ≡ true
-    → position is_feed (front ++ rest) ≡ option_map (λ at. length front + at) (position is_feed rest)
-told_behind front rest plain =
-    (λ i. cond (nat_lt (place i) (size i)) (Some (place i)) None) ∙ by (nat_lt (position_or_len is_feed rest) (length rest)) refl
+-- the carriage return after it is stripped
+strip_return : (line : List ℕ) → strip_carriage_return (line ++ 13 ∷ []) ≡ line
+strip_return line =
+    let whole = line ++ 13 ∷ [] in
+    let last : get_or whole (length whole - 1) 0 ≡ 13 = grind (arith, common_steps) in
+    let front : take (length whole - 1) whole ≡ line = grind (arith, common_steps) in
+    ap (λ t. cond t (take (length whole - 1) whole) whole) (eq-eqb _ 13 last) ∙ front
+
+-- the text is cut after this front, and the front is the line with or without a carriage return
+pub record CutsRecord (text line rest : List ℕ) : Type 0 where
+  pub front : List ℕ
+  pub cut : IsCut text front rest
+  pub line_is : line ≡ strip_carriage_return front
+
+-- a text that begins with a record is cut at the line feed after the record
+pub record_cut : (text line rest : List ℕ) → IsRecord line → BeginsWithEighty text line rest → CutsRecord text line rest
+record_cut text line rest is begins = by begins.ended
   where
-    place : position_or_len is_feed (front ++ rest) ≡ length front + position_or_len is_feed rest
-    place = place_behind front rest plain
+    by : BeginsWithEnd begins.after rest → CutsRecord text line rest
+    by (inl feed) = record {
+      front = line;
+      cut = record { whole = begins.whole ∙ ap (λ l. line ++ l) feed; plain = record_plain line is };
+      line_is = sym (strip_record line is);
+    }
+    by (inr both) = record {
+      front = line ++ 13 ∷ [];
+      cut = record {
+        whole = begins.whole ∙ ap (λ l. line ++ l) both ∙ sym (append_assoc line (13 ∷ []) (10 ∷ rest));
+        plain = All-append (λ b. (b == 10) ≡ false) line (13 ∷ []) (record_plain line is) (All-from_recursion (λ b. (b == 10) ≡ false) (13 ∷ []) (refl, tt));
+      };
+      line_is = sym (strip_return line);
+    }
 
-    size : length (front ++ rest) ≡ length front + length rest
-    size = length-append front rest
+-- the line is the first 80 bytes, and the line end comes after them
+pub begins_at : (text line rest : List ℕ) → BeginsWithEighty text line rest → BeginsWithEnd (drop 80 text) rest × (80 ≤ length text)
+begins_at text line rest begins =
+    let size = begins.eighty in
+    let all = ap (λ (l : List ℕ). length l) begins.whole in
+    let parts = length-append line begins.after in
+    let second : drop 80 text ≡ begins.after = (λ i. drop (sym size i) (begins.whole i)) ∙ drop-append_seam line begins.after in
+    (subst (λ l. BeginsWithEnd l rest) (sym second) begins.ended, omega arith)
 
-    by : (b : Bool) → nat_lt (position_or_len is_feed rest) (length rest) ≡ b
-        → cond (nat_lt (length front + position_or_len is_feed rest) (length front + length rest)) (Some (length front + position_or_len is_feed rest)) None
-        ≡ option_map (λ at. length front + at) (cond (nat_lt (position_or_len is_feed rest) (length rest)) (Some (position_or_len is_feed rest)) None)
-    by true h =
-        let under = ltb-true (position_or_len is_feed rest) (length rest) h in
-        let more : length front + position_or_len is_feed rest < length front + length rest = omega arith in
-        (λ i. cond (lt-ltb (length front + position_or_len is_feed rest) (length front + length rest) more i)
-        (Some (length front + position_or_len is_feed rest)) None)
-        ∙ (λ i. option_map (λ at. length front + at) (cond (sym h i) (Some (position_or_len is_feed rest)) None))
-    by false h =
-        let over = ltb-false (position_or_len is_feed rest) (length rest) h in
-        let more : length front + length rest ≤ length front + position_or_len is_feed rest = omega arith in
-        (λ i. cond (le-ltb (length front + position_or_len is_feed rest) (length front + length rest) more i)
-        (Some (length front + position_or_len is_feed rest)) None)
-        ∙ (λ i. option_map (λ at. length front + at) (cond (sym h i) (Some (position_or_len is_feed rest)) None))
-
--- after a record, the first line feed is the first line feed of the rest
-pub feed_behind : (text : List ℕ) (n : ℕ) → n ≤ length text → IsRecord (take n text)
-    → position is_feed text ≡ option_map (λ at. n + at) (position is_feed (drop n text))
-feed_behind text n within is =
-    ap (position is_feed) (sym (take-append-drop n text))
-    ∙ told_behind (take n text) (drop n text) (list_all-from_AllPass is_printable (take n text) is.1)
-    ∙ (λ i. option_map (λ at. length-take-le n text within i + at) (position is_feed (drop n text)))
+-- a line end comes after the first 80 bytes
+pub begins_with : (text rest : List ℕ) → 80 ≤ length text → BeginsWithEnd (drop 80 text) rest → BeginsWithEighty text (take 80 text) rest
+begins_with text rest some ended = record {
+  eighty = length-take-le 80 text some;
+  after = drop 80 text;
+  whole = sym (take-append-drop 80 text);
+  ended = ended;
+}

@@ -1,8 +1,23 @@
--- Bytes cut at their first line feed.
-use Rattle.std.specs.Prelude.{◌≡◌, ℕ, List, ◌∷◌, ◌++◌}
+-- Bytes cut at a line end.
+use Rattle.std.specs.Prelude.{◌≡◌, ℕ, ◌-◌, ◌⊎◌, List, ◌∷◌, ◌++◌, length, take}
 use Rattle.cif_laws.specs.LinesTold.{HasNoFeed}
 
 -- the text is the front, which has no line feed, then a line feed, then the rest
 pub record IsCut (text front rest : List ℕ) : Type 0 where
   pub whole : text ≡ front ++ 10 ∷ rest
   pub plain : HasNoFeed front
+
+-- the text is a line feed and then the rest, or a carriage return, a line feed, and then the rest
+abbrev pub BeginsWithEnd : List ℕ → List ℕ → Type 0
+BeginsWithEnd text rest = (text ≡ 10 ∷ rest) ⊎ (text ≡ 13 ∷ 10 ∷ rest)
+
+-- the text is a line of 80 bytes, then a line end, then the rest
+pub record BeginsWithEighty (text line rest : List ℕ) : Type 0 where
+  pub eighty : length line ≡ 80
+  pub after : List ℕ
+  pub whole : text ≡ line ++ after
+  pub ended : BeginsWithEnd after rest
+
+-- the bytes of a text before what is left of it
+abbrev pub before_rest : List ℕ → List ℕ → List ℕ
+before_rest text rest = take (length text - length rest) text

@@ -1,13 +1,14 @@
 -- What a parser of files was fed.
-use Rattle.std.specs.Prelude.{◌≡◌, ℕ, ◌+◌, ◌<◌, ◌≤◌, ◌⊎◌, List, [], ◌∷◌, ◌++◌, length, take, Option, Some, None}
+use Rattle.std.specs.Prelude.{◌≡◌, ℕ, ◌+◌, ◌<◌, ◌≤◌, ◌⊎◌, List, [], ◌∷◌, ◌++◌, length, take, Option, Some, None, nat_le}
+use Rattle.std.proofs.Common.{cond}
 use Rattle.docker_model.specs.file.Text.{lines_of}
 use Rattle.docker_model.specs.file.FaultSoFar.{IsFaultSoFar, lines_told}
 use Rattle.docker_model.specs.file.File.{IsFile, BeginsFile}
-use Rattle.docker_model.specs.file.FileFault.{no_end, IsFileFault, IsFileText}
+use Rattle.docker_model.specs.file.FileFault.{no_end, after_trailer, too_many, IsFileFault, IsFileText}
 use Rattle.docker_model.specs.file.FileFault as model
 use Rattle.cif_laws.specs.FileStage.{next_place, IsPlaceOf}
 use Rattle.cif_laws.specs.FileStage as law
-use Rattle.cif_laws.specs.RecordCause.{cause_of, cause_of_long}
+use Rattle.cif_laws.specs.RecordCause.{cause_of, cause_of_long, is_after_end}
 use Rattle.cif_laws.specs.LinesTold.{told_lines, open_line}
 use Rattle.cif_file.specs.declared.fault.FileFault.{FileFault}
 use Rattle.cif_journey.specs.declared.cause.FileCause.{FileCause}
@@ -18,6 +19,7 @@ use Rattle.cif_file.specs.declared.kept.Kept.{Kept}
 use Rattle.cif_file.specs.declared.records.Records.{Records}
 use Rattle.cif_file.specs.declared.parser.Reading.{Reading}
 use Rattle.cif_journey.specs.Cause.{cause_meant}
+use Rattle.cif_file.specs.Cut.{before_rest}
 use Rattle.cif_file.specs.FileRead.{FileRead, FileCounted, IsOfRecords, IsCountOfRecords}
 use Rattle.cif_file.specs.KeeperRead.{Keeps, KeepsAll}
 use Rattle.cif_file.specs.EndedRead.{IsEnded}
@@ -57,6 +59,17 @@ pub record IsLongNext (limit : ℕ) (records : Lines) (fault : FileFault) : Type
   pub place : law.Place
   pub at : IsPlaceOf records place
   pub cause : cause_meant fault.cause ≡ Some (cause_of_long limit (length records) place)
+
+-- the cause of a line that is no record: the limit and the trailer come before this cause
+abbrev pub refusal : ℕ → ℕ → law.Place → Option model.FileCause → Option model.FileCause
+refusal limit count place cause = cond (nat_le limit count) (Some too_many) (cond (is_after_end place) (Some after_trailer) cause)
+
+-- a fault that was returned for a line that is no record, for this cause, after these records
+pub record IsRefusedNext (limit : ℕ) (records : Lines) (cause : Option model.FileCause) (fault : FileFault) : Type 0 where
+  pub number : fault.number ≡ length records + 1
+  pub place : law.Place
+  pub at : IsPlaceOf records place
+  pub is : cause_meant fault.cause ≡ refusal limit (length records) place cause
 
 -- the text ended after these records, which are no file
 abbrev pub IsNoEndOf : Lines → FileFault → Type 0
@@ -190,6 +203,11 @@ NamesLast parser fault =
 -- what was read before, followed by these bytes, is what was read after them
 abbrev pub GoesOn : (ℕ → List ℕ → Type 0) → List ℕ → (ℕ → List ℕ → Type 0) → Type 0
 GoesOn before bytes after = (limit : ℕ) (text : List ℕ) → before limit text → after limit (text ++ bytes)
+
+-- the text ends in the rest, and the bytes before the rest were taken
+pub record TakesUpTo (before : ℕ → List ℕ → Type 0) (text rest : List ℕ) (after : ℕ → List ℕ → Type 0) : Type 0 where
+  pub whole : before_rest text rest ++ rest ≡ text
+  pub read : GoesOn before (before_rest text rest) after
 
 -- with these bytes after it, the text has this fault
 abbrev pub TellsFault : (ℕ → List ℕ → Type 0) → List ℕ → FileFault → Type 0

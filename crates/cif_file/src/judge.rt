@@ -1,6 +1,6 @@
 //! The counts of the file that a source holds.
 ghost use Rattle.std.specs.Prelude.{◌≡◌, ◌≢◌, ◌+◌, ◌-◌, ◌^◌, ◌<◌, ◌≤◌, ◌↔◌, [], IfOk, IsOk, Err};
-ghost use Rattle.cif_line.specs.Device.{IsEnd, Reads};
+ghost use Rattle.cif_line.specs.Device.{CountsFailure, IsEnd, Reads};
 ghost use Rattle.cif_file.specs.SourceRead.{CountsText, RefusesText, ReadsNoFurther};
 
 use crate::count::FileCount;
@@ -8,7 +8,7 @@ use crate::fault::ReadFault;
 use crate::read::read_source;
 use crate::records::MOST_RECORDS;
 use crate::tally::Tally;
-use cif_line::Source;
+use cif_line::{PIECE, Source};
 use std::alloc::Global;
 
 /// Reads a source to its end, as [`read_file`](crate::read_file) does. Returns how many records and
@@ -27,11 +27,9 @@ pub fn judge_file<S: Source>(
     ensures memory { result ≡ Err ReadFault.Memory →
         Reads (S.left source.old) [] (S.left source.new) }
     ensures end { IsOk result → IsEnd (S.left source.new) }
-    ensures no_further { ReadsNoFurther 65536 limit (S.left source.old) (S.left source.new) }
-    ensures source { (result ≡ Err ReadFault.Source) ↔
-        (S.failures source.new ≡ S.failures source.old + 1) }
-    ensures no_failure { result ≢ Err ReadFault.Source →
-        S.failures source.new ≡ S.failures source.old }
+    ensures no_further { ReadsNoFurther PIECE limit (S.left source.old) (S.left source.new) }
+    ensures failures { CountsFailure (result ≡ Err ReadFault.Source)
+        (S.failures source.old) (S.failures source.new) }
 {
     match read_source(alloc, source, Tally::new(), limit) {
         Ok(ended) => Ok(ended.into_count()),

@@ -1,4 +1,4 @@
-//! The next record of a file, from its bytes.
+//! The next line of a file.
 ghost use Rattle.std.specs.Prelude.{◌≡◌, ℕ, ◌+◌, ◌<◌, List, [], ◌∷◌, ◌++◌, length, IsOk, IsErr, IfOk, IfErr, OnOk, Some};
 ghost use Rattle.docker_model.specs.records.Record.{IsRecord};
 ghost use Rattle.cif_laws.specs.FileStage.{Place};
@@ -13,7 +13,7 @@ use cif_journey::FileCause;
 use cif_line::{Line, LineFault};
 
 /// The bytes as a line.
-fn line_of(bytes: &[u8]) -> Result<Line, FileCause>
+pub(crate) fn line_of(bytes: &[u8]) -> Result<Line, FileCause>
     ensures ok { IfOk result (λ line. (line ≡ bytes.now) × IsRecord bytes.now) }
     ensures err { (place : Place) →
         IfErr result (λ cause. cause_meant cause ≡ Some (length_cause place bytes.now)) }
@@ -26,18 +26,17 @@ fn line_of(bytes: &[u8]) -> Result<Line, FileCause>
     }
 }
 
-/// Takes the next record. Its number is `number`, which is within the limit.
+/// Takes the next line. Its number is `number`, which is within the limit.
 pub(crate) fn take_within<K: Keeper>(
     front: &mut Front<K>,
     number: u32,
-    bytes: &[u8],
+    line: &Line,
 ) -> Result<(), FileCause>
-    ensures read { OnOk result (TakesNext K.keeps front.old number bytes.now front.new) }
-    ensures err { IfErr result (RefusesWithin K.keeps K.wants front.old bytes.now) }
+    ensures read { OnOk result (TakesNext K.keeps front.old number line.now front.new) }
+    ensures err { IfErr result (RefusesWithin K.keeps K.wants front.old line.now) }
 {
     if front.is_ended() {
         return Err(FileCause::After);
     }
-    let line = line_of(bytes)?;
-    front.take(number, &line)
+    front.take(number, line)
 }

@@ -1,7 +1,7 @@
 //! A parser that is fed a file piece by piece.
 ghost use Rattle.std.specs.Prelude.{◌≡◌, ℕ, ◌+◌, ◌≤◌, ◌↔◌, length, IsTrue, List, [], ◌∷◌, ◌++◌, IsOk, IfOk, IfErr, OnOk, Err};
 ghost use Rattle.cif_laws.specs.LinesTold.{HasNoFeed};
-ghost use Rattle.cif_file.specs.ParserRead.{HasRead, HasFailed, HasNotFailed, IsReading, EndsBy, IsLater, NamesLater, IsLast, NamesLast, GoesOn, TellsFault, TellsNoFault, EndsAs, EndsInFault};
+ghost use Rattle.cif_file.specs.ParserRead.{HasRead, HasFailed, HasNotFailed, IsReading, EndsBy, IsLater, NamesLater, IsLast, NamesLast, GoesOn, TakesUpTo, TellsFault, TellsNoFault, EndsAs, EndsInFault};
 
 use crate::ended::Ended;
 use crate::fault::FileFault;
@@ -9,8 +9,9 @@ use crate::file::CifFile;
 use crate::keeper::Keeper;
 use crate::kept::Kept;
 use crate::records::{MOST_RECORDS, Records};
-use crate::text::{split_line, without_return};
+use crate::text::{split_eighty, split_line, without_return};
 use arrayvec::ArrayVec;
+use cif_line::Line;
 use std::alloc::Global;
 use std::marker::Model;
 
@@ -80,6 +81,28 @@ impl<K: Keeper> Reading<K> {
         Ok(())
     }
 
+    /// Takes the records at the beginning of the text, each with its line end, and returns the text
+    /// after them. Takes nothing if a line is open, because the text then begins inside that line.
+    fn take_records<'a>(&mut self, text: &'a [u8]) -> Result<&'a [u8], FileFault>
+        ensures read { IfOk result (λ rest. TakesUpTo
+            (IsReading K.keeps self.old) text.now rest.now (IsReading K.keeps self.new)) }
+        ensures err { IfErr result (TellsFault (IsReading K.keeps self.old) text.now) }
+        ensures later { IfErr result (IsLater K.keeps K.wants self.old) }
+    {
+        if !self.partial.is_empty() {
+            return Ok(text);
+        }
+        let mut rest = text;
+        while let Some((front, behind)) = split_eighty(rest) {
+            let Ok(line) = Line::new(front) else {
+                return Ok(rest);
+            };
+            self.records.take_line(&line)?;
+            rest = behind;
+        }
+        Ok(rest)
+    }
+
     /// Takes the next bytes of the file.
     pub(crate) fn feed(&mut self, piece: &[u8]) -> Result<(), FileFault>
         ensures read { OnOk result
@@ -87,10 +110,10 @@ impl<K: Keeper> Reading<K> {
         ensures err { IfErr result (TellsFault (IsReading K.keeps self.old) piece.now) }
         ensures later { IfErr result (IsLater K.keeps K.wants self.old) }
     {
-        let mut rest = piece;
+        let mut rest = self.take_records(piece)?;
         while let Some((front, behind)) = split_line(rest) {
             self.end_line(front)?;
-            rest = behind;
+            rest = self.take_records(behind)?;
         }
         self.keep(rest)
     }

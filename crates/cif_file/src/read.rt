@@ -1,7 +1,7 @@
 //! The file that a source holds.
 ghost use Rattle.std.specs.Prelude.{◌≡◌, ◌≢◌, ℕ, ◌+◌, ◌-◌, ◌^◌, ◌<◌, ◌≤◌, ◌↔◌, List, [], length, IfOk, IsOk, Err};
 ghost use Rattle.docker_model.specs.file.Text.{lines_of};
-ghost use Rattle.cif_line.specs.Device.{IsEnd};
+ghost use Rattle.cif_line.specs.Device.{CountsFailure, IsEnd};
 ghost use Rattle.cif_file.specs.ParserRead.{IsReading, WantsMemoryAt, EndsBy};
 ghost use Rattle.cif_file.specs.SourceRead.{IsFaultOf, ReadsEnded, ReadsText, RefusesText, ReadsNoFurther, WantsMemory, WantsMemoryBy};
 
@@ -13,7 +13,7 @@ use crate::kept::Kept;
 use crate::parser::Reading;
 use crate::records::MOST_RECORDS;
 use cif_journey::FileCause;
-use cif_line::{FeedFault, Source, Taker, feed_all};
+use cif_line::{FeedFault, PIECE, Source, Taker, feed_all};
 use std::alloc::Global;
 
 /// Reads a source to its end, and returns the file whose text it held, of at most `limit` records.
@@ -26,13 +26,11 @@ pub fn read_file<S: Source>(alloc: Global, source: &mut S, limit: u32) -> Result
     ensures file { (fault : _) → result ≡ Err (ReadFault.File fault) →
         RefusesText limit (S.left source.old) fault }
     ensures memory { result ≡ Err ReadFault.Memory →
-        WantsMemory 65536 limit (S.left source.old) (S.left source.new) }
+        WantsMemory PIECE limit (S.left source.old) (S.left source.new) }
     ensures end { IsOk result → IsEnd (S.left source.new) }
-    ensures no_further { ReadsNoFurther 65536 limit (S.left source.old) (S.left source.new) }
-    ensures source { (result ≡ Err ReadFault.Source) ↔
-        (S.failures source.new ≡ S.failures source.old + 1) }
-    ensures no_failure { result ≢ Err ReadFault.Source →
-        S.failures source.new ≡ S.failures source.old }
+    ensures no_further { ReadsNoFurther PIECE limit (S.left source.old) (S.left source.new) }
+    ensures failures { CountsFailure (result ≡ Err ReadFault.Source)
+        (S.failures source.old) (S.failures source.new) }
 {
     match read_source(alloc, source, Kept::new(alloc), limit) {
         Ok(ended) => Ok(ended.into_file()),
@@ -74,13 +72,11 @@ pub(crate) fn read_source<S: Source, K: Keeper>(
     ensures file { (fault : _) → result ≡ Err (ReadFault.File fault) →
         RefusesText limit (S.left source.old) fault }
     ensures memory { result ≡ Err ReadFault.Memory →
-        WantsMemoryBy K.wants 65536 limit (S.left source.old) (S.left source.new) }
+        WantsMemoryBy K.wants PIECE limit (S.left source.old) (S.left source.new) }
     ensures end { IsOk result → IsEnd (S.left source.new) }
-    ensures no_further { ReadsNoFurther 65536 limit (S.left source.old) (S.left source.new) }
-    ensures source { (result ≡ Err ReadFault.Source) ↔
-        (S.failures source.new ≡ S.failures source.old + 1) }
-    ensures no_failure { result ≢ Err ReadFault.Source →
-        S.failures source.new ≡ S.failures source.old }
+    ensures no_further { ReadsNoFurther PIECE limit (S.left source.old) (S.left source.new) }
+    ensures failures { CountsFailure (result ≡ Err ReadFault.Source)
+        (S.failures source.old) (S.failures source.new) }
 {
     let mut reading = Reading::new(keeper, limit);
     match feed_all(alloc, source, &mut reading) {

@@ -5,8 +5,9 @@ use crate::ended::Ended;
 use crate::fault::FileFault;
 use crate::front::Front;
 use crate::keeper::Keeper;
-use crate::next_record::take_within;
+use crate::next_record::{line_of, take_within};
 use cif_journey::FileCause;
+use cif_line::Line;
 
 /// The most records that a file may have.
 pub const MOST_RECORDS: u32 = 4_294_967_294;
@@ -26,7 +27,7 @@ impl<K: Keeper> Records<K> {
     ghost use Rattle.docker_model.specs.file.File.{IsFile};
     ghost use Rattle.docker_model.specs.file.FileFault.{no_end};
     ghost use Rattle.cif_journey.specs.Cause.{cause_meant};
-    ghost use Rattle.cif_file.specs.ParserRead.{HasCounted, CountsNext, FaultsNext, IsLongNext, EndsCounted, EndsUnended};
+    ghost use Rattle.cif_file.specs.ParserRead.{HasCounted, CountsNext, FaultsNext, IsLongNext, IsRefusedNext, EndsCounted, EndsUnended};
 
     /// Before the first record. There may be at most `limit` records.
     pub(crate) fn new(keeper: K, limit: u32) -> Records<K>
@@ -41,10 +42,21 @@ impl<K: Keeper> Records<K> {
         }
     }
 
-    /// Takes the next record: a line without its line end.
+    /// Takes the next line, without its line end.
     pub(crate) fn take(&mut self, bytes: &[u8]) -> Result<(), FileFault>
         ensures read { OnOk result (CountsNext K.keeps self.old bytes.now self.new) }
         ensures err { IfErr result (FaultsNext K.keeps K.wants self.old bytes.now) }
+    {
+        match line_of(bytes) {
+            Ok(line) => self.take_line(&line),
+            Err(cause) => Err(self.refused(cause)),
+        }
+    }
+
+    /// Takes the next line, whose bytes were judged.
+    pub(crate) fn take_line(&mut self, line: &Line) -> Result<(), FileFault>
+        ensures read { OnOk result (CountsNext K.keeps self.old line.now self.new) }
+        ensures err { IfErr result (FaultsNext K.keeps K.wants self.old line.now) }
     {
         let number = self.next;
         if number > self.limit {
@@ -53,7 +65,7 @@ impl<K: Keeper> Records<K> {
                 cause: FileCause::TooMany,
             });
         }
-        match take_within(&mut self.front, number, bytes) {
+        match take_within(&mut self.front, number, line) {
             Ok(()) => {
                 self.next = number + 1;
                 Ok(())
@@ -62,22 +74,32 @@ impl<K: Keeper> Records<K> {
         }
     }
 
-    /// The fault of a next record that has more than 81 bytes.
+    /// The fault of a next line that has more than 81 bytes.
     pub(crate) fn too_long(&self) -> FileFault
         ensures { (limit : ℕ) (records : List (List ℕ)) →
             HasCounted K.keeps self.now limit records →
             IsLongNext limit records result }
     {
-        let cause = if self.next > self.limit {
+        self.refused(FileCause::Length)
+    }
+
+    /// The fault of a next line that is no record, for this cause: the limit and the trailer come
+    /// first.
+    fn refused(&self, cause: FileCause) -> FileFault
+        ensures { (limit : ℕ) (records : List (List ℕ)) →
+            HasCounted K.keeps self.now limit records →
+            IsRefusedNext limit records (cause_meant cause) result }
+    {
+        let first = if self.next > self.limit {
             FileCause::TooMany
         } else if self.front.is_ended() {
             FileCause::After
         } else {
-            FileCause::Length
+            cause
         };
         FileFault {
             number: self.next,
-            cause,
+            cause: first,
         }
     }
 

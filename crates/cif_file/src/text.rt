@@ -1,11 +1,8 @@
 //! Line ends.
-ghost use Rattle.std.specs.Prelude.{◌≡◌, ◌==◌, ◌<◌, ◌≤◌, ◌↔◌, IsTrue, IfSome, length, position, take, MatchOption};
-ghost use Rattle.docker_model.specs.records.Record.{IsRecord};
+ghost use Rattle.std.specs.Prelude.{◌≡◌, ◌==◌, ◌<◌, IfSome, List, ℕ, length, position, MatchOption};
 ghost use Rattle.cif_laws.specs.LinesTold.{HasNoFeed};
-ghost use Rattle.cif_file.specs.Cut.{IsCut};
+ghost use Rattle.cif_file.specs.Cut.{IsCut, BeginsWithEnd, BeginsWithEighty};
 ghost use Rattle.std.specs.Str.Lines.{strip_carriage_return};
-
-use cif_line::Line;
 
 /// How many bytes a record has.
 const RECORD: usize = 80;
@@ -20,27 +17,8 @@ pub(crate) fn without_return(piece: &[u8]) -> &[u8]
     }
 }
 
-/// Where the first line feed is. If the text begins with 80 bytes that a record may hold, those
-/// have no line feed. They are judged sixteen at a time, and the search starts after them.
-pub(crate) fn line_feed(text: &[u8]) -> Option<usize>
-    ensures place { result ≡ position (λ byte. byte == 10) text.now }
-{
-    if !begins_with_record(text) {
-        return first_feed(text);
-    }
-    let at = first_feed(&text[RECORD..])?;
-    Some(RECORD + at)
-}
-
-/// Whether the text begins with the bytes of a record.
-fn begins_with_record(text: &[u8]) -> bool
-    ensures { IsTrue result ↔ ((RECORD ≤ length text.now) × IsRecord (take RECORD text.now)) }
-{
-    text.len() >= RECORD && Line::new(&text[..RECORD]).is_ok()
-}
-
 /// Where the first line feed is. Searches byte by byte.
-fn first_feed(text: &[u8]) -> Option<usize>
+fn line_feed(text: &[u8]) -> Option<usize>
     ensures place { result ≡ position (λ byte. byte == 10) text.now }
     ensures within { IfSome result (λ at. at < length text.now) }
 {
@@ -54,4 +32,31 @@ pub(crate) fn split_line(text: &[u8]) -> Option<(&[u8], &[u8])>
 {
     let end = line_feed(text)?;
     Some((&text[..end], &text[end + 1..]))
+}
+
+/// The text after the line end that it begins with: a line feed, or a carriage return and a line
+/// feed. None if it doesn't begin with one.
+fn after_line_end(text: &[u8]) -> Option<&[u8]>
+    ensures { MatchOption result ((rest : List ℕ) → ¬ BeginsWithEnd text.now rest)
+        (λ rest. BeginsWithEnd text.now rest.now) }
+{
+    match text {
+        [b'\n', rest @ ..] => Some(rest),
+        [b'\r', b'\n', rest @ ..] => Some(rest),
+        _ => None,
+    }
+}
+
+/// The 80 bytes that the text begins with, and the text after their line end. None if no line end
+/// comes after 80 bytes. Searches for no line feed.
+pub(crate) fn split_eighty(text: &[u8]) -> Option<(&[u8], &[u8])>
+    ensures { MatchOption result
+        ((line rest : List ℕ) → ¬ BeginsWithEighty text.now line rest)
+        (λ parts. BeginsWithEighty text.now parts.0.now parts.1.now) }
+{
+    if text.len() < RECORD {
+        return None;
+    }
+    let rest = after_line_end(&text[RECORD..])?;
+    Some((&text[..RECORD], rest))
 }

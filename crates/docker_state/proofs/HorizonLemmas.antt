@@ -35,3 +35,8 @@ pub lapsed_index : (rows after : List (Key × Entry)) (horizon : ℕ) → map ro
 lapsed_index rows after horizon lapsed slice same index later is lapses =
     subst (λ (xs : List (Key × Entry)). IsIndexOf (map row_meant xs) later) same
     (lapses (map row_meant rows) horizon (ap (map row_meant) same ∙ lapsed) is)
+
+-- if no row lapsed, the index stays the index of the rows
+pub same_index : (rows after : List (Key × Entry)) → after ≡ rows → (index : Index) → IsIndexOf (map row_meant rows) index
+    → IsIndexOf (map row_meant after) index
+same_index rows after same index is = subst (λ (xs : List (Key × Entry)). IsIndexOf (map row_meant xs) index) (sym same) is

@@ -145,7 +145,8 @@ impl State {
 
     /// Sets a horizon: what is put and ends before this day lapses. Its body goes, and its stamp
     /// stays, so that no older file brings it back. A day that isn't after the horizon changes
-    /// nothing.
+    /// nothing. It may take one byte per row for a time. If the allocator refuses them, it takes
+    /// longer.
     pub fn set_horizon(&mut self, day: Day)
         ensures raised { self.new ≡ raise_horizon day self.old }
         ensures summary { (files : List (List (List ℕ))) (horizon : ℕ)
@@ -161,8 +162,9 @@ impl State {
     {
         if self.horizon < horizon {
             self.horizon = horizon;
-            self.entries.lapse(horizon);
-            self.index.lapse(self.entries.as_slice());
+            if self.entries.lapse(horizon) {
+                self.index.lapse(self.entries.as_slice());
+            }
         }
     }
 

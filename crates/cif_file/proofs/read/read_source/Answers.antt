@@ -74,8 +74,5 @@ returns-clause-no_further g c =
 pub returns-in-Err-Source-clause-memory : goal.returns-in-Err-Source-clause-memory
 returns-in-Err-Source-clause-memory g c = search rules
 
-pub returns-in-Err-Source-clause-source : goal.returns-in-Err-Source-clause-source
-returns-in-Err-Source-clause-source g c = search rules
-
-pub returns-in-Err-Source-clause-no_failure : goal.returns-in-Err-Source-clause-no_failure
-returns-in-Err-Source-clause-no_failure g c = search rules
+pub returns-in-Err-Source-clause-failures : goal.returns-in-Err-Source-clause-failures
+returns-in-Err-Source-clause-failures g c = search rules

@@ -1,0 +1,21 @@
+-- The cause: above the limit, else after the trailer, else the line's own.
+use Rattle.std.proofs.Common.{◌≡◌, ap, subst, refl, true, false}
+use Rattle.std.specs.Prelude.{◌↔◌}
+use Rattle.docker_model.specs.file.File.{IsFile}
+use Rattle.cif_journey.specs.Cause.{cause_meant}
+use Rattle.cif_file.proofs.ParserLemmas.{refused_over, refused_within}
+use Rattle.cif_file.proofs.records.Records.refused.Goals as goal
+use Rattle.cif_file.proofs.records.Records.refused.Goals.{then-self, else-self+then-is_ended, else-self+else-is_ended}
+
+pub returns : goal.returns
+returns g c = λ limit records counted.
+    elim c.if-self.branch [
+      | then-self w ↦
+          refused_over g.K.Keeper.keeps c.args.self.now limit records (cause_meant c.args.cause) _ counted refl w.if-self.true (ap cause_meant w.first-is)
+      | else-self+then-is_ended w ↦
+          refused_within g.K.Keeper.keeps c.args.self.now limit records (cause_meant c.args.cause) _ true counted refl w.if-self.false
+          (subst (λ b. (b ≡ true) ↔ IsFile records) w.if-is_ended.true (w.is_ended.ensures records counted.has)) (ap cause_meant w.first-is)
+      | else-self+else-is_ended w ↦
+          refused_within g.K.Keeper.keeps c.args.self.now limit records (cause_meant c.args.cause) _ false counted refl w.if-self.false
+          (subst (λ b. (b ≡ true) ↔ IsFile records) w.if-is_ended.false (w.is_ended.ensures records counted.has)) (ap cause_meant w.first-is)
+    ]
