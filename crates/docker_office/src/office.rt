@@ -176,7 +176,8 @@ impl Office {
     }
 
     /// Sets a horizon: each entry that is put and ends before this day lapses. A day that is not
-    /// after the present horizon changes nothing. Takes no memory, and is never refused.
+    /// after the present horizon changes nothing. It is never refused: it may take one byte per row
+    /// for a time, and takes longer if the allocator refuses them.
     pub fn set_horizon(&mut self, day: Day)
         ensures raised { self.new ≡ raise_horizon day self.old }
         ensures summary { (files : List (List (List ℕ))) (horizon : ℕ)

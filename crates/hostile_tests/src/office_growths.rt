@@ -85,12 +85,7 @@ fn has_printed(desk: &Desk, office: &Office, words: [&str; 3], is_first: bool) -
 }
 
 /// An office at a timing point for a day with the state of a text.
-fn at_place(
-    desk: &Desk,
-    text: &[u8],
-    place: Tiploc,
-    day: Day,
-) -> Result<PlaceOffice, OfficeFault> {
+fn at_place(desk: &Desk, text: &[u8], place: Tiploc, day: Day) -> Result<PlaceOffice, OfficeFault> {
     PlaceOffice::read(desk.alloc(), place, day, &mut source_of(text), MOST_BYTES)
 }
 
