@@ -2,6 +2,7 @@
 ghost use Rattle.std.specs.Prelude.{◌<◌};
 
 use crate::compare::{same, same_in};
+use crate::expected::USAGE;
 use cif_file::{FileCause, FileFault};
 use cif_line::{Failed, Fuse, Kept, Sink, write_all};
 use docker_cmd::OfficeFault;
@@ -13,13 +14,6 @@ use std::process::Abort;
 
 /// More bytes than an answer of these rows has.
 const ROOM: usize = 1000;
-
-/// The line that answers a line that asks for nothing: 176 bytes.
-pub(crate) const USAGE: &str = "\
-2 1 176
-desk: usage: [--write] STATE, and then a line for each request: print TIPLOC DATE \
-| train UID DATE | files | renew | with --write take FILE | merge OTHER | horizon DATE | save
-";
 
 /// A status, a text, and the bytes of the answer with them.
 type Row = (u8, &'static str, &'static str);

@@ -1,9 +1,10 @@
 //! Sessions that can't begin.
 
 use crate::compare::{same, same_in};
+use crate::expected::DEVICE;
 use crate::files::{Named, Shelf};
 use crate::records::*;
-use crate::sessions::{DEVICE, READING, Texts, WRITING, room, store_of_morning};
+use crate::session_parts::{READING, Texts, WRITING, room, store_of_morning};
 use cif_line::Bytes;
 use docker_serve::serve;
 use std::alloc::Global;

@@ -1,45 +1,16 @@
-//! Sessions with an input that ends, or a device that fails.
+//! Sessions with a device that fails.
 ghost use Rattle.std.specs.Prelude.{◌<◌};
 
-use crate::compare::{same, same_in};
-use crate::desks::{ANSWER_0900, ANSWER_0905};
+use crate::compare::same;
+use crate::expected::{ANSWER_0900, ANSWER_0905, DEVICE, DONE, FAILED, FILES, UNSAVED};
 use crate::files::Shelf;
 use crate::records::*;
-use crate::sessions::{
-    DEVICE, DONE, FAILED, FILES, READING, Texts, UNSAVED, WRITING, joined, room, store_of_morning,
-};
+use crate::session_parts::{READING, Texts, WRITING, joined, room, store_of_morning};
 use crate::store::Fails;
 use cif_line::{Bytes, Fuse, Source};
 use docker_serve::serve;
 use std::alloc::Global;
 use std::process::Abort;
-
-/// Asserts that a session reads this input to its end, and never again after that.
-fn is_read_once(rt: &impl Abort, alloc: Global, input: &str) {
-    let texts = Texts::new(rt, alloc);
-    let mut stdin = Shelf::opened(input.as_bytes());
-    let (mut output, mut faults) = (room(rt, alloc, 1000), room(rt, alloc, 100));
-    let files = texts.named();
-    let ended = serve(
-        alloc,
-        READING,
-        &mut stdin,
-        &mut Shelf::of(&files),
-        &mut store_of_morning(rt, alloc),
-        &mut output,
-        &mut faults,
-    );
-    same_in(rt, input, ended, 0);
-    same_in(rt, input, stdin.is_read_past(), (true, false));
-}
-
-#[test]
-fn an_input_that_ends(rt: HostRuntime) {
-    is_read_once(&rt, rt.alloc(), "");
-    is_read_once(&rt, rt.alloc(), "files\n");
-    is_read_once(&rt, rt.alloc(), "files\nfiles");
-    is_read_once(&rt, rt.alloc(), "files\r");
-}
 
 /// Asserts that the output has a beginning of the answers to two requests, of this many bytes, if
 /// it has room for no more, and that then nothing more is read.

@@ -11,6 +11,8 @@ mod compare;
 #[cfg(test)]
 mod desks;
 #[cfg(test)]
+mod expected;
+#[cfg(test)]
 mod failures;
 #[cfg(test)]
 mod files;
@@ -23,8 +25,12 @@ mod requests;
 #[cfg(test)]
 mod saving;
 #[cfg(test)]
+mod session_parts;
+#[cfg(test)]
 mod sessions;
 #[cfg(test)]
 mod store;
+#[cfg(test)]
+mod taking;
 #[cfg(test)]
 mod trains;

@@ -1,10 +1,12 @@
 //! How a desk saves what it knows, and how it sees what others saved.
 
 use crate::compare::same;
-use crate::desks::{ANSWER_0905, desk_of, ends, prints, taken};
+use crate::desks::{desk_of, ends, prints};
+use crate::expected::ANSWER_0905;
 use crate::files::Shelf;
 use crate::records::*;
 use crate::store::{Drawer, Fails};
+use crate::taking::taken;
 use docker_cmd::OfficeFault;
 use docker_office::{StateCause, StateFault};
 use docker_program::Stores;

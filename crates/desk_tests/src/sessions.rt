@@ -1,42 +1,15 @@
 //! Whole sessions: their words, the lines that they are asked, and how they end.
-ghost use Rattle.std.specs.Prelude.{◌≡◌, ◌<◌};
+ghost use Rattle.std.specs.Prelude.{◌<◌};
 
-use crate::answers::USAGE;
 use crate::compare::same_in;
-use crate::desks::{ANSWER_18_JUNE, ANSWER_0900, ANSWER_0905, DAY_REFUSED};
-use crate::files::{Named, Shelf};
+use crate::expected::*;
+use crate::files::Shelf;
 use crate::records::*;
-use crate::store::Drawer;
-use cif_line::{Bytes, Kept};
+use crate::session_parts::{READING, Texts, WRITING, joined, room, store_of_morning};
+use cif_line::Bytes;
 use docker_serve::serve;
 use std::alloc::Global;
 use std::process::Abort;
-
-/// The words of a session that may write, and of one that may not.
-pub(crate) const WRITING: &[&str] = &["--write", "S"];
-
-pub(crate) const READING: &[&str] = &["S"];
-
-/// The answer to a request that was done and has no text.
-pub(crate) const DONE: &str = "0 0 0\n";
-
-/// The answer to a request whose file, or store, fails.
-pub(crate) const FAILED: &str = "4 1 22\ndocker: device failed\n";
-
-/// The line of a session whose own device fails.
-pub(crate) const DEVICE: &str = "docker: device failed\n";
-
-/// The line of a session that ends with changes that weren't saved.
-pub(crate) const UNSAVED: &str = "desk: changes not saved\n";
-
-/// The files of the morning train, and of both.
-pub(crate) const FILES: &str = "0 1 34\n2024-06-09 2100 DFROC1A U DFROC1Z\n";
-
-const BOTH_FILES: &str = "\
-0 2 68
-2024-06-09 2100 DFROC1A U DFROC1Z
-2024-06-10 2100 DFROC1B U DFROC1A
-";
 
 /// A session over the state of the morning train: its words, its input, the answers, the line of
 /// faults, its status, and the state that its file then has.
@@ -48,61 +21,6 @@ type Row = (
     u8,
     Parts,
 );
-
-/// A sink with room for this many bytes.
-pub(crate) fn room(rt: &impl Abort, alloc: Global, bytes: usize) -> Kept
-    ensures { result.failures ≡ 0 }
-{
-    Kept::new(alloc, bytes).expect(rt, "room")
-}
-
-/// Texts as one text.
-pub(crate) fn joined(rt: &impl Abort, alloc: Global, texts: &[&str]) -> Vec<u8> {
-    let mut all = Vec::new(alloc);
-    for text in texts {
-        all.extend_from_slice(text.as_bytes()).expect(rt, "room");
-    }
-    all
-}
-
-/// The texts of the files that the sessions may open: the state of the morning train, its revision,
-/// that revision without its trailer, and the state of the revision.
-#[derive(Drop)]
-pub(crate) struct Texts {
-    state: Vec<u8>,
-    revision: Vec<u8>,
-    open: Vec<u8>,
-    other: Vec<u8>,
-}
-
-impl Texts {
-    /// These texts.
-    pub(crate) fn new(rt: &impl Abort, alloc: Global) -> Texts {
-        Texts {
-            state: state_text(rt, alloc, MORNING_STATE),
-            revision: file_text(rt, alloc, REVISION),
-            open: file_text(rt, alloc, OPEN),
-            other: state_text(rt, alloc, REVISION_STATE),
-        }
-    }
-
-    /// The files with these texts.
-    pub(crate) fn named(&self) -> [Named<'_>; 4] {
-        [
-            ("S", self.state.as_slice()),
-            ("F2", self.revision.as_slice()),
-            ("F3", self.open.as_slice()),
-            ("S2", self.other.as_slice()),
-        ]
-    }
-}
-
-/// The store of the morning train's state.
-pub(crate) fn store_of_morning(rt: &impl Abort, alloc: Global) -> Drawer
-    ensures { result.failures ≡ 0 }
-{
-    Drawer::of(alloc, state_text(rt, alloc, MORNING_STATE))
-}
 
 /// Asserts what a session does whose input comes in pieces of at most `step` bytes.
 fn goes_in_pieces(rt: &impl Abort, alloc: Global, row: &Row, step: usize)
@@ -282,4 +200,31 @@ fn sessions_that_write(rt: HostRuntime) {
     go(&rt, rt.alloc(), CHANGED);
     go(&rt, rt.alloc(), LEFT_UNSAVED);
     go(&rt, rt.alloc(), REFUSED);
+}
+
+/// Asserts that a session reads this input to its end, and never again after that.
+fn is_read_once(rt: &impl Abort, alloc: Global, input: &str) {
+    let texts = Texts::new(rt, alloc);
+    let mut stdin = Shelf::opened(input.as_bytes());
+    let (mut output, mut faults) = (room(rt, alloc, 1000), room(rt, alloc, 100));
+    let files = texts.named();
+    let ended = serve(
+        alloc,
+        READING,
+        &mut stdin,
+        &mut Shelf::of(&files),
+        &mut store_of_morning(rt, alloc),
+        &mut output,
+        &mut faults,
+    );
+    same_in(rt, input, ended, 0);
+    same_in(rt, input, stdin.is_read_past(), (true, false));
+}
+
+#[test]
+fn an_input_that_ends(rt: HostRuntime) {
+    is_read_once(&rt, rt.alloc(), "");
+    is_read_once(&rt, rt.alloc(), "files\n");
+    is_read_once(&rt, rt.alloc(), "files\nfiles");
+    is_read_once(&rt, rt.alloc(), "files\r");
 }

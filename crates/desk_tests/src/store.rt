@@ -1,5 +1,6 @@
 //! A file in memory that is written anew.
-ghost use Rattle.std.specs.Prelude.{◌≡◌, ◌≢◌, ◌+◌, ◌-◌, ◌^◌, ◌<◌, ◌↔◌, None, Some, Err, IfOk, OnOk, OnErr, option_map, string_bytes};
+ghost use Rattle.std.specs.Prelude.{◌≡◌, ◌-◌, ◌^◌, ◌<◌, None, Some, Err, IfOk, OnOk, OnErr, option_map, string_bytes};
+ghost use Rattle.cif_line.specs.Device.{CountsFailure};
 
 use cif_line::{Failed, Sink};
 use docker_program::{Looked, OpenFault, Stores};
@@ -159,10 +160,8 @@ impl Stores for Drawer {
             (option_map (λ name. string_bytes name) self.new.target ≡ Some looked.entry.name.now) }
         ensures no_draft { OnErr result (self.new.has_draft ≡ self.old.has_draft) }
         ensures sound { IfOk result (λ draft. draft.failures ≡ 0) }
-        ensures counted { (result ≡ Err OpenFault.Failed)
-            ↔ (self.new.failures ≡ self.old.failures + 1) }
-        ensures no_failure { result ≢ Err OpenFault.Failed
-            → self.new.failures ≡ self.old.failures }
+        ensures failures { CountsFailure (result ≡ Err OpenFault.Failed)
+            self.old.failures self.new.failures }
     {
         let Ok(target) = String::from_str(self.alloc, looked.name) else {
             return Err(OpenFault::Memory);

@@ -1,7 +1,8 @@
 //! The schedule of a UID on a day, as a desk answers it.
 
 use crate::answers::answers;
-use crate::desks::{DAY_REFUSED, day_of, desk_of};
+use crate::desks::{day_of, desk_of};
+use crate::expected::DAY_REFUSED;
 use crate::records::*;
 use cif_line::Uid;
 use docker_session::Desk;

@@ -1,9 +1,9 @@
 -- Reading a source: what the parser was fed is what the source had.
-use Rattle.std.proofs.Common.{◌≡◌, ◌≢◌, ℕ, ◌+◌, ◌<◌, List, [], ◌∷◌, ◌++◌, length, take, drop, refl, ap, sym, ◌∙◌, subst, inl, inr, ◌⊎◌, arith, append_assoc, append-nil, length-drop, Some, None, Err, Result}
-use Rattle.std.specs.Prelude.{Option, Ok, IfOk, IfErr, IsOk, OnOk, ◌↔◌, ◌^◌}
+use Rattle.std.proofs.Common.{◌≡◌, ◌≢◌, ℕ, ◌<◌, List, [], ◌∷◌, ◌++◌, length, take, drop, refl, ap, sym, ◌∙◌, subst, inl, inr, ◌⊎◌, arith, append_assoc, append-nil, length-drop, Some, None, Err, Result}
+use Rattle.std.specs.Prelude.{Option, Ok, IfOk, IfErr, IsOk, OnOk, ◌^◌}
 use Rattle.std.proofs.lemmas.List.{take-append-drop}
 use Rattle.std.proofs.lemmas.Result.{IfOk-weaker}
-use Rattle.cif_line.specs.Device.{Reads, IsEnd}
+use Rattle.cif_line.specs.Device.{CountsFailure, Reads, IsEnd}
 use Rattle.cif_line.specs.Taken.{BehindEach, HasFed, HasRefused, LosesOnePieceMore}
 use Rattle.docker_model.specs.state.State.{State}
 use Rattle.docker_model.specs.state.StateText.{Format}
@@ -301,8 +301,8 @@ wants_part terms initial next parser told has is =
     inr (record { text = more.bytes; piece = more.piece; lost = more.lost; few = more.few; at = wanting.0; wanting = wanting.1 })
 
 -- a refused piece is no failure of the source
-pub refused_apart : {K : Type 0} (terms : StateTerms) (initial next : Option (List ℕ)) (parser : ParserState K) (told : ReadFault) {A : Type 0} (old new : ℕ)
+pub refused_counts : {K : Type 0} (terms : StateTerms) (initial next : Option (List ℕ)) (parser : ParserState K) (told : ReadFault) {A : Type 0} (old new : ℕ)
     → HasRefused TakesState RefusesPart 65536 terms [] initial next parser told → new ≡ old
-    → ◌≡◌ {A = Result A ReadFault} (Err told) (Err fault.Source) ↔ (new ≡ old + 1)
-refused_apart terms initial next parser told old new has same =
-    (λ is. absurd (let source : told ≡ fault.Source = cc in has.refused.apart source), λ more. absurd (omega arith))
+    → CountsFailure (◌≡◌ {A = Result A ReadFault} (Err told) (Err fault.Source)) old new
+refused_counts terms initial next parser told old new has same =
+    ((λ is. absurd (let source : told ≡ fault.Source = cc in has.refused.apart source), λ more. absurd (omega arith)), λ other. same)

@@ -1,8 +1,8 @@
--- What is made of a state for one place.
+-- What is made of a state for one place and one day.
 use Rattle.std.specs.Prelude.{◌≡◌, ℕ, List}
 use Rattle.docker_model.specs.state.State.{State}
 use Rattle.docker_excerpt.specs.Values.{Excerpt}
 
--- the excerpt is of this place and this state
-abbrev pub IsExcerptAt : List ℕ → Excerpt → State → Type 0
-IsExcerptAt place excerpt state = excerpt ≡ record { place = place; state = state }
+-- the excerpt is of this place, this day and this state
+abbrev pub IsExcerptAt : List ℕ → ℕ → Excerpt → State → Type 0
+IsExcerptAt place day excerpt state = excerpt ≡ record { place = place; day = day; state = state }

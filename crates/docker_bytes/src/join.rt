@@ -1,5 +1,6 @@
 //! Joins a state with the one that a source holds.
-ghost use Rattle.std.specs.Prelude.{◌≡◌, ◌≢◌, ℕ, ◌+◌, ◌-◌, ◌^◌, ◌<◌, ◌↔◌, List, IsOk, IsErr, Err};
+ghost use Rattle.std.specs.Prelude.{◌≡◌, ◌≢◌, ℕ, ◌-◌, ◌^◌, ◌<◌, List, IsOk, IsErr, Err};
+ghost use Rattle.cif_line.specs.Device.{CountsFailure};
 ghost use Rattle.docker_model.specs.state.State.{IsValid};
 ghost use Rattle.docker_model.specs.state.StateText.{dks_2};
 ghost use Rattle.docker_model.specs.state.StateText as formats;
@@ -9,7 +10,7 @@ ghost use Rattle.docker_bytes.specs.SourceRead.{RefusesState, IsFaultOf, ReadsOn
 
 use crate::parser::Parser;
 use crate::read::{ReadFault, fault_of, read_pieces};
-use cif_line::Source;
+use cif_line::{PIECE, Source};
 use docker_parts::format::Format;
 use docker_parts::{Received, Receiver, State};
 use std::alloc::Global;
@@ -33,12 +34,10 @@ pub fn join_state<S: Source>(
     ensures state { (fault : _) → result ≡ Err (ReadFault.State fault) →
         RefusesState dks_2 limit (S.left source.old) fault }
     ensures memory { result ≡ Err ReadFault.Memory →
-        WantsMemory dks_2 65536 limit (S.left source.old) (S.left source.new) }
-    ensures few { ReadsOnePieceMore dks_2 65536 limit (S.left source.old) (S.left source.new) }
-    ensures source { (result ≡ Err ReadFault.Source) ↔
-        (S.failures source.new ≡ S.failures source.old + 1) }
-    ensures no_failure { result ≢ Err ReadFault.Source →
-        S.failures source.new ≡ S.failures source.old }
+        WantsMemory dks_2 PIECE limit (S.left source.old) (S.left source.new) }
+    ensures few { ReadsOnePieceMore dks_2 PIECE limit (S.left source.old) (S.left source.new) }
+    ensures failures { CountsFailure (result ≡ Err ReadFault.Source) (S.failures source.old)
+        (S.failures source.new) }
 {
     // Called for its contract: the state is valid.
     let _ledger = state.ledger();
@@ -63,12 +62,10 @@ fn receive<R: Receiver, S: Source>(
     ensures state { (fault : _) → result.1 ≡ Err (ReadFault.State fault) →
         RefusesState dks_2 limit (S.left source.old) fault }
     ensures memory { result.1 ≡ Err ReadFault.Memory →
-        WantsMemory dks_2 65536 limit (S.left source.old) (S.left source.new) }
-    ensures few { ReadsOnePieceMore dks_2 65536 limit (S.left source.old) (S.left source.new) }
-    ensures source { (result.1 ≡ Err ReadFault.Source) ↔
-        (S.failures source.new ≡ S.failures source.old + 1) }
-    ensures no_failure { result.1 ≢ Err ReadFault.Source →
-        S.failures source.new ≡ S.failures source.old }
+        WantsMemory dks_2 PIECE limit (S.left source.old) (S.left source.new) }
+    ensures few { ReadsOnePieceMore dks_2 PIECE limit (S.left source.old) (S.left source.new) }
+    ensures failures { CountsFailure (result.1 ≡ Err ReadFault.Source) (S.failures source.old)
+        (S.failures source.new) }
 {
     let received: Received<R> = Received::new(alloc, own);
     let mut parser = Parser::new(alloc, Format::Dks2, limit, received);

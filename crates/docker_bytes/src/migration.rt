@@ -1,10 +1,11 @@
 //! Reads the state of a text that has no horizon.
-ghost use Rattle.std.specs.Prelude.{◌≡◌, ◌≢◌, ◌+◌, ◌-◌, ◌^◌, ◌<◌, ◌↔◌, IfOk, Err};
+ghost use Rattle.std.specs.Prelude.{◌≡◌, ◌-◌, ◌^◌, ◌<◌, IfOk, Err};
+ghost use Rattle.cif_line.specs.Device.{CountsFailure};
 ghost use Rattle.docker_model.specs.state.StateText.{dks_1};
 ghost use Rattle.docker_bytes.specs.SourceRead.{ReadsState, RefusesState, ReadsOnePieceMore, WantsMemory};
 
 use crate::read::{ReadFault, read_format};
-use cif_line::Source;
+use cif_line::{PIECE, Source};
 use docker_parts::format::Format;
 use docker_parts::{State, Whole};
 use std::alloc::Global;
@@ -17,12 +18,10 @@ pub fn migrate<S: Source>(alloc: Global, source: &mut S, limit: u64) -> Result<S
     ensures state { (fault : _) → result ≡ Err (ReadFault.State fault) →
         RefusesState dks_1 limit (S.left source.old) fault }
     ensures memory { result ≡ Err ReadFault.Memory →
-        WantsMemory dks_1 65536 limit (S.left source.old) (S.left source.new) }
-    ensures few { ReadsOnePieceMore dks_1 65536 limit (S.left source.old) (S.left source.new) }
-    ensures source { (result ≡ Err ReadFault.Source) ↔
-        (S.failures source.new ≡ S.failures source.old + 1) }
-    ensures no_failure { result ≢ Err ReadFault.Source →
-        S.failures source.new ≡ S.failures source.old }
+        WantsMemory dks_1 PIECE limit (S.left source.old) (S.left source.new) }
+    ensures few { ReadsOnePieceMore dks_1 PIECE limit (S.left source.old) (S.left source.new) }
+    ensures failures { CountsFailure (result ≡ Err ReadFault.Source) (S.failures source.old)
+        (S.failures source.new) }
 {
     read_format(alloc, Format::Dks1, Whole::new(alloc), source, limit)
 }

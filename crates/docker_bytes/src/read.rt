@@ -1,5 +1,6 @@
 //! Reads the state that a source holds.
-ghost use Rattle.std.specs.Prelude.{◌≡◌, ◌≢◌, ℕ, ◌+◌, ◌-◌, ◌^◌, ◌<◌, ◌↔◌, List, [], ◌++◌, length, IsOk, IfOk, Err, Some};
+ghost use Rattle.std.specs.Prelude.{◌≡◌, ◌≢◌, ℕ, ◌-◌, ◌^◌, ◌<◌, List, [], ◌++◌, length, IsOk, IfOk, Err, Some};
+ghost use Rattle.cif_line.specs.Device.{CountsFailure};
 ghost use Rattle.docker_model.specs.state.StateText.{dks_2};
 ghost use Rattle.docker_model.specs.state.StateText as formats;
 ghost use Rattle.docker_parts.specs.FormatMeaning.{format_meant};
@@ -10,7 +11,7 @@ ghost use Rattle.docker_bytes.specs.Reading.{format_of, IsMadeOf, IsWhole, IsWan
 
 use crate::fault::StateFault;
 use crate::parser::Parser;
-use cif_line::{FeedFault, Source, Taker, feed_all};
+use cif_line::{FeedFault, PIECE, Source, Taker, feed_all};
 use docker_parts::format::Format;
 use docker_parts::{Keeper, Maker, State, StateCause, Whole};
 use std::alloc::Global;
@@ -51,12 +52,10 @@ pub fn read_state<S: Source>(alloc: Global, source: &mut S, limit: u64) -> Resul
     ensures state { (fault : _) → result ≡ Err (ReadFault.State fault) →
         RefusesState dks_2 limit (S.left source.old) fault }
     ensures memory { result ≡ Err ReadFault.Memory →
-        WantsMemory dks_2 65536 limit (S.left source.old) (S.left source.new) }
-    ensures few { ReadsOnePieceMore dks_2 65536 limit (S.left source.old) (S.left source.new) }
-    ensures source { (result ≡ Err ReadFault.Source) ↔
-        (S.failures source.new ≡ S.failures source.old + 1) }
-    ensures no_failure { result ≢ Err ReadFault.Source →
-        S.failures source.new ≡ S.failures source.old }
+        WantsMemory dks_2 PIECE limit (S.left source.old) (S.left source.new) }
+    ensures few { ReadsOnePieceMore dks_2 PIECE limit (S.left source.old) (S.left source.new) }
+    ensures failures { CountsFailure (result ≡ Err ReadFault.Source) (S.failures source.old)
+        (S.failures source.new) }
 {
     read_format(alloc, Format::Dks2, Whole::new(alloc), source, limit)
 }
@@ -77,13 +76,11 @@ pub(crate) fn read_format<S: Source, K: Maker>(
     ensures state { (fault : _) → result ≡ Err (ReadFault.State fault) →
         RefusesState (format_meant format) limit (S.left source.old) fault }
     ensures memory { result ≡ Err ReadFault.Memory →
-        WantsMemory (format_meant format) 65536 limit (S.left source.old) (S.left source.new) }
-    ensures few { ReadsOnePieceMore (format_meant format) 65536 limit (S.left source.old)
+        WantsMemory (format_meant format) PIECE limit (S.left source.old) (S.left source.new) }
+    ensures few { ReadsOnePieceMore (format_meant format) PIECE limit (S.left source.old)
         (S.left source.new) }
-    ensures source { (result ≡ Err ReadFault.Source) ↔
-        (S.failures source.new ≡ S.failures source.old + 1) }
-    ensures no_failure { result ≢ Err ReadFault.Source →
-        S.failures source.new ≡ S.failures source.old }
+    ensures failures { CountsFailure (result ≡ Err ReadFault.Source) (S.failures source.old)
+        (S.failures source.new) }
 {
     let mut parser = Parser::new(alloc, format, limit, keeper);
     read_pieces(alloc, source, &mut parser)?;
@@ -107,14 +104,12 @@ pub(crate) fn read_pieces<S: Source, K: Keeper>(
         RefusesState (format_of parser.old.reading) parser.old.reading.limit
         (S.left source.old) fault }
     ensures memory { result ≡ Err ReadFault.Memory →
-        WantsSoFar (format_of parser.old.reading) 65536 parser.old.reading.limit
+        WantsSoFar (format_of parser.old.reading) PIECE parser.old.reading.limit
         (S.left source.old) (S.left source.new) }
-    ensures few { ReadsOnePieceMore (format_of parser.old.reading) 65536
+    ensures few { ReadsOnePieceMore (format_of parser.old.reading) PIECE
         parser.old.reading.limit (S.left source.old) (S.left source.new) }
-    ensures source { (result ≡ Err ReadFault.Source) ↔
-        (S.failures source.new ≡ S.failures source.old + 1) }
-    ensures no_failure { result ≢ Err ReadFault.Source →
-        S.failures source.new ≡ S.failures source.old }
+    ensures failures { CountsFailure (result ≡ Err ReadFault.Source) (S.failures source.old)
+        (S.failures source.new) }
 {
     match feed_all(alloc, source, parser) {
         Ok(_) => Ok(()),

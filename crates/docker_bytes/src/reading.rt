@@ -1,6 +1,5 @@
 //! Reads a text in pieces, part by part.
 ghost use Rattle.std.specs.Prelude.{◌≡◌, ◌+◌, ◌-◌, ◌<◌, ◌≤◌, ◌↔◌, [], ◌++◌, length, take, IsTrue, IsOk, IsErr, IfOk, IfErr};
-ghost use Rattle.arrayvec.specs.ArrayVec.{array_vec_len};
 ghost use Rattle.docker_model.specs.state.StatePart.{width};
 ghost use Rattle.docker_parts.specs.FormatMeaning.{format_meant};
 ghost use Rattle.docker_bytes.specs.Reading.{format_of, before_of, text_of, IsReading, ReadsOn, IsPartRefused, IsFaultTold, IsUnended, IsStep, IsMadeOf, JoinsText, IsLineOf};
@@ -12,6 +11,7 @@ use docker_parts::{
     Gathered, Keeper, Maker, Received, Receiver, ScheduleKey, Stage, State, StateCause, Told,
     judged_line, step,
 };
+use fixed_text::put;
 use std::alloc::Global;
 
 /// A text so far: what its parts have said, the next part with the bytes of it that came, and where
@@ -27,16 +27,6 @@ pub(crate) struct Reading<K: Keeper> {
     partial: ArrayVec<u8, LINE>,
     item_at: u64,
     reached: u64,
-}
-
-/// Appends bytes to a part, for which there is room.
-fn extend(partial: &mut ArrayVec<u8, LINE>, more: &[u8])
-    requires { array_vec_len partial.old + length more.now ≤ LINE }
-    ensures { partial.new.items ≡ partial.old.items ++ more.now }
-{
-    if partial.try_extend_from_slice(more).is_err() {
-        unreachable!()
-    }
 }
 
 impl<K: Keeper> Reading<K> {
@@ -135,6 +125,13 @@ impl<K: Keeper> Reading<K> {
         self.lines.has_more(count)
     }
 
+    /// Takes room at once for the lines of the schedule that is read, if a piece has all of them.
+    fn make_room(&mut self, count: u32, piece: &[u8])
+        ensures { self.new ≡ self.old }
+    {
+        self.lines.make_room(self.alloc, count, piece.len());
+    }
+
     /// Takes the complete lines at the head of a piece that have more lines of the same schedule to
     /// come. Returns the bytes after them.
     fn take_lines<'a>(&mut self, piece: &'a [u8]) -> Result<&'a [u8], StateFault>
@@ -152,6 +149,7 @@ impl<K: Keeper> Reading<K> {
         if !self.partial.is_empty() {
             return Ok(piece);
         }
+        self.make_room(count, piece);
         let mut rest = piece;
         'lines: while self.has_whole_line(count, rest.len()) {
             let (line, behind) = rest.split_at(LINE);
@@ -214,7 +212,7 @@ impl<K: Keeper> Reading<K> {
             return self.judge(front);
         }
         let mut part = self.partial.take();
-        extend(&mut part, front);
+        put(&mut part, front);
         self.judge(part.as_slice())
     }
 
@@ -230,7 +228,7 @@ impl<K: Keeper> Reading<K> {
         if (self.partial.len() + more.len()) as u64 > self.limit - self.reached {
             return Err(self.long());
         }
-        extend(&mut self.partial, more);
+        put(&mut self.partial, more);
         Ok(())
     }
 

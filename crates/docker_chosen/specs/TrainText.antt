@@ -1,6 +1,6 @@
 -- Which schedule is chosen for a UID on a day, where it came from, and the text that says so. Days
 -- are from 0 to 36524.
-use Rattle.std.specs.Prelude.{◌≡◌, ℕ, ◌-◌, ◌==◌, if◌then◌else◌, List, [], ◌∷◌, ◌++◌, length, codes, decimal, Option, Some, None}
+use Rattle.std.specs.Prelude.{◌≡◌, ℕ, ◌-◌, if◌then◌else◌, List, [], ◌∷◌, ◌++◌, length, codes, decimal, Option, Some, None}
 use Rattle.std.specs.List.{flat_map}
 use Rattle.docker_model.specs.records.PrintedTime.{spaces, day_text, minute_text}
 use Rattle.docker_model.specs.file.Change.{schedule_key, schedule_body}
@@ -9,6 +9,7 @@ use Rattle.docker_model.specs.state.Op.{put_with}
 use Rattle.docker_model.specs.state.State.{State, entry_at, live_table}
 use Rattle.docker_model.specs.docker.LiveRows.{Train, IsChosenOn}
 use Rattle.docker_model.specs.docker.DockerText.{ended}
+use Rattle.docker_train.specs.Ranked.{is_cancellation}
 
 -- a schedule, with the stamp of the change that put it: its file, and its record's number there
 pub record Stamped : Type 0 where
@@ -37,10 +38,10 @@ stamp_text stamp =
     day_text stamp.file.moment.day ++ spaces 1 ++ minute_text stamp.file.moment.minute ++ spaces 1 ++ stamp.file.reference ++ spaces 1
     ++ number_text stamp.number
 
--- whether a train runs by a chosen schedule with this STP indicator: C cancels it, and by any other
--- it runs
+-- whether a train runs by a chosen schedule with this STP indicator: a cancellation's cancels it,
+-- and by any other it runs
 abbrev pub running_text : ℕ → List ℕ
-running_text indicator = if indicator == 67 then codes "CANCELLED" else codes "RUNS     "
+running_text indicator = if is_cancellation indicator then codes "CANCELLED" else codes "RUNS     "
 
 -- columns 27 to 72 of the heading: STP indicator, whether the train runs, and the stamp
 unfoldable pub found_text : Option Stamped → List ℕ

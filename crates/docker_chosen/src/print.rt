@@ -1,10 +1,9 @@
 //! The text of a train: a heading, the records of its schedule and a last line, each of 80 columns
 //! and a line feed.
-ghost use Rattle.std.specs.Prelude.{◌≡◌, ◌≢◌, ℕ, List, ◌+◌, ◌-◌, ◌^◌, ◌<◌, ◌≤◌, ◌↔◌, ◌++◌, length, IsOk, Err, OnOk, OnErr, Some};
+ghost use Rattle.std.specs.Prelude.{◌≡◌, ℕ, List, ◌-◌, ◌^◌, ◌<◌, ◌↔◌, IsOk, IsErr, Err, OnOk, OnErr, Some};
 ghost use Rattle.std.specs.List.{flat_map};
 ghost use Rattle.std.specs.Option.{option_copied};
-ghost use Rattle.arrayvec.specs.ArrayVec.{array_vec_len};
-ghost use Rattle.cif_line.specs.Device.{Takes, TakesPart};
+ghost use Rattle.cif_line.specs.Device.{CountsFailure, Takes, TakesPart};
 ghost use Rattle.docker_join.specs.Meaning.{stamp_meant};
 ghost use Rattle.docker_model.specs.records.PrintedTime.{minute_text};
 ghost use Rattle.docker_model.specs.docker.DockerText.{ended};
@@ -21,6 +20,7 @@ use arrayvec::ArrayVec;
 use cif_line::{Day, Failed, Line, Sink, Stp, Uid, write_all};
 use docker_join::Stamp;
 use docker_state::State;
+use fixed_text::{put, whole};
 use itoa::Buffer;
 
 /// The bytes of a line: 80 columns and a line feed.
@@ -42,10 +42,8 @@ pub fn print_train<K: Sink>(
         → PrintsPart state.now uid.now day (K.taken sink.old) (K.taken sink.new) }
     ensures lapsed { (result ≡ Err TrainFault.Lapsed) ↔ (day < state.now.horizon) }
     ensures unwritten { result ≡ Err TrainFault.Lapsed → sink.new ≡ sink.old }
-    ensures sink { (result ≡ Err TrainFault.Sink)
-        ↔ (K.failures sink.new ≡ K.failures sink.old + 1) }
-    ensures no_failure { result ≢ Err TrainFault.Sink
-        → K.failures sink.new ≡ K.failures sink.old }
+    ensures failures { CountsFailure (result ≡ Err TrainFault.Sink)
+        (K.failures sink.old) (K.failures sink.new) }
 {
     match find_train(state, uid, day) {
         Ok(train) => write_train(&train, sink).map_err(|_| TrainFault::Sink),
@@ -63,8 +61,7 @@ pub fn write_train<K: Sink>(train: &ChosenTrain<'_>, sink: &mut K) -> Result<(),
         → IsTrainText state uid day (text_of train.now) }
     ensures part { OnErr result
         (TakesPart (K.taken sink.old) (text_of train.now) (K.taken sink.new)) }
-    ensures no_failure { OnOk result (K.failures sink.new ≡ K.failures sink.old) }
-    ensures counted { OnErr result (K.failures sink.new ≡ K.failures sink.old + 1) }
+    ensures failures { CountsFailure (IsErr result) (K.failures sink.old) (K.failures sink.new) }
 {
     let heading = heading(&train.uid(), train.day(), &text_of_found(train.found()));
     write_all(sink, &heading)?;
@@ -79,8 +76,7 @@ fn write_lines<K: Sink>(sink: &mut K, lines: &[Line]) -> Result<(), Failed>
         (Takes (K.taken sink.old) (flat_map ended lines.now) (K.taken sink.new)) }
     ensures part { OnErr result
         (TakesPart (K.taken sink.old) (flat_map ended lines.now) (K.taken sink.new)) }
-    ensures no_failure { OnOk result (K.failures sink.new ≡ K.failures sink.old) }
-    ensures counted { OnErr result (K.failures sink.new ≡ K.failures sink.old + 1) }
+    ensures failures { CountsFailure (IsErr result) (K.failures sink.old) (K.failures sink.new) }
 {
     for line in lines {
         write_all(sink, &text_of_line(line))?;
@@ -202,26 +198,4 @@ fn last_line() -> [u8; WIDTH]
     put(&mut text, &[b' '; 77]);
     put(&mut text, b"\n");
     whole(text)
-}
-
-/// Appends bytes for which there is room.
-fn put<const N: usize>(text: &mut ArrayVec<u8, N>, bytes: &[u8])
-    requires { array_vec_len text.old + length bytes.now ≤ N }
-    ensures items { text.new.items ≡ text.old.items ++ bytes.now }
-    ensures len { array_vec_len text.new ≡ array_vec_len text.old + length bytes.now }
-{
-    if text.try_extend_from_slice(bytes).is_err() {
-        unreachable!()
-    }
-}
-
-/// The bytes of a full text.
-fn whole<const N: usize>(text: ArrayVec<u8, N>) -> [u8; N]
-    requires full { array_vec_len text ≡ N }
-    ensures { result ≡ text.entry.items }
-{
-    match text.into_inner() {
-        Ok(bytes) => bytes,
-        Err(_) => unreachable!(),
-    }
 }

@@ -13,12 +13,12 @@ place_read office = office_read office.state
 -- what was read
 abbrev pub held_meant : Holding → ReadView
 held_meant (Whole content) = content_meant content
-held_meant (Place office day) = place_read office
+held_meant (Place office) = place_read office
 held_meant (Ledger office) = office_read office
 
--- such an output is written of what is held: of an office at a timing point, a docker there on its
--- day, and of a ledger, its files
+-- such an output is written of what is held: of an office at a timing point for a day, the docker
+-- there on that day, and of a ledger, its files
 abbrev pub IsWrittenFrom : Output → Holding → Type 0
 IsWrittenFrom output (Whole content) = IsWrittenOf output (content_meant content)
-IsWrittenFrom output (Place office day) = output ≡ docker_written office.place day
+IsWrittenFrom output (Place office) = output ≡ docker_written office.place office.day
 IsWrittenFrom output (Ledger office) = output ≡ files_written

@@ -16,7 +16,7 @@ use Rattle.docker_office.specs.SourceRead.{ReadsState, JoinsState, RefusesState,
 use Rattle.docker_office.specs.StateFault.{StateFault}
 use Rattle.docker_office.specs.declared.fault.OfficeFault.{OfficeFault}
 use Rattle.docker_office.specs.declared.fault.OfficeFault.TheVariants as office
-use Rattle.docker_office.specs.Office.{no_state, TakesFile, WantsForFile}
+use Rattle.docker_office.specs.Office.{most_at_once, no_state, TakesFile, WantsForFile}
 use Rattle.docker_cmd.specs.Job.{JobView, TaskView, check_task, horizon_task}
 pub use Rattle.docker_cmd.specs.Reads.{Sources, no_source, checked_file, taken_file, one_state, state_and_file, two_states, sources_of, horizon_of}
 pub use Rattle.docker_cmd.specs.Writes.{Output, counts_written, docker_written, files_written, state_written, output_of}
@@ -25,10 +25,6 @@ use Rattle.docker_cmd.specs.CheckLine.{count_line}
 -- the most bytes that a state's text may have
 abbrev pub most_bytes : ℕ
 most_bytes = 1099511627776
-
--- the most bytes that are read at once
-abbrev pub most_at_once : ℕ
-most_at_once = 65536
 
 -- the bytes that a device has left, or took; None if it can't name them
 abbrev pub DeviceBytes : Type 0

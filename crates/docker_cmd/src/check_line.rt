@@ -2,8 +2,8 @@
 ghost use Rattle.std.specs.Prelude.{◌≡◌};
 ghost use Rattle.docker_cmd.specs.CheckLine.{count_line};
 
-use crate::buffer::put;
 use arrayvec::ArrayVec;
+use fixed_text::put;
 use itoa::Buffer;
 
 /// The line, with its line feed. It has room for any two counts.

@@ -5,12 +5,12 @@ ghost use Rattle.cif_journey.specs.Cause.{cause_text};
 ghost use Rattle.docker_cmd.specs.FaultLine.{status_of, fault_line, file_line, state_line};
 ghost use Rattle.docker_office.specs.FaultText as state_text;
 
-use crate::buffer::put;
 use crate::fault::Fault;
 use crate::job_fault::JobFault;
 use arrayvec::ArrayVec;
 use cif_file::{FileCause, FileFault};
 use docker_office::{OfficeFault, StateCause, StateFault};
+use fixed_text::put;
 use itoa::Buffer;
 
 /// The line of a fault, with its line feed.

@@ -17,13 +17,8 @@ use std::alloc::Global;
 pub(crate) enum Holding {
     /// All that it has read.
     Whole(Content),
-    /// What the dockers of a timing point are made of, and the day of the one that it prints.
-    Place {
-        /// The office at the timing point.
-        office: PlaceOffice,
-        /// The day.
-        day: Day,
-    },
+    /// What the docker that it prints is made of.
+    Place(PlaceOffice),
     /// The ledger of a state.
     Ledger(LedgerOffice),
 }
@@ -48,8 +43,8 @@ pub(crate) fn hold<S: Source, T: Source>(
 {
     match job.task() {
         Task::Print { place, day } => {
-            let office = place_of_state(alloc, place, first)?;
-            Ok(Holding::Place { office, day })
+            let office = place_of_state(alloc, place, day, first)?;
+            Ok(Holding::Place(office))
         }
         Task::Files => {
             let ledger = ledger_of_state(alloc, first)?;
@@ -81,20 +76,22 @@ fn hold_all<S: Source, T: Source>(
     Ok(Holding::Whole(content.under(job.task().horizon())))
 }
 
-/// An office at a timing point, of the state that a source holds.
+/// An office at a timing point for a day, of the state that a source holds.
 fn place_of_state<S: Source>(
     alloc: Global,
     place: Tiploc,
+    day: Day,
     source: &mut S,
 ) -> Result<PlaceOffice, OfficeFault>
     requires { S.failures source.old < 2 ^ 64 - 1 }
     ensures reads { (second : DeviceBytes) → ReadsContent place_read (one_state dks_2)
         (S.left source.old) (S.left source.new) second second result }
     ensures place { IfOk result (λ office. office.place ≡ place) }
+    ensures day { IfOk result (λ office. office.day ≡ day) }
     ensures counted { (second : ℕ) → CountsSources result
         (S.failures source.old) (S.failures source.new) second second }
 {
-    let office = PlaceOffice::read(alloc, place, source, MOST_BYTES)?;
+    let office = PlaceOffice::read(alloc, place, day, source, MOST_BYTES)?;
     Ok(office)
 }
 

@@ -1,7 +1,6 @@
 //! The program's commands: which job words name, what it reads and writes, and the texts of faults.
 #![tactic(auto)]
 
-mod buffer;
 mod check_line;
 mod fault;
 mod fault_line;

@@ -1,6 +1,7 @@
 //! The job line: a program without words reads them from the first line of its standard input.
-ghost use Rattle.std.specs.Prelude.{◌≡◌, ◌+◌, ◌*◌, ◌-◌, ◌^◌, ◌<◌, ◌≤◌, ◌↔◌, ◌≢◌, ◌++◌, length, Some, IfOk, OnOk, OnErr, Err, MatchOption, IfSome};
+ghost use Rattle.std.specs.Prelude.{◌≡◌, ◌+◌, ◌*◌, ◌-◌, ◌^◌, ◌<◌, ◌≤◌, ◌↔◌, ◌≢◌, ◌++◌, length, Some, IfOk, IsErr, OnErr, Err, MatchOption, IfSome};
 ghost use Rattle.std.specs.List.{position_or_len, before_first, after_first};
+ghost use Rattle.cif_line.specs.Device.{CountsFailure};
 ghost use Rattle.docker_cmd.specs.Job.{IsJobOf, NameNoJob};
 ghost use Rattle.arrayvec.specs.ArrayVec.{array_vec_len};
 ghost use Rattle.docker_cmd.specs.JobLine.{HasJob, HasNoJob, HasNoLine, IsLineText, ReadsAtMost, ReadsByte, ReadsJob, ReadsLine, is_space, word_or_none, words_in};
@@ -35,10 +36,8 @@ pub fn job_line<S: Source>(alloc: Global, source: &mut S) -> Result<Job, JobFaul
     ensures usage { (result ≡ Err JobFault.Usage) → HasNoJob (S.left source.old) }
     ensures memory { (result ≡ Err JobFault.Memory) → HasJob (S.left source.old) }
     ensures few { ReadsAtMost 256 (S.left source.old) (S.left source.new) }
-    ensures source { (result ≡ Err JobFault.Source)
-        ↔ (S.failures source.new ≡ S.failures source.old + 1) }
-    ensures no_failure { result ≢ Err JobFault.Source
-        → S.failures source.new ≡ S.failures source.old }
+    ensures failures { CountsFailure (result ≡ Err JobFault.Source)
+        (S.failures source.old) (S.failures source.new) }
 {
     let line = read_line(source)?;
     job_of_line(alloc, line.as_slice())
@@ -71,8 +70,8 @@ fn text_of(line: &[u8]) -> &str
 fn read_byte<S: Source>(source: &mut S) -> Result<Option<u8>, JobFault>
     requires { S.failures source.old < 2 ^ 64 - 1 }
     ensures byte { IfOk result (λ byte. ReadsByte (S.left source.old) byte (S.left source.new)) }
-    ensures no_failure { OnOk result (S.failures source.new ≡ S.failures source.old) }
-    ensures failure { OnErr result (S.failures source.new ≡ S.failures source.old + 1) }
+    ensures failures { CountsFailure (IsErr result) (S.failures source.old)
+        (S.failures source.new) }
     ensures unmoved { OnErr result (S.left source.new ≡ S.left source.old) }
     ensures fault { OnErr result (result ≡ Err JobFault.Source) }
 {
@@ -135,10 +134,8 @@ fn read_line<S: Source>(source: &mut S) -> Result<Line, JobFault>
     ensures usage { (result ≡ Err JobFault.Usage) → HasNoLine (S.left source.old) }
     ensures memory { result ≢ Err JobFault.Memory }
     ensures few { ReadsAtMost 256 (S.left source.old) (S.left source.new) }
-    ensures source { (result ≡ Err JobFault.Source)
-        ↔ (S.failures source.new ≡ S.failures source.old + 1) }
-    ensures no_failure { result ≢ Err JobFault.Source
-        → S.failures source.new ≡ S.failures source.old }
+    ensures failures { CountsFailure (result ≡ Err JobFault.Source)
+        (S.failures source.old) (S.failures source.new) }
 {
     let mut line = Line::new();
     for _ in 0..=LONGEST {

@@ -1,6 +1,6 @@
 //! What a job writes.
-ghost use Rattle.std.specs.Prelude.{◌≡◌, ◌≢◌, ◌+◌, ◌-◌, ◌^◌, ◌<◌, ◌↔◌, IfErr, OnErr, OnOk, Err};
-ghost use Rattle.cif_line.specs.Device.{Takes, TakesPart};
+ghost use Rattle.std.specs.Prelude.{◌≡◌, ◌≢◌, ◌-◌, ◌^◌, ◌<◌, IfErr, OnErr, OnOk, Err};
+ghost use Rattle.cif_line.specs.Device.{CountsFailure, Takes, TakesPart};
 ghost use Rattle.docker_cmd.specs.Writes.{output_meant};
 ghost use Rattle.docker_cmd.specs.Prepared.{EndsEmitting, IsRefused, IsRefusedDocker, counts_written, docker_written, file_read, files_written, office_read, output_of};
 
@@ -10,7 +10,7 @@ use crate::prepared_job::Prepared;
 use crate::sources::Content;
 use crate::writes::Output;
 use cif_file::FileCount;
-use cif_line::{Day, Sink, write_all};
+use cif_line::{Sink, write_all};
 use docker_office::{LedgerOffice, Office, OfficeFault, PlaceOffice};
 
 /// Writes what the job prints, or the text of the state that is to be kept. `check` writes the line
@@ -31,7 +31,7 @@ pub fn emit<K: Sink>(prepared: &Prepared<'_>, sink: &mut K) -> Result<(), Office
         Holding::Whole(Content::Office(office)) => {
             write_office(office, &prepared.job().task().writes(), sink)
         }
-        Holding::Place { office, day } => write_place(office, *day, sink),
+        Holding::Place(office) => write_place(office, sink),
         Holding::Ledger(office) => write_ledger(office, sink),
     }
 }
@@ -51,9 +51,8 @@ fn write<K: Sink>(sink: &mut K, text: &[u8]) -> Result<(), OfficeFault>
     requires { K.failures sink.old < 2 ^ 64 - 1 }
     ensures whole { OnOk result (Takes (K.taken sink.old) text.now (K.taken sink.new)) }
     ensures part { OnErr result (TakesPart (K.taken sink.old) text.now (K.taken sink.new)) }
-    ensures no_failure { OnOk result (K.failures sink.new ≡ K.failures sink.old) }
-    ensures sink { (result ≡ Err OfficeFault.Sink) ↔
-        (K.failures sink.new ≡ K.failures sink.old + 1) }
+    ensures failures { CountsFailure (result ≡ Err OfficeFault.Sink)
+        (K.failures sink.old) (K.failures sink.new) }
     ensures only { IfErr result (λ fault. fault ≡ OfficeFault.Sink) }
 {
     write_all(sink, text).map_err(|_| OfficeFault::Sink)
@@ -75,15 +74,15 @@ fn write_office<K: Sink>(office: &Office, output: &Output, sink: &mut K) -> Resu
     }
 }
 
-/// Prints the docker of an office at a timing point.
-fn write_place<K: Sink>(office: &PlaceOffice, day: Day, sink: &mut K) -> Result<(), OfficeFault>
+/// Prints the docker of an office at a timing point for a day.
+fn write_place<K: Sink>(office: &PlaceOffice, sink: &mut K) -> Result<(), OfficeFault>
     requires { K.failures sink.old < 2 ^ 64 - 1 }
-    ensures ends { EndsEmitting K.taken K.failures (docker_written office.now.place day)
+    ensures ends { EndsEmitting K.taken K.failures (docker_written office.now.place office.now.day)
         (office_read office.now.state) sink.old sink.new result }
-    ensures lapsed { IsRefusedDocker (docker_written office.now.place day)
+    ensures lapsed { IsRefusedDocker (docker_written office.now.place office.now.day)
         (office_read office.now.state) → result ≡ Err OfficeFault.Lapsed }
 {
-    office.print(day, sink)
+    office.print(sink)
 }
 
 /// Lists the files of a ledger.

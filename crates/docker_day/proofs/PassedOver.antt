@@ -26,6 +26,7 @@ use Rattle.docker_train.specs.Along.{IsLiveTrain, IsLiveLink}
 use Rattle.docker_train.specs.Midnights.{some_late}
 use Rattle.docker_day.specs.Lines.{line_at_event, is_here, is_today, lines_there, row_lately, row_may_run, row_under_way, row_back, schedule_piece, Adds}
 use Rattle.docker_train.specs.Lately.{runs_back}
+use Rattle.docker_train.specs.Ranked.{is_cancellation}
 use Rattle.docker_train.proofs.LatelyRuns.{idle_lately}
 use Rattle.docker_day.proofs.TrainLines.{event_lines_are}
 use Rattle.docker_day.proofs.UpToLast.{lines_to_last}
@@ -219,4 +220,4 @@ row_idle (association_key key) body day of never = absurd (true_false never)
 pub not_in_force : (live : Table) (rows : List Row) (link : Link) (start : ℕ) → AreRowsOf live rows → IsLiveLink live link
     → association_runs link.line start ≡ false → false ≡ is_in_force (link_in rows) start link.key link.line
 not_in_force live rows link start are is_live idle =
-    (λ i. (sym (counts_not live rows link start are is_live idle) i && not (link.key.indicator == 67)) && is_date_indicator (column 37 link.line))
+    (λ i. (sym (counts_not live rows link start are is_live idle) i && not (is_cancellation link.key.indicator)) && is_date_indicator (column 37 link.line))

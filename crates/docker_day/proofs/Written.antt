@@ -1,11 +1,13 @@
 -- A text that is written part by part.
 use Rattle.std.proofs.Common.{◌≡◌, ℕ, suc, ◌+◌, ◌<◌, ◌≤◌, List, [], ◌∷◌, ◌++◌, length, take, drop, get_or, refl, ap, sym, ◌∙◌, subst, Some, None, Ok, Err, arith, append_assoc, append-nil, length-append}
-use Rattle.std.specs.Prelude.{Option, option_map, Result, OnErr}
+use Rattle.std.specs.Prelude.{◌≢◌, true, false, Option, option_map, Result, IsErr, IsErrAnd, OnOk, OnErr, ⊤}
 use Rattle.std.specs.List.{flat_map}
 use Rattle.std.proofs.Math.ListN.{drop_of_length-le}
 use Rattle.std.proofs.lemmas.List.{take-append-le}
 use Rattle.std.proofs.Math.Seq.{take-append-add, drop-cons}
-use Rattle.cif_line.specs.Device.{Takes, TakesPart}
+use Rattle.std.proofs.lemmas.Result.{on_ok_weaker, on_err_weaker}
+use Rattle.cif_device.proofs.DeviceLemmas.{counts_error}
+use Rattle.cif_line.specs.Device.{CountsFailure, Takes, TakesPart}
 
 -- two parts, both taken
 pub both_taken : (first second third : Option (List ℕ)) (front back : List ℕ) → Takes first front second → Takes second back third
@@ -36,6 +38,31 @@ part_of_back first second third front back one (n, short, taken) =
 pub on_any_err : {A E : Type 0} (result : Result A E) {P : Type 0} → P → OnErr result P
 on_any_err (Ok a) holds = tt
 on_any_err (Err e) holds = holds
+
+-- ---- how often the sink failed
+
+no_error : false ≢ true
+no_error is = cc
+
+-- as often as before, if nothing failed
+pub as_often : (before after : ℕ) → CountsFailure (false ≡ true) before after → after ≡ before
+as_often before after counted = counted.1 no_error
+
+-- nothing failed
+pub none_failed : (before after : ℕ) → after ≡ before → CountsFailure (false ≡ true) before after
+none_failed before after same = counts_error {A = ⊤} {E = ⊤} (Ok tt) before after same tt
+
+-- one write failed
+pub one_failed : {A E : Type 0} (Q : E → Type 0) (result : Result A E) (before after : ℕ) → IsErrAnd result Q → after ≡ before + 1
+    → CountsFailure (IsErr result) before after
+one_failed {A} {E} Q (Ok value) before after is more = absurd is
+one_failed {A} {E} Q (Err fault) before after is more = counts_error {A = A} {E = E} (Err fault) before after tt more
+
+-- nothing failed before the last write
+pub last_failed : {A E : Type 0} (result : Result A E) (before between after : ℕ) → between ≡ before → OnOk result (after ≡ between)
+    → OnErr result (after ≡ between + 1) → CountsFailure (IsErr result) before after
+last_failed result before between after none same more =
+    counts_error result before after (on_ok_weaker result (λ is. is ∙ none) same) (on_err_weaker result (λ is. is ∙ ap (λ n. n + 1) none) more)
 
 -- three parts, each equal to what it should be
 module _ (first second third last : Option (List ℕ)) (a b c front middle back : List ℕ) (a_is : a ≡ front) (b_is : b ≡ middle) (c_is : c ≡ back) where

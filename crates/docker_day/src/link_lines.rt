@@ -1,5 +1,5 @@
 //! The line of an association.
-ghost use Rattle.std.specs.Prelude.{◌≡◌, ◌&&◌, ◌==◌, List, Some, not, option_map, IfOk};
+ghost use Rattle.std.specs.Prelude.{◌≡◌, List, Some, option_map, IfOk};
 ghost use Rattle.docker_model.specs.file.Change.{ScheduleKey};
 ghost use Rattle.docker_model.specs.records.Record.{columns, column};
 ghost use Rattle.docker_model.specs.state.State.{live_table};
@@ -7,7 +7,6 @@ ghost use Rattle.docker_model.specs.docker.Association.{category_occasion, is_da
 ghost use Rattle.docker_model.specs.docker.Gathering.{is_in_force, partner_identity};
 ghost use Rattle.docker_model.specs.state.Row.{Row, AreRowsOf};
 ghost use Rattle.docker_model.specs.docker.LiveRows.{train_in, link_in};
-ghost use Rattle.docker_train.specs.Keys.{association_key_meant};
 ghost use Rattle.docker_train.specs.Meaning.{occasion_meant};
 ghost use Rattle.docker_train.specs.Walk.{occurrence_meant};
 ghost use Rattle.docker_train.specs.Along.{IsLiveLink};
@@ -16,9 +15,8 @@ ghost use Rattle.docker_day.specs.Lines.{listed, link_line_at, link_line_with, l
 use crate::docker_line::DockerLine;
 use crate::starts::{is_today, partner_start};
 use crate::visit::Visit;
-use cif_file::AssocKey;
 use cif_line::Memory;
-use docker_train::{LinkView, Occasion, Occurrence};
+use docker_train::{LinkView, Occasion, Occurrence, is_cancellation};
 
 /// The line of an association at the place of a visit, if it counts on the start day and its base
 /// train runs then.
@@ -51,14 +49,7 @@ fn is_in_force(visit: &Visit<'_>, link: &LinkView<'_>) -> bool
     if !link.runs_on(visit.start()) {
         return false;
     }
-    visit.counts(link.key()) & stands(link.key()) & has_indicator(link)
-}
-
-/// Whether a key isn't a cancellation's.
-fn stands(key: &AssocKey) -> bool
-    ensures { result ≡ not ((association_key_meant key.now).indicator == 67) }
-{
-    key.stp.letter() != b'C'
+    visit.counts(link.key()) & !is_cancellation(link.key().stp) & has_indicator(link)
 }
 
 /// Whether an association has a date indicator.

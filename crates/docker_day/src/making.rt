@@ -6,7 +6,7 @@ ghost use Rattle.docker_model.specs.records.Record.{columns};
 ghost use Rattle.docker_model.specs.state.Op.{body_of};
 ghost use Rattle.docker_join.specs.Meaning.{op_meant};
 ghost use Rattle.docker_model.specs.file.Change.{tiploc_key};
-ghost use Rattle.docker_model.specs.state.State.{live_table};
+ghost use Rattle.docker_model.specs.state.State.{IsValid, live_table};
 ghost use Rattle.docker_model.specs.state.Lapse.{IsDayRefused};
 ghost use Rattle.docker_model.specs.docker.DockerText.{description_in};
 ghost use Rattle.docker_day.specs.Dockers.{HasGathered, IsDockerOf};
@@ -20,7 +20,7 @@ use cif_file::{Body, Key};
 use cif_line::{Day, Memory, Tiploc};
 use docker_join::Op;
 use docker_state::State;
-use docker_train::{associations_at, rows_of, schedules_at};
+use docker_train::{associations_at, schedules_at};
 use std::alloc::Global;
 
 /// The docker of a timing point and a day: the events of the trains that run, and the associations,
@@ -40,8 +40,6 @@ pub fn docker<'a>(
         return Err(DockerFault::Lapsed);
     }
     let mut lines = Vec::new(alloc);
-    // Called for its contract: the live table has such rows.
-    let _rows = rows_of(state);
     match add_all(alloc, &mut lines, state, tiploc, day) {
         Ok(()) => {
             let description = description(state, tiploc);
@@ -86,7 +84,8 @@ fn is_refused(horizon: u16, day: Day) -> bool
 
 /// The description of a timing point: 26 bytes, or 26 spaces if the timing point isn't live.
 fn description<'a>(state: &'a State, tiploc: &Tiploc) -> &'a [u8; 26]
-    ensures { result.now ≡ description_in (live_table state.now (tiploc_key tiploc.now)) }
+    ensures text { result.now ≡ description_in (live_table state.now (tiploc_key tiploc.now)) }
+    ensures valid { IsValid state.now }
 {
     match state.get(&Key::Tiploc(*tiploc)) {
         Some(entry) => described(&entry.op),

@@ -1,8 +1,7 @@
 //! The text of a docker: a heading, its lines and a last line, each of 56 columns and a line feed.
-ghost use Rattle.std.specs.Prelude.{◌≡◌, ℕ, List, ◌+◌, ◌-◌, ◌^◌, ◌<◌, ◌≤◌, [], ◌∷◌, ◌++◌, length, codes, OnOk, OnErr};
+ghost use Rattle.std.specs.Prelude.{◌≡◌, ℕ, List, ◌-◌, ◌^◌, ◌<◌, IsErr, OnOk, OnErr};
 ghost use Rattle.std.specs.List.{flat_map};
-ghost use Rattle.arrayvec.specs.ArrayVec.{array_vec_len};
-ghost use Rattle.cif_line.specs.Device.{Takes, TakesPart};
+ghost use Rattle.cif_line.specs.Device.{CountsFailure, Takes, TakesPart};
 ghost use Rattle.docker_model.specs.state.Table.{Table};
 ghost use Rattle.docker_model.specs.records.PrintedTime.{spaces, day_text};
 ghost use Rattle.docker_model.specs.docker.DockerText.{IsDockerText, detail_text, line_text, last_line, ended};
@@ -15,6 +14,7 @@ use crate::docker_line::DockerLine;
 use crate::docker_list::Docker;
 use arrayvec::ArrayVec;
 use cif_line::{Day, Failed, Sink, Tiploc, write_all};
+use fixed_text::{put, whole};
 
 /// The bytes of a line: 56 columns and a line feed.
 const WIDTH: usize = 57;
@@ -28,8 +28,7 @@ pub fn write_docker<K: Sink>(docker: &Docker<'_>, sink: &mut K) -> Result<(), Fa
         → IsDockerText live place day (text_of docker.now) }
     ensures part { OnErr result
         (TakesPart (K.taken sink.old) (text_of docker.now) (K.taken sink.new)) }
-    ensures no_failure { OnOk result (K.failures sink.new ≡ K.failures sink.old) }
-    ensures counted { OnErr result (K.failures sink.new ≡ K.failures sink.old + 1) }
+    ensures failures { CountsFailure (IsErr result) (K.failures sink.old) (K.failures sink.new) }
 {
     let heading = heading(&docker.place(), docker.day(), docker.description());
     write_all(sink, &heading)?;
@@ -46,8 +45,7 @@ fn write_lines<K: Sink>(sink: &mut K, lines: &[DockerLine<'_>]) -> Result<(), Fa
     ensures part { OnErr result
         (TakesPart (K.taken sink.old) (flat_map (λ line. ended (line_text line)) lines.now)
         (K.taken sink.new)) }
-    ensures no_failure { OnOk result (K.failures sink.new ≡ K.failures sink.old) }
-    ensures counted { OnErr result (K.failures sink.new ≡ K.failures sink.old + 1) }
+    ensures failures { CountsFailure (IsErr result) (K.failures sink.old) (K.failures sink.new) }
 {
     for line in lines {
         write_all(sink, &text_of_line(line))?;
@@ -133,26 +131,4 @@ fn text_of_detail(detail: &Detail) -> [u8; 15]
         }
     }
     whole(text)
-}
-
-/// Appends bytes for which there is room.
-fn put<const N: usize>(text: &mut ArrayVec<u8, N>, bytes: &[u8])
-    requires { array_vec_len text.old + length bytes.now ≤ N }
-    ensures items { text.new.items ≡ text.old.items ++ bytes.now }
-    ensures len { array_vec_len text.new ≡ array_vec_len text.old + length bytes.now }
-{
-    if text.try_extend_from_slice(bytes).is_err() {
-        unreachable!()
-    }
-}
-
-/// The bytes of a full text.
-fn whole<const N: usize>(text: ArrayVec<u8, N>) -> [u8; N]
-    requires full { array_vec_len text ≡ N }
-    ensures { result ≡ text.entry.items }
-{
-    match text.into_inner() {
-        Ok(bytes) => bytes,
-        Err(_) => unreachable!(),
-    }
 }

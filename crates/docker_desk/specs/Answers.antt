@@ -8,7 +8,8 @@ line_count (byte ∷ bytes) = if byte == 10 then 1 + line_count bytes else line_
 
 -- the header of an answer: its status, its lines and its bytes, in decimal
 abbrev pub header_text : (status lines bytes : ℕ) → List ℕ
-header_text status lines bytes = decimal status ++ codes " " ++ decimal lines ++ codes " " ++ decimal bytes ++ codes "\n"
+header_text status lines bytes =
+    decimal status ++ codes " " ++ decimal lines ++ codes " " ++ decimal bytes ++ codes "\n"
 
 -- the answer with a status and a text
 abbrev pub answer_text : ℕ → List ℕ → List ℕ

@@ -113,7 +113,8 @@ pub record ArePlaceAndDay (place : List ℕ) (day : ℕ) (tiploc date : Text) : 
 -- what comes after the word that names a request: the request's words, or its file and nothing else
 abbrev pub HasRest : RequestView → List ℕ → Type 0
 HasRest (print_request place day) rest = OfTwo (ArePlaceAndDay place day) (words_in rest)
-HasRest (train_request uid day) rest = OfTwo (λ word date. NamesTrain word uid × NamesDay date day) (words_in rest)
+HasRest (train_request uid day) rest =
+    OfTwo (λ word date. NamesTrain word uid × NamesDay date day) (words_in rest)
 HasRest files_request rest = words_in rest ≡ []
 HasRest renew_request rest = words_in rest ≡ []
 HasRest (take_request file) rest = NamesFile rest file

@@ -1,6 +1,6 @@
 //! The bytes that were read ahead from a source.
-ghost use Rattle.std.specs.Prelude.{◌≡◌, ◌≢◌, ◌+◌, ◌-◌, ◌^◌, ◌<◌, ◌↔◌, [], ◌∷◌, false, true, IsTrue, IfOk, OnOk, OnErr, MatchOption};
-ghost use Rattle.cif_line.specs.Device.{IsEnd};
+ghost use Rattle.std.specs.Prelude.{◌≡◌, ◌≢◌, ◌+◌, ◌-◌, ◌^◌, ◌<◌, ◌↔◌, [], ◌∷◌, false, true, IsTrue, IfOk, IsErr, OnOk, OnErr, MatchOption};
+ghost use Rattle.cif_line.specs.Device.{CountsFailure, IsEnd};
 ghost use Rattle.docker_cmd.specs.JobLine.{ReadsByte};
 ghost use Rattle.docker_desk.specs.Lines.{MeetsEnd, is_end_of_bytes, with_ahead};
 
@@ -72,8 +72,8 @@ impl Ahead {
         ensures still { OnErr result (S.ended source.new ≡ S.ended source.old) }
         ensures not_passed { S.ended source.old ≡ false
             → S.passed source.new ≡ S.passed source.old }
-        ensures no_failure { OnOk result (S.failures source.new ≡ S.failures source.old) }
-        ensures counted { OnErr result (S.failures source.new ≡ S.failures source.old + 1) }
+        ensures failures { CountsFailure (IsErr result)
+            (S.failures source.old) (S.failures source.new) }
     {
         if !self.is_empty() {
             return Ok(());
@@ -94,8 +94,8 @@ impl Ahead {
             ≡ with_ahead self.old (S.left source.old)) }
         ensures meets_end { MeetsEnd (is_end_of_bytes result)
             (S.ended source.old) (S.ended source.new) (S.passed source.old) (S.passed source.new) }
-        ensures no_failure { OnOk result (S.failures source.new ≡ S.failures source.old) }
-        ensures counted { OnErr result (S.failures source.new ≡ S.failures source.old + 1) }
+        ensures failures { CountsFailure (IsErr result)
+            (S.failures source.old) (S.failures source.new) }
     {
         self.make_ready(source)?;
         Ok(self.take_first())

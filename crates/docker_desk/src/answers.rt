@@ -1,11 +1,11 @@
 //! How an answer is written.
-ghost use Rattle.std.specs.Prelude.{◌≡◌, ◌+◌, ◌-◌, ◌^◌, ◌<◌, ◌≤◌, ◌++◌, length, OnOk, OnErr};
-ghost use Rattle.arrayvec.specs.ArrayVec.{array_vec_len};
-ghost use Rattle.cif_line.specs.Device.{Takes, TakesPart};
+ghost use Rattle.std.specs.Prelude.{◌≡◌, ◌-◌, ◌^◌, ◌<◌, length, IsErr, OnOk, OnErr};
+ghost use Rattle.cif_line.specs.Device.{CountsFailure, Takes, TakesPart};
 ghost use Rattle.docker_desk.specs.Answers.{answer_text, header_text, line_count};
 
 use arrayvec::ArrayVec;
 use cif_line::{Failed, Sink, write_all};
+use fixed_text::put;
 use itoa::Buffer;
 
 /// The header of an answer, with its line feed. It has room for all numbers.
@@ -19,8 +19,7 @@ pub fn write_answer<K: Sink>(status: u8, text: &[u8], sink: &mut K) -> Result<()
         (K.taken sink.new)) }
     ensures part { OnErr result (TakesPart (K.taken sink.old) (answer_text status text.now)
         (K.taken sink.new)) }
-    ensures no_failure { OnOk result (K.failures sink.new ≡ K.failures sink.old) }
-    ensures counted { OnErr result (K.failures sink.new ≡ K.failures sink.old + 1) }
+    ensures failures { CountsFailure (IsErr result) (K.failures sink.old) (K.failures sink.new) }
 {
     let header = header(status, line_feeds(text), text.len());
     write_all(sink, header.as_slice())?;
@@ -39,18 +38,6 @@ fn header(status: u8, lines: usize, bytes: usize) -> Header
     put(&mut header, Buffer::new().format(bytes).as_bytes());
     put(&mut header, b"\n");
     header
-}
-
-/// Appends bytes to a header that has room for them.
-fn put(header: &mut Header, bytes: &[u8])
-    requires { array_vec_len header.old + length bytes.now ≤ 64 }
-    ensures items { header.new.items ≡ header.old.items ++ bytes.now }
-    ensures len { array_vec_len header.new ≡ array_vec_len header.old + length bytes.now }
-{
-    match header.try_extend_from_slice(bytes) {
-        Ok(()) => {}
-        Err(_) => unreachable!(),
-    }
 }
 
 /// How many line feeds a text has.

@@ -14,4 +14,4 @@ pub use ahead::Ahead;
 pub use answers::write_answer;
 pub use lines::{Asked, InputFault, next_line};
 pub use page::Page;
-pub use requests::{Request, request_in};
+pub use requests::{Request, file_named, request_in};

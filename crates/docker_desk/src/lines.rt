@@ -1,5 +1,6 @@
 //! The lines of a source.
-ghost use Rattle.std.specs.Prelude.{◌≡◌, ◌≢◌, ◌+◌, ◌-◌, ◌^◌, ◌<◌, ◌↔◌, Option, List, ℕ, Err, false};
+ghost use Rattle.std.specs.Prelude.{◌≡◌, ◌-◌, ◌^◌, ◌<◌, Err, false};
+ghost use Rattle.cif_line.specs.Device.{CountsFailure};
 ghost use Rattle.docker_desk.specs.Lines.{EndsLine, EndsSkipping, MeetsEnd, asked_meant, cut_or_end, is_end_of_lines, with_ahead};
 
 use crate::ahead::Ahead;
@@ -52,10 +53,8 @@ pub fn next_line<S: Source>(ahead: &mut Ahead, source: &mut S) -> Result<Asked, 
     requires { S.failures source.old < 2 ^ 64 - 1 }
     ensures ends { EndsLine (with_ahead ahead.old (S.left source.old)) result
         (with_ahead ahead.new (S.left source.new)) }
-    ensures failed { (result ≡ Err InputFault.Failed)
-        ↔ (S.failures source.new ≡ S.failures source.old + 1) }
-    ensures no_failure { result ≢ Err InputFault.Failed
-        → S.failures source.new ≡ S.failures source.old }
+    ensures failures { CountsFailure (result ≡ Err InputFault.Failed)
+        (S.failures source.old) (S.failures source.new) }
     ensures meets_end { MeetsEnd (is_end_of_lines result) (S.ended source.old) (S.ended source.new)
         (S.passed source.old) (S.passed source.new) }
 {
@@ -91,10 +90,8 @@ fn skip_line<S: Source>(ahead: &mut Ahead, source: &mut S) -> Result<Asked, Inpu
     requires { S.failures source.old < 2 ^ 64 - 1 }
     ensures ends { EndsSkipping (with_ahead ahead.old (S.left source.old)) result
         (with_ahead ahead.new (S.left source.new)) }
-    ensures failed { (result ≡ Err InputFault.Failed)
-        ↔ (S.failures source.new ≡ S.failures source.old + 1) }
-    ensures no_failure { result ≢ Err InputFault.Failed
-        → S.failures source.new ≡ S.failures source.old }
+    ensures failures { CountsFailure (result ≡ Err InputFault.Failed)
+        (S.failures source.old) (S.failures source.new) }
     ensures meets_end { MeetsEnd (is_end_of_lines result) (S.ended source.old) (S.ended source.new)
         (S.passed source.old) (S.passed source.new) }
 {

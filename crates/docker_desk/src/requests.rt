@@ -139,8 +139,9 @@ fn train_named(word: &str) -> Option<Uid>
     Uid::from_field(&bytes)
 }
 
-/// The file that a text names.
-fn file_named(text: &str) -> Option<&str>
+/// The file that a text names. None if it is empty, begins with a hyphen, or is the word for
+/// standard input.
+pub fn file_named(text: &str) -> Option<&str>
     ensures named { IfSome result (λ file. NamesFile text.now file.now) }
     ensures none { IsNone result → (file : List ℕ) → ¬ NamesFile text.now file }
 {

@@ -1,10 +1,11 @@
 -- Pieces that are given to a sink through a buffer, one after another.
 use Rattle.std.proofs.Common.{◌≡◌, ℕ, suc, ◌+◌, ◌<◌, ◌≤◌, List, [], ◌∷◌, ◌++◌, length, take, drop, get_or, map, refl, ap, sym, ◌∙◌, subst, arith, append_assoc, append-nil, length-append, Some, None, Ok, Err, Result}
-use Rattle.std.specs.Prelude.{Option, IsErrAnd, OnOk, OnErr}
+use Rattle.std.specs.Prelude.{Option, IsErr, IsErrAnd, OnOk, OnErr}
 use Rattle.std.specs.List.{concat, flat_map}
 use Rattle.std.proofs.lemmas.List.{take-append-le, take-append-drop, take_more, map-append}
 use Rattle.std.proofs.lemmas.Grind.{flat_map-append}
-use Rattle.cif_line.specs.Device.{Takes, TakesPart}
+use Rattle.cif_device.proofs.DeviceLemmas.{counts_error}
+use Rattle.cif_line.specs.Device.{CountsFailure, Takes, TakesPart}
 use Rattle.docker_encode.specs.Written.{Gathers, Gives, Flushes}
 
 -- the bytes that a sink took, or nothing if it doesn't name them
@@ -104,9 +105,9 @@ module _ {S A E : Type 0} (taken : S → Told) (failures : S → ℕ) where
   -- what holds of bytes that are written, clause by clause
   pub flushed : (old new : S) (bytes : List ℕ) (result : Result A E) → Flushes taken failures old bytes result new
       → OnOk result (Takes (taken old) bytes (taken new)) × OnErr result (TakesPart (taken old) bytes (taken new))
-      × OnOk result (failures new ≡ failures old) × OnErr result (failures new ≡ failures old + 1)
-  flushed old new bytes (Ok done) told = (told.0, tt, told.1, tt)
-  flushed old new bytes (Err failed) told = (tt, told.0, tt, told.1)
+      × CountsFailure (IsErr result) (failures old) (failures new)
+  flushed old new bytes (Ok done) told = (told.0, tt, counts_error {A = A} {E = E} (Ok done) (failures old) (failures new) told.1 tt)
+  flushed old new bytes (Err failed) told = (tt, told.0, counts_error {A = A} {E = E} (Err failed) (failures old) (failures new) tt told.1)
 
   -- what was gathered of a text is written in full, or in part
   pub flush_written : (old mid new : S) (b p d whole : List ℕ) (result : Result A E) → Gathers (taken old) b p (taken mid) d

@@ -1,5 +1,5 @@
 //! A buffer before a sink, so that small pieces reach a device together.
-ghost use Rattle.std.specs.Prelude.{◌≡◌, ◌+◌, ◌-◌, ◌^◌, ◌<◌, ◌≤◌, ◌↔◌, [], ◌++◌, length, IsTrue, OnOk, OnErr};
+ghost use Rattle.std.specs.Prelude.{◌≡◌, ◌+◌, ◌-◌, ◌^◌, ◌<◌, ◌≤◌, [], OnOk};
 ghost use Rattle.arrayvec.specs.ArrayVec.{array_vec_len};
 ghost use Rattle.docker_encode.specs.Written.{Gives, Flushes};
 
@@ -39,16 +39,5 @@ pub(crate) fn make_room<K: Sink>(
         flush(sink, buffer)
     } else {
         Ok(())
-    }
-}
-
-/// Appends bytes for which there is room.
-pub(crate) fn add(buffer: &mut Buffer, bytes: &[u8])
-    requires { array_vec_len buffer.old + length bytes.now ≤ ROOM }
-    ensures items { buffer.new.items ≡ buffer.old.items ++ bytes.now }
-    ensures len { array_vec_len buffer.new ≡ array_vec_len buffer.old + length bytes.now }
-{
-    if buffer.try_extend_from_slice(bytes).is_err() {
-        unreachable!()
     }
 }

@@ -9,7 +9,7 @@ ghost use Rattle.docker_join.specs.Meaning.{file_stamp_meant, stamp_meant, op_me
 ghost use Rattle.docker_state.specs.Meaning.{item_meant, row_meant};
 ghost use Rattle.docker_encode.specs.Entries.{op_head, entry_head, op_lines, HasFewLines};
 
-use crate::buffer::{Buffer, ROOM, add};
+use crate::buffer::{Buffer, ROOM};
 use crate::format::{
     ASSOC_KEY, ASSOC_TAG, DELETED, ENTRY_HEAD, FILE_STAMP, ITEM, LAPSED, LINE, OP, PUT,
     SCHEDULE_KEY, SCHEDULE_TAG, STAMP, TAG, TIPLOC_TAG,
@@ -18,6 +18,7 @@ use cif_file::{AssocKey, Body, Key, ScheduleKey};
 use cif_line::Line;
 use docker_join::{Entry, FileStamp, Op, Stamp};
 use docker_state::LedgerItem;
+use fixed_text::put;
 
 /// Adds a file stamp.
 fn add_file_stamp(buffer: &mut Buffer, stamp: &FileStamp)
@@ -26,9 +27,9 @@ fn add_file_stamp(buffer: &mut Buffer, stamp: &FileStamp)
         ++ file_stamp_bytes (file_stamp_meant stamp.now) }
     ensures len { array_vec_len buffer.new ≡ array_vec_len buffer.old + FILE_STAMP }
 {
-    add(buffer, &stamp.day.number().to_be_bytes());
-    add(buffer, &stamp.minute.to_be_bytes());
-    add(buffer, &stamp.reference);
+    put(buffer, &stamp.day.number().to_be_bytes());
+    put(buffer, &stamp.minute.to_be_bytes());
+    put(buffer, &stamp.reference);
 }
 
 /// Adds a ledger item.
@@ -38,8 +39,8 @@ pub(crate) fn add_item(buffer: &mut Buffer, item: &LedgerItem)
     ensures len { array_vec_len buffer.new ≡ array_vec_len buffer.old + ITEM }
 {
     add_file_stamp(buffer, &item.stamp());
-    add(buffer, &[item.indicator.letter()]);
-    add(buffer, &item.last_reference);
+    put(buffer, &[item.indicator.letter()]);
+    put(buffer, &item.last_reference);
 }
 
 /// Adds a stamp.
@@ -49,7 +50,7 @@ fn add_stamp(buffer: &mut Buffer, stamp: &Stamp)
     ensures len { array_vec_len buffer.new ≡ array_vec_len buffer.old + STAMP }
 {
     add_file_stamp(buffer, &stamp.file);
-    add(buffer, &stamp.number.to_be_bytes());
+    put(buffer, &stamp.number.to_be_bytes());
 }
 
 /// Adds the key of an association with its tag.
@@ -59,12 +60,12 @@ fn add_assoc_key(buffer: &mut Buffer, key: &AssocKey)
         ++ key_text (key_meant (Key.Assoc key.now)) }
     ensures len { array_vec_len buffer.new ≡ array_vec_len buffer.old + (TAG + ASSOC_KEY) }
 {
-    add(buffer, &[ASSOC_TAG]);
-    add(buffer, key.base.bytes());
-    add(buffer, key.associated.bytes());
-    add(buffer, &key.start.number().to_be_bytes());
-    add(buffer, key.location.bytes());
-    add(buffer, &[key.suffix, key.stp.letter()]);
+    put(buffer, &[ASSOC_TAG]);
+    put(buffer, key.base.bytes());
+    put(buffer, key.associated.bytes());
+    put(buffer, &key.start.number().to_be_bytes());
+    put(buffer, key.location.bytes());
+    put(buffer, &[key.suffix, key.stp.letter()]);
 }
 
 /// Adds the key of a schedule with its tag.
@@ -74,10 +75,10 @@ fn add_schedule_key(buffer: &mut Buffer, key: &ScheduleKey)
         ++ key_text (key_meant (Key.Schedule key.now)) }
     ensures len { array_vec_len buffer.new ≡ array_vec_len buffer.old + (TAG + SCHEDULE_KEY) }
 {
-    add(buffer, &[SCHEDULE_TAG]);
-    add(buffer, key.uid.bytes());
-    add(buffer, &key.runs_from.number().to_be_bytes());
-    add(buffer, &[key.stp.letter()]);
+    put(buffer, &[SCHEDULE_TAG]);
+    put(buffer, key.uid.bytes());
+    put(buffer, &key.runs_from.number().to_be_bytes());
+    put(buffer, &[key.stp.letter()]);
 }
 
 /// Adds a key with its tag. The key of an association is the longest.
@@ -88,8 +89,8 @@ fn add_key(buffer: &mut Buffer, key: &Key)
 {
     match key {
         Key::Tiploc(code) => {
-            add(buffer, &[TIPLOC_TAG]);
-            add(buffer, code.bytes());
+            put(buffer, &[TIPLOC_TAG]);
+            put(buffer, code.bytes());
         }
         Key::Assoc(key) => add_assoc_key(buffer, key),
         Key::Schedule(key) => add_schedule_key(buffer, key),
@@ -103,14 +104,14 @@ fn add_op(buffer: &mut Buffer, op: &Op)
     ensures items { buffer.new.items ≡ buffer.old.items ++ op_head (op_meant op.now) }
 {
     match op {
-        Op::Deleted => add(buffer, &[DELETED]),
-        Op::Lapsed => add(buffer, &[LAPSED]),
+        Op::Deleted => put(buffer, &[DELETED]),
+        Op::Lapsed => put(buffer, &[LAPSED]),
         Op::Put(body) => {
-            add(buffer, &[PUT]);
+            put(buffer, &[PUT]);
             match body {
-                Body::Tiploc(bytes) => add(buffer, bytes),
-                Body::Assoc(line) => add(buffer, line.bytes()),
-                Body::Schedule(lines) => add(buffer, &(lines.len() as u32).to_be_bytes()),
+                Body::Tiploc(bytes) => put(buffer, bytes),
+                Body::Assoc(line) => put(buffer, line.bytes()),
+                Body::Schedule(lines) => put(buffer, &(lines.len() as u32).to_be_bytes()),
             }
         }
     }

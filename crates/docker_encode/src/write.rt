@@ -1,15 +1,15 @@
 //! The writing of a state.
-ghost use Rattle.std.specs.Prelude.{◌≡◌, ◌+◌, ◌-◌, ◌^◌, ◌<◌, ◌≤◌, ◌++◌, [], ◌∷◌, length, map, All, OnOk, OnErr};
+ghost use Rattle.std.specs.Prelude.{◌≡◌, ◌+◌, ◌-◌, ◌^◌, ◌<◌, ◌≤◌, ◌++◌, [], ◌∷◌, length, map, All, IsErr, OnOk, OnErr};
 ghost use Rattle.std.specs.List.{concat, flat_map};
 ghost use Rattle.std.specs.Int.{w16, w64, to_be_bytes};
 ghost use Rattle.arrayvec.specs.ArrayVec.{array_vec_len};
-ghost use Rattle.cif_line.specs.Device.{Takes, TakesPart};
+ghost use Rattle.cif_line.specs.Device.{CountsFailure, Takes, TakesPart};
 ghost use Rattle.docker_model.specs.state.StateText.{dks_2, head_text, item_bytes, entry_bytes, state_text};
 ghost use Rattle.docker_state.specs.Meaning.{item_meant, row_meant};
 ghost use Rattle.docker_encode.specs.Written.{Gives, Flushes, body_text};
 ghost use Rattle.docker_encode.specs.Entries.{HasFewLines};
 
-use crate::buffer::{Buffer, ROOM, add, flush, make_room};
+use crate::buffer::{Buffer, ROOM, flush, make_room};
 use crate::encode::{add_entry_head, add_item, lines_of};
 use crate::format::{COUNT, ENTRY_HEAD, HORIZON, ITEM, LINE, MARK};
 use arrayvec::ArrayVec;
@@ -17,6 +17,7 @@ use cif_file::Key;
 use cif_line::{Failed, Line, Sink};
 use docker_join::Entry;
 use docker_state::{LedgerItem, State};
+use fixed_text::put;
 
 /// Gives the bytes of ledger items.
 fn put_items<K: Sink>(sink: &mut K, buffer: &mut Buffer, items: &[LedgerItem]) -> Result<(), Failed>
@@ -39,7 +40,7 @@ fn put_lines<K: Sink>(sink: &mut K, buffer: &mut Buffer, lines: &[Line]) -> Resu
 {
     for line in lines {
         make_room(sink, buffer, LINE)?;
-        add(buffer, line.bytes());
+        put(buffer, line.bytes());
     }
     Ok(())
 }
@@ -76,7 +77,7 @@ fn put_count<K: Sink>(sink: &mut K, buffer: &mut Buffer, count: usize) -> Result
         sink.new buffer.new.items }
 {
     make_room(sink, buffer, COUNT)?;
-    add(buffer, &(count as u64).to_be_bytes());
+    put(buffer, &(count as u64).to_be_bytes());
     Ok(())
 }
 
@@ -86,9 +87,9 @@ fn add_head(buffer: &mut Buffer, horizon: u16, count: usize)
     ensures { buffer.new.items ≡ buffer.old.items
         ++ head_text dks_2 horizon ++ to_be_bytes w64 count }
 {
-    add(buffer, b"DKS2");
-    add(buffer, &horizon.to_be_bytes());
-    add(buffer, &(count as u64).to_be_bytes());
+    put(buffer, b"DKS2");
+    put(buffer, &horizon.to_be_bytes());
+    put(buffer, &(count as u64).to_be_bytes());
 }
 
 /// Gives the bytes of ledger items and entries, each list after its number. The number of ledger
@@ -123,8 +124,7 @@ pub fn write_state<K: Sink>(state: &State, sink: &mut K) -> Result<(), Failed>
         (Takes (K.taken sink.old) (state_text dks_2 state.now) (K.taken sink.new)) }
     ensures part { OnErr result
         (TakesPart (K.taken sink.old) (state_text dks_2 state.now) (K.taken sink.new)) }
-    ensures no_failure { OnOk result (K.failures sink.new ≡ K.failures sink.old) }
-    ensures counted { OnErr result (K.failures sink.new ≡ K.failures sink.old + 1) }
+    ensures failures { CountsFailure (IsErr result) (K.failures sink.old) (K.failures sink.new) }
 {
     put_text(sink, state)
 }

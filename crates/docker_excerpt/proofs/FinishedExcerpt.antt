@@ -1,14 +1,16 @@
--- The excerpt at the end of a state, and the dockers made from it.
+-- The excerpt at the end of a state, and the docker made from it.
 use Rattle.std.proofs.Common.{◌≡◌, ℕ, List, refl, ap, sym, ◌∙◌, subst}
 use Rattle.std.specs.Prelude.{Option, Some}
 use Rattle.docker_model.specs.file.Change.{Key, tiploc_key}
 use Rattle.docker_model.specs.state.Op.{Entry}
 use Rattle.docker_model.specs.state.State.{State, IsValid, AreEntries, live_table, raise_horizon}
 use Rattle.docker_model.specs.docker.DockerText.{description_in}
-use Rattle.docker_model.specs.docker.ExcerptWalk.{excerpt_for}
+use Rattle.docker_model.specs.docker.NearDay.{near_state, excerpt_on}
 use Rattle.state_laws.proofs.joins.RaisedHorizon.{set_last}
-use Rattle.docker_laws.proofs.dockers.ExcerptWalk.{walk_is_excerpt, walk_valid}
+use Rattle.docker_laws.proofs.dockers.ExcerptWalk.{walk_is_excerpt}
 use Rattle.docker_laws.proofs.dockers.ExcerptDocker.{same_where_needed, excerpt_list_iff}
+use Rattle.docker_laws.proofs.dockers.NearDocker.{near_description}
+use Rattle.docker_laws.proofs.dockers.NearState.{near_part, near_valid, near_state_list, excerpt_on_valid}
 use Rattle.docker_day.specs.DockerValue.{Docker}
 use Rattle.docker_day.specs.Dockers.{IsDockerOf}
 use Rattle.docker_parts.specs.Told.{horizon_meant, under}
@@ -26,44 +28,48 @@ horizon_set state raised horizon day plain read valid set =
     ∙ set_last (under day state) (subst (λ (h : Option ℕ). IsValid (under (horizon_meant h) state)) read valid)
     ∙ ap (λ (h : Option ℕ). under (horizon_meant h) state) (sym read)
 
-module _ (place : List ℕ) (horizon : ℕ) (told : State) (valid : IsValid (under horizon told)) where
+module _ (place : List ℕ) (day horizon : ℕ) (told : State) (valid : IsValid (under horizon told)) where
   -- the entries that are kept are good
-  pub kept_entries : (rows : List (Key × Entry)) → rows ≡ (excerpt_for place told).entries → AreEntries told.ledger rows
-  kept_entries rows is = subst (λ (all : List (Key × Entry)). AreEntries told.ledger all) (sym is) (walk_valid place (under horizon told) valid).entries
+  pub kept_entries : (rows : List (Key × Entry)) → rows ≡ (excerpt_on place day told).entries → AreEntries told.ledger rows
+  kept_entries rows is = subst (λ (all : List (Key × Entry)). AreEntries told.ledger all) (sym is) (excerpt_on_valid place day (under horizon told) valid).entries
 
   -- they are valid under the horizon
-  pub kept_valid : (state : State) (rows : List (Key × Entry)) → rows ≡ (excerpt_for place told).entries → state.ledger ≡ told.ledger → state.entries ≡ rows
+  pub kept_valid : (state : State) (rows : List (Key × Entry)) → rows ≡ (excerpt_on place day told).entries → state.ledger ≡ told.ledger → state.entries ≡ rows
       → IsValid (under horizon state)
   kept_valid state rows is same entries =
-      subst IsValid (λ i. record { horizon = horizon; ledger = sym same i; entries = sym (entries ∙ is) i }) (walk_valid place (under horizon told) valid)
+      subst IsValid (λ i. record { horizon = horizon; ledger = sym same i; entries = sym (entries ∙ is) i }) (excerpt_on_valid place day (under horizon told) valid)
 
-  part_is : (part : State) (rows : List (Key × Entry)) → rows ≡ (excerpt_for place told).entries → part.horizon ≡ horizon → part.ledger ≡ told.ledger
-      → part.entries ≡ rows → part ≡ excerpt_for place (under horizon told)
+  part_is : (part : State) (rows : List (Key × Entry)) → rows ≡ (excerpt_on place day told).entries → part.horizon ≡ horizon → part.ledger ≡ told.ledger
+      → part.entries ≡ rows → part ≡ excerpt_on place day (under horizon told)
   part_is part rows is same_horizon same entries = λ i. record { horizon = same_horizon i; ledger = same i; entries = (entries ∙ is) i }
 
   -- the part is an excerpt of the state whose entries were given
-  pub is_excerpt_of : (part : State) (rows entries : List (Key × Entry)) → rows ≡ (excerpt_for place told).entries → part.horizon ≡ horizon
-      → part.ledger ≡ told.ledger → part.entries ≡ rows → entries ≡ told.entries → IsExcerptOf place (with_entries part entries) part
+  pub is_excerpt_of : (part : State) (rows entries : List (Key × Entry)) → rows ≡ (excerpt_on place day told).entries → part.horizon ≡ horizon
+      → part.ledger ≡ told.ledger → part.entries ≡ rows → entries ≡ told.entries → IsExcerptOf place day (with_entries part entries) part
   is_excerpt_of part rows entries is same_horizon same kept given =
-      subst (λ (p : State). IsExcerptOf place (with_entries p entries) p) (sym (part_is part rows is same_horizon same kept))
-      (subst (λ (all : List (Key × Entry)). IsExcerptOf place (with_entries (excerpt_for place (under horizon told)) all) (excerpt_for place (under horizon told)))
-      (sym given) (record { valid = valid; excerpt = walk_is_excerpt place (under horizon told) valid.entries.1 }))
+      subst (λ (p : State). IsExcerptOf place day (with_entries p entries) p) (sym (part_is part rows is same_horizon same kept))
+      (subst (λ (all : List (Key × Entry)). IsExcerptOf place day (with_entries (excerpt_on place day (under horizon told)) all) (excerpt_on place day (under horizon told)))
+      (sym given) (record { valid = valid; excerpt = walk_is_excerpt place (near_state day (under horizon told)) (near_valid day (under horizon told) valid).entries.1 }))
 
   -- the excerpt stands for that state
   pub stands_for : (part : State) (entries : List (Key × Entry)) → part.horizon ≡ horizon → part.ledger ≡ told.ledger → entries ≡ told.entries
-      → ◌≡◌ {A = Excerpt} (record { place = place; state = with_entries part entries }) (record { place = place; state = under horizon told })
+      → ◌≡◌ {A = Excerpt} (record { place = place; day = day; state = with_entries part entries })
+      (record { place = place; day = day; state = under horizon told })
   stands_for part entries same_horizon same given = λ i. record {
     place = place;
+    day = day;
     state = record { horizon = same_horizon i; ledger = same i; entries = given i };
   }
 
 -- a docker of an excerpt is a docker of the whole state
-pub docker_of_whole : (place : List ℕ) (state part : State) → IsExcerptOf place state part → (day : ℕ) (docker : Docker)
+pub docker_of_whole : (place : List ℕ) (day : ℕ) (state part : State) → IsExcerptOf place day state part → (docker : Docker)
     → IsDockerOf (live_table part) place day docker → IsDockerOf (live_table state) place day docker
-docker_of_whole place state part is day docker made = record {
+docker_of_whole place day state part is docker made = record {
   place_is = made.place_is;
   day_is = made.day_is;
   described = made.described
-      ∙ ap description_in (same_where_needed place (live_table state) (live_table part) is.excerpt.live (tiploc_key place) refl);
-  list = (excerpt_list_iff place (live_table state) (live_table part) is.excerpt.live day docker.lines).1 made.list;
+      ∙ ap description_in (same_where_needed place (live_table (near_state day state)) (live_table part) is.excerpt.live (tiploc_key place) refl)
+      ∙ near_description day (live_table state) (live_table (near_state day state)) (near_part day state is.valid.entries.1) place;
+  list = (near_state_list place day state docker.lines is.valid).1
+      ((excerpt_list_iff place (live_table (near_state day state)) (live_table part) is.excerpt.live day docker.lines).1 made.list);
 }

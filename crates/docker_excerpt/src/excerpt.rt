@@ -1,4 +1,4 @@
-//! An excerpt of a state for a place.
+//! An excerpt of a state for a place and a day.
 ghost use Rattle.std.specs.Prelude.{◌≡◌, ◌↔◌, IfOk, Err};
 ghost use Rattle.docker_model.specs.state.State.{live_table};
 ghost use Rattle.docker_model.specs.state.Lapse.{IsDayRefused};
@@ -13,11 +13,13 @@ use std::alloc::Global;
 use std::fmt;
 use std::marker::Model;
 
-/// What is kept of a state for a place. The dockers of the place are the same as the whole state's.
-/// It serves for nothing else: it is no state to write, join or send.
+/// What is kept of a state for a place and a day. The docker there on that day is the same as the
+/// whole state's. It serves for nothing else: it is no state to write, join or send, and it makes
+/// no docker of another day.
 #[derive(Drop)]
 pub struct Excerpt {
     place: Tiploc,
+    day: Day,
     part: State,
     given: Given,
 }
@@ -30,11 +32,12 @@ impl Model for Excerpt {
 
     ghost view = { λ it. record {
       place = it.place;
+      day = it.day;
       state = with_entries it.part it.given.entries;
     } };
 
     ghost invariant = { λ it.
-        IsExcerptOf it.place (with_entries it.part it.given.entries) it.part };
+        IsExcerptOf it.place it.day (with_entries it.part it.given.entries) it.part };
 }
 
 impl fmt::Debug for Excerpt {
@@ -44,23 +47,33 @@ impl fmt::Debug for Excerpt {
 }
 
 impl Excerpt {
-    /// The excerpt for a place of the state with the entries that were given. `part` is what was
-    /// kept of that state.
-    pub(crate) fn of(place: Tiploc, part: State, given: Given) -> Excerpt
-        requires { IsExcerptOf place (with_entries part given.entries) part }
-        ensures { result ≡ record { place = place; state = with_entries part given.entries } }
+    /// The excerpt for a place and a day of the state with the entries that were given. `part` is
+    /// what was kept of that state.
+    pub(crate) fn of(place: Tiploc, day: Day, part: State, given: Given) -> Excerpt
+        requires { IsExcerptOf place day (with_entries part given.entries) part }
+        ensures { result ≡ record {
+          place = place;
+          day = day;
+          state = with_entries part given.entries;
+        } }
     {
-        Excerpt { place, part, given }
+        Excerpt {
+            place,
+            day,
+            part,
+            given,
+        }
     }
 
-    /// The docker of the place and a day. `Lapsed` if the state has a horizon and the day is before
-    /// the horizon plus three days, because lapsed entries may then be missing. `Memory` if there
-    /// is no room for the docker.
-    pub fn docker(&self, alloc: Global, day: Day) -> Result<Docker<'_>, DockerFault>
-        ensures ok { IfOk result (IsDockerOf (live_table self.now.state) self.now.place day) }
+    /// The docker of the place and the day. `Lapsed` if the state has a horizon and the day is
+    /// before the horizon plus three days, because lapsed entries may then be missing. `Memory` if
+    /// there is no room for the docker.
+    pub fn docker(&self, alloc: Global) -> Result<Docker<'_>, DockerFault>
+        ensures ok { IfOk result
+            (IsDockerOf (live_table self.now.state) self.now.place self.now.day) }
         ensures lapsed { (result ≡ Err DockerFault.Lapsed)
-            ↔ IsDayRefused self.now.state.horizon day }
+            ↔ IsDayRefused self.now.state.horizon self.now.day }
     {
-        docker(alloc, &self.part, &self.place, day)
+        docker(alloc, &self.part, &self.place, self.day)
     }
 }

@@ -1,4 +1,4 @@
-//! Makes the excerpt of a state for a place as the state's parts are given.
+//! Makes the excerpt of a state for a place and a day as the state's parts are given.
 ghost use Rattle.std.specs.Prelude.{◌≡◌, ◌-◌, ◌^◌, ◌<◌, [], ◌∷◌, ◌++◌, length, map, IsOk, IsErr, IfOk};
 ghost use Rattle.std.specs.Option.{option_copied, option_map};
 ghost use Rattle.docker_model.specs.state.State.{IsLedger, IsOpOf, IsValid, AreEntries};
@@ -10,9 +10,9 @@ ghost use Rattle.docker_state.specs.Parts.{last_key};
 ghost use Rattle.docker_parts.specs.Told.{horizon_meant, under, with_item, with_row};
 ghost use Rattle.docker_excerpt.specs.Values.{with_entries};
 
+use crate::day_walk::DayWalk;
 use crate::excerpt::Excerpt;
 use crate::ledger::Ledger;
-use crate::walk::Walk;
 use cif_file::Key;
 use cif_line::{Day, Memory, Tiploc};
 use docker_join::Entry;
@@ -21,25 +21,30 @@ use std::alloc::Global;
 use std::fmt;
 use std::marker::Model;
 
-/// The excerpt of a state for a place. The state's parts are given in order, as `Parts` takes them.
-/// It keeps only the entries from which dockers of the place are made: the place's TIPLOC, the
-/// associations there, and all schedules of some UIDs. These are the UIDs that call there, and the
-/// ones that a live association there names as its associated train.
+/// The excerpt of a state for a place and a day. The state's parts are given in order, as `Parts`
+/// takes them. It keeps only the entries from which the docker is made: the place's TIPLOC, the
+/// associations there, and the schedules of some UIDs. These are the UIDs that call there, and the
+/// ones that a live association there names as its associated train. A schedule that runs on none
+/// of the start days near the day is passed over: it is neither kept nor looked at for calls.
 #[derive(Drop)]
 pub struct Excerpting {
     ledger: Ledger,
-    walk: Walk,
+    walk: DayWalk,
 }
 
 impl Model for Excerpting {
     ghost use Rattle.docker_excerpt.specs.Values as values;
-    ghost use Rattle.docker_excerpt.specs.Walk.{HasWalked};
+    ghost use Rattle.docker_excerpt.specs.DayWalk.{HasPassed};
 
     ghost Value = { values.Excerpting };
 
-    ghost view = { λ it. record { place = it.walk.place; told = it.ledger } };
+    ghost view = { λ it. record {
+      place = it.walk.walk.place;
+      day = it.walk.day;
+      told = it.ledger;
+    } };
 
-    ghost invariant = { λ it. HasWalked it.walk it.ledger.entries };
+    ghost invariant = { λ it. HasPassed it.walk it.ledger.entries };
 }
 
 impl fmt::Debug for Excerpting {
@@ -50,15 +55,16 @@ impl fmt::Debug for Excerpting {
 
 impl Excerpting {
     /// No parts yet. It takes no memory.
-    pub fn new(alloc: Global, place: Tiploc) -> Excerpting
+    pub fn new(alloc: Global, place: Tiploc, day: Day) -> Excerpting
         ensures { result ≡ record {
           place = place;
+          day = day;
           told = record { horizon = 0; ledger = []; entries = [] };
         } }
     {
         Excerpting {
             ledger: Ledger::new(alloc),
-            walk: Walk::new(alloc, place),
+            walk: DayWalk::new(alloc, place, day),
         }
     }
 
@@ -70,6 +76,7 @@ impl Excerpting {
             → self.new.told ≡ with_item self.old.told (item_meant item) }
         ensures err { IsErr result → self.new.told ≡ self.old.told }
         ensures place { self.new.place ≡ self.old.place }
+        ensures day { self.new.day ≡ self.old.day }
     {
         self.ledger.item(item)
     }
@@ -84,6 +91,7 @@ impl Excerpting {
             → self.new.told ≡ with_row self.old.told (key_meant key, entry_meant entry) }
         ensures err { IsErr result → self.new.told ≡ self.old.told }
         ensures place { self.new.place ≡ self.old.place }
+        ensures day { self.new.day ≡ self.old.day }
     {
         let given = self.ledger.with(&key, &entry);
         self.walk.entry(self.ledger.given(), key, entry)?;
@@ -118,16 +126,20 @@ impl Excerpting {
     /// which are numbered in 32 bits. The parts are then dropped.
     pub fn finish(self, horizon: Option<Day>) -> Result<Excerpt, Memory>
         requires { IsValid (under (horizon_meant horizon) self.told) }
-        ensures { IfOk result (λ excerpt. excerpt
-            ≡ record { place = self.place; state = under (horizon_meant horizon) self.told }) }
+        ensures { IfOk result (λ excerpt. excerpt ≡ record {
+          place = self.place;
+          day = self.day;
+          state = under (horizon_meant horizon) self.told;
+        }) }
     {
         let Excerpting { ledger, walk } = self;
         let place = walk.place();
+        let day = walk.day();
         let rows = walk.finish()?;
         let (parts, given) = ledger.into_parts();
         let whole = with_rows(parts, rows)?;
         let state = whole.finish()?;
-        Ok(Excerpt::of(place, under_horizon(state, horizon), given))
+        Ok(Excerpt::of(place, day, under_horizon(state, horizon), given))
     }
 }
 

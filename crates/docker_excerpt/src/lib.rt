@@ -1,11 +1,13 @@
-//! What a reader of a state keeps for one place: an excerpt, from which the dockers there are made,
-//! or only the ledger.
+//! What a reader of a state keeps for one docker, of a place and a day: an excerpt, from which the
+//! docker is made. For the list of a state's files it keeps only the ledger.
 #![tactic(auto)]
 
+mod day_walk;
 mod excerpt;
 mod excerpting;
 mod kept_ledger;
 mod ledger;
+mod near;
 mod needs;
 mod place;
 mod walk;
@@ -14,4 +16,4 @@ pub use excerpt::Excerpt;
 pub use excerpting::Excerpting;
 pub use kept_ledger::KeptLedger;
 pub use ledger::Ledger;
-pub use place::{ExcerptingAt, Place};
+pub use place::{ExcerptingAt, PlaceDay};

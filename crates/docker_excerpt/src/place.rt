@@ -1,5 +1,5 @@
-//! An excerpt for the place that a type names, for a reader that gives a state's parts to any
-//! keeper.
+//! An excerpt for the place and the day that a type names, for a reader that gives a state's parts
+//! to any keeper.
 ghost use Rattle.std.specs.Prelude.{◌≡◌, ℕ, List, []};
 
 use crate::excerpt::Excerpt;
@@ -12,27 +12,32 @@ use docker_state::LedgerItem;
 use std::alloc::Global;
 use std::marker::{Brand, Model, PhantomData};
 
-/// Names a place, for proofs. A reader of parts doesn't know the place for which its keeper keeps
-/// them.
-pub trait Place {
+/// Names a place and a day, for proofs. A reader of parts doesn't know the docker for which its
+/// keeper keeps them.
+pub trait PlaceDay {
     // the place
     ghost place: { List ℕ };
+
+    // the day
+    ghost day: { ℕ };
 }
 
-impl Place for Brand {
+impl PlaceDay for Brand {
     ghost use Rattle.std.specs.Prelude.{[]};
 
     ghost place = { [] };
+
+    ghost day = { 0 };
 }
 
-/// An `Excerpting` for the place that the type names.
+/// An `Excerpting` for the place and the day that the type names.
 #[derive(Debug, Drop)]
-pub struct ExcerptingAt<P: Place> {
+pub struct ExcerptingAt<P: PlaceDay> {
     excerpting: Excerpting,
     of: PhantomData<P>,
 }
 
-impl<P: Place> Model for ExcerptingAt<P> {
+impl<P: PlaceDay> Model for ExcerptingAt<P> {
     ghost use Rattle.std.specs.Prelude.{◌≡◌};
     ghost use Rattle.docker_model.specs.state.State as states;
 
@@ -40,23 +45,25 @@ impl<P: Place> Model for ExcerptingAt<P> {
 
     ghost view = { λ it. it.excerpting.told };
 
-    ghost invariant = { λ it. it.excerpting.place ≡ P.place };
+    ghost invariant = { λ it.
+        (it.excerpting.place ≡ P.place) × (it.excerpting.day ≡ P.day) };
 }
 
-impl<P: Place> ExcerptingAt<P> {
+impl<P: PlaceDay> ExcerptingAt<P> {
     /// No parts yet. It takes no memory.
-    pub fn new(alloc: Global, place: Tiploc) -> ExcerptingAt<P>
-        requires { place ≡ P.place }
+    pub fn new(alloc: Global, place: Tiploc, day: Day) -> ExcerptingAt<P>
+        requires place { place ≡ P.place }
+        requires day { day ≡ P.day }
         ensures { result ≡ record { horizon = 0; ledger = []; entries = [] } }
     {
         ExcerptingAt {
-            excerpting: Excerpting::new(alloc, place),
+            excerpting: Excerpting::new(alloc, place, day),
             of: PhantomData,
         }
     }
 }
 
-impl<P: Place> Keeper for ExcerptingAt<P> {
+impl<P: PlaceDay> Keeper for ExcerptingAt<P> {
     ghost given = { λ it. it };
 
     fn item(&mut self, item: LedgerItem) -> Result<(), Memory> {
@@ -80,12 +87,13 @@ impl<P: Place> Keeper for ExcerptingAt<P> {
     }
 }
 
-impl<P: Place> Maker for ExcerptingAt<P> {
+impl<P: PlaceDay> Maker for ExcerptingAt<P> {
     ghost use Rattle.std.specs.Prelude.{◌≡◌};
 
     type Made = Excerpt;
 
-    ghost makes = { λ made state. made ≡ record { place = P.place; state = state } };
+    ghost makes = { λ made state. made
+        ≡ record { place = P.place; day = P.day; state = state } };
 
     fn finish(self, horizon: Option<Day>) -> Result<Excerpt, Memory> {
         let ExcerptingAt { excerpting, of: _ } = self;

@@ -25,7 +25,7 @@ none_some : {A : Type 0} (a : A) → None ≡ Some a → ⊥
 none_some a h = cc
 
 -- a row is live if and only if its op is a put
-live_is : (key : Key) (op : Op) → is_some (option_and_then {U = Row} (λ (body : Body). Some (key, body)) (body_of op)) ≡ is_put op
+pub live_is : (key : Key) (op : Op) → is_some (option_and_then {U = Row} (λ (body : Body). Some (key, body)) (body_of op)) ≡ is_put op
 live_is key deleted = refl
 live_is key lapsed = refl
 live_is key (put_with body) = refl

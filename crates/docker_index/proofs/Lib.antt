@@ -9,6 +9,7 @@ pub mod RowPlaces
 pub mod LiveIndexes
 pub mod JoinedRows
 pub mod LapsedSpots
+pub mod PutRows
 pub mod SortedSpots
 pub mod MarkPieces
 pub mod MarkSpots

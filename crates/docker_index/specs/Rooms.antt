@@ -1,23 +1,15 @@
 -- The room for an index.
 use Rattle.std.specs.Prelude.{◌≡◌, ℕ, ◌<◌, ◌≤◌, ◌^◌, List, [], length, map, Contains}
 use Rattle.std.specs.Vec.{vec_len, vec_capacity}
-use Rattle.std.specs.Global.{Vec}
 use Rattle.docker_model.specs.file.Change as model
 use Rattle.docker_model.specs.state.Op as ops
 use Rattle.docker_model.specs.state.Op.{op_of}
 use Rattle.docker_model.specs.state.Order.{bytes_cmp, IsStrictlyAscending}
-use Rattle.docker_index.specs.declared.mark.Mark.{Mark}
 use Rattle.docker_index.specs.declared.room.Room.{Room}
 use Rattle.docker_index.specs.declared.slots.Slots.{Slots}
 use Rattle.docker_index.specs.ByPlace.{AreCounts}
 use Rattle.docker_index.specs.Joined.{AreRanks}
 use Rattle.docker_index.specs.Spots.{call_places, link_places, spots_of}
-
--- nothing is in the vector, and it has room for this many
-pub record HasRoomOf (count : ℕ) (marks : Vec Mark) : Type 0 where
-  pub none : marks.items ≡ []
-  pub empty : vec_len marks ≡ 0
-  pub room : count ≤ vec_capacity marks
 
 -- nothing is counted yet, and there is room for this many places and this many marks
 pub record HasSlots (places marks : ℕ) (slots : Slots) : Type 0 where

@@ -1,11 +1,12 @@
 -- The live rows at spots.
-use Rattle.std.specs.Prelude.{◌≡◌, ℕ, Bool, List, ◌++◌, Contains, Option, Some, slice_get, option_and_then}
+use Rattle.std.specs.Prelude.{◌≡◌, ℕ, Bool, false, List, ◌++◌, map, Contains, Option, Some, None, slice_get, option_and_then}
 use Rattle.std.specs.List.{filter_map}
 use Rattle.std.specs.Option.{is_some}
 use Rattle.docker_model.specs.file.Change.{Key}
 use Rattle.docker_model.specs.state.Op.{Entry, body_of}
 use Rattle.docker_model.specs.state.Row.{Row}
 use Rattle.docker_index.specs.SpotOrder.{Spot}
+use Rattle.docker_index.specs.Turns.{is_put}
 use Rattle.docker_index.specs.declared.mark.Mark.{Mark}
 
 -- the key of a row with its body, if it is put
@@ -53,3 +54,16 @@ is_put_at rows spot = is_some (live_at rows spot)
 -- the row of a mark is put
 abbrev pub is_put_at_mark : List (Key × Entry) → Mark → Bool
 is_put_at_mark rows mark = is_some (live_at_mark rows mark)
+
+-- whether each row is put
+abbrev pub puts_in : List (Key × Entry) → List Bool
+puts_in rows = map (λ (row : Key × Entry). is_put row.1.op) rows
+
+-- what was said of a row, or false if nothing was
+abbrev pub or_not : Option Bool → Bool
+or_not None = false
+or_not (Some put) = put
+
+-- whether the row of a mark is put, by what is said of each row
+abbrev pub put_among : List Bool → Mark → Bool
+put_among puts mark = or_not (slice_get puts mark.at)

@@ -7,7 +7,8 @@ ghost use Rattle.docker_model.specs.state.State.{State, AreAscending, live_table
 ghost use Rattle.docker_model.specs.state.Index.{AreCalling, AreLinked};
 ghost use Rattle.docker_join.specs.Meaning.{row_meant};
 ghost use Rattle.docker_index.specs.Spots.{IsIndexOf};
-ghost use Rattle.docker_index.specs.Rooms.{HasRoomFor, HasRoomOf};
+ghost use Rattle.docker_join.specs.Room.{HasRoomOf};
+ghost use Rattle.docker_index.specs.Rooms.{HasRoomFor};
 ghost use Rattle.docker_index.specs.Joined.{AreMoves};
 ghost use Rattle.docker_index.specs.Noted.{AreNoted, items_of};
 
@@ -15,8 +16,9 @@ use crate::fill::ascending;
 use crate::mark::Mark;
 use crate::merge::{Moved, merged, ranks_of, union_of};
 use crate::moves::Moves;
+use crate::puts::{keep_put, puts_of};
 use crate::room::Room;
-use crate::standing::{Standing, is_put_at, marks_at};
+use crate::standing::{Standing, marks_at};
 use crate::walk::Walk;
 use cif_file::Key;
 use cif_line::{Memory, Tiploc};
@@ -78,14 +80,15 @@ impl Index {
     }
 
     /// Makes this the index of these rows, in place: a horizon was set, and some rows lapsed. It
-    /// takes no memory.
+    /// may take one byte per row for a time. If the allocator refuses them, it takes longer.
     pub fn lapse(&mut self, rows: &[(Key, Entry)])
         ensures { (before : List (model.Key × ops.Entry)) (horizon : ℕ)
             → map row_meant rows.now ≡ lapse_entries horizon before
             → IsIndexOf before self.old → IsIndexOf (map row_meant rows.now) self.new }
     {
-        self.calls.retain(|mark| is_put_at(rows, mark));
-        self.links.retain(|mark| is_put_at(rows, mark));
+        let puts = puts_of(*self.calls.allocator(), rows);
+        keep_put(&mut self.calls, rows, &puts);
+        keep_put(&mut self.links, rows, &puts);
     }
 
     /// The index of the join of two tables, from the indexes of the two. It takes time linear in

@@ -10,6 +10,7 @@ mod merge;
 mod moves;
 mod names;
 mod noted_rows;
+mod puts;
 mod room;
 mod slots;
 mod standing;

@@ -1,5 +1,5 @@
 //! What is known at a key, and since when.
-ghost use Rattle.std.specs.Prelude.{◌≡◌, IfOk, IsOk, if◌then◌else◌};
+ghost use Rattle.std.specs.Prelude.{◌≡◌, false, IfOk, IsOk, if◌then◌else◌};
 ghost use Rattle.std.specs.Ordering.{on, as_partial_cmp, eq_by_cmp, ord_max};
 ghost use Rattle.std.specs.Cmp.{partial_equiv_from_equiv, on_equiv, on_total, eq_by_cmp_equiv, partial_order_from_total};
 ghost use Rattle.std.proofs.Common.{refl};
@@ -117,13 +117,16 @@ pub struct Entry {
 
 impl Entry {
     /// Lapses the op under a horizon, in place. The stamp stays, so that no older entry wins over
-    /// this one.
-    pub fn lapse(&mut self, horizon: u16)
-        ensures { entry_meant self.new ≡ lapse_entry horizon (entry_meant self.old) }
+    /// this one. Returns whether the op lapsed now.
+    pub fn lapse(&mut self, horizon: u16) -> bool
+        ensures lapsed { entry_meant self.new ≡ lapse_entry horizon (entry_meant self.old) }
+        ensures same { result ≡ false → self.new ≡ self.old }
     {
-        if self.op.ends_before(horizon) {
+        let ends = self.op.ends_before(horizon);
+        if ends {
             self.op = Op::Lapsed;
         }
+        ends
     }
 }
 

@@ -1,11 +1,11 @@
 //! Tables of what is known at keys.
-ghost use Rattle.std.specs.Prelude.{◌≡◌, ◌==◌, ◌+◌, ◌≤◌, [], length, map, vec_len, vec_capacity, IfSome};
+ghost use Rattle.std.specs.Prelude.{◌≡◌, ◌==◌, ◌+◌, ◌≤◌, [], false, length, map, vec_len, vec_capacity, IfSome};
 ghost use Rattle.std.specs.Option.{option_copied};
 ghost use Rattle.cif_file.specs.Meaning.{key_meant};
 ghost use Rattle.docker_model.specs.state.Lapse.{lapse_entries};
 ghost use Rattle.docker_join.specs.Meaning.{row_meant};
 ghost use Rattle.docker_join.specs.Rows.{AreAscending, value_at, IsJoinOfRows};
-ghost use Rattle.docker_join.specs.Room.{HasRoomForRows};
+ghost use Rattle.docker_join.specs.Room.{HasRoomOf};
 
 use crate::entry::Entry;
 use crate::merge::{Merge, Pick};
@@ -95,13 +95,16 @@ impl<E> Table<E> {
 
 impl Table<Entry> {
     /// Lapses what is known at each key under a horizon. The keys and the stamps stay. The bodies
-    /// of what lapses are dropped.
-    pub fn lapse(&mut self, horizon: u16)
-        ensures { map row_meant self.new ≡ lapse_entries horizon (map row_meant self.old) }
+    /// of what lapses are dropped. Returns whether an entry lapsed now.
+    pub fn lapse(&mut self, horizon: u16) -> bool
+        ensures lapsed { map row_meant self.new ≡ lapse_entries horizon (map row_meant self.old) }
+        ensures same { result ≡ false → self.new ≡ self.old }
     {
+        let mut some = false;
         for row in self.rows.iter_mut() {
-            row.1.lapse(horizon);
+            some |= row.1.lapse(horizon);
         }
+        some
     }
 }
 
@@ -109,7 +112,7 @@ impl<E: Pick> Table<E> {
     /// An empty vector with room for the rows of the join with another table. None if memory runs
     /// out.
     pub fn room_for_join(&self, alloc: Global, other: &Table<E>) -> Option<Vec<(Key, E)>>
-        ensures { IfSome result (HasRoomForRows (length self.now + length other.now)) }
+        ensures { IfSome result (HasRoomOf (length self.now + length other.now)) }
     {
         let count = self.len().checked_add(other.len())?;
         Vec::with_capacity(alloc, count).ok()
@@ -119,7 +122,7 @@ impl<E: Pick> Table<E> {
     /// both know. It takes no memory besides the vector, which is empty and has room for the rows
     /// of both.
     pub fn join_in(self, other: Table<E>, rows: Vec<(Key, E)>) -> Table<E>
-        requires { HasRoomForRows (length self + length other) rows }
+        requires { HasRoomOf (length self + length other) rows }
         ensures { IsJoinOfRows E.picked self other result }
     {
         Table::from_rows(join_of(self.into_rows(), other.into_rows(), rows))
@@ -168,9 +171,7 @@ fn join_of<E: Pick>(
 ) -> Vec<(Key, E)>
     requires first { AreAscending first.items }
     requires second { AreAscending second.items }
-    requires empty { rows.items ≡ [] }
-    requires none { vec_len rows ≡ 0 }
-    requires room { vec_len first + vec_len second ≤ vec_capacity rows }
+    requires room { HasRoomOf (length first.items + length second.items) rows }
     ensures { IsJoinOfRows E.picked first.items second.items result.items }
 {
     let mut first = first.into_iter();

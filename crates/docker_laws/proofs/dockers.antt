@@ -25,4 +25,6 @@ pub mod ExcerptState
 pub mod ExcerptWalk
 pub mod ExcerptSteps
 pub mod ExcerptTurns
+pub mod NearDocker
+pub mod NearState
 pub mod NoLinesElsewhere

@@ -5,3 +5,4 @@ pub mod AssociationExample
 pub mod RunExamples
 pub mod GatherExamples
 pub mod ExcerptExamples
+pub mod NearExamples

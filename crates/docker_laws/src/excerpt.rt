@@ -12,6 +12,7 @@ ghost use Rattle.docker_model.specs.state.StatePart.{IsAboveEntries, IsStampHere
 ghost use Rattle.docker_model.specs.docker.DockerLine.{DockerLine};
 ghost use Rattle.docker_model.specs.docker.DockerList.{IsDockerList};
 ghost use Rattle.docker_model.specs.docker.DockerText.{IsDockerText};
+ghost use Rattle.docker_model.specs.docker.NearDay.{may_count, near_entries, near_state, excerpt_on};
 ghost use Rattle.docker_model.specs.docker.Excerpt.{IsNeeded, IsExcerpt, IsSublist, IsExcerptState};
 ghost use Rattle.docker_model.specs.docker.ExcerptWalk.{ExcerptSoFar, nothing_kept, is_here, has_uid, names_in, is_call, is_run_calling, is_run_needed, kept_after_run, goes_on, next_kept, kept_from, kept_so_far, excerpt_for, HasKept};
 
@@ -204,4 +205,46 @@ pub fn some_of_entries()
         → AreEntries ledger all → IsSublist some all → AreEntries ledger some }
     ensures valid { (state part : State) → IsValid state → part.horizon ≡ state.horizon
         → part.ledger ≡ state.ledger → IsSublist part.entries state.entries → IsValid part }
+{}
+
+/// A valid state with only what may count near a day is valid, refuses the same days and has the
+/// same dockers on that day.
+pub fn near_state_has_one_docker()
+    ensures valid { (day : ℕ) (state : State) → IsValid state → IsValid (near_state day state) }
+    ensures refused { (day other : ℕ) (state : State)
+        → IsDayRefused state.horizon other ↔ IsDayRefused (near_state day state).horizon other }
+    ensures list { (place : List ℕ) (day : ℕ) (state : State) (lines : List DockerLine)
+        → IsValid state → IsDockerList (live_table state) place day lines
+        ↔ IsDockerList (live_table (near_state day state)) place day lines }
+    ensures text { (place : List ℕ) (day : ℕ) (state : State) (text : List ℕ)
+        → IsValid state → IsDockerText (live_table state) place day text
+        ↔ IsDockerText (live_table (near_state day state)) place day text }
+{}
+
+/// The excerpt of a valid state for a place and a day is valid, refuses the same days and has the
+/// same docker there on that day.
+pub fn excerpt_on_has_one_docker()
+    ensures valid { (place : List ℕ) (day : ℕ) (state : State)
+        → IsValid state → IsValid (excerpt_on place day state) }
+    ensures refused { (place : List ℕ) (day other : ℕ) (state : State)
+        → IsDayRefused state.horizon other
+        ↔ IsDayRefused (excerpt_on place day state).horizon other }
+    ensures list { (place : List ℕ) (day : ℕ) (state : State) (lines : List DockerLine)
+        → IsValid state → IsDockerList (live_table state) place day lines
+        ↔ IsDockerList (live_table (excerpt_on place day state)) place day lines }
+    ensures text { (place : List ℕ) (day : ℕ) (state : State) (text : List ℕ)
+        → IsValid state → IsDockerText (live_table state) place day text
+        ↔ IsDockerText (live_table (excerpt_on place day state)) place day text }
+{}
+
+/// What may count near a day, entry by entry: an entry that may count stays, and any other is left
+/// out.
+pub fn near_by_entry()
+    ensures none { (day : ℕ) → near_entries day [] ≡ [] }
+    ensures stays { (day : ℕ) (entries : List (Key × Entry)) (entry : Key × Entry)
+        → may_count day entry.1.op ≡ true
+        → near_entries day (entries ++ entry ∷ []) ≡ near_entries day entries ++ entry ∷ [] }
+    ensures goes { (day : ℕ) (entries : List (Key × Entry)) (entry : Key × Entry)
+        → may_count day entry.1.op ≡ false
+        → near_entries day (entries ++ entry ∷ []) ≡ near_entries day entries }
 {}

@@ -105,19 +105,24 @@ joins_summaries limit left old new joins files others g h sent of_files of_other
 -- ---- excerpts
 
 -- an excerpt that was read is of the place that was asked for
-pub place_read : (place : List ℕ) (limit : ℕ) (left : Option (List ℕ)) (excerpt : Excerpt) → ReadsMade (IsExcerptAt place) dks_2 limit left excerpt
-    → excerpt.place ≡ place
-place_read place limit left excerpt reads = ap (λ (it : Excerpt). it.place) reads.of.made_of
+pub place_read : (place : List ℕ) (day limit : ℕ) (left : Option (List ℕ)) (excerpt : Excerpt)
+    → ReadsMade (IsExcerptAt place day) dks_2 limit left excerpt → excerpt.place ≡ place
+place_read place day limit left excerpt reads = ap (λ (it : Excerpt). it.place) reads.of.made_of
+
+-- of the day
+pub day_read : (place : List ℕ) (day limit : ℕ) (left : Option (List ℕ)) (excerpt : Excerpt)
+    → ReadsMade (IsExcerptAt place day) dks_2 limit left excerpt → excerpt.day ≡ day
+day_read place day limit left excerpt reads = ap (λ (it : Excerpt). it.day) reads.of.made_of
 
 -- and of the state whose text the source held
-pub state_read : (place : List ℕ) (limit : ℕ) (left : Option (List ℕ)) (excerpt : Excerpt) → ReadsMade (IsExcerptAt place) dks_2 limit left excerpt
-    → ReadsState dks_2 limit left excerpt.state
-state_read place limit left excerpt reads =
+pub state_read : (place : List ℕ) (day limit : ℕ) (left : Option (List ℕ)) (excerpt : Excerpt)
+    → ReadsMade (IsExcerptAt place day) dks_2 limit left excerpt → ReadsState dks_2 limit left excerpt.state
+state_read place day limit left excerpt reads =
     subst (ReadsState dks_2 limit left) (sym (ap (λ (it : Excerpt). it.state) reads.of.made_of))
     (record { text = reads.text; held = reads.held; is = reads.of.is })
 
 -- which is the one that the source held
-pub one_excerpt : (place : List ℕ) (limit : ℕ) (left : Option (List ℕ)) (excerpt : Excerpt) → ReadsMade (IsExcerptAt place) dks_2 limit left excerpt
-    → (sent : State) → HoldsState dks_2 limit left sent → excerpt.state ≡ sent
-one_excerpt place limit left excerpt reads sent holds =
-    one_read dks_2 limit left excerpt.state sent (state_read place limit left excerpt reads) holds
+pub one_excerpt : (place : List ℕ) (day limit : ℕ) (left : Option (List ℕ)) (excerpt : Excerpt)
+    → ReadsMade (IsExcerptAt place day) dks_2 limit left excerpt → (sent : State) → HoldsState dks_2 limit left sent → excerpt.state ≡ sent
+one_excerpt place day limit left excerpt reads sent holds =
+    one_read dks_2 limit left excerpt.state sent (state_read place day limit left excerpt reads) holds

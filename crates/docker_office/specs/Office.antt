@@ -1,5 +1,6 @@
 -- What an office does with the state that it keeps.
 use Rattle.std.specs.Prelude.{◌≡◌, ℕ, max, ◌⊎◌, List, [], ◌∷◌, ◌++◌, Option, Some}
+use Rattle.cif_device.specs.declared.feed.TheConstants.{PIECE}
 use Rattle.cif_line.specs.Device.{Takes, TakesPart}
 use Rattle.docker_model.specs.file.FileFault.{IsFileText}
 use Rattle.docker_model.specs.state.State.{State, IsJoin, live_table}
@@ -8,6 +9,10 @@ use Rattle.docker_model.specs.state.StateText.{Format, dks_2}
 use Rattle.docker_model.specs.state.StateFault.{IsStateText}
 use Rattle.docker_model.specs.docker.DockerText.{IsDockerText}
 use Rattle.cif_file.specs.SourceRead.{Held, WantsMemory}
+
+-- the most bytes of a source that are read at once
+abbrev pub most_at_once : ℕ
+most_at_once = PIECE
 
 -- no file is known, and no horizon is set
 abbrev pub no_state : State
@@ -33,7 +38,7 @@ pub record TakesFile (limit : ℕ) (left : Option (List ℕ)) (old new : State) 
 
 -- memory ran out while a file was read, or for the state of a file that was read whole
 abbrev pub WantsForFile : ℕ → Option (List ℕ) → Option (List ℕ) → Type 0
-WantsForFile limit old new = WantsMemory 65536 limit old new ⊎ HoldsFile limit old
+WantsForFile limit old new = WantsMemory most_at_once limit old new ⊎ HoldsFile limit old
 
 -- the state is the summary of these files and the one whose text the source held, under the horizon
 pub record KnowsFileToo (limit : ℕ) (left : Option (List ℕ)) (files : List (List (List ℕ))) (horizon : ℕ) (new : State) : Type 0 where

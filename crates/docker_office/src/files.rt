@@ -1,7 +1,6 @@
 //! The text of the files that a state knows: for each file one line of 33 columns and a line feed.
-ghost use Rattle.std.specs.Prelude.{◌≡◌, ◌+◌, ◌-◌, ◌^◌, ◌<◌, ◌≤◌, ◌++◌, length, map, All, OnOk, OnErr};
-ghost use Rattle.arrayvec.specs.ArrayVec.{array_vec_len};
-ghost use Rattle.cif_line.specs.Device.{Takes, TakesPart};
+ghost use Rattle.std.specs.Prelude.{◌≡◌, ◌-◌, ◌^◌, ◌<◌, map, All, IsErr, OnOk, OnErr};
+ghost use Rattle.cif_line.specs.Device.{CountsFailure, Takes, TakesPart};
 ghost use Rattle.docker_model.specs.docker.DockerText.{ended, file_text, files_text};
 ghost use Rattle.docker_model.specs.records.PrintedTime.{minute_text};
 ghost use Rattle.docker_model.specs.state.State.{IsGoodItem};
@@ -10,6 +9,7 @@ ghost use Rattle.docker_state.specs.Meaning.{item_meant};
 use arrayvec::ArrayVec;
 use cif_line::{Failed, Sink, write_all};
 use docker_state::LedgerItem;
+use fixed_text::{put, whole};
 
 /// The bytes of a line: 33 columns and a line feed.
 const WIDTH: usize = 34;
@@ -22,8 +22,7 @@ pub(crate) fn write_files<K: Sink>(items: &[LedgerItem], sink: &mut K) -> Result
         (K.taken sink.new)) }
     ensures part { OnErr result (TakesPart (K.taken sink.old)
         (files_text (map item_meant items.now)) (K.taken sink.new)) }
-    ensures no_failure { OnOk result (K.failures sink.new ≡ K.failures sink.old) }
-    ensures counted { OnErr result (K.failures sink.new ≡ K.failures sink.old + 1) }
+    ensures failures { CountsFailure (IsErr result) (K.failures sink.old) (K.failures sink.new) }
 {
     for item in items {
         write_all(sink, &line_of(item))?;
@@ -62,26 +61,4 @@ fn clock_text(minute: u16) -> [u8; 4]
         b'0' + minute / 10,
         b'0' + minute % 10,
     ]
-}
-
-/// Appends bytes to a text that has room for them.
-fn put(text: &mut ArrayVec<u8, WIDTH>, bytes: &[u8])
-    requires { array_vec_len text.old + length bytes.now ≤ WIDTH }
-    ensures items { text.new.items ≡ text.old.items ++ bytes.now }
-    ensures len { array_vec_len text.new ≡ array_vec_len text.old + length bytes.now }
-{
-    if text.try_extend_from_slice(bytes).is_err() {
-        unreachable!()
-    }
-}
-
-/// The bytes of a full line.
-fn whole(text: ArrayVec<u8, WIDTH>) -> [u8; WIDTH]
-    requires full { array_vec_len text ≡ WIDTH }
-    ensures { result ≡ text.items }
-{
-    match text.into_inner() {
-        Ok(bytes) => bytes,
-        Err(_) => unreachable!(),
-    }
 }

@@ -1,6 +1,6 @@
 //! An office that lists the files that a state knows, and keeps of the state only its ledger.
-ghost use Rattle.std.specs.Prelude.{◌≡◌, ◌≢◌, ◌+◌, ◌-◌, ◌^◌, ◌<◌, ◌↔◌, IfOk, IfErr, OnOk, OnErr, Err};
-ghost use Rattle.cif_line.specs.Device.{Takes, TakesPart};
+ghost use Rattle.std.specs.Prelude.{◌≡◌, ◌-◌, ◌^◌, ◌<◌, IfOk, IfErr, OnOk, OnErr, Err};
+ghost use Rattle.cif_line.specs.Device.{CountsFailure, Takes, TakesPart};
 ghost use Rattle.docker_bytes.specs.SourceRead.{ReadsOnePieceMore, ReadsState, RefusesState, WantsMemory};
 ghost use Rattle.docker_model.specs.docker.DockerText.{files_text};
 ghost use Rattle.docker_model.specs.state.State as states;
@@ -10,7 +10,7 @@ ghost use Rattle.docker_office.specs.Office.{HoldsState};
 
 use crate::fault::OfficeFault;
 use crate::files::write_files;
-use cif_line::{Sink, Source};
+use cif_line::{PIECE, Sink, Source};
 use docker_bytes::{KeptLedger, read_ledger};
 use std::alloc::Global;
 use std::marker::Model;
@@ -46,12 +46,10 @@ impl LedgerOffice {
         ensures state { (fault : _) → result ≡ Err (OfficeFault.State fault)
             → RefusesState dks_2 limit (S.left source.old) fault }
         ensures memory { result ≡ Err OfficeFault.Memory
-            → WantsMemory dks_2 65536 limit (S.left source.old) (S.left source.new) }
-        ensures few { ReadsOnePieceMore dks_2 65536 limit (S.left source.old) (S.left source.new) }
-        ensures source { (result ≡ Err OfficeFault.Source)
-            ↔ (S.failures source.new ≡ S.failures source.old + 1) }
-        ensures no_failure { result ≢ Err OfficeFault.Source
-            → S.failures source.new ≡ S.failures source.old }
+            → WantsMemory dks_2 PIECE limit (S.left source.old) (S.left source.new) }
+        ensures few { ReadsOnePieceMore dks_2 PIECE limit (S.left source.old) (S.left source.new) }
+        ensures failures { CountsFailure (result ≡ Err OfficeFault.Source)
+            (S.failures source.old) (S.failures source.new) }
         ensures only { IfErr result IsOfState }
     {
         let ledger = read_ledger(alloc, source, limit)?;
@@ -67,9 +65,8 @@ impl LedgerOffice {
             (Takes (K.taken sink.old) (files_text self.now.ledger) (K.taken sink.new)) }
         ensures part { OnErr result
             (TakesPart (K.taken sink.old) (files_text self.now.ledger) (K.taken sink.new)) }
-        ensures no_failure { OnOk result (K.failures sink.new ≡ K.failures sink.old) }
-        ensures sink { (result ≡ Err OfficeFault.Sink)
-            ↔ (K.failures sink.new ≡ K.failures sink.old + 1) }
+        ensures failures { CountsFailure (result ≡ Err OfficeFault.Sink)
+            (K.failures sink.old) (K.failures sink.new) }
         ensures only { IfErr result (λ fault. fault ≡ OfficeFault.Sink) }
     {
         write_files(self.ledger.items(), sink).map_err(|_| OfficeFault::Sink)

@@ -1,6 +1,6 @@
 //! An office, and what it can be asked for.
-ghost use Rattle.std.specs.Prelude.{◌≡◌, ◌≢◌, ℕ, List, [], ◌+◌, ◌-◌, ◌^◌, ◌<◌, ◌≤◌, ◌⊎◌, ◌↔◌, max, IsOk, IsErr, IfErr, OnOk, OnErr, Err};
-ghost use Rattle.cif_line.specs.Device.{IsEnd, Takes, TakesPart};
+ghost use Rattle.std.specs.Prelude.{◌≡◌, ℕ, List, [], ◌-◌, ◌^◌, ◌<◌, ◌≤◌, ◌⊎◌, ◌↔◌, max, IsOk, IsErr, IfErr, OnOk, OnErr, Err};
+ghost use Rattle.cif_line.specs.Device.{CountsFailure, IsEnd, Takes, TakesPart};
 ghost use Rattle.cif_file.specs.SourceRead.{ReadsNoFurther, RefusesText};
 ghost use Rattle.docker_bytes.specs.SourceRead.{JoinsState, ReadsOnePieceMore, ReadsState, RefusesState, WantsMemory};
 ghost use Rattle.docker_model.specs.docker.DockerText.{files_text};
@@ -15,7 +15,7 @@ ghost use Rattle.docker_office.specs.Office.{HoldsState, JoinsSummaries, KnowsFi
 use crate::fault::OfficeFault;
 use crate::files::write_files;
 use cif_file::{MOST_RECORDS, read_file};
-use cif_line::{Day, Memory, Sink, Source, Tiploc};
+use cif_line::{Day, Memory, PIECE, Sink, Source, Tiploc};
 use docker_bytes::{join_state, migrate, read_state, write_state};
 use docker_day::{docker, write_docker};
 use docker_join::Merge;
@@ -78,11 +78,9 @@ impl Office {
         ensures memory { result ≡ Err OfficeFault.Memory
             → WantsForFile limit (S.left source.old) (S.left source.new) }
         ensures end { IsOk result → IsEnd (S.left source.new) }
-        ensures no_further { ReadsNoFurther 65536 limit (S.left source.old) (S.left source.new) }
-        ensures source { (result ≡ Err OfficeFault.Source)
-            ↔ (S.failures source.new ≡ S.failures source.old + 1) }
-        ensures no_failure { result ≢ Err OfficeFault.Source
-            → S.failures source.new ≡ S.failures source.old }
+        ensures no_further { ReadsNoFurther PIECE limit (S.left source.old) (S.left source.new) }
+        ensures failures { CountsFailure (result ≡ Err OfficeFault.Source)
+            (S.failures source.old) (S.failures source.new) }
         ensures only { IfErr result IsOfFile }
     {
         let file = read_file(self.alloc, source, limit)?;
@@ -99,8 +97,6 @@ impl Office {
         ensures unchanged { IsErr result → self.new ≡ self.old }
         ensures only { IfErr result (λ fault. fault ≡ OfficeFault.Memory) }
     {
-        // Called for its contract: the state is valid.
-        let _ledger = self.state.ledger();
         let own = mem::replace(&mut self.state, State::empty(self.alloc));
         match own.join(self.alloc, other) {
             Ok(joined) => {
@@ -126,12 +122,10 @@ impl Office {
         ensures state { (fault : _) → result ≡ Err (OfficeFault.State fault)
             → RefusesState dks_2 limit (S.left source.old) fault }
         ensures memory { result ≡ Err OfficeFault.Memory
-            → WantsMemory dks_2 65536 limit (S.left source.old) (S.left source.new) }
-        ensures few { ReadsOnePieceMore dks_2 65536 limit (S.left source.old) (S.left source.new) }
-        ensures source { (result ≡ Err OfficeFault.Source)
-            ↔ (S.failures source.new ≡ S.failures source.old + 1) }
-        ensures no_failure { result ≢ Err OfficeFault.Source
-            → S.failures source.new ≡ S.failures source.old }
+            → WantsMemory dks_2 PIECE limit (S.left source.old) (S.left source.new) }
+        ensures few { ReadsOnePieceMore dks_2 PIECE limit (S.left source.old) (S.left source.new) }
+        ensures failures { CountsFailure (result ≡ Err OfficeFault.Source)
+            (S.failures source.old) (S.failures source.new) }
         ensures only { IfErr result IsOfState }
     {
         join_state(self.alloc, &mut self.state, source, limit)?;
@@ -150,12 +144,10 @@ impl Office {
         ensures state { (fault : _) → result ≡ Err (OfficeFault.State fault)
             → RefusesState dks_2 limit (S.left source.old) fault }
         ensures memory { result ≡ Err OfficeFault.Memory
-            → WantsMemory dks_2 65536 limit (S.left source.old) (S.left source.new) }
-        ensures few { ReadsOnePieceMore dks_2 65536 limit (S.left source.old) (S.left source.new) }
-        ensures source { (result ≡ Err OfficeFault.Source)
-            ↔ (S.failures source.new ≡ S.failures source.old + 1) }
-        ensures no_failure { result ≢ Err OfficeFault.Source
-            → S.failures source.new ≡ S.failures source.old }
+            → WantsMemory dks_2 PIECE limit (S.left source.old) (S.left source.new) }
+        ensures few { ReadsOnePieceMore dks_2 PIECE limit (S.left source.old) (S.left source.new) }
+        ensures failures { CountsFailure (result ≡ Err OfficeFault.Source)
+            (S.failures source.old) (S.failures source.new) }
         ensures only { IfErr result IsOfState }
     {
         self.state = read_state(self.alloc, source, limit)?;
@@ -173,12 +165,10 @@ impl Office {
         ensures state { (fault : _) → result ≡ Err (OfficeFault.State fault)
             → RefusesState dks_1 limit (S.left source.old) fault }
         ensures memory { result ≡ Err OfficeFault.Memory
-            → WantsMemory dks_1 65536 limit (S.left source.old) (S.left source.new) }
-        ensures few { ReadsOnePieceMore dks_1 65536 limit (S.left source.old) (S.left source.new) }
-        ensures source { (result ≡ Err OfficeFault.Source)
-            ↔ (S.failures source.new ≡ S.failures source.old + 1) }
-        ensures no_failure { result ≢ Err OfficeFault.Source
-            → S.failures source.new ≡ S.failures source.old }
+            → WantsMemory dks_1 PIECE limit (S.left source.old) (S.left source.new) }
+        ensures few { ReadsOnePieceMore dks_1 PIECE limit (S.left source.old) (S.left source.new) }
+        ensures failures { CountsFailure (result ≡ Err OfficeFault.Source)
+            (S.failures source.old) (S.failures source.new) }
         ensures only { IfErr result IsOfState }
     {
         self.state = migrate(self.alloc, source, limit)?;
@@ -186,7 +176,8 @@ impl Office {
     }
 
     /// Sets a horizon: each entry that is put and ends before this day lapses. A day that is not
-    /// after the present horizon changes nothing. Takes no memory, and is never refused.
+    /// after the present horizon changes nothing. It is never refused: it may take one byte per row
+    /// for a time, and takes longer if the allocator refuses them.
     pub fn set_horizon(&mut self, day: Day)
         ensures raised { self.new ≡ raise_horizon day self.old }
         ensures summary { (files : List (List (List ℕ))) (horizon : ℕ)
@@ -203,9 +194,8 @@ impl Office {
             (Takes (K.taken sink.old) (state_text dks_2 self.now) (K.taken sink.new)) }
         ensures part { OnErr result
             (TakesPart (K.taken sink.old) (state_text dks_2 self.now) (K.taken sink.new)) }
-        ensures no_failure { OnOk result (K.failures sink.new ≡ K.failures sink.old) }
-        ensures sink { (result ≡ Err OfficeFault.Sink)
-            ↔ (K.failures sink.new ≡ K.failures sink.old + 1) }
+        ensures failures { CountsFailure (result ≡ Err OfficeFault.Sink)
+            (K.failures sink.old) (K.failures sink.new) }
         ensures only { IfErr result (λ fault. fault ≡ OfficeFault.Sink) }
     {
         write_state(&self.state, sink).map_err(|_| OfficeFault::Sink)
@@ -223,10 +213,8 @@ impl Office {
         ensures lapsed { (result ≡ Err OfficeFault.Lapsed) ↔ IsDayRefused self.now.horizon day }
         ensures unwritten { (result ≡ Err OfficeFault.Lapsed) ⊎ (result ≡ Err OfficeFault.Memory)
             → sink.new ≡ sink.old }
-        ensures sink { (result ≡ Err OfficeFault.Sink)
-            ↔ (K.failures sink.new ≡ K.failures sink.old + 1) }
-        ensures no_failure { result ≢ Err OfficeFault.Sink
-            → K.failures sink.new ≡ K.failures sink.old }
+        ensures failures { CountsFailure (result ≡ Err OfficeFault.Sink)
+            (K.failures sink.old) (K.failures sink.new) }
         ensures only { IfErr result IsOfDocker }
     {
         let docker = docker(self.alloc, &self.state, place, day)?;
@@ -241,9 +229,8 @@ impl Office {
             (Takes (K.taken sink.old) (files_text self.now.ledger) (K.taken sink.new)) }
         ensures part { OnErr result
             (TakesPart (K.taken sink.old) (files_text self.now.ledger) (K.taken sink.new)) }
-        ensures no_failure { OnOk result (K.failures sink.new ≡ K.failures sink.old) }
-        ensures sink { (result ≡ Err OfficeFault.Sink)
-            ↔ (K.failures sink.new ≡ K.failures sink.old + 1) }
+        ensures failures { CountsFailure (result ≡ Err OfficeFault.Sink)
+            (K.failures sink.old) (K.failures sink.new) }
         ensures only { IfErr result (λ fault. fault ≡ OfficeFault.Sink) }
     {
         write_files(self.state.ledger(), sink).map_err(|_| OfficeFault::Sink)

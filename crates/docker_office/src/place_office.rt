@@ -1,6 +1,7 @@
-//! An office that prints the dockers of one timing point, and keeps no more of a state than they
-//! are made of.
-ghost use Rattle.std.specs.Prelude.{◌≡◌, ◌≢◌, ◌+◌, ◌-◌, ◌^◌, ◌<◌, ◌⊎◌, ◌↔◌, IsOk, IfOk, IfErr, Err};
+//! An office that prints the docker of one timing point on one day, and keeps no more of a state
+//! than may count there on that day.
+ghost use Rattle.std.specs.Prelude.{◌≡◌, ◌-◌, ◌^◌, ◌<◌, ◌⊎◌, ◌↔◌, IsOk, IfOk, IfErr, Err};
+ghost use Rattle.cif_line.specs.Device.{CountsFailure};
 ghost use Rattle.docker_bytes.specs.SourceRead.{ReadsOnePieceMore, ReadsState, RefusesState, WantsMemory};
 ghost use Rattle.docker_model.specs.state.Lapse.{IsDayRefused};
 ghost use Rattle.docker_model.specs.state.State as states;
@@ -9,14 +10,15 @@ ghost use Rattle.docker_office.specs.Faults.{IsOfDocker, IsOfState};
 ghost use Rattle.docker_office.specs.Office.{HoldsState, PrintsDocker, PrintsPart};
 
 use crate::fault::OfficeFault;
-use cif_line::{Day, Sink, Source, Tiploc};
+use cif_line::{Day, PIECE, Sink, Source, Tiploc};
 use docker_bytes::{Excerpt, read_excerpt};
 use docker_day::write_docker;
 use std::alloc::Global;
 use std::marker::Model;
 
-/// An office at one timing point. Its value is that timing point and the whole state, of which it
-/// keeps an excerpt. It prints, and does nothing else: no call writes, joins or sends its state.
+/// An office at one timing point for one day. Its value is that timing point, that day and the
+/// whole state, of which it keeps an excerpt. It prints, and does nothing else: no call writes,
+/// joins or sends its state.
 #[derive(Debug, Drop)]
 pub struct PlaceOffice {
     alloc: Global,
@@ -32,12 +34,13 @@ impl Model for PlaceOffice {
 }
 
 impl PlaceOffice {
-    /// The office at a timing point with the state whose text a source holds, of at most `limit`
-    /// bytes. It refuses, by `State`, `Source` or `Memory`, what `Office::reload` refuses: every
-    /// part of the text is judged, whether it is kept or not.
+    /// The office at a timing point for a day, with the state whose text a source holds, of at most
+    /// `limit` bytes. It refuses, by `State`, `Source` or `Memory`, what `Office::reload` refuses:
+    /// every part of the text is judged, whether it is kept or not.
     pub fn read<S: Source>(
         alloc: Global,
         place: Tiploc,
+        day: Day,
         source: &mut S,
         limit: u64,
     ) -> Result<PlaceOffice, OfficeFault>
@@ -47,42 +50,40 @@ impl PlaceOffice {
         ensures sent { IfOk result (λ office. (sent : states.State)
             → HoldsState dks_2 limit (S.left source.old) sent → office.state ≡ sent) }
         ensures place { IfOk result (λ office. office.place ≡ place) }
+        ensures day { IfOk result (λ office. office.day ≡ day) }
         ensures state { (fault : _) → result ≡ Err (OfficeFault.State fault)
             → RefusesState dks_2 limit (S.left source.old) fault }
         ensures memory { result ≡ Err OfficeFault.Memory
-            → WantsMemory dks_2 65536 limit (S.left source.old) (S.left source.new) }
-        ensures few { ReadsOnePieceMore dks_2 65536 limit (S.left source.old) (S.left source.new) }
-        ensures source { (result ≡ Err OfficeFault.Source)
-            ↔ (S.failures source.new ≡ S.failures source.old + 1) }
-        ensures no_failure { result ≢ Err OfficeFault.Source
-            → S.failures source.new ≡ S.failures source.old }
+            → WantsMemory dks_2 PIECE limit (S.left source.old) (S.left source.new) }
+        ensures few { ReadsOnePieceMore dks_2 PIECE limit (S.left source.old) (S.left source.new) }
+        ensures failures { CountsFailure (result ≡ Err OfficeFault.Source)
+            (S.failures source.old) (S.failures source.new) }
         ensures only { IfErr result IsOfState }
     {
-        let excerpt = read_excerpt(alloc, source, place, limit)?;
+        let excerpt = read_excerpt(alloc, source, place, day, limit)?;
         Ok(PlaceOffice { alloc, excerpt })
     }
 
-    /// Prints the docker of its timing point and a day, as an office with the whole state does. It
-    /// is made before its first byte is written, so that `Lapsed`, if the day is before the horizon
-    /// plus three days, and `Memory` write nothing; `Sink` leaves the sink with a beginning of the
-    /// text, and not all of it.
-    pub fn print<K: Sink>(&self, day: Day, sink: &mut K) -> Result<(), OfficeFault>
+    /// Prints the docker of its timing point and its day, as an office with the whole state does.
+    /// The docker is made before its first byte is written, so `Lapsed` and `Memory` write nothing.
+    /// `Lapsed` means that the day is before the horizon plus three days. With `Sink`, the sink has
+    /// gained a proper beginning of the text.
+    pub fn print<K: Sink>(&self, sink: &mut K) -> Result<(), OfficeFault>
         requires { K.failures sink.old < 2 ^ 64 - 1 }
-        ensures ok { IsOk result → PrintsDocker self.now.state self.now.place day
+        ensures ok { IsOk result → PrintsDocker self.now.state self.now.place self.now.day
             (K.taken sink.old) (K.taken sink.new) }
-        ensures part { result ≡ Err OfficeFault.Sink → PrintsPart self.now.state self.now.place day
+        ensures part { result ≡ Err OfficeFault.Sink
+            → PrintsPart self.now.state self.now.place self.now.day
             (K.taken sink.old) (K.taken sink.new) }
         ensures lapsed { (result ≡ Err OfficeFault.Lapsed)
-            ↔ IsDayRefused self.now.state.horizon day }
+            ↔ IsDayRefused self.now.state.horizon self.now.day }
         ensures unwritten { (result ≡ Err OfficeFault.Lapsed) ⊎ (result ≡ Err OfficeFault.Memory)
             → sink.new ≡ sink.old }
-        ensures sink { (result ≡ Err OfficeFault.Sink)
-            ↔ (K.failures sink.new ≡ K.failures sink.old + 1) }
-        ensures no_failure { result ≢ Err OfficeFault.Sink
-            → K.failures sink.new ≡ K.failures sink.old }
+        ensures failures { CountsFailure (result ≡ Err OfficeFault.Sink)
+            (K.failures sink.old) (K.failures sink.new) }
         ensures only { IfErr result IsOfDocker }
     {
-        let docker = self.excerpt.docker(self.alloc, day)?;
+        let docker = self.excerpt.docker(self.alloc)?;
         write_docker(&docker, sink).map_err(|_| OfficeFault::Sink)
     }
 }

@@ -16,12 +16,9 @@ use crate::fault::OfficeFault;
 use crate::office::Office;
 use crate::reply::{Reply, RunFault};
 use cif_file::MOST_RECORDS;
-use cif_line::{Bytes, Day, Kept, Memory};
+use cif_line::{Bytes, Day, Kept, Memory, PIECE};
 use docker_bytes::encoded_len;
 use std::alloc::Global;
-
-/// The most bytes of a text or of a message that are read at once.
-const PIECE: usize = 65_536;
 
 /// Offices, and the messages that they have sent so far.
 #[derive(Debug, Drop)]

@@ -13,9 +13,10 @@ use crate::keeper::Keeper;
 use crate::told::Told;
 use cif_file::{Journey, Lines, ScheduleKey};
 use cif_line::Line;
+use docker_encode::format::LINE;
 use std::alloc::{AllocError, Global};
 use std::marker::Model;
-use std::slice;
+use std::{mem, slice};
 
 /// The lines of a schedule so far, in one buffer, and their reader.
 #[derive(Debug, Drop)]
@@ -42,6 +43,20 @@ fn let_go(journey: &mut Journey, lines: &mut Vec<Line>)
 {
     *journey = Journey::new();
     lines.clear();
+}
+
+/// Takes room for `count` lines in place of what an empty buffer has. If memory runs out, the
+/// buffer stays as it is.
+fn room_for(lines: &mut Vec<Line>, alloc: Global, count: usize)
+    requires { lines.old.items ≡ [] }
+    ensures { lines.new.items ≡ [] }
+{
+    if lines.capacity() == count {
+        return;
+    }
+    if let Ok(more) = Vec::with_capacity(alloc, count) {
+        *lines = more;
+    }
 }
 
 impl Gathered {
@@ -86,10 +101,28 @@ impl Gathered {
         self.lines.len() < (count - 1) as usize
     }
 
-    /// The lines, in memory of just their size.
-    pub(crate) fn body(&self, alloc: Global) -> Result<Lines, AllocError>
-        ensures { IfOk result (λ lines. lines ≡ self.now) }
+    /// Takes room for `count` lines at once, if there are no lines yet and this number of bytes has
+    /// all of them. If memory runs out, each line takes room as it comes.
+    pub fn make_room(&mut self, alloc: Global, count: u32, bytes: usize)
+        ensures { self.new ≡ self.old }
     {
+        if bytes / LINE < count as usize {
+            return;
+        }
+        if self.lines.is_empty() {
+            room_for(&mut self.lines, alloc, count as usize);
+        }
+    }
+
+    /// The lines, in memory of just their size. They are copied only if their room has another
+    /// size.
+    pub(crate) fn take_body(&mut self, alloc: Global) -> Result<Lines, AllocError>
+        ensures { IfOk result (λ lines. lines ≡ self.old) }
+    {
+        if self.lines.capacity() == self.lines.len() {
+            self.journey = Journey::new();
+            return Ok(Lines::of(mem::replace(&mut self.lines, Vec::new(alloc))));
+        }
         let mut body = Vec::with_capacity(alloc, self.lines.len())?;
         body.extend_from_slice(self.lines.as_slice())?;
         Ok(Lines::of(body))

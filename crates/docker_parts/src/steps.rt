@@ -332,7 +332,7 @@ fn after_last_line<K: Keeper>(
         bytes.now parts.new lines.new result }
 {
     judged_line(&schedule.key, parts, schedule.count, lines, bytes)?;
-    let op = Op::Put(Body::Schedule(lines.body(alloc)?));
+    let op = Op::Put(Body::Schedule(lines.take_body(alloc)?));
     let key = Key::Schedule(schedule.key);
     give(count, parts, key, schedule.stamp, op)
 }

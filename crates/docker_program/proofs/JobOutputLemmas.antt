@@ -84,7 +84,7 @@ pub counted_alone : (fault : OfficeFault) (before after : ℕ) → fault ≡ off
     IsCounted (status_of (Office fault)) before after
 counted_alone fault before after alone rose =
     subst (λ fault. IsCounted (status_of (Office fault)) before after) (sym alone)
-    (record { device = (λ is. rose, λ is. refl); no_device = λ differs. absurd (differs refl) })
+    ((λ is. rose, λ is. refl), λ differs. absurd (differs refl))
 
 -- a job that writes no file ends as its writing to the output does
 pub ends_printed : {K : Type 0} (taken : K → DeviceBytes) (failures : K → ℕ) (old new : K) (prepared : PreparedView) (files : Text → DeviceBytes)
@@ -103,10 +103,8 @@ ends_printed taken failures old new prepared files (Err office.Source) is ends =
 
 -- if the device did not fail and the status isn't a device's, the failures are counted
 none_failed : (status store before after : ℕ) → status ≢ 4 → after ≡ before → IsCounted status (store + before) (store + after)
-none_failed status store before after other same = record {
-  device = (λ is. absurd (other is), λ rose. let never : ⊥ = omega arith in absurd never);
-  no_device = λ differs. omega arith;
-}
+none_failed status store before after other same =
+    ((λ is. absurd (other is), λ rose. let never : ⊥ = omega arith in absurd never), λ differs. omega arith)
 
 -- the result's status says how often the output failed
 pub counted_printed : {K : Type 0} (taken : K → DeviceBytes) (failures : K → ℕ) (old new : K) (prepared : PreparedView) (store : ℕ)
@@ -116,7 +114,7 @@ pub counted_printed : {K : Type 0} (taken : K → DeviceBytes) (failures : K →
 counted_printed taken failures old new prepared store (Ok done) ends = none_failed 0 store (failures old) (failures new) (λ is. omega arith) ends.1
 counted_printed taken failures old new prepared store (Err office.Sink) ends =
     let rose : failures new ≡ failures old + 1 = ends.1 in
-    record { device = (λ is. omega arith, λ is. refl); no_device = λ differs. absurd (differs refl) }
+    ((λ is. omega arith, λ is. refl), λ differs. absurd (differs refl))
 counted_printed taken failures old new prepared store (Err office.Lapsed) ends =
     none_failed 1 store (failures old) (failures new) (λ is. omega arith) (ap failures ends.1)
 counted_printed taken failures old new prepared store (Err office.Memory) ends =

@@ -129,10 +129,8 @@ are_files names (inr (inr (name, other, is))) = subst (λ names. AreFiles (names
 
 -- if two sources did not fail and the status isn't a device's, the failures are counted
 none_failed : (status one one_now two two_now : ℕ) → status ≢ 4 → one_now ≡ one → two_now ≡ two → IsCounted status (one + two) (one_now + two_now)
-none_failed status one one_now two two_now other first second = record {
-  device = (λ is. absurd (other is), λ rose. let never : ⊥ = omega arith in absurd never);
-  no_device = λ differs. omega arith;
-}
+none_failed status one one_now two two_now other first second =
+    ((λ is. absurd (other is), λ rose. let never : ⊥ = omega arith in absurd never), λ differs. omega arith)
 
 -- the result's status says how often the two sources that were read failed
 pub counted_together : {A : Type 0} (result : Result A OfficeFault) (one one_now two two_now : ℕ) → CountsSources result one one_now two two_now →
@@ -143,7 +141,7 @@ counted_together (Err (office.File fault)) one one_now two two_now counts =
 counted_together (Err (office.State fault)) one one_now two two_now counts =
     none_failed 1 one one_now two two_now (λ is. omega arith) counts.0 counts.1
 counted_together (Err office.Source) one one_now two two_now counts =
-    record { device = (λ is. counts, λ rose. refl); no_device = λ differs. absurd (differs refl) }
+    ((λ is. counts, λ rose. refl), λ differs. absurd (differs refl))
 counted_together (Err office.Memory) one one_now two two_now counts = none_failed 3 one one_now two two_now (λ is. omega arith) counts.0 counts.1
 counted_together (Err office.Lapsed) one one_now two two_now counts = elim counts [ ]
 counted_together (Err office.Sink) one one_now two two_now counts = elim counts [ ]
@@ -151,7 +149,7 @@ counted_together (Err office.Sink) one one_now two two_now counts = elim counts 
 -- devices that did not fail can be counted beside others
 pub counted_beside : (status before after more all all_now : ℕ) → IsCounted status before after → all ≡ before + more → all_now ≡ after + more →
     IsCounted status all all_now
-counted_beside status before after more all all_now counts is is_now = record {
-  device = (λ is_4. let rose : after ≡ before + 1 = counts.device.0 is_4 in omega arith, λ rose. counts.device.1 (omega arith));
-  no_device = λ differs. let same : after ≡ before = counts.no_device differs in omega arith;
-}
+counted_beside status before after more all all_now counts is is_now = (
+  (λ is_4. let rose : after ≡ before + 1 = counts.0.0 is_4 in omega arith, λ rose. counts.0.1 (omega arith)),
+  λ differs. let same : after ≡ before = counts.1 differs in omega arith,
+)

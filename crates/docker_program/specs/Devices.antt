@@ -1,5 +1,6 @@
 -- What the program is given, and what it leaves of it.
-use Rattle.std.specs.Prelude.{◌≡◌, ℕ, ◌+◌, Bool, true, false, ⊤, ◌⊎◌, ◌↔◌, ◌≢◌}
+use Rattle.std.specs.Prelude.{◌≡◌, ℕ, Bool, true, false, ⊤, ◌⊎◌, ◌≢◌}
+use Rattle.cif_line.specs.Device.{CountsFailure}
 use Rattle.docker_cmd.specs.Words.{Text}
 use Rattle.docker_cmd.specs.Prepared.{DeviceBytes}
 use Rattle.docker_program.specs.Names.{Names, no_source, standard_input, one_file, file_and_input, two_files}
@@ -13,13 +14,17 @@ pub record FileDevice : Type 0 where
   pub left : DeviceBytes
 
 -- a device that opens files, from its parts
-abbrev pub file_device : DeviceBytes → (Text → DeviceBytes) → (Text → Bool) → DeviceBytes → FileDevice
-file_device before held is_missing left = record { before = before; held = held; is_missing = is_missing; left = left }
+abbrev pub file_device : DeviceBytes → (Text → DeviceBytes) → (Text → Bool) → DeviceBytes
+    → FileDevice
+file_device before held is_missing left =
+    record { before = before; held = held; is_missing = is_missing; left = left }
 
 -- a device before and now, from what is known of it: what is left in it, what the file of each name
 -- holds, and which names have no file
-abbrev pub device_of : {D : Type 0} → (D → DeviceBytes) → (D → Text → DeviceBytes) → (D → Text → Bool) → D → D → FileDevice
-device_of left held is_missing old now = file_device (left old) (held old) (is_missing old) (left now)
+abbrev pub device_of : {D : Type 0} → (D → DeviceBytes) → (D → Text → DeviceBytes)
+    → (D → Text → Bool) → D → D → FileDevice
+device_of left held is_missing old now =
+    file_device (left old) (held old) (is_missing old) (left now)
 
 -- the sources that the program may read: standard input, with what it held and what is left of it,
 -- and two devices that open files
@@ -31,7 +36,8 @@ pub record Given : Type 0 where
 
 -- the sources, from their parts
 abbrev pub given : DeviceBytes → DeviceBytes → FileDevice → FileDevice → Given
-given input left first second = record { input = input; left = left; first = first; second = second }
+given input left first second =
+    record { input = input; left = left; first = first; second = second }
 
 -- what the program may write: its output and the file of each name, each before and now
 pub record Written : Type 0 where
@@ -41,7 +47,8 @@ pub record Written : Type 0 where
   pub files_now : Text → DeviceBytes
 
 -- what the program may write, from its parts
-abbrev pub written : DeviceBytes → DeviceBytes → (Text → DeviceBytes) → (Text → DeviceBytes) → Written
+abbrev pub written : DeviceBytes → DeviceBytes → (Text → DeviceBytes) → (Text → DeviceBytes)
+    → Written
 written output output_now files files_now =
     record { output = output; output_now = output_now; files = files; files_now = files_now }
 
@@ -51,7 +58,8 @@ IsUnwritten written = (written.output_now ≡ written.output) × (written.files_
 
 -- each file of another name is as it was
 abbrev pub LeavesOtherFiles : Text → (Text → DeviceBytes) → (Text → DeviceBytes) → Type 0
-LeavesOtherFiles name files files_now = (other : Text) → other ≢ name → files_now other ≡ files other
+LeavesOtherFiles name files files_now =
+    (other : Text) → other ≢ name → files_now other ≡ files other
 
 -- no draft of a file is there now, unless one was there before
 abbrev pub LeavesNoDraft : Bool → Bool → Type 0
@@ -107,7 +115,8 @@ AreThere no_source given = ⊤
 AreThere standard_input given = ⊤
 AreThere (one_file name) given = given.first.is_missing name ≡ false
 AreThere (file_and_input name) given = given.first.is_missing name ≡ false
-AreThere (two_files name other) given = (given.first.is_missing name ≡ false) × (given.second.is_missing other ≡ false)
+AreThere (two_files name other) given =
+    (given.first.is_missing name ≡ false) × (given.second.is_missing other ≡ false)
 
 -- nothing was opened, and nothing was read after the job line
 pub record IsUnopened (rest : DeviceBytes) (given : Given) : Type 0 where
@@ -139,6 +148,5 @@ FailsToOpen (file_and_input name) rest given = IsUnopened rest given
 FailsToOpen (two_files name other) rest given = IsUnopened rest given ⊎ IsOneOpened name rest given
 
 -- how often the devices failed, before and after: once more exactly if the status is 4
-pub record IsCounted (status before after : ℕ) : Type 0 where
-  pub device : (status ≡ 4) ↔ (after ≡ before + 1)
-  pub no_device : status ≢ 4 → after ≡ before
+abbrev pub IsCounted : (status before after : ℕ) → Type 0
+IsCounted status before after = CountsFailure (status ≡ 4) before after

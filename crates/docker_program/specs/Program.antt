@@ -43,7 +43,8 @@ AsksAtMost [] input rest = ReadsAtMost 256 input rest
 AsksAtMost (word ∷ words) input rest = rest ≡ input
 
 -- a job is asked for, and this holds of the job and of what standard input held after the job line
-pub record IsAsked (words : List Text) (given : Given) (Holds : JobView → DeviceBytes → Type 0) : Type 0 where
+pub record IsAsked (words : List Text) (given : Given)
+    (Holds : JobView → DeviceBytes → Type 0) : Type 0 where
   pub job : JobView
   pub rest : DeviceBytes
   pub asks : AsksFor words given.input job rest
@@ -70,17 +71,20 @@ pub record IsOpened (given : Given) (job : JobView) (rest : DeviceBytes) : Type 
 -- the fault is the fault of a source of the job that should have held a file
 abbrev pub RefusesFile : Given → FileFault → JobView → DeviceBytes → Type 0
 RefusesFile given fault job rest = IsOpened given job rest
-    × RefusesFileOf (sources_of job.task) (first_held (names_of job) rest given) (second_held (names_of job) rest given) fault
+    × RefusesFileOf (sources_of job.task) (first_held (names_of job) rest given)
+    (second_held (names_of job) rest given) fault
 
 -- the fault is the fault of a source of the job that should have held a state
 abbrev pub RefusesState : Given → StateFault → JobView → DeviceBytes → Type 0
 RefusesState given fault job rest = IsOpened given job rest
-    × RefusesStateOf (sources_of job.task) (first_held (names_of job) rest given) (second_held (names_of job) rest given) fault
+    × RefusesStateOf (sources_of job.task) (first_held (names_of job) rest given)
+    (second_held (names_of job) rest given) fault
 
 -- memory ran out for what the sources of the job held
 abbrev pub WantsForSources : Given → JobView → DeviceBytes → Type 0
 WantsForSources given job rest = IsOpened given job rest
-    × WantsFor (sources_of job.task) (first_held (names_of job) rest given) (first_left (names_of job) given)
+    × WantsFor (sources_of job.task)
+    (first_held (names_of job) rest given) (first_left (names_of job) given)
     (second_held (names_of job) rest given) (second_left (names_of job) given)
 
 -- the office's fault for a source that wasn't opened
@@ -93,11 +97,14 @@ abbrev pub IsNotOpened : Given → JobView → DeviceBytes → Type 0
 IsNotOpened given job rest = FailsToOpen (names_of job) rest given
 
 -- the job read its sources whole, and this is what it read
-pub record IsPrepared (given : Given) (job : JobView) (rest : DeviceBytes) (prepared : PreparedView) : Type 0 where
+pub record IsPrepared (given : Given) (job : JobView) (rest : DeviceBytes)
+    (prepared : PreparedView) : Type 0 where
   pub opened : IsOpened given job rest
   pub job_is : prepared.job ≡ job
-  pub read : IsReadOf job.task (first_held (names_of job) rest given) (second_held (names_of job) rest given) prepared.read
-  pub to_end : HasReadToEnd (sources_of job.task) (first_left (names_of job) given) (second_left (names_of job) given)
+  pub read : IsReadOf job.task (first_held (names_of job) rest given)
+      (second_held (names_of job) rest given) prepared.read
+  pub to_end : HasReadToEnd (sources_of job.task) (first_left (names_of job) given)
+      (second_left (names_of job) given)
 
 -- what each result means if the sources that a job names were to be opened and read
 abbrev pub ReadsNamed : Given → JobView → DeviceBytes → Result PreparedView OfficeFault → Type 0
@@ -105,13 +112,15 @@ ReadsNamed given job rest (Ok prepared) = IsPrepared given job rest prepared
 ReadsNamed given job rest (Err (office.File fault)) = RefusesFile given fault job rest
 ReadsNamed given job rest (Err (office.State fault)) = RefusesState given fault job rest
 ReadsNamed given job rest (Err office.Source) = IsNotOpened given job rest ⊎ IsOpened given job rest
-ReadsNamed given job rest (Err office.Memory) = IsNotOpened given job rest ⊎ WantsForSources given job rest
+ReadsNamed given job rest (Err office.Memory) =
+    IsNotOpened given job rest ⊎ WantsForSources given job rest
 ReadsNamed given job rest (Err office.Lapsed) = ⊥
 ReadsNamed given job rest (Err office.Sink) = ⊥
 
 -- the job read its sources whole, and this holds of what it read
 abbrev pub HasRead : Given → (PreparedView → Type 0) → JobView → DeviceBytes → Type 0
-HasRead given Holds job rest = (prepared : PreparedView) × (IsPrepared given job rest prepared × Holds prepared)
+HasRead given Holds job rest =
+    (prepared : PreparedView) × (IsPrepared given job rest prepared × Holds prepared)
 
 -- the file of this name holds what the job writes, and each other file is as it was
 pub record StoresOutput (written : Written) (prepared : PreparedView) (name : Text) : Type 0 where
@@ -123,20 +132,25 @@ pub record StoresOutput (written : Written) (prepared : PreparedView) (name : Te
 -- the output gained what a job writes; or, if the job writes a file, the file holds it; the other
 -- is as it was
 abbrev pub WritesTo : Option Text → Written → PreparedView → Type 0
-WritesTo None written prepared = GainsOutput prepared written.output written.output_now × (written.files_now ≡ written.files)
-WritesTo (Some name) written prepared = StoresOutput written prepared name × (written.output_now ≡ written.output)
+WritesTo None written prepared =
+    GainsOutput prepared written.output written.output_now × (written.files_now ≡ written.files)
+WritesTo (Some name) written prepared =
+    StoresOutput written prepared name × (written.output_now ≡ written.output)
 
 -- the file of this name is as it was, or holds all that the job writes; each other file is as it
 -- was
-pub record StoresAllOrNothing (written : Written) (prepared : PreparedView) (name : Text) : Type 0 where
+pub record StoresAllOrNothing (written : Written) (prepared : PreparedView)
+    (name : Text) : Type 0 where
   pub either : (written.files_now name ≡ written.files name) ⊎ StoresOutput written prepared name
   pub others : LeavesOtherFiles name written.files written.files_now
 
 -- the output gained a proper beginning of what a job writes; or, if the job writes a file, the file
 -- holds all of it, or what it held before; the other is as it was
 abbrev pub WritesPartTo : Option Text → Written → PreparedView → Type 0
-WritesPartTo None written prepared = GainsPart prepared written.output written.output_now × (written.files_now ≡ written.files)
-WritesPartTo (Some name) written prepared = StoresAllOrNothing written prepared name × (written.output_now ≡ written.output)
+WritesPartTo None written prepared =
+    GainsPart prepared written.output written.output_now × (written.files_now ≡ written.files)
+WritesPartTo (Some name) written prepared =
+    StoresAllOrNothing written prepared name × (written.output_now ≡ written.output)
 
 -- what the job writes is written where the job writes
 abbrev pub Writes : Written → PreparedView → Type 0
@@ -162,7 +176,9 @@ EndsWriting written prepared (Err office.Source) = ⊥
 
 -- why memory ran out: in opening a file, for what the sources held, or for what is written
 abbrev pub WantsMemory : Given → JobView → DeviceBytes → Type 0
-WantsMemory given job rest = IsNotOpened given job rest ⊎ WantsForSources given job rest ⊎ HasRead given MayWantToWrite job rest
+WantsMemory given job rest =
+    IsNotOpened given job rest ⊎ WantsForSources given job rest
+    ⊎ HasRead given MayWantToWrite job rest
 
 -- what holds if the program ends with this fault before it writes
 abbrev pub IsWhy : List Text → Given → Fault → Type 0
@@ -172,7 +188,8 @@ IsWhy words given (Job job.Source) = IsNotAsked words given (words ≡ [])
 IsWhy words given (Office (office.File fault)) = IsAsked words given (RefusesFile given fault)
 IsWhy words given (Office (office.State fault)) = IsAsked words given (RefusesState given fault)
 IsWhy words given (Office office.Lapsed) = IsAsked words given (HasRead given IsRefused)
-IsWhy words given (Office office.Source) = IsAsked words given (λ job rest. IsNotOpened given job rest ⊎ IsOpened given job rest)
+IsWhy words given (Office office.Source) =
+    IsAsked words given (λ job rest. IsNotOpened given job rest ⊎ IsOpened given job rest)
 IsWhy words given (Office office.Memory) = IsAsked words given (WantsMemory given)
 IsWhy words given (Office office.Sink) = ⊥
 
@@ -181,7 +198,8 @@ IsWhy words given (Office office.Sink) = ⊥
 -- written
 abbrev pub EndsBy : List Text → Given → Written → Option Fault → Type 0
 EndsBy words given written None = IsAsked words given (HasRead given (Writes written))
-EndsBy words given written (Some (Office office.Sink)) = IsAsked words given (HasRead given (WritesPart written))
+EndsBy words given written (Some (Office office.Sink)) =
+    IsAsked words given (HasRead given (WritesPart written))
 EndsBy words given written (Some fault) = IsWhy words given fault × IsUnwritten written
 
 -- what was asked of a store, from before to now: nothing, and then no file was opened; or one look
@@ -189,7 +207,8 @@ EndsBy words given written (Some fault) = IsWhy words given fault × IsUnwritten
 abbrev pub AsksStore : List Text → Given → Option Past → Option Past → Type 0
 AsksStore words given before now = (IsNotAsked words given ⊤ × (now ≡ before))
     ⊎ IsAsked words given (λ job rest. now ≡ with_look_at (stored_by job) before)
-    ⊎ IsAsked words given (HasRead given (λ prepared. now ≡ with_draft_of (stored_by prepared.job) before))
+    ⊎ IsAsked words given
+    (HasRead given (λ prepared. now ≡ with_draft_of (stored_by prepared.job) before))
 
 -- the exit status: 0, or the fault's status
 abbrev pub ending_status : Option Fault → ℕ
@@ -206,7 +225,8 @@ result_status (Err fault) = status_of (Office fault)
 abbrev pub Tells : Option Fault → DeviceBytes → DeviceBytes → ℕ → ℕ → Type 0
 Tells None old new before after = new ≡ old
 Tells (Some fault) old new before after =
-    ((after ≡ before) × Takes old (fault_line fault) new) ⊎ ((after ≡ before + 1) × TakesPart old (fault_line fault) new)
+    ((after ≡ before) × Takes old (fault_line fault) new)
+    ⊎ ((after ≡ before + 1) × TakesPart old (fault_line fault) new)
 
 -- the sink of faults, before and now, with how often it failed
 pub record FaultSink : Type 0 where
@@ -217,10 +237,12 @@ pub record FaultSink : Type 0 where
 
 -- the sink of faults, from its parts
 abbrev pub fault_sink : DeviceBytes → DeviceBytes → ℕ → ℕ → FaultSink
-fault_sink taken taken_now before after = record { taken = taken; taken_now = taken_now; before = before; after = after }
+fault_sink taken taken_now before after =
+    record { taken = taken; taken_now = taken_now; before = before; after = after }
 
 -- how the program ends: its fault, if there is one, its status and what it wrote
-pub record Performs (words : List Text) (given : Given) (written : Written) (faults : FaultSink) (status : ℕ) : Type 0 where
+pub record Performs (words : List Text) (given : Given) (written : Written) (faults : FaultSink)
+    (status : ℕ) : Type 0 where
   pub ending : Option Fault
   pub ends : EndsBy words given written ending
   pub status_is : status ≡ ending_status ending

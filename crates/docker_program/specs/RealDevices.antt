@@ -11,8 +11,8 @@ pub record InputView : Type 0 where
 pub record OutputView : Type 0 where
   pub failures : ℕ
 
--- where files are written anew: the name of the file that the last draft was made for, whether there
--- is a draft beside its file, and how often it failed
+-- where files are written anew: the name of the file that the last draft was made for, whether
+-- there is a draft beside its file, and how often it failed
 pub record FolderView : Type 0 where
   pub target : Option (List ℕ)
   pub has_draft : Bool

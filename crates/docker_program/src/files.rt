@@ -1,5 +1,6 @@
 //! Files that are opened by their names.
-ghost use Rattle.std.specs.Prelude.{◌≡◌, ℕ, ◌+◌, ◌-◌, ◌^◌, ◌<◌, ◌↔◌, ◌≢◌, Bool, false, List, Option, OnOk, OnErr, Err};
+ghost use Rattle.std.specs.Prelude.{◌≡◌, ℕ, ◌-◌, ◌^◌, ◌<◌, Bool, false, List, Option, OnOk, OnErr, Err};
+ghost use Rattle.cif_line.specs.Device.{CountsFailure};
 
 use cif_line::Source;
 use docker_cmd::OfficeFault;
@@ -45,8 +46,6 @@ pub trait Files: Source {
         ensures fresh { OnOk result
             ((Self.ended self.new ≡ false) × (Self.passed self.new ≡ false)) }
         ensures unopened { OnErr result (Self.left self.new ≡ Self.left self.old) }
-        ensures counted { (result ≡ Err OpenFault.Failed)
-            ↔ (Self.failures self.new ≡ Self.failures self.old + 1) }
-        ensures no_failure { result ≢ Err OpenFault.Failed
-            → Self.failures self.new ≡ Self.failures self.old };
+        ensures failures { CountsFailure (result ≡ Err OpenFault.Failed)
+            (Self.failures self.old) (Self.failures self.new) };
 }

@@ -1,7 +1,8 @@
 //! The real files that are written anew. A regular file is written beside its place, and then
 //! renamed over it. Whenever that ends, the file is whole, as it was or as it is to be. A pipe or a
 //! device is written in its place.
-ghost use Rattle.std.specs.Prelude.{◌≡◌, ◌≢◌, ◌↔◌, ◌<◌, ◌^◌, ◌-◌, ◌+◌, None, Some, Err, IfOk, OnOk, OnErr};
+ghost use Rattle.std.specs.Prelude.{◌≡◌, ◌<◌, ◌^◌, ◌-◌, None, Some, Err, IfOk, OnOk, OnErr};
+ghost use Rattle.cif_line.specs.Device.{CountsFailure};
 
 use crate::beside::Beside;
 use crate::devices::write_some;
@@ -225,10 +226,8 @@ impl Stores for Folder {
         ensures target { OnOk result (self.new.target ≡ Some looked.entry.name.now) }
         ensures no_draft { OnErr result (self.new.has_draft ≡ self.old.has_draft) }
         ensures sound { IfOk result (λ draft. draft.failures ≡ 0) }
-        ensures counted { (result ≡ Err OpenFault.Failed)
-            ↔ (self.new.failures ≡ self.old.failures + 1) }
-        ensures no_failure { result ≢ Err OpenFault.Failed
-            → self.new.failures ≡ self.old.failures }
+        ensures failures { CountsFailure (result ≡ Err OpenFault.Failed)
+            self.old.failures self.new.failures }
     {
         self.placed = None;
         let opened = match String::from_str(self.rt.alloc(), looked.name) {

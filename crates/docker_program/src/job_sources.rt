@@ -1,5 +1,6 @@
 //! The sources that a job reads.
-ghost use Rattle.std.specs.Prelude.{◌≡◌, ◌≢◌, ◌+◌, ◌-◌, ◌^◌, ◌<◌, ◌↔◌, OnOk, OnErr, Err, option_map};
+ghost use Rattle.std.specs.Prelude.{◌≡◌, ◌+◌, ◌-◌, ◌^◌, ◌<◌, OnOk, OnErr, Err, option_map};
+ghost use Rattle.cif_line.specs.Device.{CountsFailure};
 ghost use Rattle.docker_cmd.specs.Prepared.{DeviceBytes};
 ghost use Rattle.docker_program.specs.Devices.{AreOpened, FailsToOpen, IsCounted, device_of, given};
 ghost use Rattle.docker_program.specs.Names.{names_meant, stored_by};
@@ -25,13 +26,11 @@ fn open_files<F: Files>(names: &Names<'_>, first: &mut F, second: &mut F) -> Res
         FailsToOpen (names_meant names.now) rest (given input rest
         (device_of F.left F.held F.is_missing first.old first.new)
         (device_of F.left F.held F.is_missing second.old second.new))) }
-    ensures counted { (result ≡ Err OpenFault.Failed)
-        ↔ (F.failures first.new + F.failures second.new
-        ≡ F.failures first.old + F.failures second.old + 1) }
-    ensures no_failure { result ≢ Err OpenFault.Failed
-        → F.failures first.new ≡ F.failures first.old }
-    ensures no_second_failure { result ≢ Err OpenFault.Failed
-        → F.failures second.new ≡ F.failures second.old }
+    ensures failures { CountsFailure (result ≡ Err OpenFault.Failed)
+        (F.failures first.old + F.failures second.old)
+        (F.failures first.new + F.failures second.new) }
+    ensures sound { OnOk result ((F.failures first.new ≡ F.failures first.old)
+        × (F.failures second.new ≡ F.failures second.old)) }
 {
     match names {
         Names::None | Names::Stdin => Ok(()),

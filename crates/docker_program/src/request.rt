@@ -1,5 +1,6 @@
 //! The job that the program is asked for.
-ghost use Rattle.std.specs.Prelude.{◌≡◌, ◌≢◌, ◌+◌, ◌-◌, ◌^◌, ◌<◌, ◌↔◌, [], IfOk, Err};
+ghost use Rattle.std.specs.Prelude.{◌≡◌, ◌≢◌, ◌-◌, ◌^◌, ◌<◌, ◌↔◌, [], IfOk, Err};
+ghost use Rattle.cif_line.specs.Device.{CountsFailure};
 ghost use Rattle.docker_cmd.specs.Job.{IsJobOf, NameNoJob};
 ghost use Rattle.docker_cmd.specs.Words.{texts};
 ghost use Rattle.docker_program.specs.Program.{AskForNone, AskForSome, AsksAtMost, AsksFor};
@@ -32,10 +33,8 @@ pub(crate) fn requested_job<S: Source>(
     ensures memory { (result ≡ Err JobFault.Memory)
         → AskForSome (texts words.now) (S.left stdin.old) }
     ensures line { (result ≡ Err JobFault.Source) → texts words.now ≡ [] }
-    ensures source { (result ≡ Err JobFault.Source)
-        ↔ (S.failures stdin.new ≡ S.failures stdin.old + 1) }
-    ensures no_failure { result ≢ Err JobFault.Source
-        → S.failures stdin.new ≡ S.failures stdin.old }
+    ensures failures { CountsFailure (result ≡ Err JobFault.Source)
+        (S.failures stdin.old) (S.failures stdin.new) }
 {
     if words.is_empty() {
         job_line(alloc, stdin)

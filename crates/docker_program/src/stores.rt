@@ -1,5 +1,6 @@
 //! Files that are written anew by their names.
-ghost use Rattle.std.specs.Prelude.{◌≡◌, ℕ, ◌+◌, ◌-◌, ◌^◌, ◌<◌, ◌↔◌, ◌≢◌, [], Some, List, Option, Bool, false, IfOk, IfSome, IsErr, OnOk, OnErr, Err, option_map};
+ghost use Rattle.std.specs.Prelude.{◌≡◌, ℕ, ◌+◌, ◌-◌, ◌^◌, ◌<◌, [], Some, List, Option, Bool, false, IfOk, IfSome, IsErr, OnOk, OnErr, Err, option_map};
+ghost use Rattle.cif_line.specs.Device.{CountsFailure};
 ghost use Rattle.cif_file.specs.SourceRead.{Held};
 ghost use Rattle.docker_program.specs.Devices.{IsEither, LeavesOtherFiles};
 ghost use Rattle.docker_program.specs.Past.{Past, with_draft, with_look};
@@ -65,10 +66,8 @@ pub trait Stores {
         ensures sound { IfOk result (λ draft. Self.Draft.failures draft ≡ 0) }
         ensures kept { held self.new ≡ held self.old }
         ensures no_draft { OnErr result (has_draft self.new ≡ has_draft self.old) }
-        ensures counted { (result ≡ Err OpenFault.Failed)
-            ↔ (failures self.new ≡ failures self.old + 1) }
-        ensures no_failure { result ≢ Err OpenFault.Failed
-            → failures self.new ≡ failures self.old }
+        ensures failures { CountsFailure (result ≡ Err OpenFault.Failed)
+            (failures self.old) (failures self.new) }
         ensures asked { past self.new
             ≡ option_map (with_draft (number looked.entry.seen)) (past self.old) };
 
@@ -83,10 +82,8 @@ pub trait Stores {
         ensures others { (name : List ℕ) → target self.old ≡ Some name
             → LeavesOtherFiles name (held self.old) (held self.new) }
         ensures no_draft { has_draft self.new ≡ false }
-        ensures no_failure { OnOk result
-            (failures self.new ≡ failures self.old + Self.Draft.failures draft) }
-        ensures counted { OnErr result
-            (failures self.new ≡ failures self.old + Self.Draft.failures draft + 1) }
+        ensures failures { CountsFailure (IsErr result)
+            (failures self.old + Self.Draft.failures draft) (failures self.new) }
         ensures asked { past self.new ≡ past self.old };
 
     /// Removes a draft that failed. Every file whose bytes are known is as it was. If the draft

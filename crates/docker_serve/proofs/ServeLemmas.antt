@@ -91,4 +91,4 @@ module _ {F : Type 0} (held : F → Text → DeviceBytes) (words : List Text) (o
 -- a state that was read shows that no device failed
 pub still_none : (files files_now store store_now : ℕ) → IsCounted 0 files files_now → store_now ≡ store → files_now + store_now ≡ files + store
 still_none files files_now store store_now counted same =
-    let never = counted.no_device (λ four. omega arith) in omega (arith, never, same)
+    let never = counted.1 (λ four. omega arith) in omega (arith, never, same)

@@ -389,15 +389,15 @@ counts_on result input input_now output output_now none counts = subst (λ (r : 
 
 -- no device failed
 counted_none : (status count : ℕ) → status ≢ 4 → IsCounted status count count
-counted_none status count other = record { device = (λ four. absurd (other four), λ more. absurd (omega arith)); no_device = λ _. refl }
+counted_none status count other = ((λ four. absurd (other four), λ more. absurd (omega arith)), λ _. refl)
 
 -- after a line the devices have failed at most once more
 pub counted_few : (status before after : ℕ) → IsCounted status before after → after ≤ before + 1
 counted_few status before after counted = by (eqb_tells status 4)
   where
     by : ((eqb status 4 ≡ true) × (status ≡ 4)) ⊎ ((eqb status 4 ≡ false) × (status ≢ 4)) → after ≤ before + 1
-    by (inl four) = let once = counted.device.0 four.1 in omega (arith, once)
-    by (inr other) = let never = counted.no_device other.1 in omega (arith, never)
+    by (inl four) = let once = counted.0.0 four.1 in omega (arith, once)
+    by (inr other) = let never = counted.1 other.1 in omega (arith, never)
 
 -- a line that isn't whole asks for nothing
 pub does_bad : {F : Type 0} (setting : Setting F) (now : Moment F) → DoesLine setting bad_line now no_request now

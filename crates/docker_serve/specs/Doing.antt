@@ -29,7 +29,8 @@ pub record LeavesStore {F : Type 0} (before after : Moment F) : Type 0 where
   pub look : after.look ≡ before.look
 
 -- a request to take a file or to receive a state: how it ends, by what the file of that name holds
-pub record Joins {F : Type 0} (Ends : State → State → Result ⊤ OfficeFault → Type 0) (before : Moment F) (answer : AnswerView) (after : Moment F) : Type 0 where
+pub record Joins {F : Type 0} (Ends : State → State → Result ⊤ OfficeFault → Type 0)
+    (before : Moment F) (answer : AnswerView) (after : Moment F) : Type 0 where
   pub result : Result ⊤ OfficeFault
   pub told : answer ≡ answer_of result
   pub ends : Ends before.desk.state after.desk.state result
@@ -43,10 +44,12 @@ SeesBy (Ok done) before after = IfSome before.past (λ asked. after.look ≡ ask
 SeesBy (Err fault) before after = after.look ≡ before.look
 
 -- a request to renew: the state is joined with what the state's file holds now
-pub record Renews {F : Type 0} (setting : Setting F) (before : Moment F) (answer : AnswerView) (after : Moment F) : Type 0 where
+pub record Renews {F : Type 0} (setting : Setting F) (before : Moment F) (answer : AnswerView)
+    (after : Moment F) : Type 0 where
   pub result : Result ⊤ OfficeFault
   pub told : answer ≡ answer_of result
-  pub ends : EndsReceiving (setting.held before.files setting.name) before.desk.state after.desk.state result
+  pub ends : EndsReceiving (setting.held before.files setting.name) before.desk.state
+      after.desk.state result
   pub unsaved : after.desk.unsaved ≡ before.desk.unsaved
   pub stored : after.stored ≡ before.stored
   pub past : after.past ≡ option_map with_look before.past
@@ -58,7 +61,8 @@ desk_by (Ok done) desk = record desk { unsaved = false }
 desk_by (Err fault) desk = desk
 
 -- a request to save
-pub record Saves {F : Type 0} (setting : Setting F) (before : Moment F) (answer : AnswerView) (after : Moment F) : Type 0 where
+pub record Saves {F : Type 0} (setting : Setting F) (before : Moment F) (answer : AnswerView)
+    (after : Moment F) : Type 0 where
   pub result : Result ⊤ OfficeFault
   pub told : answer ≡ answer_of result
   pub ends : EndsSaving setting.name before.desk.state before.stored after.stored result
@@ -69,17 +73,25 @@ pub record Saves {F : Type 0} (setting : Setting F) (before : Moment F) (answer 
 
 -- a moment at which the desk has this horizon too, and unsaved changes
 abbrev pub with_horizon : {F : Type 0} → ℕ → Moment F → Moment F
-with_horizon day before = record before { desk = record { state = raise_horizon day before.desk.state; unsaved = true } }
+with_horizon day before =
+    record before { desk = record { state = raise_horizon day before.desk.state; unsaved = true } }
 
 -- the answer to a request, and what the request changes
-abbrev pub DoesRequest : {F : Type 0} → Setting F → RequestView → Moment F → AnswerView → Moment F → Type 0
-DoesRequest setting (print_request place day) before answer after = IsDockerAnswer before.desk.state place day answer × (after ≡ before)
-DoesRequest setting (train_request uid day) before answer after = IsTrainAnswer before.desk.state uid day answer × (after ≡ before)
-DoesRequest setting files_request before answer after = IsFilesAnswer before.desk.state answer × (after ≡ before)
+abbrev pub DoesRequest : {F : Type 0} → Setting F → RequestView → Moment F → AnswerView → Moment F
+    → Type 0
+DoesRequest setting (print_request place day) before answer after =
+    IsDockerAnswer before.desk.state place day answer × (after ≡ before)
+DoesRequest setting (train_request uid day) before answer after =
+    IsTrainAnswer before.desk.state uid day answer × (after ≡ before)
+DoesRequest setting files_request before answer after =
+    IsFilesAnswer before.desk.state answer × (after ≡ before)
 DoesRequest setting renew_request before answer after = Renews setting before answer after
-DoesRequest setting (take_request file) before answer after = Joins (EndsTaking (setting.held before.files file)) before answer after
-DoesRequest setting (merge_request other) before answer after = Joins (EndsReceiving (setting.held before.files other)) before answer after
-DoesRequest setting (horizon_request day) before answer after = (answer ≡ done_with []) × (after ≡ with_horizon day before)
+DoesRequest setting (take_request file) before answer after =
+    Joins (EndsTaking (setting.held before.files file)) before answer after
+DoesRequest setting (merge_request other) before answer after =
+    Joins (EndsReceiving (setting.held before.files other)) before answer after
+DoesRequest setting (horizon_request day) before answer after =
+    (answer ≡ done_with []) × (after ≡ with_horizon day before)
 DoesRequest setting save_request before answer after = Saves setting before answer after
 
 -- what a line asks for; a line that isn't whole asks for nothing
@@ -89,8 +101,10 @@ AsksOf may_write bad_line request = request ≡ None
 AsksOf may_write cut_line request = request ≡ None
 
 -- what was asked for was done; if nothing was, the answer says so, and nothing changes
-abbrev pub DoesAsked : {F : Type 0} → Setting F → Option RequestView → Moment F → AnswerView → Moment F → Type 0
-DoesAsked setting (Some request) before answer after = DoesRequest setting request before answer after
+abbrev pub DoesAsked : {F : Type 0} → Setting F → Option RequestView → Moment F → AnswerView
+    → Moment F → Type 0
+DoesAsked setting (Some request) before answer after =
+    DoesRequest setting request before answer after
 DoesAsked setting None before answer after = (answer ≡ no_request) × (after ≡ before)
 
 -- the step is what its line makes of the moment before. The device that opens files or the store
@@ -101,7 +115,8 @@ pub record IsStep {F : Type 0} (setting : Setting F) (step : Step F) : Type 0 wh
   pub counted : IsCounted (status_told step.answer) step.before.failures step.after.failures
 
 -- a line gets this answer, and leads from one moment to the other
-pub record DoesLine {F : Type 0} (setting : Setting F) (line : LineView) (before : Moment F) (answer : AnswerView) (after : Moment F) : Type 0 where
+pub record DoesLine {F : Type 0} (setting : Setting F) (line : LineView) (before : Moment F)
+    (answer : AnswerView) (after : Moment F) : Type 0 where
   pub request : Option RequestView
   pub asks : AsksOf setting.may_write line request
   pub does : DoesAsked setting request before answer after
@@ -110,4 +125,5 @@ pub record DoesLine {F : Type 0} (setting : Setting F) (line : LineView) (before
 -- steps, one after the other, lead from one moment to the other
 abbrev pub AreSteps : {F : Type 0} → Setting F → Moment F → List (Step F) → Moment F → Type 0
 AreSteps setting before [] after = after ≡ before
-AreSteps setting before (step ∷ steps) after = (step.before ≡ before) × (IsStep setting step × AreSteps setting step.after steps after)
+AreSteps setting before (step ∷ steps) after =
+    (step.before ≡ before) × (IsStep setting step × AreSteps setting step.after steps after)

@@ -25,13 +25,17 @@ pub record IsKnown (known : Known) (state : State) : Type 0 where
   pub is : IsStateOf known state
 
 -- the file of this name held the text of a file, and this is the file
-pub record HearsFile {F : Type 0} (setting : Setting F) (name : Text) (before after : Moment F) (heard : Known) : Type 0 where
-  pub takes : TakesFile most_records (setting.held before.files name) before.desk.state after.desk.state
+pub record HearsFile {F : Type 0} (setting : Setting F) (name : Text) (before after : Moment F)
+    (heard : Known) : Type 0 where
+  pub takes : TakesFile most_records (setting.held before.files name) before.desk.state
+      after.desk.state
   pub heard_is : heard ≡ record { files = takes.file ∷ []; horizon = 0 }
 
 -- the file of this name held the text of a state, and the state is the summary of what was heard
-pub record HearsState {F : Type 0} (setting : Setting F) (name : Text) (before after : Moment F) (heard : Known) : Type 0 where
-  pub joins : JoinsState dks_2 most_bytes (setting.held before.files name) before.desk.state after.desk.state
+pub record HearsState {F : Type 0} (setting : Setting F) (name : Text) (before after : Moment F)
+    (heard : Known) : Type 0 where
+  pub joins : JoinsState dks_2 most_bytes (setting.held before.files name) before.desk.state
+      after.desk.state
   pub of : IsKnown heard joins.received
 
 -- what is heard by a request that was done
@@ -42,12 +46,15 @@ Hears setting files_request before after heard = heard ≡ nothing
 Hears setting renew_request before after heard = HearsState setting setting.name before after heard
 Hears setting (take_request file) before after heard = HearsFile setting file before after heard
 Hears setting (merge_request other) before after heard = HearsState setting other before after heard
-Hears setting (horizon_request day) before after heard = heard ≡ record { files = []; horizon = day }
+Hears setting (horizon_request day) before after heard =
+    heard ≡ record { files = []; horizon = day }
 Hears setting save_request before after heard = heard ≡ nothing
 
 -- what a request adds to what is known: what is heard by it, if it was done
-abbrev pub Learns : {F : Type 0} → Setting F → Option RequestView → Moment F → AnswerView → Moment F → Known → Known → Type 0
-Learns setting (Some request) before (done_with text) after old new = (heard : Known) × (Hears setting request before after heard × (new ≡ united old heard))
+abbrev pub Learns : {F : Type 0} → Setting F → Option RequestView → Moment F → AnswerView → Moment F
+    → Known → Known → Type 0
+Learns setting (Some request) before (done_with text) after old new =
+    (heard : Known) × (Hears setting request before after heard × (new ≡ united old heard))
 Learns setting (Some request) before (refused_for fault) after old new = new ≡ old
 Learns setting (Some request) before no_request after old new = new ≡ old
 Learns setting None before answer after old new = new ≡ old
@@ -56,7 +63,8 @@ Learns setting None before answer after old new = new ≡ old
 abbrev pub AreLearned : {F : Type 0} → Setting F → Known → List (Step F) → Known → Type 0
 AreLearned setting old [] new = new ≡ old
 AreLearned setting old (step ∷ steps) new =
-    (now : Known) × (Learns setting step.request step.before step.answer step.after old now × AreLearned setting now steps new)
+    (now : Known) × (Learns setting step.request step.before step.answer step.after old now
+    × AreLearned setting now steps new)
 
 -- at some moment of some session this is known, and the desk has this state
 pub record KnowsAt {F : Type 0} (setting : Setting F) (known : Known) (state : State) : Type 0 where
@@ -75,4 +83,5 @@ pub record IsTrainOf (known : Known) (uid : List ℕ) (day : ℕ) (text : List �
   pub found : Option Stamped
   pub text_is : text ≡ train_text uid day found
   pub came : (it : Stamped) → found ≡ Some it → CameFrom known.files it
-  pub plain : (table : Table) → IsPlainTable known.files table → IsChosenOn table uid day (option_map (λ (it : Stamped). it.schedule) found)
+  pub plain : (table : Table) → IsPlainTable known.files table
+      → IsChosenOn table uid day (option_map (λ (it : Stamped). it.schedule) found)

@@ -32,9 +32,17 @@ pub record Moment (F : Type 0) : Type 0 where
 
 -- a moment, from the failures so far, the desk, what was seen, the device that opens files and the
 -- store
-abbrev pub moment : {F T W : Type 0} → (W → Text → DeviceBytes) → (W → Option Past) → (T → ℕ) → ℕ → DeskView → T → F → W → Moment F
+abbrev pub moment : {F T W : Type 0} → (W → Text → DeviceBytes) → (W → Option Past) → (T → ℕ) → ℕ
+    → DeskView → T → F → W → Moment F
 moment held past number failures desk seen files store =
-    record { desk = desk; files = files; stored = held store; past = past store; look = number seen; failures = failures }
+    record {
+      desk = desk;
+      files = files;
+      stored = held store;
+      past = past store;
+      look = number seen;
+      failures = failures;
+    }
 
 -- a step of a session: a line, what it asks for, if it asks for anything, its answer, and the
 -- moments before and after

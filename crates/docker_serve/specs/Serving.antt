@@ -45,9 +45,15 @@ pub record Failures : Type 0 where
   pub output : ℕ
 
 -- these counts, from the devices
-abbrev pub failures : {S F W K : Type 0} → (S → ℕ) → (F → ℕ) → (W → ℕ) → (K → ℕ) → S → F → W → K → Failures
+abbrev pub failures : {S F W K : Type 0} → (S → ℕ) → (F → ℕ) → (W → ℕ) → (K → ℕ) → S → F → W → K
+    → Failures
 failures of_input of_files of_store of_output input files store output =
-    record { input = of_input input; files = of_files files; store = of_store store; output = of_output output }
+    record {
+      input = of_input input;
+      files = of_files files;
+      store = of_store store;
+      output = of_output output;
+    }
 
 -- what a session has around it: what its input holds, the device that opens files, what each stored
 -- file holds, what was asked of the store, what its output took, and how often each has failed
@@ -60,9 +66,17 @@ pub record Around (F : Type 0) : Type 0 where
   pub failed : Failures
 
 -- what a session has around it, from its devices
-abbrev pub around : {S F W K : Type 0} → (S → DeviceBytes) → (W → Text → DeviceBytes) → (W → Option Past) → (K → DeviceBytes) → Failures → S → F → W → K → Around F
+abbrev pub around : {S F W K : Type 0} → (S → DeviceBytes) → (W → Text → DeviceBytes)
+    → (W → Option Past) → (K → DeviceBytes) → Failures → S → F → W → K → Around F
 around left held past taken failed input files store output =
-    record { input = left input; files = files; stored = held store; past = past store; output = taken output; failed = failed }
+    record {
+      input = left input;
+      files = files;
+      stored = held store;
+      past = past store;
+      output = taken output;
+      failed = failed;
+    }
 
 -- the sink of faults gained this line; or it failed once more, and gained a proper beginning of it
 abbrev pub TellsLine : List ℕ → FaultSink → Type 0
@@ -77,7 +91,8 @@ TellsNothing faults = (faults.taken_now ≡ faults.taken) × (faults.after ≡ f
 -- ---- the beginning
 
 -- the first moment of a session: the state's file was looked at and read, and nothing has changed
-pub record BeginsAt {F : Type 0} (held : F → Text → DeviceBytes) (name : Text) (old : Around F) (first : Moment F) : Type 0 where
+pub record BeginsAt {F : Type 0} (held : F → Text → DeviceBytes) (name : Text) (old : Around F)
+    (first : Moment F) : Type 0 where
   pub state : ReadsState dks_2 most_bytes (held old.files name) first.desk.state
   pub saved : first.desk.unsaved ≡ false
   pub stored : first.stored ≡ old.stored
@@ -87,7 +102,8 @@ pub record BeginsAt {F : Type 0} (held : F → Text → DeviceBytes) (name : Tex
 
 -- a state was read from a file that held this, and nothing has changed; or it was refused
 abbrev pub EndsOpening : {T : Type 0} → (T → DeskView) → DeviceBytes → Result T OfficeFault → Type 0
-EndsOpening desk_in held (Ok made) = ReadsState dks_2 most_bytes held (desk_in made).state × ((desk_in made).unsaved ≡ false)
+EndsOpening desk_in held (Ok made) =
+    ReadsState dks_2 most_bytes held (desk_in made).state × ((desk_in made).unsaved ≡ false)
 EndsOpening desk_in held (Err fault) = RefusesToReceive held fault
 
 -- ---- the end
@@ -108,7 +124,8 @@ EndsWithStatus OutputFailed unsaved status faults = (status ≡ 4) × TellsLine 
 
 -- the words name no session, and nothing was done. What `Unread` and `Unlooked` say comes from the
 -- caller: the input and the output are the devices that they were, and so is the store
-pub record IsMisused {F : Type 0} (words : List Text) (old new : Around F) (Unread Unlooked : Type 0) (faults : FaultSink) (status : ℕ) : Type 0 where
+pub record IsMisused {F : Type 0} (words : List Text) (old new : Around F)
+    (Unread Unlooked : Type 0) (faults : FaultSink) (status : ℕ) : Type 0 where
   pub none : NameNoSession words
   pub unread : Unread
   pub unlooked : Unlooked
@@ -117,7 +134,8 @@ pub record IsMisused {F : Type 0} (words : List Text) (old new : Around F) (Unre
   pub tells : TellsLine usage_line faults
 
 -- the state's file was looked at, but no state was read from it
-pub record IsRefusedStart {F : Type 0} (held : F → Text → DeviceBytes) (words : List Text) (old new : Around F) (Unread : Type 0) (faults : FaultSink) (status : ℕ) : Type 0 where
+pub record IsRefusedStart {F : Type 0} (held : F → Text → DeviceBytes) (words : List Text)
+    (old new : Around F) (Unread : Type 0) (faults : FaultSink) (status : ℕ) : Type 0 where
   pub name : Text
   pub may_write : Bool
   pub words_are : NamesSession words name may_write
@@ -131,7 +149,8 @@ pub record IsRefusedStart {F : Type 0} (held : F → Text → DeviceBytes) (word
   pub tells : TellsLine (fault_line (Office fault)) faults
 
 -- the state was read, the lines of the input were answered, and then the session ended
-pub record IsServed {F : Type 0} (held : F → Text → DeviceBytes) (words : List Text) (old new : Around F) (faults : FaultSink) (status : ℕ) : Type 0 where
+pub record IsServed {F : Type 0} (held : F → Text → DeviceBytes) (words : List Text)
+    (old new : Around F) (faults : FaultSink) (status : ℕ) : Type 0 where
   pub name : Text
   pub may_write : Bool
   pub words_are : NamesSession words name may_write
@@ -139,18 +158,23 @@ pub record IsServed {F : Type 0} (held : F → Text → DeviceBytes) (words : Li
   pub begins : BeginsAt held name old first
   pub last : Moment F
   pub ending : Ending
-  pub answers : AnswersLines (setting held name may_write) first last old.input old.output new.output ending
+  pub answers : AnswersLines (setting held name may_write) first last old.input old.output
+      new.output ending
   pub files : new.files ≡ last.files
   pub stored : new.stored ≡ last.stored
   pub past : new.past ≡ last.past
-  pub counts : CountsStreams ending old.failed.input new.failed.input old.failed.output new.failed.output
+  pub counts : CountsStreams ending old.failed.input new.failed.input old.failed.output
+      new.failed.output
   pub failures : new.failed.files + new.failed.store ≡ last.failures
   pub ends : EndsWithStatus ending last.desk.unsaved status faults
 
 -- a session
-abbrev pub Serves : {F : Type 0} → (F → Text → DeviceBytes) → List Text → Around F → Around F → Type 0 → Type 0 → FaultSink → ℕ → Type 0
-Serves held words old new Unread Unlooked faults status = IsMisused words old new Unread Unlooked faults status
-    ⊎ (IsRefusedStart held words old new Unread faults status ⊎ IsServed held words old new faults status)
+abbrev pub Serves : {F : Type 0} → (F → Text → DeviceBytes) → List Text → Around F → Around F
+    → Type 0 → Type 0 → FaultSink → ℕ → Type 0
+Serves held words old new Unread Unlooked faults status =
+    IsMisused words old new Unread Unlooked faults status
+    ⊎ (IsRefusedStart held words old new Unread faults status
+    ⊎ IsServed held words old new faults status)
 
 -- how often the streams of a session failed, before and after: once more only if the status is 4,
 -- and never twice

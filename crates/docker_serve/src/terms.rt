@@ -1,8 +1,10 @@
 //! The words of a session.
 ghost use Rattle.std.specs.Prelude.{◌≡◌, ◌↔◌, IfSome, IsNone, IsTrue, codes};
-ghost use Rattle.docker_cmd.specs.Words.{is_plain_word, texts};
+ghost use Rattle.docker_cmd.specs.Words.{texts};
 ghost use Rattle.docker_desk.specs.Requests.{NamesFile};
 ghost use Rattle.docker_serve.specs.Serving.{NameNoSession, NamesSession};
+
+use docker_desk::file_named;
 
 /// What the words of a session say.
 #[derive(Clone, Copy, Debug)]
@@ -38,10 +40,8 @@ fn terms_of(name: &str, may_write: bool) -> Option<Terms<'_>>
         × (terms.may_write ≡ may_write) × NamesFile name.now name.now) }
     ensures none { IsNone result → ¬ NamesFile name.now name.now }
 {
-    if is_plain(name) & (name != "stdin") {
-        return Some(Terms { name, may_write });
-    }
-    None
+    let name = file_named(name)?;
+    Some(Terms { name, may_write })
 }
 
 /// Whether it is the word `--write`.
@@ -49,11 +49,4 @@ fn is_write(word: &str) -> bool
     ensures { IsTrue result ↔ (word.now ≡ codes "--write") }
 {
     word == "--write"
-}
-
-/// Whether there is a word, and it doesn't begin with a hyphen.
-fn is_plain(word: &str) -> bool
-    ensures { result ≡ is_plain_word word.now }
-{
-    !word.is_empty() && !word.starts_with('-')
 }

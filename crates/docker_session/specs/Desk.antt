@@ -34,7 +34,8 @@ IsDockerRefused state day office.Sink = ⊥
 
 -- the answer to a request for a docker
 abbrev pub IsDockerAnswer : State → List ℕ → ℕ → AnswerView → Type 0
-IsDockerAnswer state place day (done_with text) = IsDockerText (live_table state) place day text × (¬ IsDayRefused state.horizon day)
+IsDockerAnswer state place day (done_with text) =
+    IsDockerText (live_table state) place day text × (¬ IsDayRefused state.horizon day)
 IsDockerAnswer state place day (refused_for fault) = IsDockerRefused state day fault
 IsDockerAnswer state place day no_request = ⊥
 
@@ -49,7 +50,8 @@ IsTrainRefused state day office.Sink = ⊥
 
 -- the answer to a request for a train
 abbrev pub IsTrainAnswer : State → List ℕ → ℕ → AnswerView → Type 0
-IsTrainAnswer state uid day (done_with text) = IsTrainText state uid day text × (¬ (day < state.horizon))
+IsTrainAnswer state uid day (done_with text) =
+    IsTrainText state uid day text × (¬ (day < state.horizon))
 IsTrainAnswer state uid day (refused_for fault) = IsTrainRefused state day fault
 IsTrainAnswer state uid day no_request = ⊥
 
@@ -89,21 +91,25 @@ EndsReceiving held old new (Ok done) = JoinsState dks_2 most_bytes held old new
 EndsReceiving held old new (Err fault) = RefusesToReceive held fault × (new ≡ old)
 
 -- the file of this name holds the text of the state, and each other file is as it was
-pub record StoresState (name : Text) (state : State) (files files_now : Text → DeviceBytes) : Type 0 where
+pub record StoresState (name : Text) (state : State)
+    (files files_now : Text → DeviceBytes) : Type 0 where
   pub held : Held (files_now name) (state_text dks_2 state)
   pub others : LeavesOtherFiles name files files_now
 
 -- the file of this name is as it was, or holds the whole text of the state; each other file is as
 -- it was
-pub record StoresAllOrNothing (name : Text) (state : State) (files files_now : Text → DeviceBytes) : Type 0 where
+pub record StoresAllOrNothing (name : Text) (state : State)
+    (files files_now : Text → DeviceBytes) : Type 0 where
   pub either : (files_now name ≡ files name) ⊎ Held (files_now name) (state_text dks_2 state)
   pub others : LeavesOtherFiles name files files_now
 
 -- how saving a state ends: it is stored; or the device failed or the file isn't the one that was
 -- seen; or memory ran out
-abbrev pub EndsSaving : Text → State → (Text → DeviceBytes) → (Text → DeviceBytes) → Result ⊤ OfficeFault → Type 0
+abbrev pub EndsSaving : Text → State → (Text → DeviceBytes) → (Text → DeviceBytes)
+    → Result ⊤ OfficeFault → Type 0
 EndsSaving name state files files_now (Ok done) = StoresState name state files files_now
-EndsSaving name state files files_now (Err office.Sink) = StoresAllOrNothing name state files files_now
+EndsSaving name state files files_now (Err office.Sink) =
+    StoresAllOrNothing name state files files_now
 EndsSaving name state files files_now (Err office.Memory) = files_now ≡ files
 EndsSaving name state files files_now (Err office.Source) = ⊥
 EndsSaving name state files files_now (Err office.Lapsed) = ⊥
@@ -113,5 +119,6 @@ EndsSaving name state files files_now (Err (office.State fault)) = ⊥
 -- what was asked of the store after a saving: a draft from the look of this number and, if the
 -- draft took its file's place, one more look
 abbrev pub past_of_saving : ℕ → Option Past → Result ⊤ OfficeFault → Option Past
-past_of_saving number past (Ok done) = option_map (λ asked. with_look (with_draft number asked)) past
+past_of_saving number past (Ok done) =
+    option_map (λ asked. with_look (with_draft number asked)) past
 past_of_saving number past (Err fault) = option_map (with_draft number) past

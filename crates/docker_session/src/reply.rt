@@ -1,6 +1,6 @@
 //! The answers to requests.
-ghost use Rattle.std.specs.Prelude.{◌≡◌, ◌+◌, ◌-◌, ◌^◌, ◌<◌, OnOk, OnErr};
-ghost use Rattle.cif_line.specs.Device.{Takes, TakesPart};
+ghost use Rattle.std.specs.Prelude.{◌-◌, ◌^◌, ◌<◌, IsErr, OnOk, OnErr};
+ghost use Rattle.cif_line.specs.Device.{CountsFailure, Takes, TakesPart};
 ghost use Rattle.docker_desk.specs.Answers.{answer_text};
 ghost use Rattle.docker_cmd.specs.FaultLine.{fault_line, status_of};
 ghost use Rattle.docker_cmd.specs.declared.fault.Fault.TheVariants as why;
@@ -35,8 +35,7 @@ pub fn write_reply<K: Sink>(answer: &Answer, sink: &mut K) -> Result<(), Failed>
         (K.taken sink.new)) }
     ensures part { OnErr result (TakesPart (K.taken sink.old)
         (bytes_told (answer_meant answer.now)) (K.taken sink.new)) }
-    ensures no_failure { OnOk result (K.failures sink.new ≡ K.failures sink.old) }
-    ensures counted { OnErr result (K.failures sink.new ≡ K.failures sink.old + 1) }
+    ensures failures { CountsFailure (IsErr result) (K.failures sink.old) (K.failures sink.new) }
 {
     match answer {
         Answer::Text(page) => write_answer(0, page.text(), sink),
@@ -55,8 +54,7 @@ fn write_refusal<K: Sink>(fault: &OfficeFault, sink: &mut K) -> Result<(), Faile
     ensures part { OnErr result (TakesPart (K.taken sink.old)
         (answer_text (status_of (why.Office fault.now)) (fault_line (why.Office fault.now)))
         (K.taken sink.new)) }
-    ensures no_failure { OnOk result (K.failures sink.new ≡ K.failures sink.old) }
-    ensures counted { OnErr result (K.failures sink.new ≡ K.failures sink.old + 1) }
+    ensures failures { CountsFailure (IsErr result) (K.failures sink.old) (K.failures sink.new) }
 {
     let fault = Fault::Office(*fault);
     let line = fault_text(&fault);

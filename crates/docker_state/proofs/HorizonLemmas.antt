@@ -1,9 +1,12 @@
 -- A horizon that is set on a state: its rows lapse, or nothing changes.
 use Rattle.std.proofs.Common.{◌≡◌, ℕ, ◌≤◌, List, map, ap, sym, ◌∙◌, subst}
-use Rattle.std.proofs.Math.Nat.{max-eq_right}
-use Rattle.docker_model.specs.state.Lapse.{lapse_entries}
+use Rattle.std.proofs.Math.Nat.{max-eq_left, max-eq_right}
+use Rattle.docker_model.specs.state.Lapse.{HasNotToLapse, lapse_entries}
 use Rattle.docker_model.specs.records.Date.{IsDay}
-use Rattle.docker_model.specs.state.State.{IsValid, raise_horizon, lapse_state}
+use Rattle.docker_model.specs.state.State.{HaveLapsed, IsValid, raise_horizon, lapse_state}
+use Rattle.std.specs.Prelude.{max}
+use Rattle.std.proofs.lemmas.List.Elements.{recursion_from_All}
+use Rattle.state_laws.proofs.states.KeptEntries.{entries_stay}
 use Rattle.state_laws.proofs.joins.JoinValid.{raised_is_valid}
 use Rattle.docker_model.specs.file.Change as model
 use Rattle.docker_model.specs.state.Op as ops
@@ -26,6 +29,13 @@ module _ (own day : ℕ) (low : own ≤ day) (ledger : List LedgerItem) (rows af
   pub raised_valid : IsDay day → IsValid (state_meant own ledger rows) → IsValid (state_meant day ledger after)
   raised_valid within valid = subst IsValid (sym rows_raised) (raised_is_valid day (state_meant own ledger rows) within valid)
 
+-- rows that have lapsed stay under a horizon that isn't greater
+pub under_own : (own day : ℕ) → day ≤ own → (rows : List (Key × Entry)) → HaveLapsed own (map row_meant rows)
+    → map row_meant rows ≡ lapse_entries (max own day) (map row_meant rows)
+under_own own day low rows have =
+    sym (entries_stay own (map row_meant rows) (recursion_from_All (λ (entry : model.Key × ops.Entry). HasNotToLapse own entry.1.op) (map row_meant rows) have))
+    ∙ ap (λ h. lapse_entries h (map row_meant rows)) (sym (max-eq_left low))
+
 -- after rows have lapsed, the index is the index of the lapsed rows
 pub lapsed_index : (rows after : List (Key × Entry)) (horizon : ℕ) → map row_meant after ≡ lapse_entries horizon (map row_meant rows)
     → (slice : List (Key × Entry)) → slice ≡ after → (index later : Index) → IsIndexOf (map row_meant rows) index
@@ -35,3 +45,8 @@ pub lapsed_index : (rows after : List (Key × Entry)) (horizon : ℕ) → map ro
 lapsed_index rows after horizon lapsed slice same index later is lapses =
     subst (λ (xs : List (Key × Entry)). IsIndexOf (map row_meant xs) later) same
     (lapses (map row_meant rows) horizon (ap (map row_meant) same ∙ lapsed) is)
+
+-- if no row lapsed, the index stays the index of the rows
+pub same_index : (rows after : List (Key × Entry)) → after ≡ rows → (index : Index) → IsIndexOf (map row_meant rows) index
+    → IsIndexOf (map row_meant after) index
+same_index rows after same index is = subst (λ (xs : List (Key × Entry)). IsIndexOf (map row_meant xs) index) (sym same) is

@@ -1,9 +1,9 @@
 pub mod LedgerUnion
 pub mod FloorTest
-pub mod KeptRows
 pub mod StateLemmas
 pub mod Floors
 pub mod TableJoin
+pub mod LapsedTables
 pub mod StateJoin
 pub mod LastRows
 pub mod GreatestRows

@@ -1,43 +1,39 @@
 -- The join of two states, from the union of their ledgers and the join of their rows.
-use Rattle.std.proofs.Common.{◌≡◌, ℕ, List, ◌++◌, map, refl, ap, sym, ◌∙◌, subst, inl, inr, ◌⊎◌, Contains, Bool, true, false, cond, eqb-true, arith}
-use Rattle.std.specs.Prelude.{Option, ◌↔◌, ◌==◌, if◌then◌else◌, max}
-use Rattle.std.proofs.Math.Nat.{max-eq_left}
-use Rattle.std.specs.Ordering.{on, ord_max}
+use Rattle.std.proofs.Common.{◌≡◌, ℕ, List, ◌++◌, map, refl, ap, sym, ◌∙◌, subst, inl, inr, ◌⊎◌, Contains}
+use Rattle.std.specs.Prelude.{Option, ◌↔◌, max}
+use Rattle.std.proofs.Math.Nat.{max_comm}
 use Rattle.std.proofs.lemmas.List.Elements.{All-contains, Contains-append_cases}
 use Rattle.docker_model.specs.file.Change as model
 use Rattle.docker_model.specs.file.Change.{tiploc_key, association_key, schedule_key, tiploc_body, association_body, schedule_body}
 use Rattle.docker_model.specs.state.Stamp as stamps
 use Rattle.docker_model.specs.state.Stamp.{ledger_item_cmp, IsFloor, IsKept}
 use Rattle.docker_model.specs.state.Op as ops
-use Rattle.docker_model.specs.state.Op.{key_cmp, entry_cmp, deleted, lapsed, put_with}
+use Rattle.docker_model.specs.state.Op.{key_cmp, deleted, lapsed, put_with}
 use Rattle.docker_model.specs.state.Order.{IsStrictlyAscending}
 use Rattle.docker_model.specs.state.State.{State, IsValid, IsGoodEntry, IsOpOf, IsJoin}
-use Rattle.docker_model.specs.state.Lapse.{lapse_entry, HasNotToLapse}
-use Rattle.state_laws.proofs.states.Lapse.{entry_stays}
-use Rattle.state_laws.proofs.joins.RaisedHorizon.{none_has_to}
+use Rattle.docker_model.specs.state.Lapse.{lapse_entry, lapse_entries}
 use Rattle.cif_change.specs.declared.key.Key.{Key}
 use Rattle.docker_join.specs.declared.entry.Entry.{Entry}
-use Rattle.docker_join.specs.Meaning.{entry_meant}
 use Rattle.docker_join.specs.Records.{HasRecords}
 use Rattle.docker_join.specs.Rows.{AreAscending, IsJoinOfRows}
 use Rattle.docker_state.specs.declared.item.LedgerItem.{LedgerItem}
 use Rattle.docker_state.specs.Meaning.{item_meant, row_meant, state_meant}
-use Rattle.docker_state.specs.Rows.{LapsesTo}
 use Rattle.state_laws.proofs.states.OneJoin.{floor_unique}
 use Rattle.docker_index.specs.Joined.{AreJoined}
 use Rattle.docker_join.proofs.MergedRows.{walk, walk_joins}
 use Rattle.docker_join.proofs.MeantOrder.{ascending_meant, meant_ascending}
-use Rattle.docker_state.proofs.TableJoin.{higher, joined_greatest, greatest_joined}
+use Rattle.docker_state.proofs.LapsedTables.{joined_lapses}
+use Rattle.docker_state.proofs.TableJoin.{Keyed, higher, joined_greatest, greatest_joined}
 
 -- the items are the items of both ledgers
 abbrev pub HasUnion : List LedgerItem → List LedgerItem → List LedgerItem → Type 0
 HasUnion union first second =
     (item : stamps.LedgerItem) → Contains (map item_meant union) item ↔ Contains (map item_meant first ++ map item_meant second) item
 
--- the rows are the rows of a table that are kept under the floor, each lapsed
-abbrev pub HasLapsedRows : List (Key × Entry) → List (Key × Entry) → Option stamps.FileStamp → ℕ → Type 0
-HasLapsedRows rows joined floor horizon =
-    (key : model.Key) (entry : ops.Entry) → Contains (map row_meant rows) (key, entry) ↔ LapsesTo (map row_meant joined) floor horizon key entry
+-- the rows are the rows of a table that are kept under the floor
+abbrev pub HasKeptRows : List (Key × Entry) → List (Key × Entry) → Option stamps.FileStamp → Type 0
+HasKeptRows rows joined floor =
+    (row : Keyed) → Contains (map row_meant rows) row ↔ (Contains (map row_meant joined) row × IsKept floor row.1.stamp.file)
 
 -- an op that agrees with a key has records
 pub op_records : (key : model.Key) (op : ops.Op) → IsOpOf key op → HasRecords op
@@ -62,43 +58,25 @@ module _ (g h : ℕ) (items others : List LedgerItem) (first second : List (Key 
       by (inl inside) = op_records pair.0 pair.1.op (All-contains (IsGoodEntry (map item_meant items)) (map row_meant first) pair one.entries.0 inside).op
       by (inr inside) = op_records pair.0 pair.1.op (All-contains (IsGoodEntry (map item_meant others)) (map row_meant second) pair two.entries.0 inside).op
 
-  -- under one horizon the entries of both have lapsed already
-  as_if_all : (pair : model.Key × ops.Entry) → Contains (map row_meant first ++ map row_meant second) pair
-      → lapse_entry (max g h) pair.1 ≡ lapse_entry (if g == h then 0 else max g h) pair.1
-  as_if_all pair among = by (g == h) refl (Contains-append_cases (map row_meant first) (map row_meant second) pair among)
-    where
-      stay : HasNotToLapse g pair.1.op → g ≡ h → lapse_entry (max g h) pair.1 ≡ lapse_entry 0 pair.1
-      stay has_not one_horizon =
-          ap (λ n. lapse_entry n pair.1) (max-eq_left (omega arith)) ∙ entry_stays g pair.1 has_not ∙ sym (entry_stays 0 pair.1 (none_has_to pair.1.op))
-
-      by : (b : Bool) → (g == h) ≡ b → Contains (map row_meant first) pair ⊎ Contains (map row_meant second) pair
-          → lapse_entry (max g h) pair.1 ≡ lapse_entry (cond b 0 (max g h)) pair.1
-      by false is there = refl
-      by true is (inl inside) =
-          stay (All-contains (λ (entry : model.Key × ops.Entry). HasNotToLapse g entry.1.op) (map row_meant first) pair one.have_lapsed inside)
-          (eqb-true g h is)
-      by true is (inr inside) =
-          let one_horizon : g ≡ h = eqb-true g h is in
-          stay (subst (λ n. HasNotToLapse n pair.1.op) (sym one_horizon)
-          (All-contains (λ (entry : model.Key × ops.Entry). HasNotToLapse h entry.1.op) (map row_meant second) pair two.have_lapsed inside)) one_horizon
-
   up_first : AreAscending first
   up_first = meant_ascending row_meant (λ (a b : model.Key × ops.Entry). key_cmp a.0 b.0) first one.entries.1
 
   up_second : AreAscending second
   up_second = meant_ascending row_meant (λ (a b : model.Key × ops.Entry). key_cmp a.0 b.0) second two.entries.1
 
-  -- the union of the ledgers and the join of the rows, kept and lapsed, are the join of the states
+  -- the union of the ledgers and the join of the lapsed rows, both kept, are the join of the states
   pub states_joined : (floor : Option stamps.FileStamp) → IsFloor (map item_meant items ++ map item_meant others) floor
       → (union ledger : List LedgerItem) → HasUnion union items others
       → IsStrictlyAscending ledger_item_cmp (map item_meant ledger)
       → ((item : stamps.LedgerItem) → Contains (map item_meant ledger) item ↔ (Contains (map item_meant union) item × IsKept floor item.stamp))
-      → (horizon lapsing : ℕ) → horizon ≡ max g h → lapsing ≡ (if g == h then 0 else max g h)
-      → (joined rows : List (Key × Entry)) → IsJoinOfRows (ord_max (on entry_meant entry_cmp)) first second joined
+      → (horizon : ℕ) → horizon ≡ max g h
+      → (left right : List (Key × Entry)) → map row_meant left ≡ lapse_entries (max g h) (map row_meant first)
+      → map row_meant right ≡ lapse_entries (max h g) (map row_meant second)
+      → (joined rows : List (Key × Entry)) → IsJoinOfRows higher left right joined
       → AreAscending rows
-      → HasLapsedRows rows joined floor lapsing
+      → HasKeptRows rows joined floor
       → IsJoin (state_meant g items first) (state_meant h others second) (state_meant horizon ledger rows)
-  states_joined floor is_floor union ledger in_union up_ledger in_ledger horizon lapsing horizon_is lapsing_is joined rows is up_rows in_rows = record {
+  states_joined floor is_floor union ledger in_union up_ledger in_ledger horizon horizon_is left right left_is right_is joined rows is up_rows in_rows = record {
     horizon = horizon_is;
     floor = floor;
     is_floor = is_floor;
@@ -110,22 +88,34 @@ module _ (g h : ℕ) (items others : List LedgerItem) (first second : List (Key 
     entries_ascend = ascending_meant row_meant (λ (a b : model.Key × ops.Entry). key_cmp a.0 b.0) rows up_rows;
     entries = λ key entry. (
       λ among.
-          let told = (in_rows key entry).0 among in
-          let best = joined_greatest first second joined up_first up_second is key told.0 told.1 in
-          (told.0, best, told.2, under_both (key, told.0) best.among ∙ told.3),
-      λ told. (in_rows key entry).1 (
-        told.0,
-        greatest_joined first second joined up_first up_second is entry_records key told.0 told.1,
-        told.2,
-        sym
-            (under_both (key, told.0) told.1.among) ∙ told.3,
-      ),
+          let kept = (in_rows (key, entry)).0 among in
+          let from = (lapses key entry).0 kept.0 in (
+            from.0,
+            joined_greatest first second whole up_first up_second whole_is key from.0 from.1,
+            subst (λ (e : ops.Entry). IsKept floor e.stamp.file) (sym from.2) kept.1,
+            under from.0 ∙ from.2,
+          ),
+      λ told.
+          let same = sym (under told.0) ∙ told.3 in
+          let best = greatest_joined first second whole up_first up_second whole_is entry_records key told.0 told.1 in
+          (in_rows (key, entry)).1 ((lapses key entry).1 (told.0, best, same), subst (λ (e : ops.Entry). IsKept floor e.stamp.file) same told.2),
     );
   }
     where
-      under_both : (pair : model.Key × ops.Entry) → Contains (map row_meant first ++ map row_meant second) pair
-          → lapse_entry horizon pair.1 ≡ lapse_entry lapsing pair.1
-      under_both pair among = ap (λ n. lapse_entry n pair.1) horizon_is ∙ as_if_all pair among ∙ sym (ap (λ n. lapse_entry n pair.1) lapsing_is)
+      whole : List (Key × Entry)
+      whole = walk higher first second
+
+      whole_is : IsJoinOfRows higher first second whole
+      whole_is = walk_joins higher first second up_first up_second
+
+      under : (entry : ops.Entry) → lapse_entry horizon entry ≡ lapse_entry (max g h) entry
+      under entry = ap (λ n. lapse_entry n entry) horizon_is
+
+      lapses : (key : model.Key) (entry : ops.Entry) → Contains (map row_meant joined) (key, entry)
+          ↔ ((before : ops.Entry) × Contains (map row_meant whole) (key, before) × (lapse_entry (max g h) before ≡ entry))
+      lapses =
+          joined_lapses (max g h) first second left right up_first up_second left_is
+          (right_is ∙ ap (λ n. lapse_entries n (map row_meant second)) (max_comm h g)) entry_records whole joined whole_is is
 
   -- the entries of the join are the entries of the tables' join that are kept under the floor, each
   -- lapsed

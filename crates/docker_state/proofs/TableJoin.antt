@@ -6,7 +6,9 @@ use Rattle.std.specs.Cmp.{on_total}
 use Rattle.std.proofs.lemmas.List.Elements.{Contains-append_left, Contains-append_right, Contains-append_cases}
 use Rattle.docker_model.specs.file.Change as model
 use Rattle.docker_model.specs.state.Op as ops
-use Rattle.docker_model.specs.state.Op.{entry_cmp}
+use Rattle.docker_model.specs.state.Op.{key_cmp, entry_cmp}
+use Rattle.docker_model.specs.state.Stamp.{FileStamp}
+use Rattle.std.specs.declared.cmp.Ordering.{Ordering}
 use Rattle.docker_model.specs.state.Order.{IsAtMost}
 use Rattle.docker_model.specs.state.State.{IsGreatestAmong}
 use Rattle.cif_laws.proofs.orders.Orders.{entry_total}
@@ -23,8 +25,17 @@ use Rattle.docker_join.specs.Rows.{AreAscending, value_at, picked_value, IsJoinO
 use Rattle.docker_join.specs.RowLaws.{value_of, row_of}
 use Rattle.docker_state.specs.Meaning.{row_meant}
 
-abbrev Rows : Type 0
-Rows = List (Key × Entry)
+-- a key with its entry, in the words of the definitions
+abbrev pub Keyed : Type 0
+Keyed = model.Key × ops.Entry
+
+-- the order of the keys
+abbrev pub by_key : Keyed → Keyed → Ordering
+by_key a b = key_cmp a.0 b.0
+
+-- the file of an entry
+abbrev pub file_of : Keyed → FileStamp
+file_of pair = pair.1.stamp.file
 
 -- what rows have at a key, in the words of the definitions
 abbrev pub ValueMeant : List (Key × Entry) → model.Key → ops.Entry → Type 0
@@ -49,7 +60,8 @@ in_rows rows key value found =
 abbrev pub higher : Entry → Entry → Entry
 higher = ord_max (on entry_meant entry_cmp)
 
-same_value : (a b : Entry) (o : Option Entry) → o ≡ Some a → o ≡ Some b → a ≡ b
+-- what is at one place is one
+pub same_value : (a b : Entry) (o : Option Entry) → o ≡ Some a → o ≡ Some b → a ≡ b
 same_value a b o is_a is_b = cc
 
 module _ (first second joined : List (Key × Entry)) (up_first : AreAscending first) (up_second : AreAscending second)
@@ -129,6 +141,21 @@ module _ (first second joined : List (Key × Entry)) (up_first : AreAscending fi
   some_right : (a : Option Entry) (w : Entry) → (m : Entry) × (picked_value higher a (Some w) ≡ Some m)
   some_right None w = (w, refl)
   some_right (Some v) w = (higher v w, refl)
+
+  -- each key of the two tables has an entry in the join
+  pub joined_has : (key : model.Key) (entry : ops.Entry) → Contains Both (key, entry) → (m : ops.Entry) × Contains (map row_meant joined) (key, m)
+  joined_has key entry among = by (Contains-append_cases (map row_meant first) (map row_meant second) (key, entry) among)
+    where
+      by : Contains (map row_meant first) (key, entry) ⊎ Contains (map row_meant second) (key, entry)
+          → (m : ops.Entry) × Contains (map row_meant joined) (key, m)
+      by (inl inside) =
+          let e = value_in first up_first key entry inside in
+          let m = some_left e.0 (value_at second key) in
+          (entry_meant m.0, in_rows joined key m.0 (is.values key ∙ (λ i. picked_value higher (e.1 i) (value_at second key)) ∙ m.1))
+      by (inr inside) =
+          let e = value_in second up_second key entry inside in
+          let m = some_right (value_at first key) e.0 in
+          (entry_meant m.0, in_rows joined key m.0 (is.values key ∙ (λ i. picked_value higher (value_at first key) (e.1 i)) ∙ m.1))
 
   -- the greatest entry of a key is in the join, if the entries have records
   pub greatest_joined : ((pair : model.Key × ops.Entry) → Contains Both pair → HasRecords pair.1.op) → (key : model.Key) (entry : ops.Entry)

@@ -1,14 +1,14 @@
 //! The state of files.
-ghost use Rattle.std.specs.Prelude.{◌≡◌, ℕ, List, [], ◌∷◌, ◌++◌, ◌↔◌, map, max, ◌==◌, if◌then◌else◌, Contains, IfOk, IfErr, IfSome, IsTrue};
+ghost use Rattle.std.specs.Prelude.{◌≡◌, ℕ, List, [], ◌∷◌, ◌++◌, ◌↔◌, map, max, length, Contains, IfOk, IfErr, IfSome, IsTrue};
 ghost use Rattle.docker_model.specs.file.Change as model;
 ghost use Rattle.docker_model.specs.state.State as states;
 ghost use Rattle.docker_model.specs.state.Index.{AreCalling, AreLinked, AreOfUid};
 ghost use Rattle.docker_index.specs.Noted.{AreNoted, items_of};
 ghost use Rattle.docker_index.specs.Rooms.{HasRoomFor};
 ghost use Rattle.docker_index.specs.Spots.{IsIndexOf};
-ghost use Rattle.docker_model.specs.state.State.{entry_at, live_table, raise_horizon, IsValid, IsJoin};
+ghost use Rattle.docker_model.specs.state.State.{entry_at, live_table, raise_horizon, HaveLapsed, IsValid, IsJoin};
 ghost use Rattle.docker_model.specs.records.Date.{IsDay};
-ghost use Rattle.docker_model.specs.state.Lapse.{lapse_table};
+ghost use Rattle.docker_model.specs.state.Lapse.{lapse_entries, lapse_table};
 ghost use Rattle.std.specs.Option.{option_copied, option_map};
 ghost use Rattle.cif_file.specs.Meaning.{key_meant};
 ghost use Rattle.docker_model.specs.state.Stamp.{IsFloor};
@@ -145,7 +145,8 @@ impl State {
 
     /// Sets a horizon: what is put and ends before this day lapses. Its body goes, and its stamp
     /// stays, so that no older file brings it back. A day that isn't after the horizon changes
-    /// nothing.
+    /// nothing. It may take one byte per row for a time. If the allocator refuses them, it takes
+    /// longer.
     pub fn set_horizon(&mut self, day: Day)
         ensures raised { self.new ≡ raise_horizon day self.old }
         ensures summary { (files : List (List (List ℕ))) (horizon : ℕ)
@@ -161,8 +162,9 @@ impl State {
     {
         if self.horizon < horizon {
             self.horizon = horizon;
-            self.entries.lapse(horizon);
-            self.index.lapse(self.entries.as_slice());
+            if self.entries.lapse(horizon) {
+                self.index.lapse(self.entries.as_slice());
+            }
         }
     }
 
@@ -306,10 +308,12 @@ impl State {
         // memory at once.
         drop(own_index);
         drop(their_index);
+        let left = lapsed_under(left, own, theirs);
+        let right = lapsed_under(right, theirs, own);
         let joined = left.join_in(right, rows);
         let items = union_of(first.as_slice(), second.as_slice(), items);
         let ledger = kept_items(items, &floor);
-        let rows = kept_rows(joined.into_rows(), &floor, yet_to_lapse(own, theirs));
+        let rows = kept_rows(joined.into_rows(), &floor);
         let entries = Table::from_rows(rows);
         Ok(State {
             horizon: own.max(theirs),
@@ -379,10 +383,15 @@ impl Merge for State {
     }
 }
 
-/// The horizon under which entries of two states have yet to lapse, from the horizons of both: the
-/// greater one, or none if they are equal.
-fn yet_to_lapse(own: u16, theirs: u16) -> u16
-    ensures { result ≡ (if own == theirs then 0 else max own theirs) }
+/// A table that has lapsed under its own horizon, lapsed under another horizon too. If that isn't
+/// greater, no row is looked at.
+fn lapsed_under(mut table: Table<Entry>, own: u16, other: u16) -> Table<Entry>
+    requires { HaveLapsed own (map row_meant table) }
+    ensures lapsed { map row_meant result ≡ lapse_entries (max own other) (map row_meant table) }
+    ensures len { length result ≡ length table }
 {
-    if own == theirs { 0 } else { own.max(theirs) }
+    if own < other {
+        table.lapse(other);
+    }
+    table
 }

@@ -72,7 +72,8 @@ fn read_at_place(rt: &impl Abort, alloc: Global, text: &[u8], read: u64) -> Opti
     requires { 0 < read }
 {
     let mut source = Fuse::new(Bytes::new(text, 1), read);
-    PlaceOffice::read(alloc, place_of(rt, "ASHFELD"), &mut source, 1000).err()
+    let (place, day) = (place_of(rt, "ASHFELD"), day_of(rt, "2024-05-01"));
+    PlaceOffice::read(alloc, place, day, &mut source, 1000).err()
 }
 
 /// Why an office with a ledger isn't.
@@ -135,9 +136,10 @@ fn fills_by_print(rt: &impl Abort, alloc: Global, office: &Office) {
 
 /// Asserts that printing at Ashfeld to such a sink fills it.
 fn fills_at_place(rt: &impl Abort, alloc: Global, office: &Office) {
-    let office = at_place(rt, alloc, office, place_of(rt, "ASHFELD"));
+    let (place, day) = (place_of(rt, "ASHFELD"), day_of(rt, "2024-06-10"));
+    let office = at_place(rt, alloc, office, place, day);
     let mut kept = Kept::new(alloc, 70).expect(rt, "room");
-    let answer = office.print(day_of(rt, "2024-06-10"), &mut kept);
+    let answer = office.print(&mut kept);
     same(rt, answer, Err(OfficeFault::Sink));
     same(rt, kept.bytes(), FRONT);
 }

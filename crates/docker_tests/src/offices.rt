@@ -62,16 +62,17 @@ pub(crate) fn sent(rt: &impl Abort, alloc: Global, office: &Office) -> Kept {
     kept
 }
 
-/// An office at a timing point that reads the state of another office.
+/// An office at a timing point for a day that reads the state of another office.
 pub(crate) fn at_place(
     rt: &impl Abort,
     alloc: Global,
     office: &Office,
     place: Tiploc,
+    day: Day,
 ) -> PlaceOffice {
     let text = sent(rt, alloc, office);
     let mut source = Bytes::new(text.bytes(), 7);
-    PlaceOffice::read(alloc, place, &mut source, 1000).expect(rt, "a state")
+    PlaceOffice::read(alloc, place, day, &mut source, 1000).expect(rt, "a state")
 }
 
 /// An office with the ledger of the state of another office.
@@ -104,7 +105,7 @@ pub(crate) fn day_of(rt: &impl Abort, date: &str) -> Day {
 }
 
 /// Asserts that an office prints this docker for a place and a day, and so does an office at the
-/// place.
+/// place for the day.
 pub(crate) fn prints(
     rt: &impl Abort,
     alloc: Global,
@@ -119,14 +120,14 @@ pub(crate) fn prints(
     let answer = office.print(&place, day, &mut kept);
     same_in(rt, date, answer, Ok(()));
     same_in(rt, date, kept.bytes(), docker.as_bytes());
-    let office = at_place(rt, alloc, office, place);
+    let office = at_place(rt, alloc, office, place, day);
     prints_there(rt, alloc, &office, date, docker);
 }
 
-/// Asserts that an office at a place prints this docker for a day.
+/// Asserts that an office at a place for a day of this date prints this docker.
 fn prints_there(rt: &impl Abort, alloc: Global, office: &PlaceOffice, date: &str, docker: &str) {
     let mut kept = Kept::new(alloc, ROOM).expect(rt, "room");
-    let answer = office.print(day_of(rt, date), &mut kept);
+    let answer = office.print(&mut kept);
     same_in(rt, date, answer, Ok(()));
     same_in(rt, date, kept.bytes(), docker.as_bytes());
 }
@@ -138,7 +139,7 @@ pub(crate) fn refuses_day(rt: &impl Abort, alloc: Global, office: &Office, date:
     let mut kept = Kept::new(alloc, ROOM).expect(rt, "room");
     let answer = office.print(&place, day, &mut kept);
     same_in(rt, date, answer, Err(OfficeFault::Lapsed));
-    let answer = at_place(rt, alloc, office, place).print(day, &mut kept);
+    let answer = at_place(rt, alloc, office, place, day).print(&mut kept);
     same_in(rt, date, answer, Err(OfficeFault::Lapsed));
     same_in(rt, date, kept.bytes().is_empty(), true);
 }

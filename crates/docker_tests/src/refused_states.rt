@@ -2,7 +2,7 @@
 
 use crate::compare::same;
 use crate::files::*;
-use crate::offices::{has, has_text, office_of, place_of};
+use crate::offices::{day_of, has, has_text, office_of, place_of};
 use crate::state_texts::*;
 use cif_line::Bytes;
 use docker_office::{LedgerOffice, Office, OfficeFault, PlaceOffice, StateCause, StateFault};
@@ -37,11 +37,12 @@ fn read_in(
 ) -> Result<(), OfficeFault> {
     let mut source = Bytes::new(text, 9);
     let place = place_of(rt, "ASHFELD");
+    let day = day_of(rt, "2024-05-01");
     match how {
         Ask::Receive => office.receive(&mut source, limit),
         Ask::Reload => office.reload(&mut source, limit),
         Ask::Migrate => office.migrate(&mut source, limit),
-        Ask::Place => PlaceOffice::read(alloc, place, &mut source, limit).map(|_| ()),
+        Ask::Place => PlaceOffice::read(alloc, place, day, &mut source, limit).map(|_| ()),
         Ask::Ledger => LedgerOffice::read(alloc, &mut source, limit).map(|_| ()),
     }
 }

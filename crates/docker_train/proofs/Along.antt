@@ -1,10 +1,9 @@
 -- The best along the rows of a walk is the chosen one.
-use Rattle.std.proofs.Common.{◌≡◌, ℕ, Bool, true, false, cond, List, [], ◌∷◌, ◌++◌, refl, ap, sym, ◌∙◌, subst, inl, inr, ◌⊎◌, Some, None, Contains, append_assoc, append-nil}
+use Rattle.std.proofs.Common.{◌≡◌, ℕ, true, cond, List, [], ◌∷◌, ◌++◌, refl, ap, sym, ◌∙◌, subst, inl, inr, ◌⊎◌, Some, None, Contains, append_assoc, append-nil}
 use Rattle.std.specs.Prelude.{Option, ◌&&◌}
-use Rattle.std.specs.declared.cmp.Ordering.{Ordering}
 use Rattle.std.proofs.lemmas.Slice.Eq.{bytes_eq-Decides}
 use Rattle.docker_model.specs.file.File.{first_record}
-use Rattle.std.specs.Ordering.{on, is_lt}
+use Rattle.std.specs.Ordering.{on}
 use Rattle.docker_model.specs.file.Change.{Key, tiploc_key, association_key, schedule_key, ScheduleKey, Body, tiploc_body, association_body, schedule_body}
 use Rattle.docker_model.specs.state.Table.{Table}
 use Rattle.docker_model.specs.docker.Choice.{Group, schedule_runs, schedule_choice_cmp, association_choice_cmp}
@@ -150,15 +149,6 @@ next_link_is_none group day found (association_key key) (tiploc_body bytes) none
 next_link_is_none group day found (association_key key) (schedule_body lines) none = refl
 next_link_is_none group day found (tiploc_key code) body none = refl
 next_link_is_none group day found (schedule_key key) body none = refl
-
--- the best so far stays if one more doesn't come before it, whether or not that one passes the test
-pub not_before : {A : Type 0} (cmp : A → A → Ordering) (test : A → Bool) (best more : A) → is_lt (cmp more best) ≡ false
-    → Some best ≡ with_one_more cmp test (Some best) more
-not_before {A} cmp test best more not_first = by (test more)
-  where
-    by : (b : Bool) → Some best ≡ cond b (cond (is_lt (cmp more best)) (Some more) (Some best)) (Some best)
-    by true = λ i. cond (sym not_first i) (Some more) (Some best)
-    by false = refl
 
 -- the row of a schedule
 abbrev row_of : Train → Row

@@ -1,11 +1,11 @@
 -- What is kept is right, and stays right with one more.
-use Rattle.std.proofs.Common.{◌≡◌, ℕ, Bool, true, false, cond, List, refl, ap, sym, ◌∙◌, subst, Some, None}
-use Rattle.std.specs.Prelude.{Option, ◌&&◌, ◌==◌, not}
+use Rattle.std.proofs.Common.{◌≡◌, ℕ, Bool, true, false, cond, List, refl, ap, sym, ◌∙◌, subst, Some}
+use Rattle.std.specs.Prelude.{Option, ◌&&◌, ◌==◌}
 use Rattle.std.specs.declared.cmp.Ordering.{Ordering}
 use Rattle.std.specs.BTreeMap.{BTreeMap, get, Updates}
 use Rattle.std.specs.Str.{bytes_eq}
 use Rattle.std.specs.declared.cmp.Ordering.TheVariants.{Equal}
-use Rattle.std.specs.Ordering.{on, ordering_then, nat_cmp, is_eq, is_lt}
+use Rattle.std.specs.Ordering.{on, ordering_then, nat_cmp, is_eq}
 use Rattle.std.specs.Cmp.{tied_then, unsigned_tied}
 use Rattle.std.proofs.lemmas.Map.Lookups.{exact_bytes, exact_unsigned}
 use Rattle.std.proofs.lemmas.Map.Text.{is_eq-slice_cmp}
@@ -20,7 +20,9 @@ use Rattle.docker_model.specs.state.Op.{association_key_cmp}
 use Rattle.docker_model.specs.state.Order.{bytes_cmp}
 use Rattle.docker_model.specs.state.Row.{Row, AreRowsOf}
 use Rattle.docker_model.specs.state.Table.{Table}
-use Rattle.docker_train.specs.Known.{uid_day_cmp, AreIdentities, group_cmp, GroupLinks, AreDayLinks, stays, HasOneMore}
+use Rattle.docker_train.specs.Known.{uid_day_cmp, AreIdentities, group_cmp, GroupLinks, AreDayLinks, HasOneMore}
+use Rattle.docker_train.specs.Ranked.{is_better}
+use Rattle.docker_train.proofs.BestSoFar.{best_stays, best_goes}
 
 -- ---- identities
 
@@ -93,25 +95,6 @@ module _ (day : ℕ) (link : Link) where
   abbrev by_key : Link → Link → Ordering
   by_key = on (λ (l : Link). l.key) association_choice_cmp
 
-  better_stays : (found : Option Link) → stays found link ≡ true → found ≡ better by_key found link
-  better_stays None is = absurd (false_is_true is)
-    where
-      false_is_true : false ≡ true → ⊥
-      false_is_true h = cc
-  better_stays (Some best) is = by (is_lt (association_choice_cmp link.key best.key)) is
-    where
-      by : (b : Bool) → not b ≡ true → Some best ≡ cond b (Some link) (Some best)
-      by true is = cc
-      by false is = refl
-
-  better_goes : (found : Option Link) → stays found link ≡ false → Some link ≡ better by_key found link
-  better_goes None is = refl
-  better_goes (Some best) is = by (is_lt (association_choice_cmp link.key best.key)) is
-    where
-      by : (b : Bool) → not b ≡ false → Some link ≡ cond b (Some link) (Some best)
-      by true is = refl
-      by false is = cc
-
   -- an association that doesn't run on the day changes nothing
   pub not_running : (before : GroupLinks) → association_runs link.line day ≡ false → HasOneMore day before link before
   not_running before idle = λ group. by (get group_cmp before group) (is_of_group group link.key)
@@ -121,7 +104,7 @@ module _ (day : ℕ) (link : Link) where
       by found false = refl
 
   -- an association whose group has a better one changes nothing
-  pub better_there : (before : GroupLinks) → stays (get group_cmp before (group_of link.key)) link ≡ true → HasOneMore day before link before
+  pub better_there : (before : GroupLinks) → is_better by_key link (get group_cmp before (group_of link.key)) ≡ false → HasOneMore day before link before
   better_there before is = λ group. by group (is_of_group group link.key) refl
     where
       whether : (found : Option Link) (b : Bool) → found ≡ better by_key found link → found ≡ cond b (better by_key found link) found
@@ -132,12 +115,13 @@ module _ (day : ℕ) (link : Link) where
           → get group_cmp before group
           ≡ cond (b && association_runs link.line day) (better by_key (get group_cmp before group) link) (get group_cmp before group)
       by group true own = whether (get group_cmp before group) (association_runs link.line day)
-          (better_stays (get group_cmp before group) (subst (λ (g : Group). stays (get group_cmp before g) link ≡ true) (own_group link.key group own) is))
+          (best_stays by_key link (get group_cmp before group)
+          (subst (λ (g : Group). is_better by_key link (get group_cmp before g) ≡ false) (own_group link.key group own) is))
       by group false other = refl
 
   -- otherwise the association becomes the best of its group
   pub best_of_group : (before after : GroupLinks) → association_runs link.line day ≡ true
-      → stays (get group_cmp before (group_of link.key)) link ≡ false → Updates group_cmp before after (group_of link.key) (Some link)
+      → is_better by_key link (get group_cmp before (group_of link.key)) ≡ true → Updates group_cmp before after (group_of link.key) (Some link)
       → HasOneMore day before link after
   best_of_group before after runs is updates = λ group.
       updates.0 group ∙ (λ i. cond (at_group link.key group i) (Some link) (get group_cmp before group)) ∙ by group (is_of_group group link.key) refl
@@ -146,6 +130,7 @@ module _ (day : ℕ) (link : Link) where
           → cond b (Some link) (get group_cmp before group)
           ≡ cond (b && association_runs link.line day) (better by_key (get group_cmp before group) link) (get group_cmp before group)
       by group true own =
-          better_goes (get group_cmp before group) (subst (λ (g : Group). stays (get group_cmp before g) link ≡ false) (own_group link.key group own) is)
+          best_goes by_key link (get group_cmp before group)
+          (subst (λ (g : Group). is_better by_key link (get group_cmp before g) ≡ true) (own_group link.key group own) is)
           ∙ (λ i. cond (sym runs i) (better by_key (get group_cmp before group) link) (get group_cmp before group))
       by group false other = refl

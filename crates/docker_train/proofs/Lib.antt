@@ -2,6 +2,7 @@ pub mod LineTimes
 pub mod Occurrences
 pub mod KeptLines
 pub mod FallsTold
+pub mod BestSoFar
 pub mod Along
 pub mod WalkOn
 pub mod RunFields

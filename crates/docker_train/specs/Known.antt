@@ -1,9 +1,9 @@
 -- What is kept: the trains that start on a day, the identities of trains, and the associations at a
 -- place that count on a day.
-use Rattle.std.specs.Prelude.{◌≡◌, ℕ, Bool, false, not, List, Option, Some, None, ⊤}
+use Rattle.std.specs.Prelude.{◌≡◌, ℕ, List, Option, Some, None, ⊤}
 use Rattle.std.specs.BTreeMap.{BTreeMap, get}
 use Rattle.std.specs.declared.cmp.Ordering.{Ordering}
-use Rattle.std.specs.Ordering.{ordering_then, nat_cmp, is_lt, on}
+use Rattle.std.specs.Ordering.{ordering_then, nat_cmp, on}
 use Rattle.docker_model.specs.docker.Best.{with_one_more}
 use Rattle.docker_model.specs.docker.Choice.{Group, association_choice_cmp}
 use Rattle.docker_model.specs.docker.Gathering.{identity_of}
@@ -54,11 +54,6 @@ GroupLinks = BTreeMap Group Link
 abbrev pub AreDayLinks : Table → List ℕ → ℕ → GroupLinks → Type 0
 AreDayLinks live place day best =
     (group : Group) → group.location ≡ place → (rows : List Row) → AreRowsOf live rows → get group_cmp best group ≡ link_in rows group day
-
--- there is a best so far, and it stays the best with this association
-abbrev pub stays : Option Link → Link → Bool
-stays None link = false
-stays (Some best) link = not (is_lt (association_choice_cmp link.key best.key))
 
 -- one more association was considered: its group has the best with it, and the other groups are as
 -- they were

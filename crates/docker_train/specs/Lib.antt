@@ -4,6 +4,7 @@ pub mod Keys
 pub mod Walk
 pub mod Falls
 pub mod Along
+pub mod Ranked
 pub mod Runs
 pub mod Midnights
 pub mod Lately

@@ -1,6 +1,6 @@
 //! Chooses the schedule of a train that counts on a day.
-ghost use Rattle.std.specs.Prelude.{◌≡◌, ◌==◌, ℕ, true, List, None, Some};
-ghost use Rattle.std.specs.Ordering.{on, is_lt};
+ghost use Rattle.std.specs.Prelude.{◌≡◌, true, List, None, Some};
+ghost use Rattle.std.specs.Ordering.{on};
 ghost use Rattle.cif_file.specs.Meaning.{key_meant, body_meant};
 ghost use Rattle.docker_model.specs.state.State.{IsBodyOf, live_table};
 ghost use Rattle.docker_model.specs.file.File.{first_record};
@@ -8,14 +8,17 @@ ghost use Rattle.docker_model.specs.docker.Choice.{schedule_choice_cmp, schedule
 ghost use Rattle.docker_model.specs.docker.Best.{with_one_more};
 ghost use Rattle.docker_model.specs.docker.ChoiceWalk.{next_chosen};
 ghost use Rattle.docker_model.specs.state.Row.{Row, AreRowsOf};
-ghost use Rattle.docker_model.specs.docker.LiveRows.{Train, IsChosenOn, is_running, schedule_of, train_in, unless_cancelled};
-ghost use Rattle.docker_train.specs.Keys.{schedule_key_meant};
+ghost use Rattle.docker_model.specs.docker.LiveRows.{Train, IsChosenOn, is_running, train_in, unless_cancelled};
+ghost use Rattle.cif_line.specs.Letter.{stp_letter};
 ghost use Rattle.docker_train.specs.Along.{chosen_along, AreGoodRows, IsLiveTrain};
+ghost use Rattle.docker_train.specs.Ranked.{is_cancellation};
 
 use crate::near::Near;
+use crate::ranked::is_better;
+use crate::rows::schedule_of;
 use crate::schedule_view::ScheduleView;
 use crate::walks::schedules_of;
-use cif_file::{Body, Key, ScheduleKey};
+use cif_file::{Body, Key};
 use cif_line::{Day, Stp, Uid};
 use docker_state::{Live, State};
 
@@ -42,11 +45,18 @@ fn unless_cancelled(found: Option<ScheduleView<'_>>) -> Option<ScheduleView<'_>>
     ensures { result ≡ unless_cancelled found.entry }
 {
     let view = found?;
-    if is_cancellation(view.key()) {
+    if is_cancellation(view.key().stp) {
         None
     } else {
         Some(view)
     }
+}
+
+/// Whether this is the STP indicator of a cancellation.
+pub fn is_cancellation(stp: Stp) -> bool
+    ensures { result ≡ is_cancellation (stp_letter stp) }
+{
+    stp == Stp::Cancellation
 }
 
 /// Like `train_on`, for the UID of a schedule that runs on the day. That schedule is the best so
@@ -100,18 +110,8 @@ fn with_row<'a>(
     }
 }
 
-/// The schedule of a row. `None` if the row isn't a schedule's.
-pub fn schedule_of<'a>(key: &'a Key, body: &'a Body) -> Option<ScheduleView<'a>>
-    requires { IsBodyOf (key_meant key.now) (body_meant body.now) }
-    ensures { result ≡ schedule_of (key_meant key.entry.now) (body_meant body.entry.now) }
-{
-    match (key, body) {
-        (Key::Schedule(key), Body::Schedule(lines)) => Some(ScheduleView::of(key, lines)),
-        _ => None,
-    }
-}
-
-/// The best so far, with one more schedule considered.
+/// The best so far, with one more schedule considered. Whether that one runs is checked only if it
+/// would be the best.
 fn with_one<'a>(
     found: Option<ScheduleView<'a>>,
     view: ScheduleView<'a>,
@@ -121,36 +121,10 @@ fn with_one<'a>(
     ensures { result ≡ with_one_more (on (λ (train : Train). train.key) schedule_choice_cmp)
         (is_running uid.now day) found.entry view.entry }
 {
-    match found {
-        Some(best) => Some(better_of(best, view, uid, day)),
-        None => {
-            if is_running(&view, uid, day) {
-                Some(view)
-            } else {
-                None
-            }
-        }
-    }
-}
-
-/// The better of the best so far and one more schedule. Whether that one runs is checked only if it
-/// comes before the best.
-fn better_of<'a>(
-    best: ScheduleView<'a>,
-    view: ScheduleView<'a>,
-    uid: &Uid,
-    day: Day,
-) -> ScheduleView<'a>
-    ensures { Some result ≡ with_one_more (on (λ (train : Train). train.key) schedule_choice_cmp)
-        (is_running uid.now day) (Some best.entry) view.entry }
-{
-    if !comes_before(view.key(), best.key()) {
-        return best;
-    }
-    if is_running(&view, uid, day) {
-        view
+    if is_better(&view, found.as_ref()) && is_running(&view, uid, day) {
+        Some(view)
     } else {
-        best
+        found
     }
 }
 
@@ -159,23 +133,4 @@ fn is_running(view: &ScheduleView<'_>, uid: &Uid, day: Day) -> bool
     ensures { result ≡ is_running uid.now day view.now }
 {
     (view.key().uid == *uid) & view.runs_on(day)
-}
-
-/// Whether a schedule comes before another in the order of choice.
-fn comes_before(key: &ScheduleKey, other: &ScheduleKey) -> bool
-    ensures { result ≡ is_lt
-        (schedule_choice_cmp (schedule_key_meant key.now) (schedule_key_meant other.now)) }
-{
-    key.stp
-        .letter()
-        .cmp(&other.stp.letter())
-        .then(other.runs_from.number().cmp(&key.runs_from.number()))
-        .is_lt()
-}
-
-/// Whether a schedule is a cancellation, by its key.
-fn is_cancellation(key: &ScheduleKey) -> bool
-    ensures { result ≡ ((schedule_key_meant key.now).indicator == 67) }
-{
-    key.stp == Stp::Cancellation
 }

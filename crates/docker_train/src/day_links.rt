@@ -10,11 +10,12 @@ ghost use Rattle.docker_model.specs.state.Row.{Row, AreRowsOf};
 ghost use Rattle.docker_model.specs.state.State.{IsBodyOf, live_table};
 ghost use Rattle.docker_train.specs.Along.{link_along, AreGoodRows};
 ghost use Rattle.docker_train.specs.Keys.{association_key_meant};
-ghost use Rattle.docker_train.specs.Known.{group_cmp, stays, HasOneMore};
+ghost use Rattle.docker_train.specs.Known.{group_cmp, HasOneMore};
 
 use crate::link_group::LinkGroup;
 use crate::link_view::LinkView;
-use crate::links::{association_of, comes_before, is_same};
+use crate::ranked::is_better;
+use crate::rows::association_of;
 use crate::walks::associations_at;
 use cif_file::{AssocKey, Body, Key};
 use cif_line::{Day, Memory, Tiploc};
@@ -79,7 +80,7 @@ impl<'a> DayLinks<'a> {
             (association_key_meant key.now) }
     {
         match self.best.get(&LinkGroup::of(key)) {
-            Some(link) => is_same(link.key(), key),
+            Some(link) => link.key().cmp(key).is_eq(),
             None => false,
         }
     }
@@ -131,19 +132,10 @@ fn add<'a>(
     if !link.runs_on(day) {
         return Ok(());
     }
-    if stays(best, &link) {
+    let group = LinkGroup::of(link.key());
+    if !is_better(&link, best.get(&group)) {
         return Ok(());
     }
-    best.insert(LinkGroup::of(link.key()), link)?;
+    best.insert(group, link)?;
     Ok(())
-}
-
-/// Whether the best so far in an association's group stays the best with this association.
-fn stays(best: &BTreeMap<LinkGroup, LinkView<'_>>, link: &LinkView<'_>) -> bool
-    ensures { result ≡ stays (get group_cmp best.now (group_of link.now.key)) link.now }
-{
-    match best.get(&LinkGroup::of(link.key())) {
-        Some(other) => !comes_before(link.key(), other.key()),
-        None => false,
-    }
 }

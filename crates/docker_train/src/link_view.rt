@@ -7,8 +7,9 @@ ghost use Rattle.docker_model.specs.docker.Choice.{association_runs};
 ghost use Rattle.docker_train.specs.Keys.{association_key_meant};
 
 use crate::days_run::association_runs;
+use crate::ranked::Ranked;
 use cif_file::AssocKey;
-use cif_line::{Assoc, Day, Line, assoc};
+use cif_line::{Assoc, Day, Line, Stp, assoc};
 use std::marker::Model;
 
 /// A live association: its key, and its line.
@@ -79,5 +80,13 @@ impl<'a> LinkView<'a> {
             Ok(view) => view,
             Err(_) => unreachable!(),
         }
+    }
+}
+
+impl<'a> Ranked for LinkView<'a> {
+    ghost rank = { λ link. (link.key.indicator, link.key.start) };
+
+    fn rank(&self) -> (Stp, Day) {
+        (self.key.stp, self.key.start)
     }
 }

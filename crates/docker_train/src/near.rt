@@ -1,8 +1,9 @@
 //! A state, and one of its rows.
 ghost use Rattle.std.specs.Prelude.{◌≡◌};
 ghost use Rattle.docker_model.specs.state.Index.{AreOfUid};
-ghost use Rattle.docker_model.specs.state.State.{live_table};
+ghost use Rattle.docker_model.specs.state.State.{HasGoodBodies, live_table};
 
+use crate::walks::valid;
 use cif_line::Uid;
 use docker_state::{Live, State};
 use std::marker::Model;
@@ -38,17 +39,11 @@ impl<'a> Near<'a> {
         Near::row(state, 0)
     }
 
-    /// The state.
-    pub(crate) fn state(&self) -> &'a State
-        ensures { result.now ≡ self.now }
-    {
-        self.state
-    }
-
     /// The live schedules of a UID, each with its lines, in key order.
     pub(crate) fn of_uid(&self, uid: &Uid) -> Live<'a>
-        ensures { AreOfUid (live_table self.now) uid.now result }
+        ensures rows { AreOfUid (live_table self.now) uid.now result }
+        ensures bodies { HasGoodBodies (live_table self.now) }
     {
-        self.state.of_uid_near(uid, self.row)
+        valid(self.state).of_uid_near(uid, self.row)
     }
 }

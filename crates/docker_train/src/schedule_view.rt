@@ -14,9 +14,10 @@ ghost use Rattle.docker_train.specs.UpTo.{occurrences_to, up_to_last};
 use crate::days_run::schedule_runs_on;
 use crate::events::Events;
 use crate::lately::{Lately, days_lately, is_marked_lately};
+use crate::ranked::Ranked;
 use crate::up_to::up_to_last;
 use cif_file::{Lines, ScheduleKey};
-use cif_line::{Day, Line, Tiploc};
+use cif_line::{Day, Line, Stp, Tiploc};
 use std::marker::Model;
 
 /// A live schedule: its key, and its lines.
@@ -145,6 +146,14 @@ impl<'a> ScheduleView<'a> {
         ensures few { length result.now < 2 ^ 32 }
     {
         up_to_last(self.lines.as_slice(), place)
+    }
+}
+
+impl<'a> Ranked for ScheduleView<'a> {
+    ghost rank = { λ train. (train.key.indicator, train.key.runs_from) };
+
+    fn rank(&self) -> (Stp, Day) {
+        (self.key.stp, self.key.runs_from)
     }
 }
 

@@ -1,8 +1,6 @@
 //! A UID with its train on a start day.
 ghost use Rattle.std.specs.Prelude.{◌≡◌, Some, None, if◌then◌else◌};
 ghost use Rattle.std.specs.Str.{bytes_eq};
-ghost use Rattle.std.specs.Ordering.{is_eq};
-ghost use Rattle.docker_model.specs.state.Op.{schedule_key_cmp};
 ghost use Rattle.docker_model.specs.docker.Gathering.{runs_by};
 ghost use Rattle.docker_train.specs.Keys.{schedule_key_meant};
 
@@ -36,16 +34,8 @@ impl<'a> UidTrain<'a> {
         ensures { result ≡ runs_by self.now.train (schedule_key_meant key.now) }
     {
         match &self.train {
-            Some(view) => is_same(view.key(), key),
+            Some(view) => view.key().cmp(key).is_eq(),
             None => false,
         }
     }
-}
-
-/// Whether two keys are equal.
-fn is_same(key: &ScheduleKey, other: &ScheduleKey) -> bool
-    ensures { result ≡ is_eq
-        (schedule_key_cmp (schedule_key_meant key.now) (schedule_key_meant other.now)) }
-{
-    key.cmp(other).is_eq()
 }

@@ -4,21 +4,21 @@ ghost use Rattle.docker_model.specs.state.State.{live_table, HasGoodBodies};
 ghost use Rattle.docker_model.specs.docker.Choice.{Group};
 ghost use Rattle.docker_model.specs.state.Index.{AreCalling, AreLinked};
 ghost use Rattle.docker_model.specs.docker.LiveRows.{HasSchedulesOf, HasAssociationsOf};
-ghost use Rattle.docker_model.specs.state.Row.{AreRowsOf};
 ghost use Rattle.docker_train.specs.Along.{AreGoodRows, AreLive};
 
 use crate::near::Near;
 use cif_line::{Tiploc, Uid};
 use docker_state::{Live, Standing, State};
 
-/// All rows of a state.
-pub fn rows_of(state: &State) -> Live<'_>
-    ensures rows { AreRowsOf (live_table state.now) result }
+/// The state, with what its validity says of its rows. A state's invariant is private to its crate;
+/// the contract of `entries` gives it out.
+pub(crate) fn valid(state: &State) -> &State
+    ensures same { result.now ≡ state.now }
     ensures bodies { HasGoodBodies (live_table state.now) }
 {
     // Called for its contract: the state is valid.
     let _entries = state.entries();
-    state.live()
+    state
 }
 
 /// The rows of the schedules of a UID.
@@ -26,8 +26,6 @@ pub(crate) fn schedules_of<'a>(near: &Near<'a>, uid: &Uid) -> Live<'a>
     ensures has { HasSchedulesOf (live_table near.now) uid.now result }
     ensures good { AreGoodRows result }
 {
-    // Called for its contract: the bodies of the rows agree with their keys.
-    let _rows = rows_of(near.state());
     near.of_uid(uid)
 }
 
@@ -39,9 +37,7 @@ pub fn associations_at<'a>(state: &'a State, place: &Tiploc) -> Standing<'a>
     ensures good { AreGoodRows result }
     ensures live { AreLive (live_table state.now) result }
 {
-    // Called for its contract: the bodies of the rows agree with their keys.
-    let _rows = rows_of(state);
-    state.linked(place)
+    valid(state).linked(place)
 }
 
 /// The rows of the schedules that call at a place.
@@ -50,7 +46,5 @@ pub fn schedules_at<'a>(state: &'a State, place: &Tiploc) -> Standing<'a>
     ensures good { AreGoodRows result }
     ensures live { AreLive (live_table state.now) result }
 {
-    // Called for its contract: the bodies of the rows agree with their keys.
-    let _rows = rows_of(state);
-    state.calling(place)
+    valid(state).calling(place)
 }

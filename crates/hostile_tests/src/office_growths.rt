@@ -84,20 +84,21 @@ fn has_printed(desk: &Desk, office: &Office, words: [&str; 3], is_first: bool) -
     true
 }
 
-/// An office at a timing point with the state of a text.
-fn at_place(desk: &Desk, text: &[u8], place: Tiploc) -> Result<PlaceOffice, OfficeFault> {
-    PlaceOffice::read(desk.alloc(), place, &mut source_of(text), MOST_BYTES)
+/// An office at a timing point for a day with the state of a text.
+fn at_place(desk: &Desk, text: &[u8], place: Tiploc, day: Day) -> Result<PlaceOffice, OfficeFault> {
+    PlaceOffice::read(desk.alloc(), place, day, &mut source_of(text), MOST_BYTES)
 }
 
 /// Compares what an office at a timing point prints.
-fn compare_docker(desk: &Desk, office: &PlaceOffice, day: Day, wanted: &str) {
+fn compare_docker(desk: &Desk, office: &PlaceOffice, wanted: &str) {
     if let Some(mut kept) = sink(desk) {
-        let done = office.print(day, &mut kept).is_ok();
+        let done = office.print(&mut kept).is_ok();
         desk.report(done && desk.is_text(kept.bytes(), wanted), wanted);
     }
 }
 
-/// `STATE TIPLOC DATE DOCKER`: an office at the timing point reads the state. It prints then.
+/// `STATE TIPLOC DATE DOCKER`: an office at the timing point for the day reads the state. It prints
+/// then.
 pub(crate) fn read_at_place(desk: &Desk, words: &[&str]) {
     let [name, place, day, wanted] = words else {
         return desk.trouble("STATE TIPLOC DATE DOCKER");
@@ -107,18 +108,19 @@ pub(crate) fn read_at_place(desk: &Desk, words: &[&str]) {
         return;
     };
     desk.begin();
-    let read = at_place(desk, text.as_slice(), place);
+    let read = at_place(desk, text.as_slice(), place, day);
     desk.end(ending_of(&read));
     match read {
-        Ok(office) => compare_docker(desk, &office, day, wanted),
-        Err(_) => match at_place(desk, text.as_slice(), place) {
-            Ok(office) => compare_docker(desk, &office, day, wanted),
+        Ok(office) => compare_docker(desk, &office, wanted),
+        Err(_) => match at_place(desk, text.as_slice(), place, day) {
+            Ok(office) => compare_docker(desk, &office, wanted),
             Err(_) => desk.trouble("refused again"),
         },
     }
 }
 
-/// `STATE TIPLOC DATE DOCKER`: an office at the timing point, which has read the state, prints.
+/// `STATE TIPLOC DATE DOCKER`: an office at the timing point for the day, which has read the state,
+/// prints.
 pub(crate) fn print_at_place(desk: &Desk, words: &[&str]) {
     let [name, place, day, wanted] = words else {
         return desk.trouble("STATE TIPLOC DATE DOCKER");
@@ -127,23 +129,23 @@ pub(crate) fn print_at_place(desk: &Desk, words: &[&str]) {
     let Some((place, day)) = occasion_of(desk, place, day) else {
         return;
     };
-    match at_place(desk, text.as_slice(), place) {
-        Ok(office) => print_there(desk, &office, day, wanted),
+    match at_place(desk, text.as_slice(), place, day) {
+        Ok(office) => print_there(desk, &office, wanted),
         Err(_) => desk.trouble("an office's state is refused"),
     }
 }
 
 /// Has an office at a timing point print, once more if nothing is written.
-fn print_there(desk: &Desk, office: &PlaceOffice, day: Day, wanted: &str) {
+fn print_there(desk: &Desk, office: &PlaceOffice, wanted: &str) {
     let Some(mut kept) = sink(desk) else {
         return;
     };
     desk.begin();
-    let done = office.print(day, &mut kept);
+    let done = office.print(&mut kept);
     desk.end(ending_of(&done));
     if done.is_err() && kept.bytes().is_empty() && kept.failures() == 0 {
         desk.report(true, "nothing is written");
-        return compare_docker(desk, office, day, wanted);
+        return compare_docker(desk, office, wanted);
     }
     desk.report(done.is_ok() && desk.is_text(kept.bytes(), wanted), wanted);
 }

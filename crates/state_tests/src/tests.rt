@@ -1,7 +1,7 @@
 ghost use Rattle.std.specs.Prelude.{◌<◌};
 
 use cif_file::read_pieces;
-use cif_line::{Bytes, Kept, Tiploc};
+use cif_line::{Bytes, Day, Kept, Tiploc};
 use docker_bytes::{
     ReadFault, StateCause, StateFault, StateParser, Step, encoded_len, read_excerpt, read_ledger,
     read_state, write_state,
@@ -120,7 +120,7 @@ fn goes_round(rt: &impl Abort, alloc: Global, state: &State, len: usize, step: u
     let files = files_in(rt, alloc, text.bytes(), step, len as u64);
     same(rt, files, state.ledger().len());
     let mut source = Bytes::new(text.bytes(), step);
-    let excerpt = read_excerpt(alloc, &mut source, place(rt), len as u64);
+    let excerpt = read_excerpt(alloc, &mut source, place(rt), day(rt), len as u64);
     same(rt, excerpt.is_ok(), true);
 }
 
@@ -209,6 +209,11 @@ fn place(rt: &impl Abort) -> Tiploc {
     Tiploc::from_text("ASHFELD").expect(rt, "a TIPLOC")
 }
 
+/// The day that excerpts are read for.
+fn day(rt: &impl Abort) -> Day {
+    Day::from_iso("2024-06-15").expect(rt, "a day")
+}
+
 /// Asserts that a text has this fault under this limit, both when it is read and when a parser is
 /// fed, `step` bytes at a time.
 fn refused_by(
@@ -226,7 +231,7 @@ fn refused_by(
     same(rt, read, Some(ReadFault::State(fault)));
     same(rt, fault_fed(alloc, text, limit, step), Some(fault));
     let mut source = Bytes::new(text, step);
-    let read = read_excerpt(alloc, &mut source, place(rt), limit).err();
+    let read = read_excerpt(alloc, &mut source, place(rt), day(rt), limit).err();
     same(rt, read, Some(ReadFault::State(fault)));
     let mut source = Bytes::new(text, step);
     let read = read_ledger(alloc, &mut source, limit).err();

@@ -48,17 +48,17 @@ partner_after indicator start day is = by (indicator == 78) (indicator == 80) is
 
 -- each train of one table with an event on the day is a train of the other, and so are the
 -- associations of its base and the partner's identity
-record CarriesOver (one other : Table) (day : ℕ) : Type 0 where
-  trains : (uid : List ℕ) (start : ℕ) (key : ScheduleKey) (lines : List (List ℕ)) → TrainRuns one uid start key lines → (event : Event)
+pub record CarriesOver (one other : Table) (day : ℕ) : Type 0 where
+  pub trains : (uid : List ℕ) (start : ℕ) (key : ScheduleKey) (lines : List (List ℕ)) → TrainRuns one uid start key lines → (event : Event)
       → event_day start lines event ≡ day → TrainRuns other uid start key lines
-  links : (uid : List ℕ) (start : ℕ) (base : ScheduleKey) (lines : List (List ℕ)) → TrainRuns one uid start base lines → (event : Event)
+  pub links : (uid : List ℕ) (start : ℕ) (base : ScheduleKey) (lines : List (List ℕ)) → TrainRuns one uid start base lines → (event : Event)
       → event_day start lines event ≡ day → (key : AssociationKey) (line : List ℕ) (indicator : ℕ) (identity : List ℕ)
       → (IsChosenAssociation one (group_of key) start key line → IsChosenAssociation other (group_of key) start key line)
       × (IsPartnerIdentity one key.associated (partner_start indicator start) identity
       → IsPartnerIdentity other key.associated (partner_start indicator start) identity)
 
 -- so the line of an event in one is a line in the other
-event_line_over : (one other : Table) (place : List ℕ) (day : ℕ) → CarriesOver one other day → (line : DockerLine) → IsEventLine one place day line
+pub event_line_over : (one other : Table) (place : List ℕ) (day : ℕ) → CarriesOver one other day → (line : DockerLine) → IsEventLine one place day line
     → IsEventLine other place day line
 event_line_over one other place day carries line is = record {
   start = is.start;
@@ -73,7 +73,7 @@ event_line_over one other place day carries line is = record {
 }
 
 -- so is the line of an association
-association_line_over : (one other : Table) (place : List ℕ) (day : ℕ) → CarriesOver one other day → (line : DockerLine)
+pub association_line_over : (one other : Table) (place : List ℕ) (day : ℕ) → CarriesOver one other day → (line : DockerLine)
     → IsAssociationLine one place day line → IsAssociationLine other place day line
 association_line_over one other place day carries line is =
     let link =

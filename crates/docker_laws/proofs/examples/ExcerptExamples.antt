@@ -19,7 +19,8 @@ use Rattle.docker_laws.proofs.examples.ChoiceExamples.{in_state, some_stamp}
 use Rattle.state_laws.proofs.indexes.CallsTest.{calls_test}
 use Rattle.docker_laws.proofs.dockers.ExcerptWalk.{walk_is_excerpt}
 
-abbrev place : List ℕ
+-- the place of the examples
+abbrev pub place : List ℕ
 place = codes "COLWELL"
 
 abbrev with_op : Key → Op → Keyed
@@ -66,7 +67,7 @@ abbrev overlaid : State
 overlaid = state_of (put_in (schedule_key stops_key) (schedule_body stops) ∷ put_in (schedule_key short_key) (schedule_body short) ∷ [])
 
 -- without the overlay
-abbrev alone : State
+abbrev pub alone : State
 alone = state_of (put_in (schedule_key stops_key) (schedule_body stops) ∷ [])
 
 schedule_in : Key → ScheduleKey

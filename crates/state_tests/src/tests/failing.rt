@@ -4,7 +4,7 @@ ghost use Rattle.std.specs.Prelude.{◌<◌};
 use super::records::{
     AA, BS, FILE, HD, HEAD, ITEM, JOINS, LO, LT, MARK, OLD_MARK, ONE, PUT, SECOND, TWO, ZZ,
 };
-use super::{joined_text, known_state, known_text, place, same, state, text_is, written};
+use super::{day, joined_text, known_state, known_text, place, same, state, text_is, written};
 use cif_line::{Bytes, Failed, Fuse, Kept};
 use docker_bytes::{
     ReadFault, StateCause, StateFault, join_state, migrate, read_excerpt, read_ledger, read_state,
@@ -59,7 +59,7 @@ fn reads_not(rt: &impl Abort, alloc: Global, text: &[u8], call: u64, fault: Read
     let read = read_state(alloc, &mut source, 1000).err();
     same(rt, read, Some(fault));
     let mut source = Fuse::new(Bytes::new(text, 4096), call);
-    let read = read_excerpt(alloc, &mut source, place(rt), 1000).err();
+    let read = read_excerpt(alloc, &mut source, place(rt), day(rt), 1000).err();
     same(rt, read, Some(fault));
     let mut source = Fuse::new(Bytes::new(text, 4096), call);
     let read = read_ledger(alloc, &mut source, 1000).err();

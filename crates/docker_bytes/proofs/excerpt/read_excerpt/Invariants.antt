@@ -1,5 +1,5 @@
--- The place is the one that was asked for.
+-- The place and the day are the ones that were asked for.
 use Rattle.docker_bytes.proofs.excerpt.read_excerpt.Given as goal
 
 abbrev pub ghosts-excerpt_at : goal.ghosts-excerpt_at
-ghosts-excerpt_at g a = record { place = a.place }
+ghosts-excerpt_at g a = record { place = a.place; day = a.day }

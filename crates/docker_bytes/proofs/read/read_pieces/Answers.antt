@@ -1,6 +1,6 @@
 -- What was fed to the parser is what the source lost.
 use Rattle.std.proofs.Common.{[], ap, refl, Err}
-use Rattle.docker_bytes.proofs.ReadLemmas.{at_start, loses_few, reads_all, refused_apart, refused_within, terms_of, wants_part}
+use Rattle.docker_bytes.proofs.ReadLemmas.{at_start, loses_few, reads_all, refused_counts, refused_within, terms_of, wants_part}
 use Rattle.docker_bytes.proofs.read.read_pieces.Goals as goal
 
 pub feed_all-requires-clause-taking : goal.feed_all-requires-clause-taking
@@ -54,11 +54,11 @@ returns-in-Err-Refused-clause-few g c =
     loses_few (terms_of c.args.parser.now) (g.S.Source.left c.args.source.now) (g.S.Source.left c.feed_all.new.source)
     (c.in-Err-Refused.ensures.no_further (terms_of c.args.parser.now) [] start)
 
-pub returns-in-Err-Refused-clause-source : goal.returns-in-Err-Refused-clause-source
-returns-in-Err-Refused-clause-source g c =
+pub returns-in-Err-Refused-clause-failures : goal.returns-in-Err-Refused-clause-failures
+returns-in-Err-Refused-clause-failures g c =
     let start = at_start c.args.parser.now c.requires.unread c.requires.limit in
     let from = c.in-Err-Refused.field-0-is in
-    refused_apart (terms_of c.args.parser.now) (g.S.Source.left c.args.source.now) (g.S.Source.left c.feed_all.new.source) c.feed_all.new.taker
+    refused_counts (terms_of c.args.parser.now) (g.S.Source.left c.args.source.now) (g.S.Source.left c.feed_all.new.source) c.feed_all.new.taker
     c.in-Err-Refused.fault (g.S.Source.failures c.args.source.now) (g.S.Source.failures c.feed_all.new.source)
     (c.in-Err-Refused.ensures.refused c.in-Err-Refused.fault (ap Err from) (terms_of c.args.parser.now) [] start)
     (c.in-Err-Refused.ensures.no_failure (λ is. cc))

@@ -19,7 +19,7 @@ returns-in_ok-office-in-Print g c =
       order = inl refl;
       counted = c.in_ok-office-in-Print.ensures.counted (g.T.Source.failures c.args.second.now);
       written = ap output_of at
-          ∙ ap (λ place. docker_written place c.in-Print.day) (sym c.in_ok-office-in-Print.ensures.place);
+          ∙ sym (λ i. docker_written (c.in_ok-office-in-Print.ensures.place i) (c.in_ok-office-in-Print.ensures.day i));
     }
 
 pub returns-in_err-office-in-Print : goal.returns-in_err-office-in-Print

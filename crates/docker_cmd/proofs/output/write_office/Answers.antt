@@ -11,5 +11,5 @@ returns-in-Docker-clause-ends g c =
     EndsEmitting g.K.Sink.taken g.K.Sink.failures output (office_read c.args.office.now) c.args.sink.now c.print.new.sink c.print.result)
     (sym (ap output_meant c.in-Docker.is))
     (docker_ends g.K.Sink.taken g.K.Sink.failures c.args.office.now c.in-Docker.place c.in-Docker.day c.args.sink.now c.print.new.sink c.print.result
-    c.print.ensures.ok c.print.ensures.part c.print.ensures.lapsed.0 c.print.ensures.unwritten c.print.ensures.sink.0 c.print.ensures.no_failure
+    c.print.ensures.ok c.print.ensures.part c.print.ensures.lapsed.0 c.print.ensures.unwritten c.print.ensures.failures.0.0 c.print.ensures.failures.1
     c.print.ensures.only)

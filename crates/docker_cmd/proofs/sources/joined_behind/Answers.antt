@@ -24,8 +24,8 @@ returns-in_err-receive g c =
           (g.T.Source.left c.args.second.now) (g.T.Source.left c.receive.new.source) _ (_, first.ends.0) first.first_few c.receive.ensures.few
           c.in_err-receive.ensures.only (λ state is. c.in_err-receive.ensures.state state (ap Err is)) (λ is. c.in_err-receive.ensures.memory (ap Err is));
       order = inr ((_, first.ends.0), kept);
-      counted = state_failed _ _ _ _ _ kept c.in_err-receive.ensures.only (λ is. c.in_err-receive.ensures.source.0 (ap Err is))
-          (λ other. c.in_err-receive.ensures.no_failure (λ is. other (same_fault _ _ is)));
+      counted = state_failed _ _ _ _ _ kept c.in_err-receive.ensures.only (λ is. c.in_err-receive.ensures.failures.0.0 (ap Err is))
+          (λ other. c.in_err-receive.ensures.failures.1 (λ is. other (same_fault _ _ is)));
     })
 
 pub returns : goal.returns
@@ -39,5 +39,5 @@ returns g c =
         ends = (record { own = _; reads = first.ends.0; joins = c.in_ok-receive.ensures.ok refl }, tt);
       };
       order = inr ((_, first.ends.0), kept);
-      counted = (kept, c.in_ok-receive.ensures.no_failure (λ is. cc));
+      counted = (kept, c.in_ok-receive.ensures.failures.1 (λ is. cc));
     }

@@ -24,8 +24,8 @@ returns-in_err-take g c =
           (g.T.Source.left c.args.second.now) (g.T.Source.left c.take.new.source) _ (_, first.ends.0) first.first_few c.take.ensures.no_further
           c.in_err-take.ensures.only (λ file is. c.in_err-take.ensures.file file (ap Err is)) (λ is. c.in_err-take.ensures.memory (ap Err is));
       order = inr ((_, first.ends.0), kept);
-      counted = file_failed _ _ _ _ _ kept c.in_err-take.ensures.only (λ is. c.in_err-take.ensures.source.0 (ap Err is))
-          (λ other. c.in_err-take.ensures.no_failure (λ is. other (same_fault _ _ is)));
+      counted = file_failed _ _ _ _ _ kept c.in_err-take.ensures.only (λ is. c.in_err-take.ensures.failures.0.0 (ap Err is))
+          (λ other. c.in_err-take.ensures.failures.1 (λ is. other (same_fault _ _ is)));
     })
 
 pub returns : goal.returns
@@ -39,5 +39,5 @@ returns g c =
         ends = (record { own = _; reads = first.ends.0; takes = c.in_ok-take.ensures.ok refl }, c.in_ok-take.ensures.end refl);
       };
       order = inr ((_, first.ends.0), kept);
-      counted = (kept, c.in_ok-take.ensures.no_failure (λ is. cc));
+      counted = (kept, c.in_ok-take.ensures.failures.1 (λ is. cc));
     }

@@ -1,17 +1,18 @@
-use Rattle.std.specs.Prelude.{◌&&◌, ◌==◌, not}
+use Rattle.std.specs.Prelude.{◌&&◌, not}
 use Rattle.std.proofs.Common.{ap, sym, ◌∙◌}
 use Rattle.docker_model.specs.file.Change.{AssociationKey}
 use Rattle.docker_model.specs.docker.Choice.{association_runs, group_of}
 use Rattle.docker_model.specs.docker.Gathering.{counts_as}
 use Rattle.docker_model.specs.docker.LiveRows.{link_in}
 use Rattle.docker_model.specs.state.State.{live_table}
+use Rattle.docker_train.specs.Ranked.{is_cancellation}
 use Rattle.docker_day.proofs.PassedOver.{not_in_force}
 use Rattle.docker_day.proofs.link_lines.is_in_force.Goals as goal
 
 pub returns : goal.returns
 returns c = λ rows are.
     let counts = c.counts.ensures rows are ∙ ap (λ (key : AssociationKey). counts_as (link_in rows (group_of key) c.args.visit.now.start) key) c.key.ensures in
-    let stands = c.stands.ensures ∙ ap (λ (key : AssociationKey). not (key.indicator == 67)) c.key-2.ensures in
+    let stands = ap not c.is_cancellation.ensures ∙ ap (λ (key : AssociationKey). not (is_cancellation key.indicator)) c.key-2.ensures in
     λ i. (counts i && stands i) && c.has_indicator.ensures i
 
 pub returns-then-not-runs_on : goal.returns-then-not-runs_on

@@ -1,10 +1,10 @@
-use Rattle.std.proofs.Common.{ap, refl}
+use Rattle.std.proofs.Common.{ap, ◌+◌, ◌∙◌, refl}
 use Rattle.std.specs.List.{flat_map}
 use Rattle.std.proofs.lemmas.Result.{on_ok_weaker, on_err_weaker}
 use Rattle.docker_model.specs.docker.DockerLine.{DockerLine}
 use Rattle.docker_model.specs.docker.DockerText.{line_text, last_line, ended}
 use Rattle.docker_day.specs.DockerValue.{head}
-use Rattle.docker_day.proofs.Written.{on_any_err, all_taken, part_of_first, part_of_second, part_of_third}
+use Rattle.docker_day.proofs.Written.{as_often, last_failed, on_any_err, one_failed, all_taken, part_of_first, part_of_second, part_of_third}
 use Rattle.docker_day.proofs.Printed.{printed, heading_is}
 use Rattle.docker_day.proofs.print.write_docker.Goals as goal
 
@@ -69,3 +69,20 @@ returns-in_err-write_all-clause-text g c = λ live place day. printed live place
 
 pub returns-in_err-write_lines-clause-text : goal.returns-in_err-write_lines-clause-text
 returns-in_err-write_lines-clause-text g c = λ live place day. printed live place day c.args.docker.now
+
+pub returns-in_err-write_all-clause-failures : goal.returns-in_err-write_all-clause-failures
+returns-in_err-write_all-clause-failures g c =
+    one_failed _ c.from_residual.result (g.K.Sink.failures c.args.sink.now) (g.K.Sink.failures c.write_all.new.sink) c.from_residual.ensures.1
+    c.in_err-write_all.ensures.counted
+
+pub returns-in_err-write_lines-clause-failures : goal.returns-in_err-write_lines-clause-failures
+returns-in_err-write_lines-clause-failures g c =
+    one_failed _ c.from_residual-in_err-write_lines.result (g.K.Sink.failures c.args.sink.now) (g.K.Sink.failures c.write_lines.new.sink)
+    c.from_residual-in_err-write_lines.ensures.1 (c.in_err-write_lines.ensures.failures.0.0 refl ∙ ap (λ n. n + 1) c.in_ok-write_all.ensures.no_failure)
+
+pub returns-clause-failures : goal.returns-clause-failures
+returns-clause-failures g c =
+    last_failed c.write_all-2.result (g.K.Sink.failures c.args.sink.now) (g.K.Sink.failures c.write_lines.new.sink) (g.K.Sink.failures c.write_all-2.new.sink)
+    (as_often (g.K.Sink.failures c.write_all.new.sink) (g.K.Sink.failures c.write_lines.new.sink) c.in_ok-write_lines.ensures.failures
+    ∙ c.in_ok-write_all.ensures.no_failure)
+    c.write_all-2.ensures.no_failure c.write_all-2.ensures.counted

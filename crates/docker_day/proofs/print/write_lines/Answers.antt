@@ -1,7 +1,7 @@
-use Rattle.std.proofs.Common.{◌∙◌, refl}
+use Rattle.std.proofs.Common.{ap, ◌+◌, ◌∙◌, refl}
 use Rattle.docker_model.specs.docker.DockerLine.{DockerLine}
 use Rattle.docker_model.specs.docker.DockerText.{line_text, ended}
-use Rattle.docker_day.proofs.Written.{on_any_err, leads_first, leads_on, leads_part, leads_last}
+use Rattle.docker_day.proofs.Written.{none_failed, on_any_err, one_failed, leads_first, leads_on, leads_part, leads_last}
 use Rattle.docker_day.proofs.print.write_lines.Goals as goal
 
 pub loop-line-init : goal.loop-line-init
@@ -30,3 +30,12 @@ returns-clause-whole g c =
     leads_last (λ (line : DockerLine). ended (line_text line)) c.args.lines.now c.loop-line.line-index (g.K.Sink.taken c.args.sink.now)
     (g.K.Sink.taken c.loop-line.sink)
     c.loop-line-test.false c.loop-line.invariant.leads
+
+pub returns-in_err-write_all-clause-failures : goal.returns-in_err-write_all-clause-failures
+returns-in_err-write_all-clause-failures g c =
+    one_failed _ c.from_residual.result (g.K.Sink.failures c.args.sink.now) (g.K.Sink.failures c.write_all.new.sink) c.from_residual.ensures.1
+    (c.in_err-write_all.ensures.counted ∙ ap (λ n. n + 1) c.loop-line.invariant.no_failure)
+
+pub returns-clause-failures : goal.returns-clause-failures
+returns-clause-failures g c =
+    none_failed (g.K.Sink.failures c.args.sink.now) (g.K.Sink.failures c.loop-line.sink) c.loop-line.invariant.no_failure

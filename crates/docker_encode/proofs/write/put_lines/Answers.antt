@@ -14,7 +14,7 @@ pub loop-line-preserved : goal.loop-line-preserved
 loop-line-preserved g c = record {
   given = each_given concat concat_join c.args.lines.now c.loop-line.line-index c.line-item.result c.line-item.result c.loop-line-test.true
       c.line-item.is (append-nil _) _ _ _ _ _ _ c.loop-line.invariant.given (room_then_add (g.K.Sink.taken c.loop-line.sink)
-      c.loop-line.buffer.items (g.K.Sink.taken c.make_room.new.sink) c.make_room.new.buffer.items c.line-item.result c.add.new.buffer.items
-      c.in_ok-make_room.ensures.gives.0 (c.add.ensures.items ∙ ap (λ xs. c.make_room.new.buffer.items ++ xs) c.bytes.ensures.bytes));
+      c.loop-line.buffer.items (g.K.Sink.taken c.make_room.new.sink) c.make_room.new.buffer.items c.line-item.result c.put.new.text.items
+      c.in_ok-make_room.ensures.gives.0 (c.put.ensures.items ∙ ap (λ xs. c.make_room.new.buffer.items ++ xs) c.bytes.ensures.bytes));
   no_failure = c.in_ok-make_room.ensures.gives.1 ∙ c.loop-line.invariant.no_failure;
 }

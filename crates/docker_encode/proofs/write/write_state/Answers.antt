@@ -10,10 +10,6 @@ pub returns-clause-part : goal.returns-clause-part
 returns-clause-part g c =
     (flushed g.K.Sink.taken g.K.Sink.failures c.args.sink.now c.put_text.new.sink (state_text dks_2 c.args.state.now) c.put_text.result c.put_text.ensures).1
 
-pub returns-clause-no_failure : goal.returns-clause-no_failure
-returns-clause-no_failure g c =
+pub returns-clause-failures : goal.returns-clause-failures
+returns-clause-failures g c =
     (flushed g.K.Sink.taken g.K.Sink.failures c.args.sink.now c.put_text.new.sink (state_text dks_2 c.args.state.now) c.put_text.result c.put_text.ensures).2
-
-pub returns-clause-counted : goal.returns-clause-counted
-returns-clause-counted g c =
-    (flushed g.K.Sink.taken g.K.Sink.failures c.args.sink.now c.put_text.new.sink (state_text dks_2 c.args.state.now) c.put_text.result c.put_text.ensures).3

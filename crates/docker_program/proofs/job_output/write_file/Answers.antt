@@ -21,7 +21,7 @@ discard-requires-clause-few g c =
     c.in-Err.fault c.requires.name c.in-Err.ensures.ends in
     let rose : g.W.Draft.Sink.failures c.emit.new.sink ≡ g.W.Draft.Sink.failures c.in-Ok.draft + 1 = alone.1 in
     let sound : g.W.Draft.Sink.failures c.in-Ok.draft ≡ 0 = c.in-Ok.ensures.sound in
-    let made : g.W.Stores.failures c.create.new.self ≡ g.W.Stores.failures c.args.store.now = c.in-Ok.ensures.no_failure (λ is. cc) in
+    let made : g.W.Stores.failures c.create.new.self ≡ g.W.Stores.failures c.args.store.now = c.in-Ok.ensures.failures.1 (λ is. cc) in
     omega (arith, c.requires.store)
 
 pub returns-in-Err-clause-ends : goal.returns-in-Err-clause-ends
@@ -37,7 +37,7 @@ returns-in-Err-clause-counted g c =
     c.in-Err.fault c.requires.name c.in-Err.ensures.ends in
     let rose : g.W.Draft.Sink.failures c.emit.new.sink ≡ g.W.Draft.Sink.failures c.in-Ok.draft + 1 = alone.1 in
     let sound : g.W.Draft.Sink.failures c.in-Ok.draft ≡ 0 = c.in-Ok.ensures.sound in
-    let made : g.W.Stores.failures c.create.new.self ≡ g.W.Stores.failures c.args.store.now = c.in-Ok.ensures.no_failure (λ is. cc) in
+    let made : g.W.Stores.failures c.create.new.self ≡ g.W.Stores.failures c.args.store.now = c.in-Ok.ensures.failures.1 (λ is. cc) in
     let lost : g.W.Stores.failures c.discard.new.self ≡ g.W.Stores.failures c.create.new.self + g.W.Draft.Sink.failures c.emit.new.sink =
     c.discard.ensures.counted in
     let once : g.W.Stores.failures c.discard.new.self ≡ g.W.Stores.failures c.args.store.now + 1 = omega arith in
@@ -47,7 +47,7 @@ pub complete-requires : goal.complete-requires
 complete-requires g c =
     let same : g.W.Draft.Sink.failures c.emit.new.sink ≡ g.W.Draft.Sink.failures c.in-Ok.draft = c.in-Ok-emit.ensures.ends.1 in
     let sound : g.W.Draft.Sink.failures c.in-Ok.draft ≡ 0 = c.in-Ok.ensures.sound in
-    let made : g.W.Stores.failures c.create.new.self ≡ g.W.Stores.failures c.args.store.now = c.in-Ok.ensures.no_failure (λ is. cc) in
+    let made : g.W.Stores.failures c.create.new.self ≡ g.W.Stores.failures c.args.store.now = c.in-Ok.ensures.failures.1 (λ is. cc) in
     omega (arith, c.requires.store)
 
 pub returns-in_default-clause-ends : goal.returns-in_default-clause-ends

@@ -10,7 +10,7 @@ returns-in-Err-Failed-clause-ends g c =
 pub discard-requires-clause-failed : goal.discard-requires-clause-failed
 discard-requires-clause-failed g c =
     let alone : c.in-Err.fault ≡ office.Sink = c.in-Err.ensures.only in
-    let rose : g.W.Draft.Sink.failures c.send.new.sink ≡ g.W.Draft.Sink.failures c.in-Ok.draft + 1 = c.in-Err.ensures.sink.0 (ap Err alone) in
+    let rose : g.W.Draft.Sink.failures c.send.new.sink ≡ g.W.Draft.Sink.failures c.in-Ok.draft + 1 = c.in-Err.ensures.failures.0.0 (ap Err alone) in
     let sound : g.W.Draft.Sink.failures c.in-Ok.draft ≡ 0 = c.in-Ok.ensures.sound in
     omega arith
 

@@ -1,13 +1,10 @@
-use Rattle.std.proofs.Common.{subst}
-use Rattle.docker_model.specs.state.State.{State, HasGoodBodies, live_table}
+use Rattle.docker_model.specs.state.State.{live_table}
 use Rattle.docker_laws.proofs.dockers.IndexedWalk.{of_uid_has}
 use Rattle.docker_train.proofs.Along.{good_of_uid}
 use Rattle.docker_train.proofs.walks.schedules_of.Goals as goal
 
 pub returns-clause-has : goal.returns-clause-has
-returns-clause-has c = of_uid_has (live_table c.args.near.now) c.args.uid.now c.of_uid.result c.of_uid.ensures
+returns-clause-has c = of_uid_has (live_table c.args.near.now) c.args.uid.now c.of_uid.result c.of_uid.ensures.rows
 
 pub returns-clause-good : goal.returns-clause-good
-returns-clause-good c =
-    good_of_uid (live_table c.args.near.now) c.args.uid.now c.of_uid.result
-    (subst (λ (state : State). HasGoodBodies (live_table state)) c.state.ensures c.rows_of-rows.ensures.bodies) c.of_uid.ensures
+returns-clause-good c = good_of_uid (live_table c.args.near.now) c.args.uid.now c.of_uid.result c.of_uid.ensures.bodies c.of_uid.ensures.rows

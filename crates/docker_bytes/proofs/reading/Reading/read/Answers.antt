@@ -1,4 +1,4 @@
-use Rattle.std.proofs.Common.{refl, ◌∙◌, sym, [], ◌<◌, ◌+◌, length, append-nil, arith}
+use Rattle.std.proofs.Common.{refl, sym, [], ◌<◌, ◌+◌, length, append-nil, arith}
 use Rattle.std.proofs.lemmas.Result.{err_from_is_err_and}
 use Rattle.docker_model.specs.state.StatePart.{width}
 use Rattle.docker_parts.specs.FaultMeaning.{cause_meant}

@@ -3,19 +3,23 @@ use Rattle.std.proofs.lemmas.List.{nil_from_length}
 use Rattle.std.proofs.lemmas.Result.{err_from_is_err_and}
 use Rattle.docker_model.specs.state.StatePart.{width}
 use Rattle.docker_parts.specs.FaultMeaning.{cause_meant}
-use Rattle.docker_bytes.specs.Reading.{before_of, IsLineOf}
+use Rattle.docker_bytes.specs.declared.reading.Reading.{Reading}
+use Rattle.docker_bytes.specs.Reading.{before_of, ReadsOn, IsLineOf}
 use Rattle.docker_bytes.proofs.LineLemmas.{line_width}
-use Rattle.docker_bytes.proofs.ReadingLemmas.{part_refused, told_of_piece, rest_first, rest_more, reads_none, reads_further}
+use Rattle.docker_bytes.proofs.ReadingLemmas.{before_rest, part_refused, told_of_piece, rest_first, rest_more, reads_none, reads_further}
 use Rattle.docker_bytes.proofs.reading.Reading.take_lines.Goals as goal
 
 pub lines-init : goal.lines-init
 lines-init g c =
     let empty : length c.args.self.now.partial.items ≡ 0 = search rules in
+    let same = c.make_room.ensures in
     record {
       whole = (rest_first c.args.piece.now).1;
-      on = reads_none c.args.self.now c.args.piece.now c.requires;
-      line = record { entries = c.in-Line._entries; stamp = c.in-Line._stamp; is = c.in-Line.is };
-      none = nil_from_length c.args.self.now.partial.items empty;
+      on = subst (λ it. ReadsOn c.args.self.now it (before_rest c.args.piece.now c.args.piece.now)) (sym same)
+          (reads_none c.args.self.now c.args.piece.now c.requires);
+      line = subst (λ (it : Reading _). IsLineOf c.in-Line.key c.in-Line.count it.stage) (sym same)
+          (record { entries = c.in-Line._entries; stamp = c.in-Line._stamp; is = c.in-Line.is });
+      none = ap (λ (it : Reading _). it.partial.items) same ∙ nil_from_length c.args.self.now.partial.items empty;
     }
 
 pub returns-in_err-take_line-clause-err : goal.returns-in_err-take_line-clause-err

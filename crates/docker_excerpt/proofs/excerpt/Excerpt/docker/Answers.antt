@@ -11,12 +11,12 @@ use Rattle.docker_excerpt.proofs.excerpt.Excerpt.docker.Goals as goal
 pub returns-clause-ok : goal.returns-clause-ok
 returns-clause-ok c =
     let it = c.self.inside in
-    subst (λ (e : Excerpt). IfOk c.docker.result (IsDockerOf (live_table e.state) e.place c.args.day)) c.self.view_is
-    (IfOk-weaker c.docker.result _ _ (docker_of_whole it.place (with_entries it.part it.given.entries) it.part c.self.invariant c.args.day)
+    subst (λ (e : Excerpt). IfOk c.docker.result (IsDockerOf (live_table e.state) e.place e.day)) c.self.view_is
+    (IfOk-weaker c.docker.result _ _ (docker_of_whole it.place it.day (with_entries it.part it.given.entries) it.part c.self.invariant)
     c.docker.ensures.ok)
 
 pub returns-clause-lapsed : goal.returns-clause-lapsed
 returns-clause-lapsed c = (
-  λ lapsed. subst (λ (e : Excerpt). IsDayRefused e.state.horizon c.args.day) c.self.view_is (c.docker.ensures.lapsed.0 lapsed),
-  λ refused. c.docker.ensures.lapsed.1 (subst (λ (e : Excerpt). IsDayRefused e.state.horizon c.args.day) (sym c.self.view_is) refused),
+  λ lapsed. subst (λ (e : Excerpt). IsDayRefused e.state.horizon e.day) c.self.view_is (c.docker.ensures.lapsed.0 lapsed),
+  λ refused. c.docker.ensures.lapsed.1 (subst (λ (e : Excerpt). IsDayRefused e.state.horizon e.day) (sym c.self.view_is) refused),
 )

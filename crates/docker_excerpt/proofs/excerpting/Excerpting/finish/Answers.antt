@@ -12,7 +12,7 @@ with_rows-requires-clause-entries c =
     let told = c.self.inside.ledger in
     let valid = subst (λ (v : Excerpting). IsValid (under (horizon_meant c.args.horizon) v.told)) (sym c.self.view_is) c.requires in
     subst (λ (parts : State). AreEntries parts.ledger rows) (sym c.into_parts-parts.ensures.parts)
-    (kept_entries c.self.inside.walk.place (horizon_meant c.args.horizon) told valid rows (c.in_ok-rows.ensures told c.self.invariant))
+    (kept_entries c.self.inside.walk.walk.place c.self.inside.walk.day (horizon_meant c.args.horizon) told valid rows (c.in_ok-rows.ensures told c.self.invariant))
 
 pub under_horizon-requires-clause-valid : goal.under_horizon-requires-clause-valid
 under_horizon-requires-clause-valid c =
@@ -20,7 +20,7 @@ under_horizon-requires-clause-valid c =
     let told = c.self.inside.ledger in
     let valid = subst (λ (v : Excerpting). IsValid (under (horizon_meant c.args.horizon) v.told)) (sym c.self.view_is) c.requires in
     let same = c.in_ok-state.ensures ∙ c.in_ok-whole.ensures in
-    kept_valid c.self.inside.walk.place (horizon_meant c.args.horizon) told valid c.in_ok-state.state rows (c.in_ok-rows.ensures told c.self.invariant)
+    kept_valid c.self.inside.walk.walk.place c.self.inside.walk.day (horizon_meant c.args.horizon) told valid c.in_ok-state.state rows (c.in_ok-rows.ensures told c.self.invariant)
     (ap (λ (s : State). s.ledger) same ∙ ap (λ (s : State). s.ledger) c.into_parts-parts.ensures.parts) (ap (λ (s : State). s.entries) same)
 
 pub of-requires : goal.of-requires
@@ -32,11 +32,12 @@ of-requires c =
     let valid = subst (λ (v : Excerpting). IsValid (under (horizon_meant c.args.horizon) v.told)) (sym c.self.view_is) c.requires in
     let same = c.in_ok-state.ensures ∙ c.in_ok-whole.ensures in
     let set = c.under_horizon.ensures in
-    subst (λ place. IsExcerptOf place (with_entries part given) part) (sym c.place-place.ensures)
-    (is_excerpt_of c.self.inside.walk.place (horizon_meant c.args.horizon) told valid part rows given (c.in_ok-rows.ensures told c.self.invariant)
+    subst (λ place. IsExcerptOf place c.day-day.result (with_entries part given) part) (sym c.place-place.ensures)
+    (subst (λ day. IsExcerptOf c.self.inside.walk.walk.place day (with_entries part given) part) (sym c.day-day.ensures)
+    (is_excerpt_of c.self.inside.walk.walk.place c.self.inside.walk.day (horizon_meant c.args.horizon) told valid part rows given (c.in_ok-rows.ensures told c.self.invariant)
     (ap (λ (s : State). s.horizon) set)
     (ap (λ (s : State). s.ledger) set ∙ ap (λ (s : State). s.ledger) same ∙ ap (λ (s : State). s.ledger) c.into_parts-parts.ensures.parts)
-    (ap (λ (s : State). s.entries) set ∙ ap (λ (s : State). s.entries) same) c.into_parts-parts.ensures.given)
+    (ap (λ (s : State). s.entries) set ∙ ap (λ (s : State). s.entries) same) c.into_parts-parts.ensures.given))
 
 pub returns : goal.returns
 returns c =
@@ -47,8 +48,9 @@ returns c =
     let same = c.in_ok-state.ensures ∙ c.in_ok-whole.ensures in
     let set = c.under_horizon.ensures in
     c.of.ensures
-    ∙ ap (λ place. record { place = place; state = with_entries part given }) c.place-place.ensures
-    ∙ stands_for c.self.inside.walk.place (horizon_meant c.args.horizon) told valid part given (ap (λ (s : State). s.horizon) set)
+    ∙ ap (λ place. record { place = place; day = c.day-day.result; state = with_entries part given }) c.place-place.ensures
+    ∙ ap (λ day. record { place = c.self.inside.walk.walk.place; day = day; state = with_entries part given }) c.day-day.ensures
+    ∙ stands_for c.self.inside.walk.walk.place c.self.inside.walk.day (horizon_meant c.args.horizon) told valid part given (ap (λ (s : State). s.horizon) set)
     (ap (λ (s : State). s.ledger) set ∙ ap (λ (s : State). s.ledger) same ∙ ap (λ (s : State). s.ledger) c.into_parts-parts.ensures.parts)
     c.into_parts-parts.ensures.given
-    ∙ ap (λ (v : Excerpting). record { place = v.place; state = under (horizon_meant c.args.horizon) v.told }) c.self.view_is
+    ∙ ap (λ (v : Excerpting). record { place = v.place; day = v.day; state = under (horizon_meant c.args.horizon) v.told }) c.self.view_is

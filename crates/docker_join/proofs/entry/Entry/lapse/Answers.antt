@@ -2,5 +2,5 @@
 use Rattle.std.proofs.Common.{rules}
 use Rattle.docker_join.proofs.entry.Entry.lapse.Goals as goal
 
-pub returns-then-ends_before : goal.returns-then-ends_before
-returns-then-ends_before c = search rules
+pub returns-then-ends-clause-lapsed : goal.returns-then-ends-clause-lapsed
+returns-then-ends-clause-lapsed c = search rules

@@ -4,12 +4,8 @@ use Rattle.cif_change.specs.declared.key.Key.{Key}
 use Rattle.docker_join.specs.declared.entry.Entry.{Entry}
 use Rattle.docker_join.specs.Rows.{AreAscending}
 use Rattle.docker_join.specs.Meaning.{row_meant}
-use Rattle.docker_join.proofs.LapsedRows.{one_more, all_lapsed, written_back, lapsed_ascend}
+use Rattle.docker_join.proofs.LapsedRows.{all_lapsed, written_back, lapsed_ascend}
 use Rattle.docker_join.proofs.table.Table+Entry.lapse.Goals as goal
-
-pub loop-row-preserved : goal.loop-row-preserved
-loop-row-preserved c =
-    one_more c.args.horizon _ c.loop-row.row-items c.loop-row.row-index _ c.lapse.new.self (omega arith) c.lapse.ensures c.loop-row.invariant
 
 pub invariant_of-self : goal.invariant_of-self
 invariant_of-self c =
@@ -20,6 +16,6 @@ invariant_of-self c =
     let len = c.self.inside.rows.ok.0 in
     subst (λ (rows : List (Key × Entry)). AreAscending rows) (sym (written_back new old c.self.inside.rows.len (omega arith) (omega arith)))
     (lapsed_ascend c.args.horizon old new
-    (all_lapsed c.args.horizon _ new c.loop-row.row-index (omega arith) c.loop-row.invariant
+    (all_lapsed c.args.horizon _ new c.loop-row.row-index (omega arith) c.loop-row.invariant.lapsed
     ∙ (λ i. lapse_entries c.args.horizon (map row_meant (c.deref_mut-row-items.ensures.value i))))
     c.self.invariant)

@@ -2,20 +2,24 @@ use Rattle.std.proofs.Common.{◌≡◌}
 use Rattle.std.proofs.lemmas.Result.{err_from_is_err_and}
 use Rattle.docker_office.specs.declared.fault.OfficeFault.TheVariants.{Memory}
 use Rattle.docker_office.specs.Faults.{told_of_state}
-use Rattle.docker_office.proofs.OfficeLemmas.{one_excerpt, place_read, same_memory, state_read}
+use Rattle.docker_office.proofs.OfficeLemmas.{day_read, one_excerpt, place_read, same_memory, state_read}
 use Rattle.docker_office.proofs.place_office.PlaceOffice.read.Goals as goal
 
 pub returns-clause-ok : goal.returns-clause-ok
 returns-clause-ok g c =
-    state_read c.args.place c.args.limit (g.S.Source.left c.args.source.now) c.in_ok-excerpt.excerpt c.in_ok-excerpt.ensures.ok
+    state_read c.args.place c.args.day c.args.limit (g.S.Source.left c.args.source.now) c.in_ok-excerpt.excerpt c.in_ok-excerpt.ensures.ok
 
 pub returns-clause-sent : goal.returns-clause-sent
 returns-clause-sent g c =
-    one_excerpt c.args.place c.args.limit (g.S.Source.left c.args.source.now) c.in_ok-excerpt.excerpt c.in_ok-excerpt.ensures.ok
+    one_excerpt c.args.place c.args.day c.args.limit (g.S.Source.left c.args.source.now) c.in_ok-excerpt.excerpt c.in_ok-excerpt.ensures.ok
 
 pub returns-clause-place : goal.returns-clause-place
 returns-clause-place g c =
-    place_read c.args.place c.args.limit (g.S.Source.left c.args.source.now) c.in_ok-excerpt.excerpt c.in_ok-excerpt.ensures.ok
+    place_read c.args.place c.args.day c.args.limit (g.S.Source.left c.args.source.now) c.in_ok-excerpt.excerpt c.in_ok-excerpt.ensures.ok
+
+pub returns-clause-day : goal.returns-clause-day
+returns-clause-day g c =
+    day_read c.args.place c.args.day c.args.limit (g.S.Source.left c.args.source.now) c.in_ok-excerpt.excerpt c.in_ok-excerpt.ensures.ok
 
 pub returns-in_err-excerpt-clause-memory : goal.returns-in_err-excerpt-clause-memory
 returns-in_err-excerpt-clause-memory g c = λ is.

@@ -7,7 +7,7 @@ use Rattle.docker_join.specs.declared.entry.Entry.{Entry}
 use Rattle.docker_join.specs.Rows.{AreAscending}
 use Rattle.docker_state.specs.declared.item.LedgerItem.{LedgerItem}
 use Rattle.docker_state.specs.Meaning.{floor_meant, item_meant, state_meant}
-use Rattle.docker_state.proofs.StateJoin.{HasUnion, HasLapsedRows, states_joined}
+use Rattle.docker_state.proofs.StateJoin.{HasUnion, HasKeptRows, states_joined}
 use Rattle.docker_state.proofs.state.State.join_rows.Goals as goal
 
 pub returns-clause-ok : goal.returns-clause-ok
@@ -25,12 +25,13 @@ returns-clause-ok c =
     (subst (λ (xs : List LedgerItem). HasUnion c.union_of-items.result.items xs c.as_slice-2.result.now) c.as_slice.ensures.value
     c.union_of-items.ensures.members))
     c.kept_items-ledger.ensures.ascending c.kept_items-ledger.ensures.members
-    c.max.result c.yet_to_lapse.result c.max.ensures c.yet_to_lapse.ensures
+    c.max.result c.max.ensures c.lapsed_under-left.result c.lapsed_under-right.result c.lapsed_under-left.ensures.lapsed
+    c.lapsed_under-right.ensures.lapsed
     c.join_in-joined.result c.from_rows-entries.result c.join_in-joined.ensures
     (subst (λ (xs : List (Key × Entry)). AreAscending xs) (sym c.from_rows-entries.ensures) c.kept_rows-rows.ensures.ascending)
-    (subst (λ (xs : List (Key × Entry)). HasLapsedRows xs c.join_in-joined.result (floor_meant c.floor_with-floor.result) c.yet_to_lapse.result)
+    (subst (λ (xs : List (Key × Entry)). HasKeptRows xs c.join_in-joined.result (floor_meant c.floor_with-floor.result))
     (sym c.from_rows-entries.ensures)
-    (subst (λ (xs : List (Key × Entry)). HasLapsedRows c.kept_rows-rows.result.items xs (floor_meant c.floor_with-floor.result) c.yet_to_lapse.result)
+    (subst (λ (xs : List (Key × Entry)). HasKeptRows c.kept_rows-rows.result.items xs (floor_meant c.floor_with-floor.result))
     c.into_rows.ensures.rows c.kept_rows-rows.ensures.members))))
 
 pub invariant_of-result : goal.invariant_of-result
@@ -46,12 +47,13 @@ invariant_of-result c =
     (subst (λ (xs : List LedgerItem). HasUnion c.union_of-items.result.items xs c.as_slice-2.result.now) c.as_slice.ensures.value
     c.union_of-items.ensures.members))
     c.kept_items-ledger.ensures.ascending c.kept_items-ledger.ensures.members
-    c.max.result c.yet_to_lapse.result c.max.ensures c.yet_to_lapse.ensures
+    c.max.result c.max.ensures c.lapsed_under-left.result c.lapsed_under-right.result c.lapsed_under-left.ensures.lapsed
+    c.lapsed_under-right.ensures.lapsed
     c.join_in-joined.result c.from_rows-entries.result c.join_in-joined.ensures
     (subst (λ (xs : List (Key × Entry)). AreAscending xs) (sym c.from_rows-entries.ensures) c.kept_rows-rows.ensures.ascending)
-    (subst (λ (xs : List (Key × Entry)). HasLapsedRows xs c.join_in-joined.result (floor_meant c.floor_with-floor.result) c.yet_to_lapse.result)
+    (subst (λ (xs : List (Key × Entry)). HasKeptRows xs c.join_in-joined.result (floor_meant c.floor_with-floor.result))
     (sym c.from_rows-entries.ensures)
-    (subst (λ (xs : List (Key × Entry)). HasLapsedRows c.kept_rows-rows.result.items xs (floor_meant c.floor_with-floor.result) c.yet_to_lapse.result)
+    (subst (λ (xs : List (Key × Entry)). HasKeptRows c.kept_rows-rows.result.items xs (floor_meant c.floor_with-floor.result))
     c.into_rows.ensures.rows c.kept_rows-rows.ensures.members))) in
     record {
       valid = join_is_valid (state_meant c.self.inside.horizon c.self.inside.ledger.items c.self.inside.entries)

@@ -17,13 +17,18 @@ use Rattle.docker_state.proofs.FileState.{changes_are, made_records, file_summar
 use Rattle.docker_state.proofs.state.State.of_file.Goals as goal
 
 pub made_rows-made-requires-clause-room : goal.made_rows-made-requires-clause-room
-made_rows-made-requires-clause-room c =
-    let one = length-map c.changes-count.result.now change_meant in
-    let two = length-map c.into_parts-parts.result.changes.items change_meant in
-    let same = ap length (c.changes-count.ensures.changes ∙ sym (changes_are c.args.file c.into_parts-parts.result c.into_parts-parts.ensures.file)) in
-    let room = c.in-Ok-with_capacity.ensures.capacity in
-    let size = c.into_parts-parts.result.changes.ok.0 in
-    omega arith
+made_rows-made-requires-clause-room c = record {
+  none = c.in-Ok-with_capacity.ensures.items;
+  empty = c.in-Ok-with_capacity.ensures.len;
+  room = (
+      let one = length-map c.changes-count.result.now change_meant in
+      let two = length-map c.into_parts-parts.result.changes.items change_meant in
+      let same = ap length (c.changes-count.ensures.changes ∙ sym (changes_are c.args.file c.into_parts-parts.result c.into_parts-parts.ensures.file)) in
+      let room = c.in-Ok-with_capacity.ensures.capacity in
+      let size = c.into_parts-parts.result.changes.ok.0 in
+      omega arith
+      );
+}
 
 pub made_rows-made-requires-clause-few : goal.made_rows-made-requires-clause-few
 made_rows-made-requires-clause-few c =
@@ -45,24 +50,34 @@ greatest_rows-rows-requires-clause-records c =
     (rows_in c.made_rows-made.result.items) c.made_rows-made.ensures.made)
 
 pub greatest_rows-rows-requires-clause-room : goal.greatest_rows-rows-requires-clause-room
-greatest_rows-rows-requires-clause-room c =
-    let one = length-map c.changes-count.result.now change_meant in
-    let two = length-map c.into_parts-parts.result.changes.items change_meant in
-    let same = ap length (c.changes-count.ensures.changes ∙ sym (changes_are c.args.file c.into_parts-parts.result c.into_parts-parts.ensures.file)) in
-    let room = c.in-Ok-with_capacity-2.ensures.capacity in
-    let size = c.into_parts-parts.result.changes.ok.0 in
-    let made = c.made_rows-made.ensures.len in
-    omega arith
+greatest_rows-rows-requires-clause-room c = record {
+  none = c.in-Ok-with_capacity-2.ensures.items;
+  empty = c.in-Ok-with_capacity-2.ensures.len;
+  room = (
+      let one = length-map c.changes-count.result.now change_meant in
+      let two = length-map c.into_parts-parts.result.changes.items change_meant in
+      let same = ap length (c.changes-count.ensures.changes ∙ sym (changes_are c.args.file c.into_parts-parts.result c.into_parts-parts.ensures.file)) in
+      let room = c.in-Ok-with_capacity-2.ensures.capacity in
+      let size = c.into_parts-parts.result.changes.ok.0 in
+      let made = c.made_rows-made.ensures.len in
+      omega arith
+      );
+}
 
 pub greatest_rows-rows-requires-clause-order_room : goal.greatest_rows-rows-requires-clause-order_room
-greatest_rows-rows-requires-clause-order_room c =
-    let one = length-map c.changes-count.result.now change_meant in
-    let two = length-map c.into_parts-parts.result.changes.items change_meant in
-    let same = ap length (c.changes-count.ensures.changes ∙ sym (changes_are c.args.file c.into_parts-parts.result c.into_parts-parts.ensures.file)) in
-    let room = c.in-Ok-with_capacity-3.ensures.capacity in
-    let size = c.into_parts-parts.result.changes.ok.0 in
-    let made = c.made_rows-made.ensures.len in
-    omega arith
+greatest_rows-rows-requires-clause-order_room c = record {
+  none = c.in-Ok-with_capacity-3.ensures.items;
+  empty = c.in-Ok-with_capacity-3.ensures.len;
+  room = (
+      let one = length-map c.changes-count.result.now change_meant in
+      let two = length-map c.into_parts-parts.result.changes.items change_meant in
+      let same = ap length (c.changes-count.ensures.changes ∙ sym (changes_are c.args.file c.into_parts-parts.result c.into_parts-parts.ensures.file)) in
+      let room = c.in-Ok-with_capacity-3.ensures.capacity in
+      let size = c.into_parts-parts.result.changes.ok.0 in
+      let made = c.made_rows-made.ensures.len in
+      omega arith
+      );
+}
 
 pub picked-notes-requires-clause-room : goal.picked-notes-requires-clause-room
 picked-notes-requires-clause-room c =

@@ -1,20 +1,32 @@
 use Rattle.std.proofs.Common.{◌≡◌, ◌≤◌, ap, sym, ◌∙◌, subst, arith}
 use Rattle.docker_model.specs.state.State.{State, IsValid, raise_horizon}
 use Rattle.state_laws.proofs.joins.RaisedHorizon.{not_greater}
-use Rattle.docker_state.proofs.HorizonLemmas.{rows_raised, raised_valid, lapsed_index}
+use Rattle.docker_state.proofs.HorizonLemmas.{rows_raised, raised_valid, lapsed_index, same_index}
 use Rattle.docker_state.proofs.state.State.raise.Goals as goal
 
 pub invariant_of-self : goal.invariant_of-self
 invariant_of-self c = record {
   valid = raised_valid c.self.inside.horizon c.args.horizon (omega arith) c.self.inside.ledger.items c.self.inside.entries c.lapse.new.self
-      c.lapse.ensures c.requires c.self.invariant.valid;
-  indexed = lapsed_index c.self.inside.entries c.lapse.new.self c.args.horizon c.lapse.ensures c.as_slice.result.now c.as_slice.ensures.rows
-      c.self.inside.index c.lapse-then-self-horizon.new.self c.self.invariant.indexed c.lapse-then-self-horizon.ensures;
+      c.lapse.ensures.lapsed c.requires c.self.invariant.valid;
+  indexed = lapsed_index c.self.inside.entries c.lapse.new.self c.args.horizon c.lapse.ensures.lapsed c.as_slice.result.now c.as_slice.ensures.rows
+      c.self.inside.index c.lapse-then-lapse.new.self c.self.invariant.indexed c.lapse-then-lapse.ensures;
 }
 
-pub returns-then-self-horizon : goal.returns-then-self-horizon
-returns-then-self-horizon c =
-    rows_raised c.self.inside.horizon c.args.horizon (omega arith) c.self.inside.ledger.items c.self.inside.entries c.lapse.new.self c.lapse.ensures
+pub invariant_of-self-else-lapse : goal.invariant_of-self-else-lapse
+invariant_of-self-else-lapse c = record {
+  valid = raised_valid c.self.inside.horizon c.args.horizon (omega arith) c.self.inside.ledger.items c.self.inside.entries c.lapse.new.self
+      c.lapse.ensures.lapsed c.requires c.self.invariant.valid;
+  indexed = same_index c.self.inside.entries c.lapse.new.self (c.lapse.ensures.same c.if-lapse.false) c.self.inside.index c.self.invariant.indexed;
+}
+
+pub returns-then-lapse : goal.returns-then-lapse
+returns-then-lapse c =
+    rows_raised c.self.inside.horizon c.args.horizon (omega arith) c.self.inside.ledger.items c.self.inside.entries c.lapse.new.self c.lapse.ensures.lapsed
+    ∙ ap (raise_horizon c.args.horizon) c.self.view_is
+
+pub returns-else-lapse : goal.returns-else-lapse
+returns-else-lapse c =
+    rows_raised c.self.inside.horizon c.args.horizon (omega arith) c.self.inside.ledger.items c.self.inside.entries c.lapse.new.self c.lapse.ensures.lapsed
     ∙ ap (raise_horizon c.args.horizon) c.self.view_is
 
 pub returns-else-self-horizon : goal.returns-else-self-horizon

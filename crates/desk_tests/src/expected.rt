@@ -1,0 +1,59 @@
+//! The answers, and the lines of faults, that the rows expect, worked out by hand.
+
+/// The line that answers a line that asks for nothing: 176 bytes.
+pub(crate) const USAGE: &str = "\
+2 1 176
+desk: usage: [--write] STATE, and then a line for each request: print TIPLOC DATE \
+| train UID DATE | files | renew | with --write take FILE | merge OTHER | horizon DATE | save
+";
+
+/// The answer of the desk that knows the morning train, for Ashfeld on 10 June.
+pub(crate) const ANSWER_0900: &str = "\
+0 3 171
+DOCKER ASHFELD 2024-06-10                               
+0900  D 1A10 C10001 P   1   SL      0900 ASHFELD BRAYTON
+END                                                     
+";
+
+/// That answer once the revision is known.
+pub(crate) const ANSWER_0905: &str = "\
+0 3 171
+DOCKER ASHFELD 2024-06-10                               
+0905  D 1A10 C10001 P   1   SL      0905 ASHFELD BRAYTON
+END                                                     
+";
+
+/// The answer for Ashfeld on 18 June, when nothing happens there.
+pub(crate) const ANSWER_18_JUNE: &str = "\
+0 2 114
+DOCKER ASHFELD 2024-06-18                               
+END                                                     
+";
+
+/// The answer for a day before the horizon plus three days.
+pub(crate) const DAY_REFUSED: &str = "\
+1 1 52
+docker: day refused: before horizon plus three days
+";
+
+/// The answer to a request that was done and has no text.
+pub(crate) const DONE: &str = "0 0 0\n";
+
+/// The answer to a request whose file, or store, fails.
+pub(crate) const FAILED: &str = "4 1 22\ndocker: device failed\n";
+
+/// The line of a session whose own device fails.
+pub(crate) const DEVICE: &str = "docker: device failed\n";
+
+/// The line of a session that ends with changes that weren't saved.
+pub(crate) const UNSAVED: &str = "desk: changes not saved\n";
+
+/// The answer to `files`, if the morning train is known.
+pub(crate) const FILES: &str = "0 1 34\n2024-06-09 2100 DFROC1A U DFROC1Z\n";
+
+/// That answer once the revision is known too.
+pub(crate) const BOTH_FILES: &str = "\
+0 2 68
+2024-06-09 2100 DFROC1A U DFROC1Z
+2024-06-10 2100 DFROC1B U DFROC1A
+";

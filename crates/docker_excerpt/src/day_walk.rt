@@ -1,0 +1,85 @@
+//! Walks over a state's entries for the docker of one place and one day. It passes over what may
+//! not count on the day.
+ghost use Rattle.std.specs.Prelude.{◌≡◌, [], ◌∷◌, ◌++◌, map, IsOk, IsErr, IfOk};
+ghost use Rattle.docker_model.specs.state.State as states;
+ghost use Rattle.docker_model.specs.state.State.{IsOpOf};
+ghost use Rattle.docker_model.specs.state.StatePart.{IsAboveEntries};
+ghost use Rattle.docker_model.specs.docker.NearDay.{excerpt_on};
+ghost use Rattle.cif_file.specs.Meaning.{key_meant};
+ghost use Rattle.docker_join.specs.Meaning.{entry_meant, row_meant};
+ghost use Rattle.docker_excerpt.specs.Walked.{state_of_entries};
+ghost use Rattle.docker_excerpt.specs.DayWalk.{HasPassed};
+
+use crate::near::may_count;
+use crate::walk::Walk;
+use cif_file::Key;
+use cif_line::{Day, Memory, Tiploc};
+use docker_join::Entry;
+use docker_parts::Given;
+use std::alloc::Global;
+
+/// A walk over the entries that may count near a day.
+#[derive(Drop)]
+pub(crate) struct DayWalk {
+    day: Day,
+    walk: Walk,
+    near: Given,
+}
+
+impl DayWalk {
+    /// Nothing kept yet. It takes no memory.
+    pub(crate) fn new(alloc: Global, place: Tiploc, day: Day) -> DayWalk
+        ensures passed { HasPassed result [] }
+        ensures place { result.walk.place ≡ place }
+        ensures day { result.day ≡ day }
+    {
+        DayWalk {
+            day,
+            walk: Walk::new(alloc, place),
+            near: Given::new(),
+        }
+    }
+
+    /// The place.
+    pub(crate) fn place(&self) -> Tiploc
+        ensures { result ≡ self.now.walk.place }
+    {
+        self.walk.place()
+    }
+
+    /// The day.
+    pub(crate) fn day(&self) -> Day
+        ensures { result ≡ self.now.day }
+    {
+        self.day
+    }
+
+    /// Passes the next entry, with its key. If memory runs out, the walk is still before it.
+    pub(crate) fn entry(&mut self, given: &Given, key: Key, entry: Entry) -> Result<(), Memory>
+        requires passed { HasPassed self.old given.now.entries }
+        requires above { IsAboveEntries (state_of_entries given.now.entries) (key_meant key) }
+        requires op { IsOpOf (key_meant key) (entry_meant entry).op }
+        ensures ok { IsOk result → HasPassed self.new
+            (given.now.entries ++ (key_meant key, entry_meant entry) ∷ []) }
+        ensures err { IsErr result → HasPassed self.new given.now.entries }
+        ensures place { self.new.walk.place ≡ self.old.walk.place }
+        ensures day { self.new.day ≡ self.old.day }
+    {
+        if !may_count(self.day, &key, &entry.op) {
+            return Ok(());
+        }
+        let near = Given::with(&self.near, &key, &entry);
+        self.walk.entry(&self.near, key, entry)?;
+        self.near = near;
+        Ok(())
+    }
+
+    /// The entries of the excerpt, each with its key, in key order.
+    pub(crate) fn finish(self) -> Result<Vec<(Key, Entry)>, Memory>
+        ensures { IfOk result (λ rows. (state : states.State) → HasPassed self state.entries
+            → map row_meant rows.items ≡ (excerpt_on self.walk.place self.day state).entries) }
+    {
+        let DayWalk { walk, .. } = self;
+        walk.finish()
+    }
+}

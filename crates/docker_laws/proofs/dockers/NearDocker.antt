@@ -1,0 +1,260 @@
+-- A table and the part of it that may count near a day have the same dockers on that day. What is
+-- left out are schedules that run on no start day near it.
+use Rattle.std.proofs.Common.{◌≡◌, ℕ, zero, suc, ◌+◌, ◌-◌, ◌≤◌, List, [], ◌∷◌, subst, inl, inr, ◌⊎◌, refl, ap, sym, ◌∙◌, Bool, true, false, cond, Some, None, Contains, arith}
+use Rattle.std.specs.Prelude.{Option, ◌↔◌, ◌==◌, nat_lt, IsTrue}
+use Rattle.std.proofs.lemmas.List.Elements.{Contains-append_right}
+use Rattle.docker_model.specs.records.Date.{last_day}
+use Rattle.docker_model.specs.file.Journey.{midnights}
+use Rattle.docker_model.specs.file.File.{first_record}
+use Rattle.docker_model.specs.file.Change.{Key, tiploc_key, schedule_key, association_key, ScheduleKey, AssociationKey, Body, schedule_body, association_body}
+use Rattle.docker_model.specs.state.Table.{Table}
+use Rattle.docker_model.specs.docker.Event.{Event, event_day}
+use Rattle.docker_model.specs.docker.Choice.{schedule_runs, IsRunning, TrainRuns, Group, group_of, IsAssociated, IsChosenAssociation}
+use Rattle.docker_model.specs.docker.DockerLine.{DockerLine}
+use Rattle.docker_model.specs.docker.Association.{partner_start, IsIdentityOn, IsPartnerIdentity, IsAssociationLine}
+use Rattle.docker_model.specs.docker.DockerList.{IsEventLine, IsDockerList}
+use Rattle.docker_model.specs.docker.DockerText.{description_in, docker_text, IsDockerText}
+use Rattle.docker_model.specs.docker.NearDay.{near_starts, runs_near}
+use Rattle.cif_laws.proofs.lists.Membership.{cons-Contains-first}
+use Rattle.cif_laws.proofs.lists.BoolsAndOptions.{none_some}
+use Rattle.state_laws.proofs.indexes.CallsTest.{any_forth}
+use Rattle.docker_laws.proofs.dockers.FewMidnights.{HasFewMidnights}
+use Rattle.docker_laws.proofs.dockers.StartDays.{event_within}
+use Rattle.docker_laws.proofs.dockers.LapsedDocker.{text_with, partner_after, CarriesOver, event_line_over, association_line_over}
+
+-- ---- the start days near a day
+
+-- the start day is at most three days before the day, and at most one day after it
+abbrev pub IsStartNear : ℕ → ℕ → Type 0
+IsStartNear day start = (start ≤ day + 1) × (day ≤ start + 3)
+
+-- it is one of the five start days near the day
+pub near_start : (day start : ℕ) → IsStartNear day start → Contains (near_starts day) start
+near_start day start near = by ((day + 1) - start) refl near.0 near.1
+  where
+    first : (x : ℕ) (xs : List ℕ) → x ≡ start → Contains (x ∷ xs) start
+    first x xs same = subst (Contains (x ∷ xs)) same (cons-Contains-first x xs)
+
+    by : (back : ℕ) → (day + 1) - start ≡ back → start ≤ day + 1 → day ≤ start + 3 → Contains (near_starts day) start
+    by zero h low high = first (day + 1) (day ∷ (day - 1) ∷ (day - 2) ∷ (day - 3) ∷ []) (omega arith)
+    by (suc zero) h low high =
+        Contains-append_right ((day + 1) ∷ []) (day ∷ (day - 1) ∷ (day - 2) ∷ (day - 3) ∷ []) start
+        (first day ((day - 1) ∷ (day - 2) ∷ (day - 3) ∷ []) (omega arith))
+    by (suc (suc zero)) h low high =
+        Contains-append_right ((day + 1) ∷ day ∷ []) ((day - 1) ∷ (day - 2) ∷ (day - 3) ∷ []) start
+        (first (day - 1) ((day - 2) ∷ (day - 3) ∷ []) (omega arith))
+    by (suc (suc (suc zero))) h low high =
+        Contains-append_right ((day + 1) ∷ day ∷ (day - 1) ∷ []) ((day - 2) ∷ (day - 3) ∷ []) start (first (day - 2) ((day - 3) ∷ []) (omega arith))
+    by (suc (suc (suc (suc n)))) h low high =
+        Contains-append_right ((day + 1) ∷ day ∷ (day - 1) ∷ (day - 2) ∷ []) ((day - 3) ∷ []) start (first (day - 3) [] (omega arith))
+
+-- a schedule that runs on such a start day runs near the day
+runs_near_by : (day start : ℕ) (line : List ℕ) → IsStartNear day start → IsTrue (schedule_runs line start) → runs_near day line ≡ true
+runs_near_by day start line near runs = any_forth (λ (s : ℕ). schedule_runs line s) (near_starts day) start (near_start day start near) runs
+
+-- the partner starts at most one day after the base
+partner_before : (indicator start day : ℕ) → partner_start indicator start ≡ Some day → day ≤ start + 1
+partner_before indicator start day is = by (indicator == 78) (indicator == 80) is
+  where
+    later : (b : Bool) → cond b (Some (start + 1)) None ≡ Some day → day ≤ start + 1
+    later true some = let same : start + 1 ≡ day = cc in omega arith
+    later false none = cc
+
+    earlier : (b : Bool) → cond b (Some (start - 1)) None ≡ Some day → day ≤ start + 1
+    earlier true some = let same : start - 1 ≡ day = cc in omega arith
+    earlier false none = cc
+
+    by : (b c : Bool) → cond b (cond (nat_lt start last_day) (Some (start + 1)) None) (cond c (cond (nat_lt 0 start) (Some (start - 1)) None) (Some start))
+        ≡ Some day → day ≤ start + 1
+    by true c told = later (nat_lt start last_day) told
+    by false true told = earlier (nat_lt 0 start) told
+    by false false some = let same : start ≡ day = cc in omega arith
+
+-- a train with an event on the day starts on the day or on one of the two days before
+started : (day start : ℕ) (lines : List (List ℕ)) (event : Event) → midnights lines ≤ 2 → event_day start lines event ≡ day
+    → (start ≤ day) × (day ≤ start + 2)
+started day start lines event few today =
+    subst (λ (d : ℕ). (start ≤ d) × (d ≤ start + 2)) today (event_within start lines event few)
+
+-- so its partner starts near the day
+partner_near : (day start : ℕ) → (start ≤ day) × (day ≤ start + 2) → (indicator partner : ℕ) → partner_start indicator start ≡ Some partner
+    → IsStartNear day partner
+partner_near day start within indicator partner is =
+    let low = within.0 in
+    let high = within.1 in
+    let before = partner_before indicator start partner is in
+    let after = partner_after indicator start partner is in
+    (omega arith, omega arith)
+
+-- ---- two tables that run the same schedules near a day, and have the same associations
+
+-- each schedule of one that runs on a start day near the day runs in the other
+abbrev RunsOver : Table → Table → ℕ → Type 0
+RunsOver one other day =
+    (start : ℕ) → IsStartNear day start → (uid : List ℕ) (key : ScheduleKey) (lines : List (List ℕ)) → IsRunning one uid start key lines
+    → IsRunning other uid start key lines
+
+-- each association of one is an association of the other
+abbrev LinksOver : Table → Table → Type 0
+LinksOver one other =
+    (group : Group) (start : ℕ) (key : AssociationKey) (line : List ℕ) → IsAssociated one group start key line → IsAssociated other group start key line
+
+-- both tables have the same of these
+record AreAlike (one other : Table) (day : ℕ) : Type 0 where
+  runs : RunsOver one other day
+  runs_back : RunsOver other one day
+  links : LinksOver one other
+  links_back : LinksOver other one
+
+turned : (one other : Table) (day : ℕ) → AreAlike one other day → AreAlike other one day
+turned one other day alike =
+    record { runs = alike.runs_back; runs_back = alike.runs; links = alike.links_back; links_back = alike.links }
+
+train_over : (one other : Table) (day : ℕ) → AreAlike one other day → (start : ℕ) → IsStartNear day start → (uid : List ℕ) (key : ScheduleKey)
+    (lines : List (List ℕ)) → TrainRuns one uid start key lines → TrainRuns other uid start key lines
+train_over one other day alike start near uid key lines is = record {
+  chosen = record {
+    running = alike.runs start near uid key lines is.chosen.running;
+    first = λ another others runs. is.chosen.first another others (alike.runs_back start near uid another others runs);
+  };
+  no_cancellation = is.no_cancellation;
+}
+
+association_over : (one other : Table) (day : ℕ) → AreAlike one other day → (group : Group) (start : ℕ) (key : AssociationKey) (line : List ℕ)
+    → IsChosenAssociation one group start key line → IsChosenAssociation other group start key line
+association_over one other day alike group start key line is = record {
+  associated = alike.links group start key line is.associated;
+  first = λ another others runs. is.first another others (alike.links_back group start another others runs);
+}
+
+identity_over : (one other : Table) (day : ℕ) → AreAlike one other day → (start : ℕ) → IsStartNear day start → (uid identity : List ℕ)
+    → IsIdentityOn one uid identity start → IsIdentityOn other uid identity start
+identity_over one other day alike start near uid identity (inl runs) =
+    inl (runs.0, runs.1, train_over one other day alike start near uid runs.0 runs.1 runs.2, runs.3)
+identity_over one other day alike start near uid identity (inr none) =
+    inr (λ key lines runs. none.0 key lines (train_over other one day (turned one other day alike) start near uid key lines runs), none.1)
+
+partner_over : (one other : Table) (day : ℕ) → AreAlike one other day → (partner : Option ℕ) → ((start : ℕ) → partner ≡ Some start → IsStartNear day start)
+    → (uid identity : List ℕ) → IsPartnerIdentity one uid partner identity → IsPartnerIdentity other uid partner identity
+partner_over one other day alike None near uid identity is = is
+partner_over one other day alike (Some start) near uid identity is = identity_over one other day alike start (near start refl) uid identity is
+
+carries_over : (one other : Table) (day : ℕ) → AreAlike one other day → HasFewMidnights one → CarriesOver one other day
+carries_over one other day alike few = record {
+  trains =
+      λ uid start key lines runs event today.
+      let within = started day start lines event (few key lines runs.chosen.running.is_live) today in
+      let low = within.0 in
+      let high = within.1 in
+      train_over one other day alike start (omega arith, omega arith) uid key lines runs;
+  links =
+      λ uid start base lines runs event today key line indicator identity. (
+        association_over one other day alike (group_of key) start key line,
+        partner_over one other day alike (partner_start indicator start)
+            (partner_near day start (started day start lines event (few base lines runs.chosen.running.is_live) today) indicator) key.associated identity,
+      );
+}
+
+line_over : (one other : Table) (place : List ℕ) (day : ℕ) → CarriesOver one other day → (line : DockerLine)
+    → IsEventLine one place day line ⊎ IsAssociationLine one place day line → IsEventLine other place day line ⊎ IsAssociationLine other place day line
+line_over one other place day carries line (inl event) = inl (event_line_over one other place day carries line event)
+line_over one other place day carries line (inr association) = inr (association_line_over one other place day carries line association)
+
+list_over : (one other : Table) (place : List ℕ) (day : ℕ) → CarriesOver one other day → CarriesOver other one day → (lines : List DockerLine)
+    → IsDockerList one place day lines → IsDockerList other place day lines
+list_over one other place day forth back lines is = record {
+  ascending = is.ascending;
+  members = λ line. (
+    λ among. line_over one other place day forth line ((is.members line).0 among),
+    λ told. (is.members line).1 (line_over other one place day back line told),
+  );
+}
+
+-- ---- a table and the part of it that may count
+
+-- the key is left out: the table has a schedule there that runs on no start day near the day
+abbrev pub IsLeftOut : ℕ → Table → Key → Type 0
+IsLeftOut day live key = (lines : List (List ℕ)) × (live key ≡ Some (schedule_body lines)) × (runs_near day (first_record lines) ≡ false)
+
+-- part is what may count in live near the day: at each key it has what live has, or it has nothing
+-- there and the key is left out
+abbrev pub IsNearPart : ℕ → Table → Table → Type 0
+IsNearPart day live part = (key : Key) → (part key ≡ live key) ⊎ ((part key ≡ None) × IsLeftOut day live key)
+
+module _ (day : ℕ) (live part : Table) (is : IsNearPart day live part) where
+  -- what the part has, the table has
+  was_there : (key : Key) (body : Body) → part key ≡ Some body → live key ≡ Some body
+  was_there key body there = by (is key)
+    where
+      by : (part key ≡ live key) ⊎ ((part key ≡ None) × IsLeftOut day live key) → live key ≡ Some body
+      by (inl same) = sym same ∙ there
+      by (inr none) = none_some body (sym none.0 ∙ there)
+
+  schedule_stays : (key : Key) (lines : List (List ℕ)) → live key ≡ Some (schedule_body lines) → runs_near day (first_record lines) ≡ true
+      → part key ≡ Some (schedule_body lines)
+  schedule_stays key lines is_live runs = by (is key)
+    where
+      by : (part key ≡ live key) ⊎ ((part key ≡ None) × IsLeftOut day live key) → part key ≡ Some (schedule_body lines)
+      by (inl same) = same ∙ is_live
+      by (inr none) =
+          let both : Some (schedule_body none.1.0) ≡ Some (schedule_body lines) = sym none.1.1 ∙ is_live in
+          let same : none.1.0 ≡ lines = cc in
+          let bad : false ≡ true = sym none.1.2 ∙ ap (λ (ls : List (List ℕ)). runs_near day (first_record ls)) same ∙ runs in
+          absurd (let worse : false ≡ true = bad in cc)
+
+  association_stays : (key : Key) (line : List ℕ) → live key ≡ Some (association_body line) → part key ≡ Some (association_body line)
+  association_stays key line is_live = by (is key)
+    where
+      by : (part key ≡ live key) ⊎ ((part key ≡ None) × IsLeftOut day live key) → part key ≡ Some (association_body line)
+      by (inl same) = same ∙ is_live
+      by (inr none) = absurd (let bad : Some (schedule_body none.1.0) ≡ Some (association_body line) = sym none.1.1 ∙ is_live in cc)
+
+  alike : AreAlike live part day
+  alike = record {
+    runs = λ start near uid key lines runs. record {
+      uid_is = runs.uid_is;
+      is_live = schedule_stays (schedule_key key) lines runs.is_live (runs_near_by day start (first_record lines) near runs.runs_then);
+      runs_then = runs.runs_then;
+    };
+    runs_back = λ start near uid key lines runs.
+        record { uid_is = runs.uid_is; is_live = was_there (schedule_key key) (schedule_body lines) runs.is_live; runs_then = runs.runs_then };
+    links = λ group start key line linked. record {
+      group_is = linked.group_is;
+      is_live = association_stays (association_key key) line linked.is_live;
+      runs_then = linked.runs_then;
+    };
+    links_back = λ group start key line linked.
+        record { group_is = linked.group_is; is_live = was_there (association_key key) (association_body line) linked.is_live; runs_then = linked.runs_then };
+  }
+
+  module _ (few : HasFewMidnights live) where
+    forth : CarriesOver live part day
+    forth = carries_over live part day alike few
+
+    back : CarriesOver part live day
+    back =
+        carries_over part live day (turned live part day alike)
+        (λ key lines there. few key lines (was_there (schedule_key key) (schedule_body lines) there))
+
+    -- both have the same docker list on the day
+    pub near_list_iff : (place : List ℕ) (lines : List DockerLine) → IsDockerList live place day lines ↔ IsDockerList part place day lines
+    near_list_iff place lines = (list_over live part place day forth back lines, list_over part live place day back forth lines)
+
+  -- both have the same description of a place, since no TIPLOC is left out
+  pub near_description : (place : List ℕ) → description_in (part (tiploc_key place)) ≡ description_in (live (tiploc_key place))
+  near_description place = by (is (tiploc_key place))
+    where
+      by : (part (tiploc_key place) ≡ live (tiploc_key place)) ⊎ ((part (tiploc_key place) ≡ None) × IsLeftOut day live (tiploc_key place))
+          → description_in (part (tiploc_key place)) ≡ description_in (live (tiploc_key place))
+      by (inl same) = ap description_in same
+      by (inr none) = ap description_in none.0 ∙ sym (ap description_in none.1.1)
+
+  text_same : (place : List ℕ) (lines : List DockerLine) → docker_text part place day lines ≡ docker_text live place day lines
+  text_same place lines = ap (text_with place day lines) (near_description place)
+
+  -- both have the same docker text on the day
+  pub near_text_iff : HasFewMidnights live → (place text : List ℕ) → IsDockerText live place day text ↔ IsDockerText part place day text
+  near_text_iff few place text = (
+    λ told. (told.0, (near_list_iff few place told.0).0 told.1, told.2 ∙ sym (text_same place told.0)),
+    λ told. (told.0, (near_list_iff few place told.0).1 told.1, told.2 ∙ text_same place told.0),
+  )

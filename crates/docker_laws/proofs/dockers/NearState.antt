@@ -1,0 +1,122 @@
+-- A state with only what may count near a day is valid and has the same dockers on that day. So
+-- does its excerpt for a place.
+use Rattle.std.proofs.Common.{◌≡◌, ℕ, List, [], ◌∷◌, ◌++◌, inl, inr, ◌⊎◌, refl, ap, sym, ◌∙◌, Bool, true, false, cond, None, Contains, append-nil}
+use Rattle.std.specs.Prelude.{◌↔◌, filter}
+use Rattle.std.proofs.lemmas.List.Elements.{filter-append}
+use Rattle.docker_model.specs.file.File.{first_record}
+use Rattle.docker_model.specs.file.Change.{tiploc_body, association_body, schedule_body}
+use Rattle.docker_model.specs.state.Op.{Op, deleted, lapsed, put_with, Entry, body_of}
+use Rattle.docker_model.specs.state.State.{State, IsValid, AreAscending, live_table}
+use Rattle.docker_model.specs.docker.DockerLine.{DockerLine}
+use Rattle.docker_model.specs.docker.DockerList.{IsDockerList}
+use Rattle.docker_model.specs.docker.DockerText.{IsDockerText}
+use Rattle.docker_model.specs.docker.NearDay.{runs_near, may_count, near_entries, near_state, excerpt_on}
+use Rattle.cif_laws.proofs.lists.Sublists.{sublist_filter}
+use Rattle.cif_laws.proofs.lists.FilteredMembers.{filter_back, filter_forth}
+use Rattle.state_laws.proofs.states.PlainTable.{Keyed, Found, NotFound, find_in, one_per_key, live_at, live_none}
+use Rattle.docker_laws.proofs.dockers.FewMidnights.{bodies_few}
+use Rattle.docker_laws.proofs.dockers.GoodBodies.{good_bodies}
+use Rattle.docker_laws.proofs.dockers.ExcerptState.{some_valid}
+use Rattle.docker_laws.proofs.dockers.ExcerptWalk.{walk_valid, walk_list_iff, walk_text_iff}
+use Rattle.docker_laws.proofs.dockers.NearDocker.{IsLeftOut, IsNearPart, near_list_iff, near_text_iff}
+
+-- what may not count is a schedule that runs on no start day near the day
+may_not : (day : ℕ) (op : Op) → may_count day op ≡ false
+    → (lines : List (List ℕ)) × (op ≡ put_with (schedule_body lines)) × (runs_near day (first_record lines) ≡ false)
+may_not day (put_with (schedule_body lines)) h = (lines, refl, h)
+may_not day (put_with (tiploc_body bytes)) h = absurd (let bad : true ≡ false = h in cc)
+may_not day (put_with (association_body line)) h = absurd (let bad : true ≡ false = h in cc)
+may_not day deleted h = absurd (let bad : true ≡ false = h in cc)
+may_not day lapsed h = absurd (let bad : true ≡ false = h in cc)
+
+-- the live table of what may count is that part of the live table
+pub near_part : (day : ℕ) (state : State) → AreAscending state.entries → IsNearPart day (live_table state) (live_table (near_state day state))
+near_part day state up key = by (find_in (near_entries day state.entries) key) (find_in state.entries key)
+  where
+    left_out : (pair : Keyed) → live_table state key ≡ body_of pair.1.op
+        → (lines : List (List ℕ)) × (pair.1.op ≡ put_with (schedule_body lines)) × (runs_near day (first_record lines) ≡ false)
+        → IsLeftOut day (live_table state) key
+    left_out pair has may = (may.0, has ∙ ap body_of may.1, may.2)
+
+    missing : (pair : Keyed) → Contains state.entries (key, pair.1) → live_table state key ≡ body_of pair.1.op
+        → ((entry : Entry) → ¬ Contains (near_entries day state.entries) (key, entry)) → (b : Bool) → may_count day pair.1.op ≡ b
+        → IsLeftOut day (live_table state) key
+    missing pair among has never true h = absurd (never pair.1 (filter_forth (λ (entry : Keyed). may_count day entry.1.op) state.entries (key, pair.1) among h))
+    missing pair among has never false h = left_out pair has (may_not day pair.1.op h)
+
+    by : Found (near_entries day state.entries) key ⊎ NotFound (near_entries day state.entries) key → Found state.entries key ⊎ NotFound state.entries key
+        → (live_table (near_state day state) key ≡ live_table state key)
+        ⊎ ((live_table (near_state day state) key ≡ None) × IsLeftOut day (live_table state) key)
+    by (inl near) (inl all) =
+        let among = (filter_back (λ (entry : Keyed). may_count day entry.1.op) state.entries (key, near.0.1) near.2).0 in
+        let same = one_per_key state.entries up key near.0.1 all.0.1 among all.2 in
+        inl (live_at (near_state day state) key near.0 near.1 ∙ ap (λ (entry : Entry). body_of entry.op) same ∙ sym (live_at state key all.0 all.1))
+    by (inl near) (inr none) =
+        absurd (none.1 near.0.1 (filter_back (λ (entry : Keyed). may_count day entry.1.op) state.entries (key, near.0.1) near.2).0)
+    by (inr never) (inr none) = inl (live_none (near_state day state) key never.0 ∙ sym (live_none state key none.0))
+    by (inr never) (inl all) =
+        inr (
+          live_none (near_state day state) key never.0,
+          missing all.0 all.2 (live_at state key all.0 all.1) never.1 (may_count day all.0.1.op) refl,
+        )
+
+-- a valid state with only what may count is valid
+pub near_valid : (day : ℕ) (state : State) → IsValid state → IsValid (near_state day state)
+near_valid day state valid =
+    some_valid state (near_state day state) valid refl refl (sublist_filter (λ (entry : Keyed). may_count day entry.1.op) state.entries)
+
+-- it has the same docker list on the day
+pub near_state_list : (place : List ℕ) (day : ℕ) (state : State) (lines : List DockerLine) → IsValid state
+    → IsDockerList (live_table state) place day lines ↔ IsDockerList (live_table (near_state day state)) place day lines
+near_state_list place day state lines valid =
+    near_list_iff day (live_table state) (live_table (near_state day state)) (near_part day state valid.entries.1)
+    (bodies_few (live_table state) (good_bodies state valid)) place lines
+
+-- and the same docker text
+pub near_state_text : (place : List ℕ) (day : ℕ) (state : State) (text : List ℕ) → IsValid state
+    → IsDockerText (live_table state) place day text ↔ IsDockerText (live_table (near_state day state)) place day text
+near_state_text place day state text valid =
+    near_text_iff day (live_table state) (live_table (near_state day state)) (near_part day state valid.entries.1)
+    (bodies_few (live_table state) (good_bodies state valid)) place text
+
+-- ---- the excerpt for a place and a day
+
+-- it is valid
+pub excerpt_on_valid : (place : List ℕ) (day : ℕ) (state : State) → IsValid state → IsValid (excerpt_on place day state)
+excerpt_on_valid place day state valid = walk_valid place (near_state day state) (near_valid day state valid)
+
+-- it has the same docker list at the place on the day
+pub excerpt_on_list : (place : List ℕ) (day : ℕ) (state : State) (lines : List DockerLine) → IsValid state
+    → IsDockerList (live_table state) place day lines ↔ IsDockerList (live_table (excerpt_on place day state)) place day lines
+excerpt_on_list place day state lines valid =
+    let near = near_state_list place day state lines valid in
+    let walk = walk_list_iff place (near_state day state) day lines (near_valid day state valid) in
+    (λ is. walk.0 (near.0 is), λ is. near.1 (walk.1 is))
+
+-- and the same docker text
+pub excerpt_on_text : (place : List ℕ) (day : ℕ) (state : State) (text : List ℕ) → IsValid state
+    → IsDockerText (live_table state) place day text ↔ IsDockerText (live_table (excerpt_on place day state)) place day text
+excerpt_on_text place day state text valid =
+    let near = near_state_text place day state text valid in
+    let walk = walk_text_iff place (near_state day state) day text (near_valid day state valid) in
+    (λ is. walk.0 (near.0 is), λ is. near.1 (walk.1 is))
+
+-- ---- entry by entry
+
+one_kept : (test : Keyed → Bool) (entry : Keyed) (b : Bool) → test entry ≡ b → filter test (entry ∷ []) ≡ cond b (entry ∷ []) []
+one_kept test entry b h = λ i. cond (h i) (entry ∷ []) []
+
+-- an entry that may count stays
+pub near_with : (day : ℕ) (entries : List Keyed) (entry : Keyed) → may_count day entry.1.op ≡ true
+    → near_entries day (entries ++ entry ∷ []) ≡ near_entries day entries ++ entry ∷ []
+near_with day entries entry h =
+    filter-append (λ (e : Keyed). may_count day e.1.op) entries (entry ∷ [])
+    ∙ ap (λ (more : List Keyed). near_entries day entries ++ more) (one_kept (λ (e : Keyed). may_count day e.1.op) entry true h)
+
+-- an entry that may not count is left out
+pub near_without : (day : ℕ) (entries : List Keyed) (entry : Keyed) → may_count day entry.1.op ≡ false
+    → near_entries day (entries ++ entry ∷ []) ≡ near_entries day entries
+near_without day entries entry h =
+    filter-append (λ (e : Keyed). may_count day e.1.op) entries (entry ∷ [])
+    ∙ ap (λ (more : List Keyed). near_entries day entries ++ more) (one_kept (λ (e : Keyed). may_count day e.1.op) entry false h)
+    ∙ append-nil (near_entries day entries)

@@ -1,0 +1,28 @@
+-- Which schedules may count near a day. The schedule of the other examples runs from 10 to 16 June
+-- 2024, day 23537 to day 23543.
+use Rattle.std.proofs.Common.{◌≡◌, [], refl}
+use Rattle.jiff_core.specs.Calendar.{days_from_civil, day_count, days_of_years, days_of_months}
+use Rattle.docker_model.specs.docker.NearDay.{near_entries, excerpt_on}
+use Rattle.docker_laws.proofs.examples.ExcerptExamples.{place, alone}
+
+-- on the day before its first day it counts: a train of that day may have it, one day later, as its
+-- partner
+partner_tomorrow : (excerpt_on place 23536 alone).entries ≡ alone.entries
+unfolding days_from_civil day_count days_of_years days_of_months
+partner_tomorrow = refl
+
+-- two days before its first day it does not
+too_early : near_entries 23535 alone.entries ≡ []
+unfolding days_from_civil day_count days_of_years days_of_months
+too_early = refl
+
+-- three days after its last day it counts: a train that starts one day later and passes midnight
+-- twice may have it as its partner
+partner_long_ago : (excerpt_on place 23546 alone).entries ≡ alone.entries
+unfolding days_from_civil day_count days_of_years days_of_months
+partner_long_ago = refl
+
+-- four days after its last day it does not
+too_late : near_entries 23547 alone.entries ≡ []
+unfolding days_from_civil day_count days_of_years days_of_months
+too_late = refl

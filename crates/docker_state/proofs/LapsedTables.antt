@@ -1,0 +1,90 @@
+-- The join of two tables that lapsed under one horizon is the lapse of the join of the tables.
+use Rattle.std.proofs.Common.{◌≡◌, ℕ, List, ◌++◌, map, refl, ap, sym, ◌∙◌, subst, inl, inr, ◌⊎◌, Contains, Bool, true, false, cond, Some}
+use Rattle.std.specs.Prelude.{◌↔◌, nat_lt}
+use Rattle.std.proofs.lemmas.List.Elements.{Contains-append_cases}
+use Rattle.std.proofs.lemmas.List.{map-append}
+use Rattle.docker_model.specs.file.Change as model
+use Rattle.docker_model.specs.state.Order.{IsStrictlyAscending}
+use Rattle.docker_model.specs.state.Op as ops
+use Rattle.docker_model.specs.state.Op.{body_end, entry_cmp, deleted, lapsed, put_with}
+use Rattle.docker_model.specs.state.Lapse.{lapse, lapse_entry, lapse_keyed, lapse_entries}
+use Rattle.docker_model.specs.state.State.{IsGreatestAmong}
+use Rattle.state_laws.proofs.states.KeptEntries.{lapse_ascends}
+use Rattle.state_laws.proofs.states.LapsedGreatest.{lapsed_from, greatest_lapses}
+use Rattle.cif_change.specs.declared.key.Key.{Key}
+use Rattle.docker_join.specs.declared.entry.Entry.{Entry}
+use Rattle.docker_join.specs.Records.{HasRecords}
+use Rattle.docker_join.specs.Meaning.{entry_meant}
+use Rattle.docker_join.specs.Rows.{AreAscending, value_at, IsJoinOfRows}
+use Rattle.docker_join.proofs.MeantOrder.{ascending_meant, meant_ascending}
+use Rattle.docker_state.specs.Meaning.{row_meant}
+use Rattle.docker_state.proofs.TableJoin.{Keyed, by_key, higher, value_in, same_value, joined_has, joined_greatest, greatest_joined}
+
+-- an op of records that lapses is of records
+pub lapse_records : (horizon : ℕ) (op : ops.Op) → HasRecords op → HasRecords (lapse horizon op)
+lapse_records horizon deleted good = tt
+lapse_records horizon lapsed good = tt
+lapse_records horizon (put_with body) good = by (nat_lt (body_end body) horizon)
+  where
+    by : (b : Bool) → HasRecords (cond b lapsed (put_with body))
+    by true = tt
+    by false = good
+
+-- rows that lapsed ascend as they did
+pub lapsed_up : (horizon : ℕ) (rows after : List (Key × Entry)) → map row_meant after ≡ lapse_entries horizon (map row_meant rows) → AreAscending rows
+    → AreAscending after
+unfolding by_key
+lapsed_up horizon rows after is up =
+    meant_ascending row_meant by_key after
+    (subst (IsStrictlyAscending by_key) (sym is) (lapse_ascends horizon (map row_meant rows) (ascending_meant row_meant by_key rows up)))
+
+module _ (horizon : ℕ) (first second left right : List (Key × Entry)) (up_first : AreAscending first) (up_second : AreAscending second)
+    (left_is : map row_meant left ≡ lapse_entries horizon (map row_meant first)) (right_is : map row_meant right ≡ lapse_entries horizon (map row_meant second))
+    (records : (pair : Keyed) → Contains (map row_meant first ++ map row_meant second) pair → HasRecords pair.1.op)
+    (whole joined : List (Key × Entry)) (whole_is : IsJoinOfRows higher first second whole) (joined_is : IsJoinOfRows higher left right joined) where
+  abbrev Before : List Keyed
+  Before = map row_meant first ++ map row_meant second
+
+  abbrev After : List Keyed
+  After = map row_meant left ++ map row_meant right
+
+  all_lapsed : After ≡ lapse_entries horizon Before
+  all_lapsed = (λ i. left_is i ++ right_is i) ∙ sym (map-append (lapse_keyed horizon) (map row_meant first) (map row_meant second))
+
+  up_left : AreAscending left
+  up_left = lapsed_up horizon first left left_is up_first
+
+  up_right : AreAscending right
+  up_right = lapsed_up horizon second right right_is up_second
+
+  records_after : (pair : Keyed) → Contains After pair → HasRecords pair.1.op
+  records_after pair among =
+      let found = lapsed_from horizon Before pair.0 pair.1 (subst (λ (xs : List Keyed). Contains xs pair) all_lapsed among) in
+      subst (λ (e : ops.Entry). HasRecords e.op) found.2 (lapse_records horizon found.0.op (records (pair.0, found.0) found.1))
+
+  -- the lapse of an entry of the join
+  lapse_in : (key : model.Key) (entry : ops.Entry) → Contains (map row_meant whole) (key, entry)
+      → Contains (map row_meant joined) (key, lapse_entry horizon entry)
+  lapse_in key entry among =
+      greatest_joined left right joined up_left up_right joined_is records_after key (lapse_entry horizon entry)
+      (subst (λ (xs : List Keyed). IsGreatestAmong xs key (lapse_entry horizon entry)) (sym all_lapsed)
+      (greatest_lapses horizon Before key entry (joined_greatest first second whole up_first up_second whole_is key entry among)))
+
+  -- two entries of one key in the join are one
+  one_there : (key : model.Key) (a b : ops.Entry) → Contains (map row_meant joined) (key, a) → Contains (map row_meant joined) (key, b) → a ≡ b
+  one_there key a b first_in second_in =
+      let one = value_in joined joined_is.ascends key a first_in in
+      let two = value_in joined joined_is.ascends key b second_in in
+      sym one.2 ∙ ap entry_meant (same_value one.0 two.0 (value_at joined key) one.1 two.1) ∙ two.2
+
+  -- its entries are the lapses of the entries of the tables' join
+  pub joined_lapses : (key : model.Key) (entry : ops.Entry) → Contains (map row_meant joined) (key, entry)
+      ↔ ((before : ops.Entry) × Contains (map row_meant whole) (key, before) × (lapse_entry horizon before ≡ entry))
+  joined_lapses key entry = (
+    λ among.
+        let best = joined_greatest left right joined up_left up_right joined_is key entry among in
+        let found = lapsed_from horizon Before key entry (subst (λ (xs : List Keyed). Contains xs (key, entry)) all_lapsed best.among) in
+        let top = joined_has first second whole up_first up_second whole_is key found.0 found.1 in
+        (top.0, top.1, one_there key (lapse_entry horizon top.0) entry (lapse_in key top.0 top.1) among),
+    λ told. subst (λ (e : ops.Entry). Contains (map row_meant joined) (key, e)) told.2 (lapse_in key told.0 told.1),
+  )
