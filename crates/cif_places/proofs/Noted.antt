@@ -6,7 +6,7 @@ use Rattle.std.proofs.lemmas.List.{length-append, length-drop, map-append, appen
 use Rattle.std.proofs.Math.Seq.{drop-append_seam, take-append_seam}
 use Rattle.docker_model.specs.records.Record.{kind_of, columns, is_location}
 use Rattle.docker_model.specs.file.Change as model
-use Rattle.docker_model.specs.file.Change.{Key, ScheduleKey, AssociationKey, tiploc_key, association_key, schedule_key, Body, tiploc_body, association_body, schedule_body}
+use Rattle.docker_model.specs.file.Change.{Key, ScheduleKey, AssociationKey, tiploc_key, association_key, schedule_key, Body, tiploc_body, schedule_body}
 use Rattle.docker_model.specs.state.Op.{Op, deleted, lapsed, put_with, body_of, op_of}
 use Rattle.cif_places.specs.declared.notes.Notes.{Notes}
 use Rattle.cif_places.specs.declared.piece.Piece.{Piece}
@@ -205,19 +205,7 @@ module _ (names : List (List ℕ)) (old new : List ℕ) (kept : Keeps old new) (
     apart = (let len = keeps_len old new kept in omega arith);
   }
 
-  -- the piece of an association's location
-  pub link_next : (key : AssociationKey) (line : List ℕ) → AreRanks names (key.location ∷ []) (drop (length old) new)
-      → IsNext names old new (association_key key, put_with (association_body line)) (record { is_link = true; from = length old; count = count })
-  link_next key line are = record {
-    noted = record {
-      calls = refl;
-      links = ap (map (slice_get names)) came ∙ are;
-      within = (let len = keeps_len old new kept in omega arith);
-    };
-    apart = (let len = keeps_len old new kept in omega arith);
-  }
-
--- like `calls_next` and `link_next`, for a key and a body that are equal to these
+-- like `calls_next`, for a key and a body that are equal to these
 pub calls_put : (names : List (List ℕ)) (old new : List ℕ) → Keeps old new → (from count : ℕ) → from ≡ length old → count ≡ length new - length old
     → (key : Key) (body : Body) (schedule : ScheduleKey) (lines : List (List ℕ)) → key ≡ schedule_key schedule → body ≡ schedule_body lines
     → AreRanks names (map (columns 3 9) (location_lines lines)) (drop (length old) new)

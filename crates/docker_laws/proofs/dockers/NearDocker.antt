@@ -99,7 +99,7 @@ abbrev LinksOver : Table → Table → Type 0
 LinksOver one other =
     (group : Group) (start : ℕ) (key : AssociationKey) (line : List ℕ) → IsAssociated one group start key line → IsAssociated other group start key line
 
--- both tables have the same of these
+-- both tables have the same schedules running near a day, and the same associations
 record AreAlike (one other : Table) (day : ℕ) : Type 0 where
   runs : RunsOver one other day
   runs_back : RunsOver other one day

@@ -27,10 +27,6 @@ pub record Lists (IsLine : DockerLine → Type 0) (lines : List DockerLine) : Ty
   pub ascending : IsStrictlyAscending docker_line_cmp lines
   pub members : (line : DockerLine) → Contains lines line ↔ IsLine line
 
--- just the events
-abbrev pub IsEventList : Table → List ℕ → ℕ → List DockerLine → Type 0
-IsEventList live place day lines = Lists (IsEventLine live place day) lines
-
 -- the docker list of a live table, a place and a day
 abbrev pub IsDockerList : Table → List ℕ → ℕ → List DockerLine → Type 0
 IsDockerList live place day lines = Lists (λ line. IsEventLine live place day line ⊎ IsAssociationLine live place day line) lines
