@@ -2,3 +2,4 @@ pub mod MergedRows
 pub mod Lookup
 pub mod MeantOrder
 pub mod LapsedRows
+pub mod PlacedRows

@@ -1,8 +1,6 @@
 -- The walk over the rows of two tables gives their join.
-use Rattle.std.proofs.Common.{◌≡◌, ℕ, List, [], ◌∷◌, ◌++◌, length, refl, ap, sym, ◌∙◌, subst, Some, None, MatchOption, arith}
-use Rattle.std.specs.Prelude.{Option, ⊤}
-use Rattle.std.specs.Option.{option_to_list}
-use Rattle.std.proofs.lemmas.List.{append-nil}
+use Rattle.std.proofs.Common.{◌≡◌, List, [], ◌∷◌, refl, ap, sym, ◌∙◌, subst, None}
+use Rattle.std.specs.Prelude.{Option}
 use Rattle.std.specs.List.{AllByRecursion}
 use Rattle.std.specs.declared.cmp.Ordering.{Ordering}
 use Rattle.std.specs.declared.cmp.Ordering.TheVariants.{Less, Equal, Greater}
@@ -34,11 +32,12 @@ walk picked [] ys = ys
 walk picked (x ∷ xs) ys = walk_from picked x (walk picked xs) ys
 
 module _ {E : Type 0} where
-  abbrev Above : Key × E → List (Key × E) → Type 0
+  -- the rows are above a row
+  abbrev pub Above : Key × E → List (Key × E) → Type 0
   Above low rows = AllByRecursion (IsBelow row_cmp low) rows
 
   -- rows above a row are above each row below that row
-  above_lower : (low high : Key × E) (rows : List (Key × E)) → row_cmp low high ≡ Less → Above high rows → Above low rows
+  pub above_lower : (low high : Key × E) (rows : List (Key × E)) → row_cmp low high ≡ Less → Above high rows → Above low rows
   above_lower low high [] below above = tt
   above_lower low high (row ∷ rows) below above =
       (key_total.trans (key_meant low.0) (key_meant high.0) (key_meant row.0) below above.0, above_lower low high rows below above.1)
@@ -49,7 +48,7 @@ module _ {E : Type 0} where
   above_level low high (row ∷ rows) tied above =
       (key_total.congr (key_meant low.0) (key_meant high.0) (key_meant row.0) tied ∙ above.0, above_level low high rows tied above.1)
 
-  row_cmp_turned : (x y : Key × E) → row_cmp x y ≡ Greater → row_cmp y x ≡ Less
+  pub row_cmp_turned : (x y : Key × E) → row_cmp x y ≡ Greater → row_cmp y x ≡ Less
   row_cmp_turned x y greater = key_total.antisymm (key_meant y.0) (key_meant x.0) ∙ ap ordering_reverse greater
 
 module _ {E : Type 0} (picked : E → E → E) where
@@ -160,17 +159,3 @@ module _ {E : Type 0} (picked : E → E → E) where
   -- the walk gives the join
   pub walk_joins : (xs ys : List (Key × E)) → AreAscending xs → AreAscending ys → IsJoinOfRows picked xs ys (walk picked xs ys)
   walk_joins xs ys up_x up_y = record { ascends = walk_ascends xs ys up_x up_y; values = walk_values xs ys up_x up_y }
-
--- if no row is in hand and none is left after it, there are no rows
-pub none_left : {A : Type 0} (hand : Option A) (rest : List A) (n : ℕ) → hand ≡ None → n ≡ length rest → MatchOption hand (n ≡ 0) (λ _. ⊤)
-    → option_to_list hand ++ rest ≡ []
-none_left None [] n is size done = refl
-none_left None (x ∷ xs) n is size done = absurd (omega arith)
-none_left (Some x) rest n is size done = cc
-
--- once no rows are left, what went out is the join
-pub walk_is_join : {E : Type 0} (picked : E → E → E) (first second out left right : List (Key × E)) → AreAscending first → AreAscending second
-    → left ≡ [] → right ≡ [] → out ++ walk picked left right ≡ walk picked first second → IsJoinOfRows picked first second out
-walk_is_join picked first second out left right up_first up_second no_left no_right same =
-    let all : out ≡ walk picked first second = sym (append-nil out) ∙ sym (λ i. out ++ walk picked (no_left i) (no_right i)) ∙ same in
-    subst (IsJoinOfRows picked first second) (sym all) (walk_joins picked first second up_first up_second)

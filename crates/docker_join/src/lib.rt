@@ -4,10 +4,12 @@
 
 mod entry;
 mod merge;
+mod rows;
 mod stamp;
 mod table;
 
 pub use entry::{Entry, Op};
 pub use merge::{Merge, Pick};
+pub use rows::{join_rows, lapse_rows};
 pub use stamp::{FileStamp, Stamp};
 pub use table::Table;

@@ -1,17 +1,16 @@
 //! Tables of what is known at keys.
-ghost use Rattle.std.specs.Prelude.{◌≡◌, ◌==◌, ◌+◌, ◌≤◌, [], false, length, map, vec_len, vec_capacity, IfSome};
+ghost use Rattle.std.specs.Prelude.{◌≡◌, ◌==◌, ◌+◌, ◌≤◌, [], false, length, map, vec_len, vec_capacity, IfOk, IfErr};
 ghost use Rattle.std.specs.Option.{option_copied};
 ghost use Rattle.cif_file.specs.Meaning.{key_meant};
 ghost use Rattle.docker_model.specs.state.Lapse.{lapse_entries};
 ghost use Rattle.docker_join.specs.Meaning.{row_meant};
-ghost use Rattle.docker_join.specs.Rows.{AreAscending, value_at, IsJoinOfRows};
-ghost use Rattle.docker_join.specs.Room.{HasRoomOf};
+ghost use Rattle.docker_join.specs.Rows.{AreAscending, value_at};
 
 use crate::entry::Entry;
 use crate::merge::{Merge, Pick};
+use crate::rows::{join_rows, lapse_rows};
 use cif_file::Key;
 use std::alloc::Global;
-use std::cmp::Ordering;
 use std::marker::Model;
 
 /// What is known at each of some keys.
@@ -68,6 +67,21 @@ impl<E> Table<E> {
         rows
     }
 
+    /// The rows, in the order of their keys, with room for so many more after them. If memory runs
+    /// out, returns the table as it was.
+    pub fn with_room(self, more: usize) -> Result<Vec<(Key, E)>, Table<E>>
+        ensures rows { IfOk result (λ rows. rows.items ≡ self) }
+        ensures room { IfOk result (λ rows. vec_len rows + more ≤ vec_capacity rows) }
+        ensures ascending { AreAscending self }
+        ensures err { IfErr result (λ back. back ≡ self) }
+    {
+        let mut rows = self.into_rows();
+        match rows.reserve_exact(more) {
+            Ok(()) => Ok(rows),
+            Err(_) => Err(Table::from_rows(rows)),
+        }
+    }
+
     /// How many keys there are.
     pub fn len(&self) -> usize
         ensures { result ≡ length self.now }
@@ -100,32 +114,7 @@ impl Table<Entry> {
         ensures lapsed { map row_meant self.new ≡ lapse_entries horizon (map row_meant self.old) }
         ensures same { result ≡ false → self.new ≡ self.old }
     {
-        let mut some = false;
-        for row in self.rows.iter_mut() {
-            some |= row.1.lapse(horizon);
-        }
-        some
-    }
-}
-
-impl<E: Pick> Table<E> {
-    /// An empty vector with room for the rows of the join with another table. None if memory runs
-    /// out.
-    pub fn room_for_join(&self, alloc: Global, other: &Table<E>) -> Option<Vec<(Key, E)>>
-        ensures { IfSome result (HasRoomOf (length self.now + length other.now)) }
-    {
-        let count = self.len().checked_add(other.len())?;
-        Vec::with_capacity(alloc, count).ok()
-    }
-
-    /// The table of the keys of both. Each key has what one table knows at it, or the join of what
-    /// both know. It takes no memory besides the vector, which is empty and has room for the rows
-    /// of both.
-    pub fn join_in(self, other: Table<E>, rows: Vec<(Key, E)>) -> Table<E>
-        requires { HasRoomOf (length self + length other) rows }
-        ensures { IsJoinOfRows E.picked self other result }
-    {
-        Table::from_rows(join_of(self.into_rows(), other.into_rows(), rows))
+        lapse_rows(&mut self.rows, horizon)
     }
 }
 
@@ -155,57 +144,10 @@ impl<E: Pick> Merge for Table<E> {
     /// The table of the keys of both. Each key has what one table knows at it, or the join of what
     /// both know. If memory runs out, no row has been moved, and it returns both tables as they
     /// were.
-    fn join(self, alloc: Global, other: Table<E>) -> Result<Table<E>, (Table<E>, Table<E>)> {
-        match self.room_for_join(alloc, &other) {
-            Some(rows) => Ok(self.join_in(other, rows)),
-            None => Err((self, other)),
+    fn join(self, _alloc: Global, other: Table<E>) -> Result<Table<E>, (Table<E>, Table<E>)> {
+        match self.with_room(other.len()) {
+            Ok(rows) => Ok(Table::from_rows(join_rows(rows, other.into_rows()))),
+            Err(back) => Err((back, other)),
         }
     }
-}
-
-/// The rows of the join of two tables, in a vector that has room for the rows of both.
-fn join_of<E: Pick>(
-    first: Vec<(Key, E)>,
-    second: Vec<(Key, E)>,
-    mut rows: Vec<(Key, E)>,
-) -> Vec<(Key, E)>
-    requires first { AreAscending first.items }
-    requires second { AreAscending second.items }
-    requires room { HasRoomOf (length first.items + length second.items) rows }
-    ensures { IsJoinOfRows E.picked first.items second.items result.items }
-{
-    let mut first = first.into_iter();
-    let mut second = second.into_iter();
-    let mut left = first.next();
-    let mut right = second.next();
-    loop {
-        (left, right) = match (left, right) {
-            (None, None) => break,
-            (Some(one), None) => {
-                rows.push_reserved(one);
-                (first.next(), None)
-            }
-            (None, Some(other)) => {
-                rows.push_reserved(other);
-                (None, second.next())
-            }
-            (Some(one), Some(other)) => match one.0.cmp(&other.0) {
-                Ordering::Less => {
-                    rows.push_reserved(one);
-                    (first.next(), Some(other))
-                }
-                Ordering::Greater => {
-                    rows.push_reserved(other);
-                    (Some(one), second.next())
-                }
-                Ordering::Equal => {
-                    rows.push_reserved((one.0, one.1.pick(other.1)));
-                    (first.next(), second.next())
-                }
-            },
-        };
-    }
-    first.destroy_empty();
-    second.destroy_empty();
-    rows
 }
