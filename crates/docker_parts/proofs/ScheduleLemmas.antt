@@ -1,6 +1,7 @@
 -- How the lines of a schedule are judged.
-use Rattle.std.proofs.Common.{◌≡◌, ℕ, List, [], ◌∷◌, ◌++◌, length, refl, ap, sym, subst, inl, inr, ◌⊎◌, Some, None, ◌+◌, ◌<◌, ◌≤◌, Bool, true, false, arith, length-append}
-use Rattle.std.specs.Prelude.{Option, IsTrue, ◌↔◌}
+use Rattle.std.proofs.Common.{◌≡◌, ◌∙◌, ℕ, List, [], ◌∷◌, ◌++◌, length, refl, ap, sym, subst, inl, inr, ◌⊎◌, Some, None, ◌+◌, ◌<◌, ◌≤◌, Bool, true, false, arith, length-append}
+use Rattle.std.specs.Prelude.{Option, IsTrue, ◌↔◌, slice_index_or}
+use Rattle.std.proofs.Math.Seq.{get_or-append_seam}
 use Rattle.std.proofs.lemmas.Bool.{cases_lt}
 use Rattle.docker_model.specs.records.Record.{HasKind, basic_schedule}
 use Rattle.docker_model.specs.records.Field.{HasGoodFields}
@@ -59,6 +60,18 @@ pub begin_up_to : (count : ℕ) (lines : Lines) (line : List ℕ) (more : Bool) 
 begin_up_to count lines line more tells begin (inl is) = record
     { begin = begin; complete = λ all. let size = length-append lines (line ∷ []) in let below = tells.0 is in absurd (omega arith) }
 begin_up_to count lines line more tells begin (inr whole) = record { begin = begin; complete = λ all. whole }
+
+-- with more lines to come, a line may come next if some schedule begins with it
+pub more_up_to : (count : ℕ) (lines : Lines) (line : List ℕ) → length lines + 1 < count → BeginsSchedule (lines ++ line ∷ [])
+    → BeginUpTo count (lines ++ line ∷ [])
+more_up_to count lines line more begin = record { begin = begin; complete = λ all. let size = length-append lines (line ∷ []) in absurd (omega arith) }
+
+-- the line at the end of a buffer is the one that was written there
+pub written_last : (lines after : Lines) (line found : List ℕ) (at : ℕ) → after ≡ lines ++ line ∷ [] → at ≡ length lines → found ≡ slice_index_or after at found
+    → found ≡ line
+written_last lines after line found at put last is =
+    is ∙ ap (λ rows. slice_index_or rows at found) put ∙ ap (λ n. slice_index_or (lines ++ line ∷ []) n found) last
+    ∙ get_or-append_seam lines line [] found
 
 -- lines that begin a schedule with this one are the first of `count` lines of the key
 pub lines_up_to : (state : State) (key : ScheduleKey) (count : ℕ) (lines : Lines) (line bytes : List ℕ) → line ≡ bytes

@@ -26,7 +26,7 @@ pub use given::Given;
 pub use keeper::{Keeper, Maker};
 pub use received::Received;
 pub use receiving::Receiver;
-pub use schedule::{Gathered, judged_line};
+pub use schedule::{Gathered, judged_inner_line, judged_line};
 pub use stage::{Stage, Tag};
 pub use steps::step;
 pub use told::Told;

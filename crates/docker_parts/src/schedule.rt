@@ -1,5 +1,5 @@
 //! Reads the lines of a schedule.
-ghost use Rattle.std.specs.Prelude.{◌≡◌, ◌+◌, ◌<◌, ◌↔◌, ◌⊎◌, [], ◌∷◌, ◌++◌, length, false, IsTrue, IsOk, IfOk, IfErr};
+ghost use Rattle.std.specs.Prelude.{◌≡◌, ◌+◌, ◌-◌, ◌<◌, ◌↔◌, ◌⊎◌, [], ◌∷◌, ◌++◌, length, false, IsTrue, IsOk, IfOk, IfErr};
 ghost use Rattle.cif_file.specs.JourneyRead.{HasLines};
 ghost use Rattle.docker_model.specs.file.File.{BeginsSchedule};
 ghost use Rattle.docker_parts.specs.Stage.{schedule_meant};
@@ -101,6 +101,15 @@ impl Gathered {
         self.lines.len() < (count - 1) as usize
     }
 
+    /// How many more lines come before the last of `count`.
+    pub fn before_last(&self, count: u32) -> usize
+        ensures { result ≡ count - 1 - length self.now }
+    {
+        (count as usize)
+            .saturating_sub(1)
+            .saturating_sub(self.lines.len())
+    }
+
     /// Takes room for `count` lines at once, if there are no lines yet and this number of bytes has
     /// all of them. If memory runs out, each line takes room as it comes.
     pub fn make_room(&mut self, alloc: Global, count: u32, bytes: usize)
@@ -154,6 +163,50 @@ impl Gathered {
         }
         Ok(())
     }
+
+    /// Takes the next of `count` lines where memory has to grow. `Body` as in `take`, and for bytes
+    /// that are no line.
+    #[cold]
+    #[inline(never)]
+    fn take_growing(&mut self, bytes: &[u8], count: u32) -> Result<(), StateCause>
+        requires { length self.old < count }
+        ensures taken { IsOk result → self.new ≡ self.old ++ bytes.now ∷ [] }
+        ensures goes_on { IsOk result → BeginUpTo count (self.old ++ bytes.now ∷ []) }
+        ensures err { IfErr result (λ cause. IsLineRefusal count self.old bytes.now
+            (cause_meant cause)) }
+        ensures kept { (¬ BeginsSchedule (self.old ++ bytes.now ∷ [])) → self.new ≡ self.old }
+    {
+        let Ok(line) = Line::new(bytes) else {
+            return Err(StateCause::Body);
+        };
+        self.take(&line, count)
+    }
+
+    /// Takes the next of `count` lines, with more to come after it. If there is room, the line is
+    /// written where it stays, and judged there: a refused one is taken out again.
+    #[inline(always)]
+    fn take_inner(&mut self, bytes: &[u8], count: u32) -> Result<(), StateCause>
+        requires { length self.old + 1 < count }
+        ensures taken { IsOk result → self.new ≡ self.old ++ bytes.now ∷ [] }
+        ensures goes_on { IsOk result → BeginUpTo count (self.old ++ bytes.now ∷ []) }
+        ensures err { IfErr result (λ cause. IsLineRefusal count self.old bytes.now
+            (cause_meant cause)) }
+        ensures kept { (¬ BeginsSchedule (self.old ++ bytes.now ∷ [])) → self.new ≡ self.old }
+    {
+        let at = self.lines.len();
+        if at == self.lines.capacity() {
+            return self.take_growing(bytes, count);
+        }
+        let Ok(line) = Line::new(bytes) else {
+            return Err(StateCause::Body);
+        };
+        self.lines.push_reserved(line);
+        if self.journey.line(&self.lines[at]).is_err() {
+            self.lines.truncate(at);
+            return Err(StateCause::Body);
+        }
+        Ok(())
+    }
 }
 
 /// Whether a line may come next, as far as the key and the horizon decide. It may after other
@@ -170,7 +223,6 @@ fn may_follow<K: Keeper>(key: &ScheduleKey, told: &Told<K>, lines: &Gathered, li
 
 /// Takes the next of `count` lines of this key. `Body` if the line doesn't continue a schedule with
 /// this key and `count` lines, or if the schedule lapses under the horizon that was read.
-#[inline(always)]
 pub fn judged_line<K: Keeper>(
     key: &ScheduleKey,
     told: &Told<K>,
@@ -194,4 +246,28 @@ pub fn judged_line<K: Keeper>(
         return Err(StateCause::Body);
     }
     lines.take(&line, count)
+}
+
+/// `judged_line`, for a line with more of `count` lines to come after it.
+#[inline(always)]
+pub fn judged_inner_line<K: Keeper>(
+    key: &ScheduleKey,
+    told: &Told<K>,
+    count: u32,
+    lines: &mut Gathered,
+    bytes: &[u8],
+) -> Result<(), StateCause>
+    requires lines_of { (lines.old ≡ [])
+        ⊎ AreLinesIn told.now (schedule_meant key.now) lines.old }
+    requires more { length lines.old + 1 < count }
+    ensures taken { IsOk result → lines.new ≡ lines.old ++ bytes.now ∷ [] }
+    ensures up_to { IsOk result → AreLinesUpToIn told.now (schedule_meant key.now) count
+        (lines.old ++ bytes.now ∷ []) }
+    ensures err { IfErr result (λ cause. IsUpToRefusal told.now
+        (schedule_meant key.now) count lines.old bytes.now (cause_meant cause)) }
+{
+    if lines.is_empty() {
+        return judged_line(key, told, count, lines, bytes);
+    }
+    lines.take_inner(bytes, count)
 }
