@@ -6,7 +6,7 @@ pub mod Adding
 pub mod LinkLines
 pub mod Gathered
 pub mod Written
-pub mod RowPieces
+pub mod RowViews
 pub mod Printed
 pub mod PassedOver
 pub mod RowPortions

@@ -4,17 +4,20 @@ use Rattle.std.specs.Prelude.{Option, option_map, find}
 use Rattle.std.specs.List.{flat_map}
 use Rattle.std.specs.Str.{bytes_eq}
 use Rattle.docker_model.specs.records.Record.{columns}
-use Rattle.docker_model.specs.file.Change.{Key, tiploc_key, association_key, schedule_key, Body, tiploc_body, association_body, schedule_body}
 use Rattle.docker_model.specs.file.Journey.{Occasion}
 use Rattle.docker_model.specs.docker.Event.{Event, events_of, first_event_at}
 use Rattle.docker_model.specs.docker.Choice.{Group}
 use Rattle.docker_model.specs.docker.Association.{category_occasion}
 use Rattle.docker_model.specs.state.Table.{Table}
-use Rattle.docker_model.specs.docker.LiveRows.{Train, Link, train_in, link_in}
-use Rattle.docker_model.specs.docker.Gathering.{start_days, is_in_force, line_at, line_with, row_lines}
+use Rattle.docker_model.specs.docker.LiveRows as live_rows
+use Rattle.docker_model.specs.docker.LiveRows.{train_in, link_in}
+use Rattle.docker_model.specs.docker.Gathering.{start_days, is_in_force, line_at, line_with}
 use Rattle.docker_model.specs.docker.DockerLine.{DockerLine}
 use Rattle.docker_train.specs.Occurrences.{occurrence_of, occurrences}
-use Rattle.docker_day.specs.Lines.{Adds, is_call, link_line_by, link_line_with, link_piece, row_piece, row_back}
+use Rattle.docker_day.specs.Lines.{Adds, is_call, link_line_by, link_line_with, link_piece}
+use Rattle.docker_day.specs.RowViews.{row_back, row_piece, view_lines}
+use Rattle.docker_day.specs.declared.row_view.RowView.{RowView}
+use Rattle.docker_day.specs.declared.row_view.RowView.TheVariants.{Train, Link, Other}
 use Rattle.docker_day.proofs.Days.{starts_split}
 
 abbrev no_line : List DockerLine
@@ -35,7 +38,7 @@ pub first_call_is : (lines : List (List ℕ)) (location : List ℕ) (suffix : �
 first_call_is lines location suffix = find_mapped (occurrence_of lines) (is_call location suffix) (events_of lines)
 
 -- the line of an association is the definitions' line
-link_line_is : (trains : List ℕ → ℕ → Option Train) (day start : ℕ) (link : Link) (occasion : Option Occasion) (base : Option Train)
+link_line_is : (trains : List ℕ → ℕ → Option live_rows.Train) (day start : ℕ) (link : live_rows.Link) (occasion : Option Occasion) (base : Option live_rows.Train)
     → link_line_with trains day start link occasion base ≡ line_with trains day start link.key link.line occasion base
 link_line_is trains day start link None base = refl
 link_line_is trains day start link (Some occasion) None = refl
@@ -53,43 +56,39 @@ none_of_all [] = refl
 none_of_all (day ∷ days) = none_of_all days
 
 -- the lines of a row are the lines on its start days
-row_pieces : (trains : List ℕ → ℕ → Option Train) (links : Group → ℕ → Option Link) (place : List ℕ) (day : ℕ) (key : Key) (body : Body)
-    → flat_map (row_piece trains links place day key body) (start_days day) ≡ row_lines trains links place day key body
-row_pieces trains links place day (schedule_key key) (schedule_body lines) = refl
-row_pieces trains links place day (association_key key) (association_body line) = by (bytes_eq key.location place)
+row_pieces : (trains : List ℕ → ℕ → Option live_rows.Train) (links : Group → ℕ → Option live_rows.Link) (place : List ℕ) (day : ℕ) (row : RowView)
+    → flat_map (row_piece trains links place day row) (start_days day) ≡ view_lines trains links place day row
+row_pieces trains links place day (Train train) = refl
+row_pieces trains links place day (Link link) = by (bytes_eq link.key.location place)
   where
-    by : (b : Bool) → flat_map (λ (start : ℕ). cond b (link_piece trains links day (record { key = key; line = line }) start) no_line) (start_days day)
-        ≡ cond b (flat_map (λ (start : ℕ). cond (is_in_force links start key line)
-        (line_with trains day start key line (category_occasion (columns 35 36 line)) (trains key.base start)) no_line) (start_days day)) no_line
-    by true = λ i. flat_map (λ (start : ℕ). cond (is_in_force links start key line)
-        (link_line_is trains day start (record { key = key; line = line }) (category_occasion (columns 35 36 line))
-        (trains key.base start) i) no_line) (start_days day)
+    by : (b : Bool) → flat_map (λ (start : ℕ). cond b (link_piece trains links day link start) no_line) (start_days day)
+        ≡ cond b (flat_map (λ (start : ℕ). cond (is_in_force links start link.key link.line)
+        (line_with trains day start link.key link.line (category_occasion (columns 35 36 link.line)) (trains link.key.base start)) no_line) (start_days day)) no_line
+    by true = λ i. flat_map (λ (start : ℕ). cond (is_in_force links start link.key link.line)
+        (link_line_is trains day start link (category_occasion (columns 35 36 link.line))
+        (trains link.key.base start) i) no_line) (start_days day)
     by false = none_of_all (start_days day)
-row_pieces trains links place day (schedule_key key) (tiploc_body bytes) = none_of_all (start_days day)
-row_pieces trains links place day (schedule_key key) (association_body line) = none_of_all (start_days day)
-row_pieces trains links place day (association_key key) (tiploc_body bytes) = none_of_all (start_days day)
-row_pieces trains links place day (association_key key) (schedule_body lines) = none_of_all (start_days day)
-row_pieces trains links place day (tiploc_key code) body = none_of_all (start_days day)
+row_pieces trains links place day Other = none_of_all (start_days day)
 
 three_parts : (a b c d : List DockerLine) → ((a ++ b) ++ c) ++ d ≡ a ++ (b ++ (c ++ (d ++ no_line)))
 three_parts a b c d =
     append_assoc (a ++ b) c d ∙ append_assoc a b (c ++ d) ∙ (λ i. a ++ (b ++ (c ++ sym (append-nil d) i)))
 
-module _ (place : List ℕ) (day : ℕ) (key : Key) (body : Body) where
-  three_at : (trains : List ℕ → ℕ → Option Train) (links : Group → ℕ → Option Link) (first second third last : List DockerLine)
-      → second ≡ first ++ row_back trains links place day key body 0 → third ≡ second ++ row_back trains links place day key body 1
-      → last ≡ third ++ row_back trains links place day key body 2 → last ≡ first ++ row_lines trains links place day key body
+module _ (place : List ℕ) (day : ℕ) (row : RowView) where
+  three_at : (trains : List ℕ → ℕ → Option live_rows.Train) (links : Group → ℕ → Option live_rows.Link) (first second third last : List DockerLine)
+      → second ≡ first ++ row_back trains links place day row 0 → third ≡ second ++ row_back trains links place day row 1
+      → last ≡ third ++ row_back trains links place day row 2 → last ≡ first ++ view_lines trains links place day row
   three_at trains links first second third last one two three =
-      three ∙ (λ i. two i ++ row_back trains links place day key body 2)
-      ∙ (λ i. (one i ++ row_back trains links place day key body 1) ++ row_back trains links place day key body 2)
-      ∙ three_parts first (row_back trains links place day key body 0) (row_back trains links place day key body 1) (row_back trains links place day key body 2)
-      ∙ ap (λ more. first ++ more) (sym (starts_split (row_piece trains links place day key body) day) ∙ row_pieces trains links place day key body)
+      three ∙ (λ i. two i ++ row_back trains links place day row 2)
+      ∙ (λ i. (one i ++ row_back trains links place day row 1) ++ row_back trains links place day row 2)
+      ∙ three_parts first (row_back trains links place day row 0) (row_back trains links place day row 1) (row_back trains links place day row 2)
+      ∙ ap (λ more. first ++ more) (sym (starts_split (row_piece trains links place day row) day) ∙ row_pieces trains links place day row)
 
   -- so they are added by adding the lines on each start day that there is
   pub three_backs : (live : Table) (first second third last : List DockerLine)
-      → Adds live (λ trains links. row_back trains links place day key body 0) first second
-      → Adds live (λ trains links. row_back trains links place day key body 1) second third
-      → Adds live (λ trains links. row_back trains links place day key body 2) third last
-      → Adds live (λ trains links. row_lines trains links place day key body) first last
+      → Adds live (λ trains links. row_back trains links place day row 0) first second
+      → Adds live (λ trains links. row_back trains links place day row 1) second third
+      → Adds live (λ trains links. row_back trains links place day row 2) third last
+      → Adds live (λ trains links. view_lines trains links place day row) first last
   three_backs live first second third last one two three =
       λ rows are. three_at (train_in rows) (link_in rows) first second third last (one rows are) (two rows are) (three rows are)

@@ -13,8 +13,9 @@ use Rattle.docker_model.specs.state.Row.{Row, AreRowsOf}
 use Rattle.docker_model.specs.docker.Association.{is_date_indicator}
 use Rattle.docker_model.specs.docker.Choice.{schedule_runs, association_runs, group_of}
 use Rattle.docker_model.specs.docker.DockerLine.{DockerLine, Detail, ends, tiploc_of_first}
-use Rattle.docker_model.specs.docker.LiveRows.{Train, Link, train_in, link_in, IsTrainOn, IsLinkOn}
-use Rattle.docker_model.specs.docker.Gathering.{event_lines, row_lines, runs_by, counts_as, is_in_force}
+use Rattle.docker_model.specs.docker.LiveRows as live_rows
+use Rattle.docker_model.specs.docker.LiveRows.{train_in, link_in, IsTrainOn, IsLinkOn}
+use Rattle.docker_model.specs.docker.Gathering.{event_lines, runs_by, counts_as, is_in_force}
 use Rattle.cif_laws.proofs.orders.AtMost.{eq_is}
 use Rattle.cif_laws.proofs.orders.Orders.{exact_schedule_key, exact_association_key}
 use Rattle.docker_laws.proofs.dockers.OneChoice.{one_schedule, one_association}
@@ -24,24 +25,30 @@ use Rattle.docker_train.specs.Occurrences.{Occurrence}
 use Rattle.docker_train.specs.UpTo.{occurrences_to}
 use Rattle.docker_train.specs.Along.{IsLiveTrain, IsLiveLink}
 use Rattle.docker_train.specs.Midnights.{some_late}
-use Rattle.docker_day.specs.Lines.{line_at_event, is_here, is_today, lines_there, row_lately, row_may_run, row_under_way, row_back, schedule_piece, Adds}
+use Rattle.docker_day.specs.Lines.{line_at_event, is_here, is_today, lines_there, schedule_piece, Adds}
+use Rattle.docker_day.specs.RowViews.{IsLiveView, row_back, row_lately, row_may_run, row_under_way, view_lines, view_of}
+use Rattle.docker_day.specs.declared.row_view.RowView.{RowView}
+use Rattle.docker_day.specs.declared.row_view.RowView.TheVariants.{Train, Link, Other}
 use Rattle.docker_train.specs.Lately.{runs_back}
 use Rattle.docker_train.specs.Ranked.{is_cancellation}
 use Rattle.docker_train.proofs.LatelyRuns.{idle_lately}
 use Rattle.docker_day.proofs.TrainLines.{event_lines_are}
 use Rattle.docker_day.proofs.UpToLast.{lines_to_last}
 use Rattle.docker_day.proofs.LinkLines.{three_backs}
-use Rattle.docker_day.proofs.RowPieces.{no_line}
+
+-- no line
+abbrev no_line : List DockerLine
+no_line = []
 
 true_false : true ≡ false → ⊥
 true_false bad = cc
 
 -- if a live schedule doesn't run on a day, its train doesn't run by it then
-pub runs_not : (live : Table) (rows : List Row) (train : Train) (start : ℕ) → AreRowsOf live rows → IsLiveTrain live train
+pub runs_not : (live : Table) (rows : List Row) (train : live_rows.Train) (start : ℕ) → AreRowsOf live rows → IsLiveTrain live train
     → schedule_runs (first_record train.lines) start ≡ false → runs_by (train_in rows train.key.uid start) train.key ≡ false
 runs_not live rows train start are is_live idle = by (train_in rows train.key.uid start) (trains_tell live rows are train.key.uid start)
   where
-    by : (found : Option Train) → IsTrainOn live train.key.uid start found → runs_by found train.key ≡ false
+    by : (found : Option live_rows.Train) → IsTrainOn live train.key.uid start found → runs_by found train.key ≡ false
     by None none = refl
     by (Some other) runs = inner (is_eq (schedule_key_cmp other.key train.key)) refl
       where
@@ -53,11 +60,11 @@ runs_not live rows train start are is_live idle = by (train_in rows train.key.ui
             absurd (true_false (sym runs.chosen.running.runs_then ∙ ap (λ (ls : List (List ℕ)). schedule_runs (first_record ls) start) lines ∙ idle))
 
 -- if a live association doesn't run on a start day, it isn't the one that counts in its group
-pub counts_not : (live : Table) (rows : List Row) (link : Link) (start : ℕ) → AreRowsOf live rows → IsLiveLink live link
+pub counts_not : (live : Table) (rows : List Row) (link : live_rows.Link) (start : ℕ) → AreRowsOf live rows → IsLiveLink live link
     → association_runs link.line start ≡ false → counts_as (link_in rows (group_of link.key) start) link.key ≡ false
 counts_not live rows link start are is_live idle = by (link_in rows (group_of link.key) start) (links_tell live rows are (group_of link.key) start)
   where
-    by : (found : Option Link) → IsLinkOn live (group_of link.key) start found → counts_as found link.key ≡ false
+    by : (found : Option live_rows.Link) → IsLinkOn live (group_of link.key) start found → counts_as found link.key ≡ false
     by None none = refl
     by (Some other) chosen = inner (is_eq (association_key_cmp other.key link.key)) refl
       where
@@ -122,12 +129,12 @@ none_of_three false true c h = absurd (true_false h)
 none_of_three false false true h = absurd (true_false h)
 
 module _ (live : Table) (rows : List Row) (are : AreRowsOf live rows) (place : List ℕ) (day : ℕ) where
-  abbrev lines_back : Key → Body → ℕ → List DockerLine
-  lines_back key body back = row_back (train_in rows) (link_in rows) place day key body back
+  abbrev lines_back : RowView → ℕ → List DockerLine
+  lines_back row back = row_back (train_in rows) (link_in rows) place day row back
 
   -- a schedule that doesn't run on a day has no line of a train that started then
-  idle_back : (train : Train) (back : ℕ) → IsLiveTrain live train → runs_back train.lines day back ≡ false
-      → lines_back (schedule_key train.key) (schedule_body train.lines) back ≡ []
+  idle_back : (train : live_rows.Train) (back : ℕ) → IsLiveTrain live train → runs_back train.lines day back ≡ false
+      → lines_back (Train train) back ≡ []
   idle_back train back is_live idle = by (nat_le back day) refl
     where
       by : (b : Bool) → nat_le back day ≡ b → cond b (schedule_piece (train_in rows) place day train.key train.lines (day - back)) [] ≡ []
@@ -137,8 +144,8 @@ module _ (live : Table) (rows : List Row) (are : AreRowsOf live rows) (place : L
           (event_lines place day (day - back) train.key train.lines) [])
 
   -- a schedule that passes no midnight has no line on a day after its start
-  early_back : (train : Train) (back : ℕ) → 0 < back → some_late (occurrences_to place train.lines) ≡ false
-      → lines_back (schedule_key train.key) (schedule_body train.lines) back ≡ []
+  early_back : (train : live_rows.Train) (back : ℕ) → 0 < back → some_late (occurrences_to place train.lines) ≡ false
+      → lines_back (Train train) back ≡ []
   early_back train back some early = by (nat_le back day) refl
     where
       none_either : (b : Bool) → cond b no_line [] ≡ no_line
@@ -155,69 +162,62 @@ module _ (live : Table) (rows : List Row) (are : AreRowsOf live rows) (place : L
           ∙ none_either (runs_by (train_in rows train.key.uid (day - back)) train.key)
 
   -- a row whose train isn't under way has no line of a train that started before the day
-  pub none_back : (key : Key) (body : Body) → live key ≡ Some body → row_under_way place key body day ≡ false
-      → (lines_back key body 1 ≡ []) × (lines_back key body 2 ≡ [])
-  none_back (schedule_key key) (schedule_body lines) is_live not_so =
-      by (none_of_both (runs_back lines day 1) (runs_back lines day 2) (some_late (occurrences_to place lines)) not_so)
+  pub none_back : (row : RowView) → IsLiveView live row → row_under_way place row day ≡ false
+      → (lines_back row 1 ≡ []) × (lines_back row 2 ≡ [])
+  none_back (Train train) is_live not_so =
+      by (none_of_both (runs_back train.lines day 1) (runs_back train.lines day 2) (some_late (occurrences_to place train.lines)) not_so)
     where
-      train : Train
-      train = record { key = key; lines = lines }
-
-      by : ((runs_back lines day 1 ≡ false) × (runs_back lines day 2 ≡ false)) ⊎ (some_late (occurrences_to place lines) ≡ false)
-          → (lines_back (schedule_key key) (schedule_body lines) 1 ≡ []) × (lines_back (schedule_key key) (schedule_body lines) 2 ≡ [])
+      by : ((runs_back train.lines day 1 ≡ false) × (runs_back train.lines day 2 ≡ false)) ⊎ (some_late (occurrences_to place train.lines) ≡ false)
+          → (lines_back (Train train) 1 ≡ []) × (lines_back (Train train) 2 ≡ [])
       by (inl idle) = (idle_back train 1 is_live idle.0, idle_back train 2 is_live idle.1)
       by (inr early) = (early_back train 1 (omega arith) early, early_back train 2 (omega arith) early)
-  none_back (schedule_key key) (tiploc_body bytes) is_live not_so = absurd (true_false not_so)
-  none_back (schedule_key key) (association_body line) is_live not_so = absurd (true_false not_so)
-  none_back (tiploc_key code) body is_live not_so = absurd (true_false not_so)
-  none_back (association_key key) body is_live not_so = absurd (true_false not_so)
+  none_back (Link link) is_live not_so = absurd (true_false not_so)
+  none_back Other is_live not_so = absurd (true_false not_so)
 
   -- a row whose schedule runs on none of the three days has no line
-  none_lately : (key : Key) (body : Body) → live key ≡ Some body → row_lately key body day ≡ false
-      → (lines_back key body 0 ≡ []) × (lines_back key body 1 ≡ []) × (lines_back key body 2 ≡ [])
-  none_lately (schedule_key key) (schedule_body lines) is_live not_so =
-      let idle = none_of_three (runs_back lines day 0) (runs_back lines day 1) (runs_back lines day 2) not_so in
+  none_lately : (row : RowView) → IsLiveView live row → row_lately row day ≡ false
+      → (lines_back row 0 ≡ []) × (lines_back row 1 ≡ []) × (lines_back row 2 ≡ [])
+  none_lately (Train train) is_live not_so =
+      let idle = none_of_three (runs_back train.lines day 0) (runs_back train.lines day 1) (runs_back train.lines day 2) not_so in
       (idle_back train 0 is_live idle.0, idle_back train 1 is_live idle.1, idle_back train 2 is_live idle.2)
-    where
-      train : Train
-      train = record { key = key; lines = lines }
-  none_lately (schedule_key key) (tiploc_body bytes) is_live not_so = absurd (true_false not_so)
-  none_lately (schedule_key key) (association_body line) is_live not_so = absurd (true_false not_so)
-  none_lately (tiploc_key code) body is_live not_so = absurd (true_false not_so)
-  none_lately (association_key key) body is_live not_so = absurd (true_false not_so)
+  none_lately (Link link) is_live not_so = absurd (true_false not_so)
+  none_lately Other is_live not_so = absurd (true_false not_so)
 
 -- adding no lines changes nothing
 nothing : (before : List DockerLine) {more : List DockerLine} → more ≡ [] → before ≡ before ++ more
 nothing before none = sym (append-nil before) ∙ ap (λ out. before ++ out) (sym none)
 
 -- so its lines are the lines of the train that starts on the day
-pub first_back_alone : (place : List ℕ) (day : ℕ) (key : Key) (body : Body) (live : Table) (first second : List DockerLine) → live key ≡ Some body
-    → row_under_way place key body day ≡ false → Adds live (λ trains links. row_back trains links place day key body 0) first second
-    → Adds live (λ trains links. row_lines trains links place day key body) first second
-first_back_alone place day key body live first second is_live not_so one =
-    three_backs place day key body live first second second second one
-    (λ rows are. nothing second (none_back live rows are place day key body is_live not_so).0)
-    (λ rows are. nothing second (none_back live rows are place day key body is_live not_so).1)
+pub first_back_alone : (place : List ℕ) (day : ℕ) (row : RowView) (live : Table) (first second : List DockerLine) → IsLiveView live row
+    → row_under_way place row day ≡ false → Adds live (λ trains links. row_back trains links place day row 0) first second
+    → Adds live (λ trains links. view_lines trains links place day row) first second
+first_back_alone place day row live first second is_live not_so one =
+    three_backs place day row live first second second second one
+    (λ rows are. nothing second (none_back live rows are place day row is_live not_so).0)
+    (λ rows are. nothing second (none_back live rows are place day row is_live not_so).1)
 
 -- a row has no lines if it runs on none of the three days
-pub not_lately : (place : List ℕ) (day : ℕ) (key : Key) (body : Body) (live : Table) (first : List DockerLine) → live key ≡ Some body
-    → row_lately key body day ≡ false → Adds live (λ trains links. row_lines trains links place day key body) first first
-not_lately place day key body live first is_live not_so =
-    three_backs place day key body live first first first first
-    (λ rows are. nothing first (none_lately live rows are place day key body is_live not_so).0)
-    (λ rows are. nothing first (none_lately live rows are place day key body is_live not_so).1)
-    (λ rows are. nothing first (none_lately live rows are place day key body is_live not_so).2)
+pub not_lately : (place : List ℕ) (day : ℕ) (row : RowView) (live : Table) (first : List DockerLine) → IsLiveView live row
+    → row_lately row day ≡ false → Adds live (λ trains links. view_lines trains links place day row) first first
+not_lately place day row live first is_live not_so =
+    three_backs place day row live first first first first
+    (λ rows are. nothing first (none_lately live rows are place day row is_live not_so).0)
+    (λ rows are. nothing first (none_lately live rows are place day row is_live not_so).1)
+    (λ rows are. nothing first (none_lately live rows are place day row is_live not_so).2)
 
 -- a schedule that hasn't begun, or is marked on none of the three days, runs on none
-pub row_idle : (key : Key) (body : Body) (day : ℕ) → IsBodyOf key body → row_may_run key body day ≡ false → row_lately key body day ≡ false
+pub row_idle : (key : Key) (body : Body) (day : ℕ) → IsBodyOf key body → row_may_run (view_of key body) day ≡ false
+    → row_lately (view_of key body) day ≡ false
 row_idle (schedule_key key) (schedule_body lines) day of never = let idle = idle_lately key lines day of never in (λ i. idle.0 i || idle.1 i || idle.2 i)
 row_idle (schedule_key key) (tiploc_body bytes) day of never = absurd (true_false never)
 row_idle (schedule_key key) (association_body line) day of never = absurd (true_false never)
 row_idle (tiploc_key code) body day of never = absurd (true_false never)
-row_idle (association_key key) body day of never = absurd (true_false never)
+row_idle (association_key key) (association_body line) day of never = absurd (true_false never)
+row_idle (association_key key) (tiploc_body bytes) day of never = absurd (true_false never)
+row_idle (association_key key) (schedule_body lines) day of never = absurd (true_false never)
 
 -- an association that doesn't run on a start day isn't in force then
-pub not_in_force : (live : Table) (rows : List Row) (link : Link) (start : ℕ) → AreRowsOf live rows → IsLiveLink live link
+pub not_in_force : (live : Table) (rows : List Row) (link : live_rows.Link) (start : ℕ) → AreRowsOf live rows → IsLiveLink live link
     → association_runs link.line start ≡ false → false ≡ is_in_force (link_in rows) start link.key link.line
 not_in_force live rows link start are is_live idle =
     (λ i. (sym (counts_not live rows link start are is_live idle) i && not (is_cancellation link.key.indicator)) && is_date_indicator (column 37 link.line))

@@ -1,7 +1,8 @@
 -- Rows of a walk that are taken some at a time.
-use Rattle.std.proofs.Common.{◌≡◌, ℕ, Bool, true, false, List, [], ◌∷◌, ◌++◌, refl, ap, sym, ◌∙◌, subst, Some, None, IsNone, arith}
+use Rattle.std.proofs.Common.{◌≡◌, ℕ, zero, suc, ◌<◌, Bool, true, false, List, [], ◌∷◌, ◌++◌, length, take, get_or, refl, ap, sym, ◌∙◌, subst, Some, None, arith, append_assoc}
 use Rattle.std.specs.Prelude.{Option, ◌||◌}
-use Rattle.std.specs.Option.{unwrap_or}
+use Rattle.std.proofs.lemmas.Grind.{flat_map-append}
+use Rattle.std.specs.List.{flat_map}
 use Rattle.docker_model.specs.file.Change.{Key, Body}
 use Rattle.docker_model.specs.state.Row.{Row, AreRowsOf}
 use Rattle.docker_model.specs.state.State.{IsBodyOf, live_table}
@@ -11,33 +12,36 @@ use Rattle.docker_model.specs.docker.Gathering.{gathered, row_lines}
 use Rattle.docker_model.specs.docker.DockerLine.{DockerLine}
 use Rattle.docker_train.specs.Along.{AreGoodRows, AreLive}
 use Rattle.docker_train.specs.Known.{PlaceDay}
-use Rattle.docker_day.specs.Lines.{row_may_run}
-use Rattle.docker_day.specs.Portions.{AreLeft, ArePassedOver, HaveMoved}
+use Rattle.docker_day.specs.Lines.{Adds}
+use Rattle.docker_day.specs.RowViews.{AreLiveViews, IsLiveView, lines_of, row_may_run, view_lines, view_of, views_in, views_of}
+use Rattle.docker_day.specs.Portions.{AreLeft, AreOpened, ArePassedOver, HaveMoved}
+use Rattle.docker_day.specs.declared.row_view.RowView.{RowView}
 use Rattle.docker_day.proofs.PassedOver.{not_lately, row_idle}
+use Rattle.docker_day.proofs.RowViews.{gathered_viewed, lines_viewed, live_view, live_views}
 
 -- a row that can't run on the day or on the two days before it has no line
 no_lines : (place : List ℕ) (day : ℕ) (key : Key) (body : Body) (live : Table) (rows : List Row) → AreRowsOf live rows → live key ≡ Some body
-    → IsBodyOf key body → row_may_run key body day ≡ false → row_lines (train_in rows) (link_in rows) place day key body ≡ []
+    → IsBodyOf key body → row_may_run (view_of key body) day ≡ false → row_lines (train_in rows) (link_in rows) place day key body ≡ []
 no_lines place day key body live rows are is_live of never =
-    sym (not_lately place day key body live [] is_live (row_idle key body day of never) rows are)
+    sym (lines_viewed (train_in rows) (link_in rows) place day key body)
+    ∙ sym (not_lately place day (view_of key body) live [] (live_view live key body is_live) (row_idle key body day of never) rows are)
 
 -- a row that can't run on the day or on the two days before it may be passed over
-pub row_passed : (day : ℕ) (key : Key) (body : Body) (before after : List Row) (may : Bool) → before ≡ (key, body) ∷ after → AreGoodRows before
-    → may ≡ row_may_run key body day → ◌≡◌ {A = Option Bool} (Some may) (Some false) → ArePassedOver day before after
-row_passed day key body before after may is good told never = λ place live are_live rows are.
+pub row_passed : (day : ℕ) (key : Key) (body : Body) (row : RowView) (before after : List Row) (may : Bool) → before ≡ (key, body) ∷ after
+    → AreGoodRows before → row ≡ view_of key body → may ≡ row_may_run row day → ¬ (◌≡◌ {A = Option Bool} (Some may) (Some true))
+    → ArePassedOver day before after
+row_passed day key body row before after true is good viewed told never = absurd (never refl)
+row_passed day key body row before after false is good viewed told never = λ place live are_live rows are.
     (λ i. gathered (train_in rows) (link_in rows) place day (is i))
-    ∙ (λ i. no_lines place day key body live rows are (subst (AreLive live) is are_live).0 (subst AreGoodRows is good).0 idle i
+    ∙ (λ i. no_lines place day key body live rows are (subst (AreLive live) is are_live).0 (subst AreGoodRows is good).0
+    (sym (told ∙ ap (λ (r : RowView). row_may_run r day) viewed)) i
     ++ gathered (train_in rows) (link_in rows) place day after)
-  where
-    idle : row_may_run key body day ≡ false
-    idle = let same : may ≡ false = cc in sym told ∙ same
 
 -- rows that are left of rows that are left of a walk are left of the walk
 pub left_again : (all rest fewer : List Row) → AreLeft all rest → AreLeft rest fewer → AreLeft all fewer
 left_again all rest fewer first second = record {
   good = λ good. second.good (first.good good);
   live = λ live are. second.live live (first.live live are);
-  fewer = (let some = first.fewer in let less = second.fewer in omega arith);
 }
 
 -- if rows are passed over, and then some of the rows that are left, all of these are passed over
@@ -46,20 +50,20 @@ pub passed_again : (day : ℕ) (all rest fewer : List Row) → AreLeft all rest 
 passed_again day all rest fewer left first second = λ place live are_live rows are.
     first place live are_live rows are ∙ second place live (left.live live are_live) rows are
 
--- an answer that is `Some false` is false
-pub told_false : (may : Bool) → ◌≡◌ {A = Option Bool} (Some may) (Some false) → may ≡ false
-told_false may told = cc
-
 -- if neither the rows so far nor the ones after them may have lines, none may
-pub none_behind : (day : ℕ) (all rest fewer : List Row) (so_far behind : Bool) (found : Option Bool) → AreLeft all rest
-    → (so_far ≡ false → ArePassedOver day all rest) → (IsNone found → fewer ≡ rest) → (found ≡ Some false → ArePassedOver day rest fewer)
-    → behind ≡ unwrap_or found false → (so_far || behind) ≡ false → ArePassedOver day all fewer
-none_behind day all rest fewer true behind found left before end after is none = let bad : true ≡ false = none in cc
-none_behind day all rest fewer false behind (Some true) left before end after is none = let bad : true ≡ false = sym is ∙ none in cc
-none_behind day all rest fewer false behind (Some false) left before end after is none =
-    passed_again day all rest fewer left (before refl) (after refl)
-none_behind day all rest fewer false behind None left before end after is none =
-    subst (ArePassedOver day all) (sym (end refl)) (before refl)
+pub none_behind : (day : ℕ) (all rest fewer : List Row) (so_far may : Bool) → AreLeft all rest → (so_far ≡ false → ArePassedOver day all rest)
+    → (¬ (◌≡◌ {A = Option Bool} (Some may) (Some true)) → ArePassedOver day rest fewer) → (so_far || may) ≡ false → ArePassedOver day all fewer
+none_behind day all rest fewer true may left before after none = let bad : true ≡ false = none in cc
+none_behind day all rest fewer false true left before after none = let bad : true ≡ false = none in cc
+none_behind day all rest fewer false false left before after none =
+    passed_again day all rest fewer left (before refl) (after (λ bad. cc))
+
+-- if none of the rows so far may have lines, and no more is opened, none may
+pub none_after : (day : ℕ) (all rest fewer : List Row) (so_far : Bool) (found : Option Bool) → AreLeft all rest
+    → (so_far ≡ false → ArePassedOver day all rest) → ((may : Bool) → ¬ (found ≡ Some may)) → (¬ (found ≡ Some true) → ArePassedOver day rest fewer) → so_far ≡ false
+    → ArePassedOver day all fewer
+none_after day all rest fewer so_far None left before end after none = passed_again day all rest fewer left (before none) (after (λ bad. cc))
+none_after day all rest fewer so_far (Some may) left before end after none = absurd (end may refl)
 
 -- a walk that has moved on, and moves on again
 pub moved_again : (there again : PlaceDay) (all rest fewer : List Row) (first second third : List DockerLine) → again ≡ there
@@ -80,3 +84,51 @@ moved_over there again all rest fewer first second same live one passed = λ row
 -- rows that are live in a state are live in an equal one
 pub live_again : (there again : PlaceDay) (rows : List Row) → again ≡ there → AreLive (live_table there.state) rows → AreLive (live_table again.state) rows
 live_again there again rows same live = subst (λ (p : PlaceDay). AreLive (live_table p.state) rows) (sym same) live
+
+-- ---- the rows of a portion
+
+-- the first of live rows are live
+pub live_first : (live : Table) (first second : List RowView) → AreLiveViews live (first ++ second) → AreLiveViews live first
+live_first live [] second are = tt
+live_first live (row ∷ rows) second are = (are.0, live_first live rows second are.1)
+
+-- the rows that are open are live if the walk's rows were
+pub live_portion : (live : Table) (all rest : List Row) (portion rows : List (ℕ × RowView)) → AreOpened all rest [] portion → rows ≡ portion
+    → AreLive live all → AreLiveViews live (views_in rows)
+live_portion live all rest portion rows opened same are =
+    let first : AreLiveViews live (views_in portion) =
+    live_first live (views_in portion) (views_of rest) (subst (AreLiveViews live) (sym opened) (live_views live all are)) in
+    subst (λ (some : List (ℕ × RowView)). AreLiveViews live (views_in some)) (sym same) first
+
+-- each of them is
+live_item : (live : Table) (portion : List (ℕ × RowView)) (i : ℕ) (row : ℕ × RowView) → AreLiveViews live (views_in portion) → i < length portion
+    → row ≡ get_or portion i row → IsLiveView live row.1
+live_item live (next ∷ portion) zero row are below is = subst (λ (r : ℕ × RowView). IsLiveView live r.1) (sym is) are.0
+live_item live (next ∷ portion) (suc i) row are below is = live_item live portion i row are.1 (omega arith) is
+live_item live [] i row are below is = let bad : i < 0 = below in absurd (omega arith)
+
+-- so in an equal state
+pub live_at : (there again : PlaceDay) (portion : List (ℕ × RowView)) (i : ℕ) (row : ℕ × RowView) → again ≡ there
+    → AreLiveViews (live_table there.state) (views_in portion) → i < length portion → row ≡ get_or portion i row
+    → IsLiveView (live_table again.state) row.1
+live_at there again portion i row same are below is =
+    live_item (live_table again.state) portion i row (subst (λ (p : PlaceDay). AreLiveViews (live_table p.state) (views_in portion)) (sym same) are) below is
+
+module _ (there : PlaceDay) (portion : List (ℕ × RowView)) where
+  -- the lines of the rows so far were added
+  abbrev pub AddsFirst : ℕ → List DockerLine → List DockerLine → Type 0
+  AddsFirst n before after =
+      Adds (live_table there.state) (λ trains links. lines_of trains links there.place there.day (views_in (take n portion))) before after
+
+  -- a walk has moved on by the rows whose lines were added
+  pub moved_open : (all rest : List Row) (rows : List (ℕ × RowView)) (first second : List DockerLine) → AreOpened all rest [] portion → rows ≡ portion
+      → Adds (live_table there.state) (λ trains links. lines_of trains links there.place there.day (views_in rows)) first second
+      → HaveMoved there all rest first second
+  moved_open all rest rows first second opened same adds = λ table are.
+      let f : RowView → List DockerLine = view_lines (train_in table) (link_in table) there.place there.day in
+      let old : List Row → List DockerLine = gathered (train_in table) (link_in table) there.place there.day in
+      let viewed : (some : List Row) → flat_map f (views_of some) ≡ old some = gathered_viewed (train_in table) (link_in table) there.place there.day in
+      ap (λ lines. lines ++ old rest) (adds table are ∙ ap (λ (some : List (ℕ × RowView)). first ++ flat_map f (views_in some)) same)
+      ∙ append_assoc first (flat_map f (views_in portion)) (old rest)
+      ∙ ap (λ more. first ++ (flat_map f (views_in portion) ++ more)) (sym (viewed rest))
+      ∙ ap (λ more. first ++ more) (sym (flat_map-append f (views_in portion) (views_of rest)) ∙ ap (flat_map f) opened ∙ viewed all)

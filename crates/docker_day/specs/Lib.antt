@@ -1,6 +1,7 @@
 pub mod Locations
 pub mod Details
 pub mod Lines
+pub mod RowViews
 pub mod DockerValue
 pub mod Dockers
 pub mod Bases

@@ -1,8 +1,8 @@
 -- The lines of a docker, from the events that a walk meets.
-use Rattle.std.specs.Prelude.{◌≡◌, ℕ, ◌+◌, ◌-◌, Bool, true, ◌&&◌, ◌||◌, ◌==◌, nat_le, if◌then◌else◌, find, List, [], ◌∷◌, ◌++◌, Option, Some, None}
+use Rattle.std.specs.Prelude.{◌≡◌, ℕ, ◌+◌, Bool, ◌&&◌, ◌||◌, ◌==◌, if◌then◌else◌, find, List, [], ◌∷◌, ◌++◌, Option, Some, None}
 use Rattle.std.specs.Str.{bytes_eq}
 use Rattle.docker_model.specs.records.Record.{kind_of, columns, column}
-use Rattle.docker_model.specs.file.Change.{Key, association_key, schedule_key, AssociationKey, ScheduleKey, Body, association_body, schedule_body}
+use Rattle.docker_model.specs.file.Change.{AssociationKey, ScheduleKey}
 use Rattle.docker_model.specs.docker.Choice.{Group}
 use Rattle.docker_model.specs.file.Journey.{Occasion}
 use Rattle.docker_model.specs.docker.Event.{is_at}
@@ -19,7 +19,7 @@ use Rattle.docker_model.specs.docker.Gathering.{event_lines, runs_by, partner_id
 use Rattle.docker_train.specs.Occurrences.{Occurrence, occurrences}
 use Rattle.docker_train.specs.Midnights.{some_late}
 use Rattle.docker_train.specs.UpTo.{occurrences_to}
-use Rattle.docker_train.specs.Lately.{may_run_lately, runs_back}
+use Rattle.docker_train.specs.Lately.{runs_back}
 
 -- the line of an event of the schedule with this key, on a start day and with these ends
 abbrev pub line_at_event : ScheduleKey → ℕ → Detail → Occurrence → DockerLine
@@ -81,26 +81,6 @@ is_lately lines day = runs_back lines day 0 || runs_back lines day 1 || runs_bac
 abbrev pub is_under_way : List ℕ → List (List ℕ) → ℕ → Bool
 is_under_way place lines day = (runs_back lines day 1 || runs_back lines day 2) && some_late (occurrences_to place lines)
 
--- a test of the lines of a row; a row that isn't a schedule's passes
-abbrev pub row_test : (List (List ℕ) → Bool) → Key → Body → Bool
-row_test test (schedule_key key) (schedule_body lines) = test lines
-row_test test _ _ = true
-
--- if the row is a schedule's, the schedule runs on the day or on one of the two days before it
-abbrev pub row_lately : Key → Body → ℕ → Bool
-row_lately key body day = row_test (λ lines. is_lately lines day) key body
-
--- if the row is a schedule's, its train may be under way on the day, up to its last event at the
--- place
-abbrev pub row_under_way : List ℕ → Key → Body → ℕ → Bool
-row_under_way place key body day = row_test (λ lines. is_under_way place lines day) key body
-
--- if the row is a schedule's, the schedule has begun by the day and is marked on it or on one of
--- the two days before
-abbrev pub row_may_run : Key → Body → ℕ → Bool
-row_may_run (schedule_key key) (schedule_body lines) day = may_run_lately key lines day
-row_may_run _ _ day = true
-
 -- the event is of a call at the place with the suffix
 abbrev pub is_call : List ℕ → ℕ → Occurrence → Bool
 is_call place suffix event = is_at place suffix event.line
@@ -147,17 +127,6 @@ link_piece trains links day link start =
 -- like `link_piece`, if the association is at the place
 abbrev pub link_here : (List ℕ → ℕ → Option Train) → (Group → ℕ → Option Link) → List ℕ → ℕ → Link → ℕ → List DockerLine
 link_here trains links place day link start = if bytes_eq link.key.location place then link_piece trains links day link start else []
-
--- the lines of a row on a start day
-abbrev pub row_piece : (List ℕ → ℕ → Option Train) → (Group → ℕ → Option Link) → List ℕ → ℕ → Key → Body → ℕ → List DockerLine
-row_piece trains links place day (schedule_key key) (schedule_body lines) start = schedule_piece trains place day key lines start
-row_piece trains links place day (association_key key) (association_body line) start =
-    link_here trains links place day (record { key = key; line = line }) start
-row_piece trains links place day _ _ start = []
-
--- the lines of a row `back` days before the day, if there is such a day
-abbrev pub row_back : (List ℕ → ℕ → Option Train) → (Group → ℕ → Option Link) → List ℕ → ℕ → Key → Body → ℕ → List DockerLine
-row_back trains links place day key body back = if nat_le back day then row_piece trains links place day key body (day - back) else []
 
 -- the order of lines with the same time, occasion and UID
 abbrev pub cmp_of_one_train : DockerLine → DockerLine → Ordering

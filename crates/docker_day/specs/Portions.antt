@@ -1,5 +1,5 @@
 -- The rows of a walk, taken some at a time.
-use Rattle.std.specs.Prelude.{◌≡◌, ◌≤◌, ◌-◌, ℕ, List, ◌++◌, length}
+use Rattle.std.specs.Prelude.{◌≡◌, ℕ, List, ◌++◌}
 use Rattle.docker_model.specs.state.Row.{Row, AreRowsOf}
 use Rattle.docker_model.specs.state.State.{live_table}
 use Rattle.docker_model.specs.state.Table.{Table}
@@ -8,13 +8,17 @@ use Rattle.docker_model.specs.docker.LiveRows.{train_in, link_in}
 use Rattle.docker_model.specs.docker.Gathering.{gathered}
 use Rattle.docker_train.specs.Along.{AreGoodRows, AreLive}
 use Rattle.docker_train.specs.Known.{PlaceDay}
+use Rattle.docker_day.specs.RowViews.{views_in, views_of}
+use Rattle.docker_day.specs.declared.row_view.RowView.{RowView}
 
--- the rows that are left of some rows; they are good and live if all were, and fewer if there were
--- any
+-- the rows that are left of some rows; they are good and live if all were
 pub record AreLeft (before after : List Row) : Type 0 where
   pub good : AreGoodRows before → AreGoodRows after
   pub live : (live : Table) → AreLive live before → AreLive live after
-  pub fewer : length after ≤ length before - 1
+
+-- rows were opened: what is open and what is left are together what they were
+abbrev pub AreOpened : List Row → List Row → List (ℕ × RowView) → List (ℕ × RowView) → Type 0
+AreOpened before after portion more = views_in more ++ views_of after ≡ views_in portion ++ views_of before
 
 -- the rows left out have no line: at any place on the day, the rows before and the rows after
 -- gather the same lines

@@ -1,10 +1,11 @@
 -- A place on a day, for the trains that start on one day, and for the trains of all start days.
 use Rattle.std.specs.Prelude.{◌≡◌, ℕ, ◌≤◌, ◌-◌, nat_le, if◌then◌else◌, List, Option, Some, None, ⊤}
-use Rattle.docker_model.specs.file.Change.{Key, Body}
 use Rattle.docker_model.specs.state.State.{State, live_table}
 use Rattle.docker_model.specs.docker.DockerLine.{DockerLine}
 use Rattle.docker_train.specs.Known.{StartDay, PlaceDay}
-use Rattle.docker_day.specs.Lines.{Adds, row_piece}
+use Rattle.docker_day.specs.Lines.{Adds}
+use Rattle.docker_day.specs.RowViews.{IsLiveView, row_piece}
+use Rattle.docker_day.specs.declared.row_view.RowView.{RowView}
 
 -- a place on a day, and a start day, in a state
 pub record Visit : Type 0 where
@@ -34,16 +35,15 @@ pub record AreVisits (there : PlaceDay) (today : Visit) (day_before two_before :
   pub two_before_is : two_before ≡ visit_back there 2
 
 -- the row is live, if there is a visit
-abbrev pub IsLiveAt : Option Visit → Key → Body → Type 0
-IsLiveAt None key body = ⊤
-IsLiveAt (Some visit) key body = live_table visit.state key ≡ Some body
+abbrev pub IsLiveAt : Option Visit → RowView → Type 0
+IsLiveAt None row = ⊤
+IsLiveAt (Some visit) row = IsLiveView (live_table visit.state) row
 
 -- the lines of a row on a visit were added
-abbrev pub AddsAt : Visit → Key → Body → List DockerLine → List DockerLine → Type 0
-AddsAt visit key body before after =
-    Adds (live_table visit.state) (λ trains links. row_piece trains links visit.place visit.day key body visit.start) before after
+abbrev pub AddsAt : Visit → RowView → List DockerLine → List DockerLine → Type 0
+AddsAt visit row before after = Adds (live_table visit.state) (λ trains links. row_piece trains links visit.place visit.day row visit.start) before after
 
 -- the lines of a row on a visit were added, if there is a visit; otherwise nothing was
-abbrev pub AddsIf : Option Visit → Key → Body → List DockerLine → List DockerLine → Type 0
-AddsIf None key body before after = after ≡ before
-AddsIf (Some visit) key body before after = AddsAt visit key body before after
+abbrev pub AddsIf : Option Visit → RowView → List DockerLine → List DockerLine → Type 0
+AddsIf None row before after = after ≡ before
+AddsIf (Some visit) row before after = AddsAt visit row before after

@@ -14,6 +14,7 @@ mod location;
 mod making;
 mod portions;
 mod print;
+mod row_view;
 mod starts;
 mod train_lines;
 mod visit;

@@ -1,9 +1,8 @@
 use Rattle.std.proofs.Common.{ap, sym, ◌∙◌}
 use Rattle.std.proofs.lemmas.Result.{on_ok_weaker}
-use Rattle.cif_file.specs.Meaning.{key_meant, body_meant}
 use Rattle.docker_model.specs.state.State.{live_table}
 use Rattle.docker_train.specs.Known.{PlaceDay}
-use Rattle.docker_day.specs.Lines.{row_lately, row_under_way}
+use Rattle.docker_day.specs.RowViews.{row_lately, row_under_way}
 use Rattle.docker_day.specs.Visits.{Visit}
 use Rattle.docker_day.proofs.OnVisits.{adds_on_visits, adds_today_alone}
 use Rattle.docker_day.proofs.PassedOver.{not_lately}
@@ -11,25 +10,22 @@ use Rattle.docker_day.proofs.gathering.add_row.Goals as goal
 
 pub returns-then-not-is_row_lately-clause-added : goal.returns-then-not-is_row_lately-clause-added
 returns-then-not-is_row_lately-clause-added c =
-    not_lately c.args.visits.now.place c.args.visits.now.day (key_meant c.args.key.now) (body_meant c.args.body.now) (live_table c.args.visits.now.state)
-    c.args.lines.now.items c.requires.live
-    (sym (c.is_row_lately.ensures ∙ ap (row_lately (key_meant c.args.key.now) (body_meant c.args.body.now)) c.day.ensures) ∙ c.if-not-is_row_lately.true)
+    not_lately c.args.visits.now.place c.args.visits.now.day c.args.view.now (live_table c.args.visits.now.state) c.args.lines.now.items c.requires
+    (sym (c.is_row_lately.ensures ∙ ap (row_lately c.args.view.now) c.day.ensures) ∙ c.if-not-is_row_lately.true)
 
 pub returns-then-not-is_row_under_way-clause-added : goal.returns-then-not-is_row_under_way-clause-added
 returns-then-not-is_row_under_way-clause-added c =
-    let key = key_meant c.args.key.now in
-    let body = body_meant c.args.body.now in
     let place = c.place.ensures ∙ ap (λ (v : Visit). v.place) c.add_piece.ensures.same ∙ ap (λ (p : PlaceDay). p.place) c.visits.view_is in
     let day = c.day-2.ensures ∙ ap (λ (v : Visit). v.day) c.add_piece.ensures.same ∙ ap (λ (p : PlaceDay). p.day) c.visits.view_is in
-    adds_today_alone _ c.args.visits.now key body c.visits.inside.today c.visits.inside.day_before c.visits.inside.two_before
-    c.args.lines.now.items c.add_piece.new.lines.items c.visits.view_is c.visits.invariant c.requires.live
-    (sym (c.is_row_under_way.ensures ∙ (λ i. row_under_way (place i) key body (day i))) ∙ c.if-not-is_row_under_way.true)
+    adds_today_alone _ c.args.visits.now c.args.view.now c.visits.inside.today c.visits.inside.day_before c.visits.inside.two_before
+    c.args.lines.now.items c.add_piece.new.lines.items c.visits.view_is c.visits.invariant c.requires
+    (sym (c.is_row_under_way.ensures ∙ (λ i. row_under_way (place i) c.args.view.now (day i))) ∙ c.if-not-is_row_under_way.true)
     c.in_ok-add_piece.ensures.added
 
 pub returns-clause-added : goal.returns-clause-added
 returns-clause-added c =
     on_ok_weaker c.add_back-2.result
-    (adds_on_visits _ c.args.visits.now (key_meant c.args.key.now) (body_meant c.args.body.now) c.visits.inside.today c.visits.inside.day_before
+    (adds_on_visits _ c.args.visits.now c.args.view.now c.visits.inside.today c.visits.inside.day_before
     c.visits.inside.two_before c.args.lines.now.items c.add_piece.new.lines.items c.add_back.new.lines.items c.add_back-2.new.lines.items
     c.visits.view_is c.visits.invariant c.in_ok-add_piece.ensures.added c.in_ok-add_back.ensures.added)
     c.add_back-2.ensures.added

@@ -1,15 +1,10 @@
 use Rattle.std.proofs.Common.{◌≡◌}
-use Rattle.docker_model.specs.state.State.{live_table}
-use Rattle.docker_train.specs.Along.{AreGoodRows, AreLive}
-use Rattle.docker_day.specs.Portions.{AreLeft, HaveMoved}
+use Rattle.docker_day.proofs.RowPortions.{AddsFirst}
 use Rattle.docker_day.proofs.portions.add_portion.Given as goal
 
--- the lines so far and the lines of the remaining rows are all lines
-abbrev pub invariant-loop : goal.invariant-loop
-invariant-loop l = record {
-  good : AreGoodRows l.rows;
-  live : AreLive (live_table l.visits.state) l.rows;
+-- the lines of the rows so far were added
+abbrev pub invariant-loop-row : goal.invariant-loop-row
+invariant-loop-row l = record {
   same : l.visits ≡ l.fn.visits;
-  left : AreLeft l.fn.rows l.rows;
-  all : HaveMoved l.fn.visits l.fn.rows l.rows l.fn.lines.items l.lines.items;
+  first : AddsFirst l.fn.visits l.rows l.row-index l.fn.lines.items l.lines.items;
 }

@@ -1,35 +1,38 @@
-use Rattle.std.proofs.Common.{◌≡◌, Bool, List, Some, ap, subst, ◌∙◌, rules}
-use Rattle.std.specs.Prelude.{Option}
-use Rattle.docker_model.specs.state.Row.{Row}
+use Rattle.std.proofs.Common.{subst, ◌∙◌}
 use Rattle.docker_model.specs.state.State.{live_table}
-use Rattle.docker_day.specs.Portions.{AreLeft, ArePassedOver}
-use Rattle.docker_day.proofs.RowPortions.{live_again, moved_again, moved_over}
+use Rattle.docker_day.specs.Portions.{ArePassedOver}
+use Rattle.docker_day.proofs.RowPortions.{live_again, live_portion, moved_again, moved_open, moved_over}
 use Rattle.docker_day.proofs.portions.add_rows.Goals as goal
 
-pub loop-ahead-preserved-in-Continue-branch-2 : goal.loop-ahead-preserved-in-Continue-branch-2
-loop-ahead-preserved-in-Continue-branch-2 c = record {
-  good = c.in_ok-add_portion-in-Some-true.ensures.left.good c.loop-ahead.invariant.good;
-  live = live_again c.loop-ahead.visits c.add_portion.new.visits c.add_portion.new.rows c.add_portion.ensures.same
-      (c.in_ok-add_portion-in-Some-true.ensures.left.live (live_table c.loop-ahead.visits.state) c.loop-ahead.invariant.live);
-  same = c.add_portion.ensures.same ∙ c.loop-ahead.invariant.same;
-  all = moved_again c.args.visits.now c.loop-ahead.visits c.args.rows c.loop-ahead.rest c.add_portion.new.rows c.args.lines.now.items
-      c.loop-ahead.lines.items c.add_portion.new.lines.items c.loop-ahead.invariant.same c.loop-ahead.invariant.all
-      c.in_ok-add_portion-in-Some-true.ensures.added;
-}
+pub add_portion-requires : goal.add_portion-requires
+add_portion-requires c =
+    live_portion (live_table c.portions.visits.state) c.portions.rest c.open_portion-may_run.new.rows c.open_portion-may_run.new.portion.items
+    c.as_slice.result.now c.open_portion-may_run.ensures.opened c.as_slice.ensures.value c.portions.invariant.live
 
-pub loop-ahead-preserved : goal.loop-ahead-preserved
-loop-ahead-preserved c =
-    let same : c.in_ok-ahead.ahead ≡ c.loop-ahead.rest = search rules in
-    let left : AreLeft c.loop-ahead.rest c.may_some_run.new.rows =
-    subst (λ (rows : List Row). AreLeft rows c.may_some_run.new.rows) same c.in-Some-false.ensures.left in
-    let passed : ArePassedOver c.day.result c.loop-ahead.rest c.may_some_run.new.rows =
-    subst (λ (rows : List Row). ArePassedOver c.day.result rows c.may_some_run.new.rows) same
-    (c.in-Some-false.ensures.passed (ap {B = Option Bool} Some c.in-Some-false.field-0-test)) in
+pub portions-preserved-in-Continue-1 : goal.portions-preserved-in-Continue-1
+portions-preserved-in-Continue-1 c =
+    let left = c.open_portion-may_run.ensures.left in
     record {
-      good = left.good c.loop-ahead.invariant.good;
-      live = left.live (live_table c.loop-ahead.visits.state) c.loop-ahead.invariant.live;
-      same = c.loop-ahead.invariant.same;
-      all = moved_over c.args.visits.now c.loop-ahead.visits c.args.rows c.loop-ahead.rest c.may_some_run.new.rows c.args.lines.now.items
-          c.loop-ahead.lines.items c.loop-ahead.invariant.same c.loop-ahead.invariant.live c.loop-ahead.invariant.all
-          (subst (λ day. ArePassedOver day c.loop-ahead.rest c.may_some_run.new.rows) c.day.ensures passed);
+      good = left.good c.portions.invariant.good;
+      live = live_again c.portions.visits c.add_portion.new.visits c.open_portion-may_run.new.rows c.add_portion.ensures.same
+          (left.live (live_table c.portions.visits.state) c.portions.invariant.live);
+      same = c.add_portion.ensures.same ∙ c.portions.invariant.same;
+      all = moved_again c.args.visits.now c.portions.visits c.args.rows c.portions.rest c.open_portion-may_run.new.rows c.args.lines.now.items
+          c.portions.lines.items c.add_portion.new.lines.items c.portions.invariant.same c.portions.invariant.all
+          (moved_open c.portions.visits c.open_portion-may_run.new.portion.items c.portions.rest c.open_portion-may_run.new.rows
+          c.as_slice.result.now c.portions.lines.items c.add_portion.new.lines.items c.open_portion-may_run.ensures.opened
+          c.as_slice.ensures.value c.in_ok-add_portion.ensures.added);
+    }
+
+pub portions-preserved : goal.portions-preserved
+portions-preserved c =
+    let left = c.open_portion-may_run.ensures.left in
+    record {
+      good = left.good c.portions.invariant.good;
+      live = left.live (live_table c.portions.visits.state) c.portions.invariant.live;
+      same = c.portions.invariant.same;
+      all = moved_over c.args.visits.now c.portions.visits c.args.rows c.portions.rest c.open_portion-may_run.new.rows c.args.lines.now.items
+          c.portions.lines.items c.portions.invariant.same c.portions.invariant.live c.portions.invariant.all
+          (subst (λ day. ArePassedOver day c.portions.rest c.open_portion-may_run.new.rows) c.day.ensures
+          (c.open_portion-may_run.ensures.passed c.if-may_run.false));
     }

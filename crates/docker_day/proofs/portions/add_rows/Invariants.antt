@@ -5,13 +5,13 @@ use Rattle.docker_day.specs.Portions.{HaveMoved}
 use Rattle.docker_day.proofs.portions.add_rows.Given as goal
 
 -- the lines so far and the lines of the remaining rows are all lines
-abbrev pub invariant-loop-ahead : goal.invariant-loop-ahead
-invariant-loop-ahead l = record {
+abbrev pub invariant-portions : goal.invariant-portions
+invariant-portions l = record {
   good : AreGoodRows l.rest;
   live : AreLive (live_table l.visits.state) l.rest;
   same : l.visits ≡ l.fn.visits;
   all : HaveMoved l.fn.visits l.fn.rows l.rest l.fn.lines.items l.lines.items;
 }
 
-abbrev pub decreases-loop-ahead : goal.decreases-loop-ahead
-decreases-loop-ahead l = length l.rest
+abbrev pub decreases-portions : goal.decreases-portions
+decreases-portions l = length l.rest

@@ -1,0 +1,43 @@
+-- The rows of a walk, as they are opened.
+use Rattle.std.proofs.Common.{◌≡◌, ℕ, List, [], ◌∷◌, ◌++◌, refl, Some}
+use Rattle.std.specs.Prelude.{Option}
+use Rattle.docker_model.specs.file.Change.{Key, tiploc_key, association_key, schedule_key, Body, tiploc_body, association_body, schedule_body}
+use Rattle.docker_model.specs.docker.Choice.{Group}
+use Rattle.docker_model.specs.docker.Gathering.{gathered, row_lines}
+use Rattle.docker_model.specs.docker.LiveRows as live_rows
+use Rattle.docker_model.specs.docker.LiveRows.{schedule_of, association_of}
+use Rattle.docker_model.specs.state.Row.{Row}
+use Rattle.docker_model.specs.state.Table.{Table}
+use Rattle.docker_train.specs.Along.{AreLive}
+use Rattle.docker_day.specs.RowViews.{AreLiveViews, IsLiveView, lines_of, view_lines, view_of, views_of}
+
+-- a live row is live as it is opened
+pub live_view : (live : Table) (key : Key) (body : Body) → live key ≡ Some body → IsLiveView live (view_of key body)
+live_view live (schedule_key key) (schedule_body lines) is = is
+live_view live (schedule_key key) (tiploc_body bytes) is = tt
+live_view live (schedule_key key) (association_body line) is = tt
+live_view live (association_key key) (association_body line) is = is
+live_view live (association_key key) (tiploc_body bytes) is = tt
+live_view live (association_key key) (schedule_body lines) is = tt
+live_view live (tiploc_key code) body is = tt
+
+-- so are live rows
+pub live_views : (live : Table) (rows : List Row) → AreLive live rows → AreLiveViews live (views_of rows)
+live_views live [] are = tt
+live_views live (row ∷ rows) are = (live_view live row.0 row.1 are.0, live_views live rows are.1)
+
+module _ (trains : List ℕ → ℕ → Option live_rows.Train) (links : Group → ℕ → Option live_rows.Link) (place : List ℕ) (day : ℕ) where
+  -- a row has its lines as it is opened
+  pub lines_viewed : (key : Key) (body : Body) → view_lines trains links place day (view_of key body) ≡ row_lines trains links place day key body
+  lines_viewed (schedule_key key) (schedule_body lines) = refl
+  lines_viewed (schedule_key key) (tiploc_body bytes) = refl
+  lines_viewed (schedule_key key) (association_body line) = refl
+  lines_viewed (association_key key) (association_body line) = refl
+  lines_viewed (association_key key) (tiploc_body bytes) = refl
+  lines_viewed (association_key key) (schedule_body lines) = refl
+  lines_viewed (tiploc_key code) body = refl
+
+  -- so have rows
+  pub gathered_viewed : (rows : List Row) → lines_of trains links place day (views_of rows) ≡ gathered trains links place day rows
+  gathered_viewed [] = refl
+  gathered_viewed (row ∷ rows) = λ i. lines_viewed row.0 row.1 i ++ gathered_viewed rows i

@@ -1,0 +1,17 @@
+use Rattle.std.proofs.Common.{◌≡◌, [], false, length}
+use Rattle.docker_train.specs.Along.{AreGoodRows}
+use Rattle.docker_day.specs.Portions.{AreLeft, AreOpened, ArePassedOver}
+use Rattle.docker_day.proofs.portions.open_portion.Given as goal
+
+-- what is open and what is left are all rows; if none of the open ones may have lines, they are
+-- passed over
+abbrev pub invariant-loop-may_run : goal.invariant-loop-may_run
+invariant-loop-may_run l = record {
+  good : AreGoodRows l.rows;
+  left : AreLeft l.fn.rows l.rows;
+  opened : AreOpened l.fn.rows l.rows [] l.portion.items;
+  passed : l.some ≡ false → ArePassedOver l.day l.fn.rows l.rows;
+}
+
+abbrev pub decreases-loop-may_run : goal.decreases-loop-may_run
+decreases-loop-may_run l = length l.rows

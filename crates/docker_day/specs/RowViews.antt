@@ -1,0 +1,80 @@
+-- What a docker makes of a row: of a schedule, of an association, or of another row.
+use Rattle.std.specs.Prelude.{ℕ, ◌-◌, Bool, true, nat_le, if◌then◌else◌, List, [], ◌∷◌, map, Option, ⊤}
+use Rattle.std.specs.List.{flat_map}
+use Rattle.docker_model.specs.file.Change.{Key, association_key, schedule_key, Body, association_body, schedule_body}
+use Rattle.docker_model.specs.state.Row.{Row}
+use Rattle.docker_model.specs.state.Table.{Table}
+use Rattle.docker_model.specs.docker.Choice.{Group}
+use Rattle.docker_model.specs.docker.DockerLine.{DockerLine}
+use Rattle.docker_model.specs.docker.LiveRows as live_rows
+use Rattle.docker_model.specs.docker.Gathering.{association_lines, schedule_lines}
+use Rattle.docker_train.specs.Along.{IsLiveLink, IsLiveTrain}
+use Rattle.docker_train.specs.Lately.{may_run_lately}
+use Rattle.docker_day.specs.Lines.{is_lately, is_under_way, link_here, schedule_piece}
+use Rattle.docker_day.specs.declared.row_view.RowView.{RowView}
+use Rattle.docker_day.specs.declared.row_view.RowView.TheVariants.{Train, Link, Other}
+
+-- what the row of a key and a body is opened as
+abbrev pub view_of : Key → Body → RowView
+view_of (schedule_key key) (schedule_body lines) = Train (record { key = key; lines = lines })
+view_of (association_key key) (association_body line) = Link (record { key = key; line = line })
+view_of _ _ = Other
+
+-- what the rows of a walk are opened as
+abbrev pub views_of : List Row → List RowView
+views_of rows = map (λ (row : Row). view_of row.0 row.1) rows
+
+-- opened rows, without their indices
+abbrev pub views_in : List (ℕ × RowView) → List RowView
+views_in rows = map (λ (row : ℕ × RowView). row.1) rows
+
+-- the schedule or the association is one of the live table
+abbrev pub IsLiveView : Table → RowView → Type 0
+IsLiveView live (Train train) = IsLiveTrain live train
+IsLiveView live (Link link) = IsLiveLink live link
+IsLiveView live Other = ⊤
+
+-- each of them is
+abbrev pub AreLiveViews : Table → List RowView → Type 0
+AreLiveViews live [] = ⊤
+AreLiveViews live (row ∷ rows) = IsLiveView live row × AreLiveViews live rows
+
+-- if the row is a schedule's, the schedule runs on the day or on one of the two days before it
+abbrev pub row_lately : RowView → ℕ → Bool
+row_lately (Train train) day = is_lately train.lines day
+row_lately (Link link) day = true
+row_lately Other day = true
+
+-- if the row is a schedule's, its train may be under way on the day, up to its last event at the
+-- place
+abbrev pub row_under_way : List ℕ → RowView → ℕ → Bool
+row_under_way place (Train train) day = is_under_way place train.lines day
+row_under_way place (Link link) day = true
+row_under_way place Other day = true
+
+-- if the row is a schedule's, the schedule has begun by the day and is marked on it or on one of
+-- the two days before
+abbrev pub row_may_run : RowView → ℕ → Bool
+row_may_run (Train train) day = may_run_lately train.key train.lines day
+row_may_run (Link link) day = true
+row_may_run Other day = true
+
+-- the lines of a row
+abbrev pub view_lines : (List ℕ → ℕ → Option live_rows.Train) → (Group → ℕ → Option live_rows.Link) → List ℕ → ℕ → RowView → List DockerLine
+view_lines trains links place day (Train train) = schedule_lines trains place day train.key train.lines
+view_lines trains links place day (Link link) = association_lines trains links place day link.key link.line
+view_lines trains links place day Other = []
+
+-- the lines of rows, row by row
+abbrev pub lines_of : (List ℕ → ℕ → Option live_rows.Train) → (Group → ℕ → Option live_rows.Link) → List ℕ → ℕ → List RowView → List DockerLine
+lines_of trains links place day rows = flat_map (view_lines trains links place day) rows
+
+-- the lines of a row on a start day
+abbrev pub row_piece : (List ℕ → ℕ → Option live_rows.Train) → (Group → ℕ → Option live_rows.Link) → List ℕ → ℕ → RowView → ℕ → List DockerLine
+row_piece trains links place day (Train train) start = schedule_piece trains place day train.key train.lines start
+row_piece trains links place day (Link link) start = link_here trains links place day link start
+row_piece trains links place day Other start = []
+
+-- the lines of a row `back` days before the day, if there is such a day
+abbrev pub row_back : (List ℕ → ℕ → Option live_rows.Train) → (Group → ℕ → Option live_rows.Link) → List ℕ → ℕ → RowView → ℕ → List DockerLine
+row_back trains links place day row back = if nat_le back day then row_piece trains links place day row (day - back) else []
