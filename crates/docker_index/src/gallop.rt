@@ -9,10 +9,10 @@ use cif_file::Key;
 use docker_join::Entry;
 use std::cmp::Ordering;
 
-/// How many rows come before a key, and how the row behind them compares with it: greater if there
-/// is none. It looks at the row 0, 1, 3, 7 .. until one doesn't come before the key, and then
-/// between the last two. So a short run costs as little as a step by step walk, and a long one few
-/// looks.
+/// How many rows come before a key, and how the row after them compares with it: greater if there
+/// is none. It looks at the rows 0, 1, 3, 7 and so on, until one doesn't come before the key, and
+/// then searches between the last two. So a short run costs no more than a walk row by row, and a
+/// long one takes few looks.
 pub(crate) fn rows_before(rows: &[(Key, Entry)], key: &Key) -> (usize, Ordering)
     requires { AreAscending rows.now }
     ensures within { result.0 ≤ length rows.now }
@@ -31,8 +31,8 @@ pub(crate) fn rows_before(rows: &[(Key, Entry)], key: &Key) -> (usize, Ordering)
     narrowed(rows, key, low, high, order)
 }
 
-/// The same, by a binary search. The rows before the first index come before the key. The row at
-/// the last index compares with it as is given, and doesn't.
+/// What `rows_before` returns, by a binary search from one index to another. The rows before `low`
+/// come before the key. The row at `high` doesn't, and `order` says how it compares with the key.
 fn narrowed(
     rows: &[(Key, Entry)],
     key: &Key,

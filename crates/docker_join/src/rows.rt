@@ -28,8 +28,8 @@ pub fn lapse_rows(rows: &mut [(Key, Entry)], horizon: u16) -> bool
 
 /// The rows of the join of two tables, in the first vector, which has room for the rows of both. It
 /// takes no other memory. The rows of the second are placed from the last to the first. Only the
-/// rows of the first that come after one of them move, in blocks, and only where keys meet are keys
-/// compared.
+/// rows of the first that come after one of them move, in blocks. Keys are compared only where the
+/// two tables meet.
 pub fn join_rows<E: Pick>(first: Vec<(Key, E)>, mut second: Vec<(Key, E)>) -> Vec<(Key, E)>
     requires first { AreAscending first.items }
     requires second { AreAscending second.items }
@@ -46,9 +46,9 @@ pub fn join_rows<E: Pick>(first: Vec<(Key, E)>, mut second: Vec<(Key, E)>) -> Ve
     rows.into_vec()
 }
 
-/// Places a row of the second table before the placed rows, which are in front. Of the first table
-/// so many rows are left, which are the last. Those above the row are placed before it. If the next
-/// one has its key, the pick of both is placed. Returns how many are left then.
+/// Places a row of the second table. The placed rows are in front. The last `left` rows are the ones
+/// of the first table that are still to be placed. Those above the row are placed before it. If the
+/// next one has its key, the pick of both is placed. Returns how many are left.
 fn place<E: Pick>(rows: &mut VecDeque<(Key, E)>, left: usize, row: (Key, E)) -> usize
     requires left { left ≤ deque_len rows.old }
     requires room { deque_len rows.old < deque_capacity rows.old }
@@ -108,8 +108,8 @@ fn is_above<E>(rows: &VecDeque<(Key, E)>, back: usize, key: &Key) -> bool
     rows[rows.len() - back].0.cmp(key).is_gt()
 }
 
-/// How many of the rows that are left have greater keys. It looks at the last row, then twice as
-/// far each time, and at last between the two rows that it looked at last.
+/// How many of the last `left` rows have greater keys. It looks at the last row, then twice as far
+/// back each time. A binary search between the last two of these rows finds the end.
 fn run_above<E>(rows: &VecDeque<(Key, E)>, left: usize, key: &Key) -> usize
     requires { left ≤ deque_len rows.now }
     ensures { IsRunAbove (key_meant key.now) rows.now.items (deque_len rows.now) left result }

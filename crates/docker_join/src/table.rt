@@ -67,7 +67,7 @@ impl<E> Table<E> {
         rows
     }
 
-    /// The rows, in the order of their keys, with room for so many more after them. If memory runs
+    /// The rows, in the order of their keys, with room for `more` rows after them. If memory runs
     /// out, returns the table as it was.
     pub fn with_room(self, more: usize) -> Result<Vec<(Key, E)>, Table<E>>
         ensures rows { IfOk result (λ rows. rows.items ≡ self) }
