@@ -5,3 +5,4 @@ pub mod Rows
 pub mod Staging
 pub mod UidPiece
 pub mod Indexed
+pub mod RoomAfter
