@@ -1,6 +1,7 @@
 -- A line with more lines to come: the stage stays as it is.
-use Rattle.std.proofs.Common.{◌≡◌, ℕ, ◌+◌, ◌<◌, List, [], ◌∷◌, ◌++◌, length, ap, sym, ◌∙◌, subst, arith, length-append, refl, false, Some, None}
-use Rattle.std.specs.Prelude.{Option}
+use Rattle.std.proofs.Common.{◌≡◌, ℕ, ◌+◌, ◌*◌, ◌/◌, ◌<◌, ◌≤◌, List, [], ◌∷◌, ◌++◌, length, ap, sym, ◌∙◌, subst, arith, length-append, refl, false, Some, None}
+use Rattle.std.specs.Prelude.{Option, min}
+use Rattle.std.proofs.Math.Nat.{min-le_left, min-le_right, div-mul-le_self}
 use Rattle.docker_model.specs.file.Change.{ScheduleKey}
 use Rattle.docker_model.specs.state.Stamp.{Stamp}
 use Rattle.docker_model.specs.state.State.{State}
@@ -75,3 +76,15 @@ line_bad format at entries key stamp n is state lines line cause refused good =
     by (Some has_tail) r = absurd r
     by (Some too_long) r = absurd r
     by (Some bad_horizon) r = absurd r
+
+-- lines that are at most as many as each of three bounds say
+pub lines_within : (more size allowed ahead : ℕ) → more ≡ min (min (size / 80) (allowed / 80)) ahead
+    → (more * 80 ≤ size) × (more * 80 ≤ allowed) × (more ≤ ahead)
+lines_within more size allowed ahead is =
+    let fewest = min-le_left (min (size / 80) (allowed / 80)) ahead in
+    let held = min-le_left (size / 80) (allowed / 80) in
+    let below = min-le_right (size / 80) (allowed / 80) in
+    let before = min-le_right (min (size / 80) (allowed / 80)) ahead in
+    let all_held = div-mul-le_self size 80 in
+    let all_below = div-mul-le_self allowed 80 in
+    (omega arith, omega arith, omega arith)

@@ -111,3 +111,10 @@ pub record IsLineOf (key : ScheduleKey) (count : ℕ) (at : Stage) : Type 0 wher
   pub entries : ℕ
   pub stamp : Stamp
   pub is : at ≡ Line entries key stamp count
+
+-- one more line of the same schedule was read, and the next part is a line again
+pub record HasOneLineMore {K : Type 0} (old new : Reading K) : Type 0 where
+  pub stage : new.stage ≡ old.stage
+  pub partial : new.partial.items ≡ old.partial.items
+  pub reached : new.reached ≡ old.reached + 80
+  pub lines : length new.lines ≡ length old.lines + 1

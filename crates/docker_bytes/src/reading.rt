@@ -1,15 +1,15 @@
 //! Reads a text in pieces, part by part.
-ghost use Rattle.std.specs.Prelude.{◌≡◌, ◌+◌, ◌-◌, ◌<◌, ◌≤◌, ◌↔◌, [], ◌++◌, length, take, IsTrue, IsOk, IsErr, IfOk, IfErr};
+ghost use Rattle.std.specs.Prelude.{◌≡◌, ◌+◌, ◌-◌, ◌/◌, ◌<◌, ◌≤◌, ◌↔◌, [], ◌++◌, length, min, take, IsTrue, IsOk, IsErr, IfOk, IfErr};
 ghost use Rattle.docker_model.specs.state.StatePart.{width};
 ghost use Rattle.docker_parts.specs.FormatMeaning.{format_meant};
-ghost use Rattle.docker_bytes.specs.Reading.{format_of, before_of, text_of, IsReading, ReadsOn, IsPartRefused, IsFaultTold, IsUnended, IsStep, IsMadeOf, JoinsText, IsLineOf};
+ghost use Rattle.docker_bytes.specs.Reading.{format_of, before_of, text_of, IsReading, ReadsOn, IsPartRefused, IsFaultTold, IsUnended, IsStep, IsMadeOf, JoinsText, IsLineOf, HasOneLineMore};
 
 use crate::fault::{StateFault, Step};
 use arrayvec::ArrayVec;
 use docker_parts::format::{Format, LINE};
 use docker_parts::{
     Gathered, Keeper, Maker, Received, Receiver, ScheduleKey, Stage, State, StateCause, Told,
-    judged_line, step,
+    judged_inner_line, step,
 };
 use fixed_text::put;
 use std::alloc::Global;
@@ -97,10 +97,9 @@ impl<K: Keeper> Reading<K> {
         requires fits { self.old.reached + length bytes.now ≤ self.old.limit }
         ensures ok { IsOk result → ReadsOn self.old self.new bytes.now }
         ensures err { IfErr result (λ fault. IsPartRefused self.old bytes.now fault) }
-        ensures stage { self.new.stage ≡ self.old.stage }
-        ensures partial { self.new.partial.items ≡ self.old.partial.items }
+        ensures next { IsOk result → HasOneLineMore self.old self.new }
     {
-        match judged_line(key, &self.parts, count, &mut self.lines, bytes) {
+        match judged_inner_line(key, &self.parts, count, &mut self.lines, bytes) {
             Ok(()) => {
                 self.reached += bytes.len() as u64;
                 Ok(())
@@ -109,20 +108,16 @@ impl<K: Keeper> Reading<K> {
         }
     }
 
-    /// Whether `len` bytes hold a complete line within the limit, with more of `count` lines to
-    /// come after it.
-    fn has_whole_line(&self, count: u32, len: usize) -> bool
+    /// How many lines at the head of `len` bytes are complete, within the limit, and not the last of
+    /// `count`.
+    fn inner_lines(&self, count: u32, len: usize) -> u64
         requires { self.now.reached ≤ self.now.limit }
-        ensures { IsTrue result ↔ ((LINE ≤ len) × (self.now.reached + LINE ≤ self.now.limit)
-            × (length self.now.lines + 1 < count)) }
+        ensures { result ≡ min (min (len / LINE) ((self.now.limit - self.now.reached) / LINE))
+            (count - 1 - length self.now.lines) }
     {
-        if len < LINE {
-            return false;
-        }
-        if self.limit - self.reached < LINE as u64 {
-            return false;
-        }
-        self.lines.has_more(count)
+        let held = (len / LINE) as u64;
+        let allowed = (self.limit - self.reached) / LINE as u64;
+        held.min(allowed).min(self.lines.before_last(count) as u64)
     }
 
     /// Takes room at once for the lines of the schedule that is read, if a piece has all of them.
@@ -133,7 +128,7 @@ impl<K: Keeper> Reading<K> {
     }
 
     /// Takes the complete lines at the head of a piece that have more lines of the same schedule to
-    /// come. Returns the bytes after them.
+    /// come. How many there are is found once for all of them. Returns the bytes after them.
     fn take_lines<'a>(&mut self, piece: &'a [u8]) -> Result<&'a [u8], StateFault>
         requires { IsReading self.old }
         ensures rest { IfOk result (λ behind.
@@ -150,11 +145,13 @@ impl<K: Keeper> Reading<K> {
             return Ok(piece);
         }
         self.make_room(count, piece);
+        let mut more = self.inner_lines(count, piece.len());
         let mut rest = piece;
-        'lines: while self.has_whole_line(count, rest.len()) {
+        'lines: while more > 0 {
             let (line, behind) = rest.split_at(LINE);
             self.take_line(&key, count, line)?;
             rest = behind;
+            more -= 1;
         }
         Ok(rest)
     }
