@@ -1,5 +1,5 @@
 //! The sources that a job reads.
-ghost use Rattle.std.specs.Prelude.{◌≡◌, ◌+◌, ◌-◌, ◌^◌, ◌<◌, OnOk, OnErr, Err, option_map};
+ghost use Rattle.std.specs.Prelude.{◌≡◌, ◌≢◌, ◌+◌, ◌-◌, ◌^◌, ◌<◌, OnOk, OnErr, Err, option_map};
 ghost use Rattle.cif_line.specs.Device.{CountsFailure};
 ghost use Rattle.docker_cmd.specs.Prepared.{DeviceBytes};
 ghost use Rattle.docker_program.specs.Devices.{AreOpened, FailsToOpen, IsCounted, device_of, given};
@@ -29,8 +29,8 @@ fn open_files<F: Files>(names: &Names<'_>, first: &mut F, second: &mut F) -> Res
     ensures failures { CountsFailure (result ≡ Err OpenFault.Failed)
         (F.failures first.old + F.failures second.old)
         (F.failures first.new + F.failures second.new) }
-    ensures sound { OnOk result ((F.failures first.new ≡ F.failures first.old)
-        × (F.failures second.new ≡ F.failures second.old)) }
+    ensures unfailed { result ≢ Err OpenFault.Failed → (F.failures first.new ≡ F.failures first.old)
+        × (F.failures second.new ≡ F.failures second.old) }
 {
     match names {
         Names::None | Names::Stdin => Ok(()),

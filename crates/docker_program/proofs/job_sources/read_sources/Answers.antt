@@ -48,9 +48,9 @@ returns-in-None g c =
           (c.in_ok-open_files.ensures.opened input rest) c.prepare-in-None.ensures.reads;
       counted =
           let kept : g.F.Source.failures c.open_files.new.first ≡ g.F.Source.failures c.args.first.now =
-          c.in_ok-open_files.ensures.sound.0 in
+          (c.in_ok-open_files.ensures.unfailed (λ is. cc)).0 in
           let second_kept : g.F.Source.failures c.open_files.new.second ≡ g.F.Source.failures c.args.second.now =
-          c.in_ok-open_files.ensures.sound.1 in
+          (c.in_ok-open_files.ensures.unfailed (λ is. cc)).1 in
           counted_beside (result_status c.prepare-in-None.result)
           (g.F.Source.failures c.open_files.new.first + g.F.Source.failures c.open_files.new.second)
           (g.F.Source.failures c.prepare-in-None.new.first + g.F.Source.failures c.prepare-in-None.new.second) (g.S.Source.failures c.args.stdin.now)
@@ -62,9 +62,9 @@ returns-in-None g c =
 pub returns-in-Stdin-clause-counted : goal.returns-in-Stdin-clause-counted
 returns-in-Stdin-clause-counted g c =
     let kept : g.F.Source.failures c.open_files.new.first ≡ g.F.Source.failures c.args.first.now =
-    c.in_ok-open_files.ensures.sound.0 in
+    (c.in_ok-open_files.ensures.unfailed (λ is. cc)).0 in
     let second_kept : g.F.Source.failures c.open_files.new.second ≡ g.F.Source.failures c.args.second.now =
-    c.in_ok-open_files.ensures.sound.1 in
+    (c.in_ok-open_files.ensures.unfailed (λ is. cc)).1 in
     counted_beside (result_status c.prepare.result) (g.S.Source.failures c.args.stdin.now + g.F.Source.failures c.open_files.new.second)
     (g.S.Source.failures c.prepare.new.first + g.F.Source.failures c.prepare.new.second) (g.F.Source.failures c.args.first.now)
     (g.S.Source.failures c.args.stdin.now + g.F.Source.failures c.args.first.now + g.F.Source.failures c.args.second.now)
@@ -74,9 +74,9 @@ returns-in-Stdin-clause-counted g c =
 pub returns-in-FileAndStdin-clause-counted : goal.returns-in-FileAndStdin-clause-counted
 returns-in-FileAndStdin-clause-counted g c =
     let kept : g.F.Source.failures c.open_files.new.first ≡ g.F.Source.failures c.args.first.now =
-    c.in_ok-open_files.ensures.sound.0 in
+    (c.in_ok-open_files.ensures.unfailed (λ is. cc)).0 in
     let second_kept : g.F.Source.failures c.open_files.new.second ≡ g.F.Source.failures c.args.second.now =
-    c.in_ok-open_files.ensures.sound.1 in
+    (c.in_ok-open_files.ensures.unfailed (λ is. cc)).1 in
     counted_beside (result_status c.prepare-in-FileAndStdin.result)
     (g.F.Source.failures c.open_files.new.first + g.S.Source.failures c.args.stdin.now)
     (g.F.Source.failures c.prepare-in-FileAndStdin.new.first + g.S.Source.failures c.prepare-in-FileAndStdin.new.second)
