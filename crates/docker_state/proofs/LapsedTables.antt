@@ -1,7 +1,6 @@
 -- The join of two tables that lapsed under one horizon is the lapse of the join of the tables.
-use Rattle.std.proofs.Common.{◌≡◌, ℕ, List, ◌++◌, map, refl, ap, sym, ◌∙◌, subst, inl, inr, ◌⊎◌, Contains, Bool, true, false, cond, Some}
+use Rattle.std.proofs.Common.{◌≡◌, ℕ, List, ◌++◌, map, ap, sym, ◌∙◌, subst, Contains, Bool, true, false, cond}
 use Rattle.std.specs.Prelude.{◌↔◌, nat_lt}
-use Rattle.std.proofs.lemmas.List.Elements.{Contains-append_cases}
 use Rattle.std.proofs.lemmas.List.{map-append}
 use Rattle.docker_model.specs.file.Change as model
 use Rattle.docker_model.specs.state.Order.{IsStrictlyAscending}
@@ -33,7 +32,6 @@ lapse_records horizon (put_with body) good = by (nat_lt (body_end body) horizon)
 -- rows that lapsed ascend as they did
 pub lapsed_up : (horizon : ℕ) (rows after : List (Key × Entry)) → map row_meant after ≡ lapse_entries horizon (map row_meant rows) → AreAscending rows
     → AreAscending after
-unfolding by_key
 lapsed_up horizon rows after is up =
     meant_ascending row_meant by_key after
     (subst (IsStrictlyAscending by_key) (sym is) (lapse_ascends horizon (map row_meant rows) (ascending_meant row_meant by_key rows up)))

@@ -1,5 +1,5 @@
 -- The join of two states, from the union of their ledgers and the join of their rows.
-use Rattle.std.proofs.Common.{◌≡◌, ℕ, List, ◌++◌, map, refl, ap, sym, ◌∙◌, subst, inl, inr, ◌⊎◌, Contains}
+use Rattle.std.proofs.Common.{◌≡◌, ℕ, List, ◌++◌, map, ap, sym, ◌∙◌, subst, inl, inr, ◌⊎◌, Contains}
 use Rattle.std.specs.Prelude.{Option, ◌↔◌, max}
 use Rattle.std.proofs.Math.Nat.{max_comm}
 use Rattle.std.proofs.lemmas.List.Elements.{All-contains, Contains-append_cases}

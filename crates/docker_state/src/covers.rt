@@ -1,6 +1,6 @@
 //! Whether a state has all that another would bring. If so, the join with the other is this state,
 //! under the greater horizon.
-ghost use Rattle.std.specs.Prelude.{◌≡◌, map, IsTrue, Contains};
+ghost use Rattle.std.specs.Prelude.{map, IsTrue, Contains};
 ghost use Rattle.docker_model.specs.state.Stamp.{ledger_item_cmp, IsKept};
 ghost use Rattle.docker_model.specs.state.Order.{IsStrictlyAscending};
 ghost use Rattle.docker_model.specs.state.State.{raise_horizon, IsJoin};

@@ -1,5 +1,5 @@
 //! The state of files.
-ghost use Rattle.std.specs.Prelude.{◌≡◌, ℕ, List, [], ◌∷◌, ◌++◌, ◌↔◌, map, max, length, Contains, IfOk, IfErr, IfSome, IsTrue};
+ghost use Rattle.std.specs.Prelude.{◌≡◌, ℕ, ◌+◌, ◌≤◌, List, [], ◌∷◌, ◌++◌, ◌↔◌, map, max, vec_len, vec_capacity, Contains, IfOk, IfErr, IfSome};
 ghost use Rattle.docker_model.specs.file.Change as model;
 ghost use Rattle.docker_model.specs.state.State as states;
 ghost use Rattle.docker_model.specs.state.Index.{AreCalling, AreLinked, AreOfUid};
@@ -13,6 +13,7 @@ ghost use Rattle.std.specs.Option.{option_copied, option_map};
 ghost use Rattle.cif_file.specs.Meaning.{key_meant};
 ghost use Rattle.docker_model.specs.state.Stamp.{IsFloor};
 ghost use Rattle.docker_join.specs.Meaning.{entry_meant, file_stamp_meant};
+ghost use Rattle.docker_join.specs.Rows.{AreAscending};
 ghost use Rattle.docker_model.specs.state.Summary.{IsSummary, HaveDistinctMoments};
 ghost use Rattle.docker_model.specs.state.Table as tables;
 ghost use Rattle.docker_model.specs.state.Table.{IsPlainTable};
@@ -30,7 +31,7 @@ use crate::uid_rows::rows_of_uid;
 use cif_file::{CifFile, FileParts, Key};
 use cif_line::{Day, Tiploc, Uid};
 use docker_index::{Index, Moves, Notes, Room, Standing};
-use docker_join::{Entry, FileStamp, Merge, Table};
+use docker_join::{Entry, FileStamp, Merge, Table, join_rows, lapse_rows};
 use std::alloc::Global;
 use std::marker::Model;
 
@@ -277,7 +278,44 @@ impl State {
         }
     }
 
-    /// The join of any two states, row by row.
+    /// The parts of the state, with room for so many more rows. Its index is dropped. If memory runs
+    /// out, returns the state as it was.
+    fn opened(self, more: usize) -> Result<Opened, State>
+        ensures parts { IfOk result (λ opened.
+            state_meant opened.horizon opened.ledger.items opened.rows.items ≡ self) }
+        ensures ascending { IfOk result (λ opened. AreAscending opened.rows.items) }
+        ensures room { IfOk result (λ opened.
+            vec_len opened.rows + more ≤ vec_capacity opened.rows) }
+        ensures valid { IfOk result (λ opened.
+            IsValid (state_meant opened.horizon opened.ledger.items opened.rows.items)) }
+        ensures err { IfErr result (λ back. back ≡ self) }
+    {
+        let State {
+            horizon,
+            ledger,
+            entries,
+            index,
+        } = self;
+        match entries.with_room(more) {
+            Ok(rows) => {
+                drop(index);
+                Ok(Opened {
+                    horizon,
+                    ledger,
+                    rows,
+                })
+            }
+            Err(entries) => Err(State {
+                horizon,
+                ledger,
+                entries,
+                index,
+            }),
+        }
+    }
+
+    /// The join of any two states. The rows of the other are placed among this one's, in their
+    /// memory, and only the rows after the first of them move.
     fn join_rows(self, alloc: Global, other: State) -> Result<State, (State, State)>
         ensures ok { IfOk result (IsJoin self other) }
         ensures err { IfErr result (λ both. (both.0 ≡ self) × (both.1 ≡ other)) }
@@ -288,32 +326,31 @@ impl State {
         let Some(items) = room_for(alloc, self.ledger.len(), other.ledger.len()) else {
             return Err((self, other));
         };
-        let Some(rows) = self.entries.room_for_join(alloc, &other.entries) else {
-            return Err((self, other));
-        };
         let floor = self.floor_with(&other);
-        let State {
+        let opened = match self.opened(other.entries.len()) {
+            Ok(opened) => opened,
+            Err(back) => return Err((back, other)),
+        };
+        let Opened {
             horizon: own,
             ledger: first,
-            entries: left,
-            index: own_index,
-        } = self;
+            rows: left,
+        } = opened;
         let State {
             horizon: theirs,
             ledger: second,
             entries: right,
             index: their_index,
         } = other;
-        // The indexes are dropped before the rows' room is written, so that the three are never in
-        // memory at once.
-        drop(own_index);
+        // Both indexes are dropped before a row moves, so that the three are never in memory at
+        // once.
         drop(their_index);
         let left = lapsed_under(left, own, theirs);
-        let right = lapsed_under(right, theirs, own);
-        let joined = left.join_in(right, rows);
+        let right = lapsed_under(right.into_rows(), theirs, own);
+        let joined = join_rows(left, right);
         let items = union_of(first.as_slice(), second.as_slice(), items);
         let ledger = kept_items(items, &floor);
-        let rows = kept_rows(joined.into_rows(), &floor);
+        let rows = kept_rows(joined, &floor);
         let entries = Table::from_rows(rows);
         Ok(State {
             horizon: own.max(theirs),
@@ -383,15 +420,26 @@ impl Merge for State {
     }
 }
 
-/// A table that has lapsed under its own horizon, lapsed under another horizon too. If that isn't
-/// greater, no row is looked at.
-fn lapsed_under(mut table: Table<Entry>, own: u16, other: u16) -> Table<Entry>
-    requires { HaveLapsed own (map row_meant table) }
-    ensures lapsed { map row_meant result ≡ lapse_entries (max own other) (map row_meant table) }
-    ensures len { length result ≡ length table }
+/// The parts of a state without its index. Its rows may have room for more.
+struct Opened {
+    horizon: u16,
+    ledger: Vec<LedgerItem>,
+    rows: Vec<(Key, Entry)>,
+}
+
+/// Rows that have lapsed under their own horizon, lapsed under another horizon too. If that isn't
+/// greater, no row is looked at. The room after the rows stays.
+fn lapsed_under(mut rows: Vec<(Key, Entry)>, own: u16, other: u16) -> Vec<(Key, Entry)>
+    requires lapsed { HaveLapsed own (map row_meant rows.items) }
+    requires ascending { AreAscending rows.items }
+    ensures lapsed { map row_meant result.items
+        ≡ lapse_entries (max own other) (map row_meant rows.items) }
+    ensures ascending { AreAscending result.items }
+    ensures len { vec_len result ≡ vec_len rows }
+    ensures capacity { vec_capacity result ≡ vec_capacity rows }
 {
     if own < other {
-        table.lapse(other);
+        lapse_rows(&mut rows, other);
     }
-    table
+    rows
 }
