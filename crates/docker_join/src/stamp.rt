@@ -1,5 +1,5 @@
 //! Stamps: when a file was made, and which of its records changed a key.
-ghost use Rattle.std.specs.Prelude.{◌≡◌, IfOk, IsOk, ⊤};
+ghost use Rattle.std.specs.Prelude.{IfOk, IsOk, ⊤};
 ghost use Rattle.std.specs.Ordering.{on, as_partial_cmp, eq_by_cmp, ord_max};
 ghost use Rattle.std.specs.Cmp.{partial_equiv_from_equiv, on_equiv, on_total, eq_by_cmp_equiv, partial_order_from_total};
 ghost use Rattle.std.proofs.Common.{refl};
