@@ -48,7 +48,7 @@ second_run x xs (y ∷ ys) (suc count) before =
 
 -- ---- the runs of a walk
 
--- a row before the key, and rows behind it
+-- a row before the key, and rows after it
 one_more : (x : Row) (rows : List Row) (key : model.Key) (count : ℕ) → key_cmp (key_meant x.0) key ≡ Less → AreBefore rows key count
     → AreBefore (x ∷ rows) key (suc count)
 one_more x rows key count less before zero below = less
@@ -106,7 +106,7 @@ greater_next one other left right count order up_first up_second greater before 
   omega arith,
 )
 
--- the rows behind the first one, as the code has them
+-- the rows after the first one, as the code has them
 abbrev pub behind : List Row → List Row
 behind rows = take (length rows - 1) (drop 1 rows)
 
@@ -116,7 +116,7 @@ behind_is x xs = take_all (length (x ∷ xs) - 1) xs (omega arith)
 more_is : (count : ℕ) → 1 + count ≡ suc count
 more_is count = omega arith
 
--- the first row of the first table comes before the one of the second, and so does a run behind it
+-- the first row of the first table comes before the one of the second, and so does a run after it
 pub less_taken : (first second : List Row) (one other : Row) (now order : Ordering) (count : ℕ) (run rest : List Row)
     → 1 ≤ length first → 1 ≤ length second → one ≡ get_or first 0 one → other ≡ get_or second 0 other
     → AreAscending first → AreAscending second → IsOrder now first second → now ≡ Less

@@ -116,7 +116,7 @@ module _ {E : Type 0} where
       let rest = below_row (y ∷ rows) last row d up.1 (λ _. (omega arith, known.1)) in
       ((key_total.trans (key_meant x.0) (key_meant y.0) (key_meant row.0) up.0.0 rest.0.0, tt), rest)
 
-  -- the rows after the first so many of a joined list
+  -- the rows of a joined list from a place on
   parts : (front back : List (Key × E)) (m : ℕ) → m ≡ length back
       → (drop (length (front ++ back) - m) (front ++ back) ≡ back) × (take (length (front ++ back) - m) (front ++ back) ≡ front)
   parts front back m size =

@@ -28,8 +28,8 @@ pub fn lapse_rows(rows: &mut [(Key, Entry)], horizon: u16) -> bool
 
 /// The rows of the join of two tables, in the first vector, which has room for the rows of both. It
 /// takes no other memory. The rows of the second are placed from the last to the first. Only the
-/// rows of the first that come after one of them move, in blocks. Keys are compared only where the
-/// two tables meet.
+/// rows of the first that come after one of them move, in blocks. Of a block a few keys are
+/// compared.
 pub fn join_rows<E: Pick>(first: Vec<(Key, E)>, mut second: Vec<(Key, E)>) -> Vec<(Key, E)>
     requires first { AreAscending first.items }
     requires second { AreAscending second.items }
