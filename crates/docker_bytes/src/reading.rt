@@ -88,6 +88,7 @@ impl<K: Keeper> Reading<K> {
 
     /// Takes a complete line of the schedule that is read, with more lines to come. The stage stays
     /// as it is.
+    #[inline(always)]
     fn take_line(&mut self, key: &ScheduleKey, count: u32, bytes: &[u8]) -> Result<(), StateFault>
         requires reading { IsReading self.old }
         requires stage { IsLineOf key.now count self.old.stage }

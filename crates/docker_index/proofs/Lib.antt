@@ -3,8 +3,6 @@ pub mod Positions
 pub mod Union
 pub mod MovedSpots
 pub mod TurnRows
-pub mod RowsBefore
-pub mod RunTurns
 pub mod RisingMoves
 pub mod JoinedSpots
 pub mod RowPlaces

@@ -5,7 +5,6 @@ pub mod Tables
 pub mod ByPlace
 pub mod Rooms
 pub mod Turns
-pub mod Runs
 pub mod Joined
 pub mod StandingRows
 pub mod Noted

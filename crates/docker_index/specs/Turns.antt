@@ -11,12 +11,20 @@ use Rattle.cif_change.specs.declared.key.Key.{Key}
 use Rattle.docker_join.specs.declared.entry.Entry.{Entry}
 use Rattle.docker_join.specs.Meaning.{entry_meant}
 use Rattle.docker_join.specs.Rows.{row_cmp}
+use Rattle.docker_index.specs.declared.turns.Turn.{Turn}
+use Rattle.docker_index.specs.declared.turns.Turn.TheVariants as turn
 
 -- what two tables have at one key
 pub data AtKey : Type 0 where
   in_first : (one : Key × Entry) → AtKey
   in_second : (other : Key × Entry) → AtKey
   in_both : (one other : Key × Entry) → AtKey
+
+-- what a turn of the walk has
+abbrev pub turn_meant : Turn → AtKey
+turn_meant (turn.First one) = in_first one.now
+turn_meant (turn.Second other) = in_second other.now
+turn_meant (turn.Both one other) = in_both one.now other.now
 
 -- the rows of the first table
 abbrev pub firsts : List AtKey → List (Key × Entry)
@@ -67,16 +75,6 @@ goes floor horizon at entry =
 -- how many rows there are with a winning entry, after this many rows
 abbrev pub after : Option FileStamp → ℕ → Entry → ℕ
 after floor at entry = if is_kept floor (entry_meant entry).stamp.file then 1 + at else at
-
--- where rows go that have no row of the other table beside them
-abbrev pub rows_go : Option FileStamp → ℕ → ℕ → List (Key × Entry) → List (Option ℕ)
-rows_go floor horizon at [] = []
-rows_go floor horizon at (row ∷ rows) = goes floor horizon at row.1 ∷ rows_go floor horizon (after floor at row.1) rows
-
--- how many rows there are with such rows, after this many rows
-abbrev pub rows_after : Option FileStamp → ℕ → List (Key × Entry) → ℕ
-rows_after floor at [] = at
-rows_after floor at (row ∷ rows) = rows_after floor (after floor at row.1) rows
 
 -- whether the first entry wins over the second
 abbrev pub wins : Entry → Entry → Bool

@@ -3,7 +3,6 @@
 #![tactic(auto)]
 
 mod fill;
-mod gallop;
 mod index;
 mod laws;
 mod mark;
@@ -13,9 +12,9 @@ mod names;
 mod noted_rows;
 mod puts;
 mod room;
-mod runs;
 mod slots;
 mod standing;
+mod turns;
 mod walk;
 
 pub use cif_places::{Names, Notes, Piece};

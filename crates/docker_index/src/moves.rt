@@ -5,11 +5,10 @@ ghost use Rattle.docker_model.specs.state.Op as ops;
 ghost use Rattle.docker_join.specs.Meaning.{file_stamp_meant, op_meant, row_meant};
 ghost use Rattle.docker_join.specs.Rows.{AreAscending};
 ghost use Rattle.docker_model.specs.state.Lapse.{lapse};
-ghost use Rattle.docker_index.specs.Turns.{AtKey, turns_of, firsts, seconds, is_kept, is_put, wins, goes, after, rows_go, rows_after, first_moves, second_moves};
-ghost use Rattle.docker_index.specs.Runs.{run_meant};
+ghost use Rattle.docker_index.specs.Turns.{AtKey, turn_meant, turns_of, firsts, seconds, is_kept, is_put, wins, goes, after, first_moves, second_moves};
 ghost use Rattle.docker_index.specs.Joined.{floor_meant, AreJoined, AreMoves, HasRows};
 
-use crate::runs::{Run, Runs};
+use crate::turns::{Turn, Turns};
 use cif_file::Key;
 use cif_line::Memory;
 use docker_join::{Entry, FileStamp, Op};
@@ -60,7 +59,7 @@ impl Moves {
         self.walk(first, second, floor, horizon)
     }
 
-    /// The moves of each row, run by run of the walk over both tables.
+    /// The moves of each row, turn by turn of the walk over both tables.
     fn walk(
         self,
         first: &[(Key, Entry)],
@@ -69,50 +68,55 @@ impl Moves {
         horizon: u16,
     ) -> Moves
         requires room { HasRows (length first.now) (length second.now) self }
-        requires first { AreAscending first.now }
-        requires second { AreAscending second.now }
         ensures first { result.first.items
             ≡ first_moves (floor_meant floor.now) horizon 0 (turns_of first.now second.now) }
         ensures second { result.second.items
             ≡ second_moves (floor_meant floor.now) horizon 0 (turns_of first.now second.now) }
     {
         let mut moves = self;
-        let mut runs = Runs::of(first, second);
         let mut at = 0;
-        while let Some(run) = runs.next_run() {
-            at = moves.take(run, floor, horizon, at);
+        for turn in Turns::of(first, second) {
+            at = moves.take(turn, floor, horizon, at);
         }
         moves
     }
 
-    /// Takes a run of the walk over both tables, after this many rows. Returns how many rows there
+    /// Takes a turn of the walk over both tables, after this many rows. Returns how many rows there
     /// are with it.
-    fn take(&mut self, run: Run<'_>, floor: &Option<FileStamp>, horizon: u16, at: u32) -> u32
-        requires few { at + length (run_meant run) < 2 ^ 32 }
-        requires first_room { vec_len self.old.first + length (firsts (run_meant run))
+    fn take(&mut self, turn: Turn<'_>, floor: &Option<FileStamp>, horizon: u16, at: u32) -> u32
+        requires few { at + 1 < 2 ^ 32 }
+        requires first_room { vec_len self.old.first + length (firsts (turn_meant turn ∷ []))
             ≤ vec_capacity self.old.first }
-        requires second_room { vec_len self.old.second + length (seconds (run_meant run))
+        requires second_room { vec_len self.old.second + length (seconds (turn_meant turn ∷ []))
             ≤ vec_capacity self.old.second }
-        ensures at { result ≤ at + length (run_meant run.entry) }
+        ensures at { result ≤ at + 1 }
         ensures first { (turns : List AtKey)
             → self.new.first.items ++ first_moves (floor_meant floor.now) horizon result turns
             ≡ self.old.first.items
-            ++ first_moves (floor_meant floor.now) horizon at (run_meant run.entry ++ turns) }
+            ++ first_moves (floor_meant floor.now) horizon at (turn_meant turn.entry ∷ turns) }
         ensures second { (turns : List AtKey)
             → self.new.second.items ++ second_moves (floor_meant floor.now) horizon result turns
             ≡ self.old.second.items
-            ++ second_moves (floor_meant floor.now) horizon at (run_meant run.entry ++ turns) }
+            ++ second_moves (floor_meant floor.now) horizon at (turn_meant turn.entry ∷ turns) }
         ensures first_len { vec_len self.new.first
-            ≡ vec_len self.old.first + length (firsts (run_meant run.entry)) }
+            ≡ vec_len self.old.first + length (firsts (turn_meant turn.entry ∷ [])) }
         ensures second_len { vec_len self.new.second
-            ≡ vec_len self.old.second + length (seconds (run_meant run.entry)) }
+            ≡ vec_len self.old.second + length (seconds (turn_meant turn.entry ∷ [])) }
         ensures first_capacity { vec_capacity self.new.first ≡ vec_capacity self.old.first }
         ensures second_capacity { vec_capacity self.new.second ≡ vec_capacity self.old.second }
     {
-        match run {
-            Run::First(rows) => take_rows(&mut self.first, rows, floor, horizon, at),
-            Run::Second(rows) => take_rows(&mut self.second, rows, floor, horizon, at),
-            Run::Both(one, other) => {
+        match turn {
+            Turn::First(one) => {
+                self.first
+                    .push_reserved(index_of(&one.1, floor, horizon, at));
+                index_after(&one.1, floor, at)
+            }
+            Turn::Second(other) => {
+                self.second
+                    .push_reserved(index_of(&other.1, floor, horizon, at));
+                index_after(&other.1, floor, at)
+            }
+            Turn::Both(one, other) => {
                 if wins(&one.1, &other.1) {
                     self.first
                         .push_reserved(index_of(&one.1, floor, horizon, at));
@@ -127,33 +131,6 @@ impl Moves {
             }
         }
     }
-}
-
-/// Takes rows that have no row of the other table beside them, after this many rows. Returns how
-/// many rows there are with them.
-fn take_rows(
-    out: &mut Vec<Option<u32>>,
-    rows: &[(Key, Entry)],
-    floor: &Option<FileStamp>,
-    horizon: u16,
-    at: u32,
-) -> u32
-    requires few { at + length rows.now < 2 ^ 32 }
-    requires room { vec_len out.old + length rows.now ≤ vec_capacity out.old }
-    ensures at { result ≡ rows_after (floor_meant floor.now) at rows.now }
-    ensures items { out.new.items
-        ≡ out.old.items ++ rows_go (floor_meant floor.now) horizon at rows.now }
-    ensures len { vec_len out.new ≡ vec_len out.old + length rows.now }
-    ensures capacity { vec_capacity out.new ≡ vec_capacity out.old }
-{
-    let mut now = at;
-    let mut rest = rows;
-    while let Some((row, behind)) = rest.split_first() {
-        out.push_reserved(index_of(&row.1, floor, horizon, now));
-        now = index_after(&row.1, floor, now);
-        rest = behind;
-    }
-    now
 }
 
 /// Whether the first of two entries of a key wins. If they are equal, the second wins.

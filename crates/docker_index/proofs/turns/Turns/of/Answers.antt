@@ -1,7 +1,7 @@
 use Rattle.std.proofs.Common.{arith, length, ap}
 use Rattle.docker_index.specs.Turns.{turns_of}
 use Rattle.docker_index.proofs.TurnRows.{firsts_are, seconds_are, few_turns}
-use Rattle.docker_index.proofs.runs.Runs.of.Goals as goal
+use Rattle.docker_index.proofs.turns.Turns.of.Goals as goal
 
 pub returns-clause-first : goal.returns-clause-first
 returns-clause-first c = firsts_are c.args.first.now c.args.second.now
