@@ -18,15 +18,30 @@ cause_meant cause.After = Some after_trailer
 cause_meant cause.TooMany = Some too_many
 cause_meant cause.Memory = None
 
+-- the name of a cause
+abbrev pub cause_name : FileCause → List ℕ
+cause_name cause.Length = codes "Length"
+cause_name (cause.Byte _) = codes "Byte"
+cause_name cause.Kind = codes "Kind"
+cause_name cause.Place = codes "Place"
+cause_name (cause.Field _) = codes "Field"
+cause_name cause.Midnights = codes "Midnights"
+cause_name cause.NoEnd = codes "NoEnd"
+cause_name cause.After = codes "After"
+cause_name cause.TooMany = codes "TooMany"
+cause_name cause.Memory = codes "Memory"
+
+-- the column that a cause holds
+abbrev pub cause_column : FileCause → Option ℕ
+cause_column (cause.Byte column) = Some column
+cause_column (cause.Field column) = Some column
+cause_column _ = None
+
+-- a name, and a column after it
+abbrev pub name_and_column : List ℕ → Option ℕ → List ℕ
+name_and_column name None = name
+name_and_column name (Some column) = name ++ codes " " ++ decimal column
+
 -- a cause as its name and the column
 abbrev pub cause_text : FileCause → List ℕ
-cause_text cause.Length = codes "Length"
-cause_text (cause.Byte column) = codes "Byte " ++ decimal column
-cause_text cause.Kind = codes "Kind"
-cause_text cause.Place = codes "Place"
-cause_text (cause.Field column) = codes "Field " ++ decimal column
-cause_text cause.Midnights = codes "Midnights"
-cause_text cause.NoEnd = codes "NoEnd"
-cause_text cause.After = codes "After"
-cause_text cause.TooMany = codes "TooMany"
-cause_text cause.Memory = codes "Memory"
+cause_text it = name_and_column (cause_name it) (cause_column it)

@@ -1,7 +1,7 @@
 //! Why a record is refused.
-ghost use Rattle.std.specs.Prelude.{◌≡◌, Some};
+ghost use Rattle.std.specs.Prelude.{◌≡◌, ◌≤◌, Some, length};
 ghost use Rattle.cif_journey.specs.declared.cause.FileCause.TheVariants.{Field, Memory};
-ghost use Rattle.cif_journey.specs.Cause.{cause_text};
+ghost use Rattle.cif_journey.specs.Cause.{cause_column, cause_name, cause_text};
 
 use cif_line::FieldFault;
 use std::alloc::AllocError;
@@ -34,21 +34,44 @@ pub enum FileCause {
     Memory,
 }
 
+impl FileCause {
+    /// The name of the cause, as it stands in the text of a fault.
+    pub fn name(&self) -> &'static str
+        ensures name { result.now ≡ cause_name self.now }
+        ensures len { length result.now ≤ 9 }
+    {
+        match self {
+            FileCause::Length => "Length",
+            FileCause::Byte(_) => "Byte",
+            FileCause::Kind => "Kind",
+            FileCause::Place => "Place",
+            FileCause::Field(_) => "Field",
+            FileCause::Midnights => "Midnights",
+            FileCause::NoEnd => "NoEnd",
+            FileCause::After => "After",
+            FileCause::TooMany => "TooMany",
+            FileCause::Memory => "Memory",
+        }
+    }
+
+    /// The column that the cause holds, from 1. None if it holds no column.
+    pub fn column(&self) -> Option<u8>
+        ensures { result ≡ cause_column self.now }
+    {
+        match self {
+            FileCause::Byte(column) | FileCause::Field(column) => Some(*column),
+            _ => None,
+        }
+    }
+}
+
 impl fmt::Display for FileCause {
     ghost output = { λ cause. Some (cause_text cause) };
 
     fn fmt<W: fmt::Write>(&self, f: &mut fmt::Formatter<W>) -> fmt::Result {
-        match self {
-            FileCause::Length => f.write_str("Length"),
-            FileCause::Byte(column) => write!(f, "Byte {column}"),
-            FileCause::Kind => f.write_str("Kind"),
-            FileCause::Place => f.write_str("Place"),
-            FileCause::Field(column) => write!(f, "Field {column}"),
-            FileCause::Midnights => f.write_str("Midnights"),
-            FileCause::NoEnd => f.write_str("NoEnd"),
-            FileCause::After => f.write_str("After"),
-            FileCause::TooMany => f.write_str("TooMany"),
-            FileCause::Memory => f.write_str("Memory"),
+        match self.column() {
+            Some(column) => write!(f, "{} {column}", self.name()),
+            None => f.write_str(self.name()),
         }
     }
 }

@@ -3,13 +3,12 @@ ghost use Rattle.std.specs.Prelude.{◌≡◌, ◌+◌, ◌≤◌, ◌++◌, [],
 ghost use Rattle.arrayvec.specs.ArrayVec.{array_vec_len};
 ghost use Rattle.cif_journey.specs.Cause.{cause_text};
 ghost use Rattle.docker_cmd.specs.FaultLine.{status_of, fault_line, file_line, state_line};
-ghost use Rattle.docker_office.specs.FaultText as state_text;
 
 use crate::fault::Fault;
 use crate::job_fault::JobFault;
 use arrayvec::ArrayVec;
 use cif_file::{FileCause, FileFault};
-use docker_office::{OfficeFault, StateCause, StateFault};
+use docker_office::{OfficeFault, StateFault};
 use fixed_text::put;
 use itoa::Buffer;
 
@@ -81,23 +80,10 @@ fn put_cause(text: &mut FaultText, cause: &FileCause)
     ensures text { text.new.items ≡ text.old.items ++ cause_text cause.now }
     ensures bound { array_vec_len text.new ≤ array_vec_len text.old + 30 }
 {
-    match cause {
-        FileCause::Length => put(text, b"Length"),
-        FileCause::Byte(column) => {
-            put(text, b"Byte ");
-            put_number(text, u64::from(*column));
-        }
-        FileCause::Kind => put(text, b"Kind"),
-        FileCause::Place => put(text, b"Place"),
-        FileCause::Field(column) => {
-            put(text, b"Field ");
-            put_number(text, u64::from(*column));
-        }
-        FileCause::Midnights => put(text, b"Midnights"),
-        FileCause::NoEnd => put(text, b"NoEnd"),
-        FileCause::After => put(text, b"After"),
-        FileCause::TooMany => put(text, b"TooMany"),
-        FileCause::Memory => put(text, b"Memory"),
+    put(text, cause.name().as_bytes());
+    if let Some(column) = cause.column() {
+        put(text, b" ");
+        put_number(text, u64::from(column));
     }
 }
 
@@ -109,28 +95,6 @@ fn put_state_fault(text: &mut FaultText, fault: &StateFault)
     put(text, b"docker: state refused: offset ");
     put_number(text, fault.at);
     put(text, b": ");
-    put_state_cause(text, fault.cause);
+    put(text, fault.cause.name().as_bytes());
     put(text, b"\n");
-}
-
-/// Appends the name of a state's cause.
-fn put_state_cause(text: &mut FaultText, cause: StateCause)
-    requires { array_vec_len text.old ≤ 80 }
-    ensures text { text.new.items ≡ text.old.items ++ state_text.cause_text cause }
-    ensures bound { array_vec_len text.new ≤ array_vec_len text.old + 10 }
-{
-    match cause {
-        StateCause::Mark => put(text, b"Mark"),
-        StateCause::Item => put(text, b"Item"),
-        StateCause::Order => put(text, b"Order"),
-        StateCause::Floor => put(text, b"Floor"),
-        StateCause::Tag => put(text, b"Tag"),
-        StateCause::Stamp => put(text, b"Stamp"),
-        StateCause::Body => put(text, b"Body"),
-        StateCause::Short => put(text, b"Short"),
-        StateCause::Tail => put(text, b"Tail"),
-        StateCause::Long => put(text, b"Long"),
-        StateCause::Memory => put(text, b"Memory"),
-        StateCause::Horizon => put(text, b"Horizon"),
-    }
 }

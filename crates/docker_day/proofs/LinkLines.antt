@@ -56,8 +56,8 @@ none_of_all [] = refl
 none_of_all (day ∷ days) = none_of_all days
 
 -- the lines of a row are the lines on its start days
-row_pieces : (trains : List ℕ → ℕ → Option live_rows.Train) (links : Group → ℕ → Option live_rows.Link) (place : List ℕ) (day : ℕ) (row : RowView)
-    → flat_map (row_piece trains links place day row) (start_days day) ≡ view_lines trains links place day row
+row_pieces : (trains : List ℕ → ℕ → Option live_rows.Train) (links : Group → ℕ → Option live_rows.Link) (place : List ℕ) (day : ℕ) (view : RowView)
+    → flat_map (row_piece trains links place day view) (start_days day) ≡ view_lines trains links place day view
 row_pieces trains links place day (Train train) = refl
 row_pieces trains links place day (Link link) = by (bytes_eq link.key.location place)
   where
@@ -74,21 +74,21 @@ three_parts : (a b c d : List DockerLine) → ((a ++ b) ++ c) ++ d ≡ a ++ (b +
 three_parts a b c d =
     append_assoc (a ++ b) c d ∙ append_assoc a b (c ++ d) ∙ (λ i. a ++ (b ++ (c ++ sym (append-nil d) i)))
 
-module _ (place : List ℕ) (day : ℕ) (row : RowView) where
+module _ (place : List ℕ) (day : ℕ) (view : RowView) where
   three_at : (trains : List ℕ → ℕ → Option live_rows.Train) (links : Group → ℕ → Option live_rows.Link) (first second third last : List DockerLine)
-      → second ≡ first ++ row_back trains links place day row 0 → third ≡ second ++ row_back trains links place day row 1
-      → last ≡ third ++ row_back trains links place day row 2 → last ≡ first ++ view_lines trains links place day row
+      → second ≡ first ++ row_back trains links place day view 0 → third ≡ second ++ row_back trains links place day view 1
+      → last ≡ third ++ row_back trains links place day view 2 → last ≡ first ++ view_lines trains links place day view
   three_at trains links first second third last one two three =
-      three ∙ (λ i. two i ++ row_back trains links place day row 2)
-      ∙ (λ i. (one i ++ row_back trains links place day row 1) ++ row_back trains links place day row 2)
-      ∙ three_parts first (row_back trains links place day row 0) (row_back trains links place day row 1) (row_back trains links place day row 2)
-      ∙ ap (λ more. first ++ more) (sym (starts_split (row_piece trains links place day row) day) ∙ row_pieces trains links place day row)
+      three ∙ (λ i. two i ++ row_back trains links place day view 2)
+      ∙ (λ i. (one i ++ row_back trains links place day view 1) ++ row_back trains links place day view 2)
+      ∙ three_parts first (row_back trains links place day view 0) (row_back trains links place day view 1) (row_back trains links place day view 2)
+      ∙ ap (λ more. first ++ more) (sym (starts_split (row_piece trains links place day view) day) ∙ row_pieces trains links place day view)
 
   -- so they are added by adding the lines on each start day that there is
   pub three_backs : (live : Table) (first second third last : List DockerLine)
-      → Adds live (λ trains links. row_back trains links place day row 0) first second
-      → Adds live (λ trains links. row_back trains links place day row 1) second third
-      → Adds live (λ trains links. row_back trains links place day row 2) third last
-      → Adds live (λ trains links. view_lines trains links place day row) first last
+      → Adds live (λ trains links. row_back trains links place day view 0) first second
+      → Adds live (λ trains links. row_back trains links place day view 1) second third
+      → Adds live (λ trains links. row_back trains links place day view 2) third last
+      → Adds live (λ trains links. view_lines trains links place day view) first last
   three_backs live first second third last one two three =
       λ rows are. three_at (train_in rows) (link_in rows) first second third last (one rows are) (two rows are) (three rows are)

@@ -15,24 +15,24 @@ use Rattle.docker_day.proofs.LinkLines.{three_backs}
 use Rattle.docker_day.proofs.PassedOver.{first_back_alone}
 use Rattle.docker_model.specs.state.Row.{Row}
 
-module _ (there : PlaceDay) (row : RowView) where
+module _ (there : PlaceDay) (view : RowView) where
   abbrev AddsBack : ℕ → List DockerLine → List DockerLine → Type 0
-  AddsBack back before after = Adds (live_table there.state) (λ trains links. row_back trains links there.place there.day row back) before after
+  AddsBack back before after = Adds (live_table there.state) (λ trains links. row_back trains links there.place there.day view back) before after
 
   -- what a visit adds is what the row has `back` days before the day
-  adds_back : (back : ℕ) (visit : Option Visit) (before after : List DockerLine) → visit ≡ visit_back there back → AddsIf visit row before after
+  adds_back : (back : ℕ) (visit : Option Visit) (before after : List DockerLine) → visit ≡ visit_back there back → AddsIf visit view before after
       → AddsBack back before after
-  adds_back back visit before after is adds = by (nat_le back there.day) refl (subst (λ (v : Option Visit). AddsIf v row before after) is adds)
+  adds_back back visit before after is adds = by (nat_le back there.day) refl (subst (λ (v : Option Visit). AddsIf v view before after) is adds)
     where
       by : (b : Bool) → nat_le back there.day ≡ b
-          → AddsIf (cond b (Some (record { state = there.state; place = there.place; day = there.day; start = there.day - back })) None) row before after
+          → AddsIf (cond b (Some (record { state = there.state; place = there.place; day = there.day; start = there.day - back })) None) view before after
           → AddsBack back before after
       by true there_is added = λ rows are.
           added rows are
-          ∙ (λ i. before ++ cond (sym there_is i) (row_piece (train_in rows) (link_in rows) there.place there.day row (there.day - back)) [])
+          ∙ (λ i. before ++ cond (sym there_is i) (row_piece (train_in rows) (link_in rows) there.place there.day view (there.day - back)) [])
       by false none same = λ rows are.
           same ∙ sym (append-nil before)
-          ∙ (λ i. before ++ cond (sym none i) (row_piece (train_in rows) (link_in rows) there.place there.day row (there.day - back)) [])
+          ∙ (λ i. before ++ cond (sym none i) (row_piece (train_in rows) (link_in rows) there.place there.day view (there.day - back)) [])
 
   today_is_back : visit_back there 0 ≡ Some (record { state = there.state; place = there.place; day = there.day; start = there.day })
   today_is_back =
@@ -42,32 +42,32 @@ module _ (there : PlaceDay) (row : RowView) where
 
   -- the visit of the day itself adds what the row has on that day
   adds_today : (today : Visit) (before after : List DockerLine)
-      → today ≡ record { state = there.state; place = there.place; day = there.day; start = there.day } → AddsAt today row before after
+      → today ≡ record { state = there.state; place = there.place; day = there.day; start = there.day } → AddsAt today view before after
       → AddsBack 0 before after
   adds_today today before after is adds = adds_back 0 (Some today) before after (ap Some is ∙ sym today_is_back) adds
 
   -- the lines of the row were added
   abbrev AddsRow : List DockerLine → List DockerLine → Type 0
-  AddsRow before after = Adds (live_table there.state) (λ trains links. view_lines trains links there.place there.day row) before after
+  AddsRow before after = Adds (live_table there.state) (λ trains links. view_lines trains links there.place there.day view) before after
 
-module _ (there again : PlaceDay) (row : RowView) (today : Visit) (day_before two_before : Option Visit) where
+module _ (there again : PlaceDay) (view : RowView) (today : Visit) (day_before two_before : Option Visit) where
   -- so all visits together add the lines of the row
   pub adds_on_visits : (first second third last : List DockerLine) → there ≡ again
-      → AreVisits there today day_before two_before → AddsAt today row first second → AddsIf day_before row second third
-      → AddsIf two_before row third last → AddsRow again row first last
+      → AreVisits there today day_before two_before → AddsAt today view first second → AddsIf day_before view second third
+      → AddsIf two_before view third last → AddsRow again view first last
   adds_on_visits first second third last same are one two three =
-      subst (λ (p : PlaceDay). AddsRow p row first last) same
-      (three_backs there.place there.day row (live_table there.state) first second third last (adds_today there row today first second are.today_is one)
-      (adds_back there row 1 day_before second third are.day_before_is two) (adds_back there row 2 two_before third last are.two_before_is three))
+      subst (λ (p : PlaceDay). AddsRow p view first last) same
+      (three_backs there.place there.day view (live_table there.state) first second third last (adds_today there view today first second are.today_is one)
+      (adds_back there view 1 day_before second third are.day_before_is two) (adds_back there view 2 two_before third last are.two_before_is three))
 
   -- if the row's train isn't under way since one of the two days before, the visit of the day adds
   -- them all
   pub adds_today_alone : (first second : List DockerLine) → there ≡ again → AreVisits there today day_before two_before
-      → IsLiveView (live_table again.state) row → row_under_way again.place row again.day ≡ false → AddsAt today row first second
-      → AddsRow again row first second
+      → IsLiveView (live_table again.state) view → row_under_way again.place view again.day ≡ false → AddsAt today view first second
+      → AddsRow again view first second
   adds_today_alone first second same are is_live idle one =
-      first_back_alone again.place again.day row (live_table again.state) first second is_live idle
-      (subst (λ (p : PlaceDay). AddsBack p row 0 first second) same (adds_today there row today first second are.today_is one))
+      first_back_alone again.place again.day view (live_table again.state) first second is_live idle
+      (subst (λ (p : PlaceDay). AddsBack p view 0 first second) same (adds_today there view today first second are.today_is one))
 
 -- the lines of a walk that were added at a place were added at an equal place
 pub gathered_at : (there again : PlaceDay) (walk : List Row) (before after : List DockerLine) → again ≡ there

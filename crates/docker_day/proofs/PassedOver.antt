@@ -130,7 +130,7 @@ none_of_three false false true h = absurd (true_false h)
 
 module _ (live : Table) (rows : List Row) (are : AreRowsOf live rows) (place : List ℕ) (day : ℕ) where
   abbrev lines_back : RowView → ℕ → List DockerLine
-  lines_back row back = row_back (train_in rows) (link_in rows) place day row back
+  lines_back view back = row_back (train_in rows) (link_in rows) place day view back
 
   -- a schedule that doesn't run on a day has no line of a train that started then
   idle_back : (train : live_rows.Train) (back : ℕ) → IsLiveTrain live train → runs_back train.lines day back ≡ false
@@ -162,8 +162,8 @@ module _ (live : Table) (rows : List Row) (are : AreRowsOf live rows) (place : L
           ∙ none_either (runs_by (train_in rows train.key.uid (day - back)) train.key)
 
   -- a row whose train isn't under way has no line of a train that started before the day
-  pub none_back : (row : RowView) → IsLiveView live row → row_under_way place row day ≡ false
-      → (lines_back row 1 ≡ []) × (lines_back row 2 ≡ [])
+  pub none_back : (view : RowView) → IsLiveView live view → row_under_way place view day ≡ false
+      → (lines_back view 1 ≡ []) × (lines_back view 2 ≡ [])
   none_back (Train train) is_live not_so =
       by (none_of_both (runs_back train.lines day 1) (runs_back train.lines day 2) (some_late (occurrences_to place train.lines)) not_so)
     where
@@ -175,8 +175,8 @@ module _ (live : Table) (rows : List Row) (are : AreRowsOf live rows) (place : L
   none_back Other is_live not_so = absurd (true_false not_so)
 
   -- a row whose schedule runs on none of the three days has no line
-  none_lately : (row : RowView) → IsLiveView live row → row_lately row day ≡ false
-      → (lines_back row 0 ≡ []) × (lines_back row 1 ≡ []) × (lines_back row 2 ≡ [])
+  none_lately : (view : RowView) → IsLiveView live view → row_lately view day ≡ false
+      → (lines_back view 0 ≡ []) × (lines_back view 1 ≡ []) × (lines_back view 2 ≡ [])
   none_lately (Train train) is_live not_so =
       let idle = none_of_three (runs_back train.lines day 0) (runs_back train.lines day 1) (runs_back train.lines day 2) not_so in
       (idle_back train 0 is_live idle.0, idle_back train 1 is_live idle.1, idle_back train 2 is_live idle.2)
@@ -188,22 +188,22 @@ nothing : (before : List DockerLine) {more : List DockerLine} → more ≡ [] �
 nothing before none = sym (append-nil before) ∙ ap (λ out. before ++ out) (sym none)
 
 -- so its lines are the lines of the train that starts on the day
-pub first_back_alone : (place : List ℕ) (day : ℕ) (row : RowView) (live : Table) (first second : List DockerLine) → IsLiveView live row
-    → row_under_way place row day ≡ false → Adds live (λ trains links. row_back trains links place day row 0) first second
-    → Adds live (λ trains links. view_lines trains links place day row) first second
-first_back_alone place day row live first second is_live not_so one =
-    three_backs place day row live first second second second one
-    (λ rows are. nothing second (none_back live rows are place day row is_live not_so).0)
-    (λ rows are. nothing second (none_back live rows are place day row is_live not_so).1)
+pub first_back_alone : (place : List ℕ) (day : ℕ) (view : RowView) (live : Table) (first second : List DockerLine) → IsLiveView live view
+    → row_under_way place view day ≡ false → Adds live (λ trains links. row_back trains links place day view 0) first second
+    → Adds live (λ trains links. view_lines trains links place day view) first second
+first_back_alone place day view live first second is_live not_so one =
+    three_backs place day view live first second second second one
+    (λ rows are. nothing second (none_back live rows are place day view is_live not_so).0)
+    (λ rows are. nothing second (none_back live rows are place day view is_live not_so).1)
 
 -- a row has no lines if it runs on none of the three days
-pub not_lately : (place : List ℕ) (day : ℕ) (row : RowView) (live : Table) (first : List DockerLine) → IsLiveView live row
-    → row_lately row day ≡ false → Adds live (λ trains links. view_lines trains links place day row) first first
-not_lately place day row live first is_live not_so =
-    three_backs place day row live first first first first
-    (λ rows are. nothing first (none_lately live rows are place day row is_live not_so).0)
-    (λ rows are. nothing first (none_lately live rows are place day row is_live not_so).1)
-    (λ rows are. nothing first (none_lately live rows are place day row is_live not_so).2)
+pub not_lately : (place : List ℕ) (day : ℕ) (view : RowView) (live : Table) (first : List DockerLine) → IsLiveView live view
+    → row_lately view day ≡ false → Adds live (λ trains links. view_lines trains links place day view) first first
+not_lately place day view live first is_live not_so =
+    three_backs place day view live first first first first
+    (λ rows are. nothing first (none_lately live rows are place day view is_live not_so).0)
+    (λ rows are. nothing first (none_lately live rows are place day view is_live not_so).1)
+    (λ rows are. nothing first (none_lately live rows are place day view is_live not_so).2)
 
 -- a schedule that hasn't begun, or is marked on none of the three days, runs on none
 pub row_idle : (key : Key) (body : Body) (day : ℕ) → IsBodyOf key body → row_may_run (view_of key body) day ≡ false

@@ -1,5 +1,5 @@
 //! Why bytes are not the text of a state.
-ghost use Rattle.std.specs.Prelude.{Some};
+ghost use Rattle.std.specs.Prelude.{◌≡◌, ◌≤◌, Some, length};
 ghost use Rattle.docker_parts.specs.CauseText.{cause_text};
 
 use cif_line::Memory;
@@ -37,11 +37,13 @@ pub enum StateCause {
     Horizon,
 }
 
-impl fmt::Display for StateCause {
-    ghost output = { λ cause. Some (cause_text cause) };
-
-    fn fmt<W: fmt::Write>(&self, f: &mut fmt::Formatter<W>) -> fmt::Result {
-        f.write_str(match self {
+impl StateCause {
+    /// The name of the cause, as it stands in the text of a fault.
+    pub fn name(&self) -> &'static str
+        ensures name { result.now ≡ cause_text self.now }
+        ensures len { length result.now ≤ 7 }
+    {
+        match self {
             StateCause::Mark => "Mark",
             StateCause::Item => "Item",
             StateCause::Order => "Order",
@@ -54,7 +56,15 @@ impl fmt::Display for StateCause {
             StateCause::Long => "Long",
             StateCause::Memory => "Memory",
             StateCause::Horizon => "Horizon",
-        })
+        }
+    }
+}
+
+impl fmt::Display for StateCause {
+    ghost output = { λ cause. Some (cause_text cause) };
+
+    fn fmt<W: fmt::Write>(&self, f: &mut fmt::Formatter<W>) -> fmt::Result {
+        f.write_str(self.name())
     }
 }
 

@@ -5,4 +5,3 @@ pub mod Rows
 pub mod Staging
 pub mod UidPiece
 pub mod Indexed
-pub mod RoomAfter

@@ -20,14 +20,13 @@ ghost use Rattle.docker_model.specs.state.Table.{IsPlainTable};
 ghost use Rattle.cif_file.specs.FileRead.{IsOfRecords};
 ghost use Rattle.docker_state.specs.Live.{live_rows, AreInKeyOrder};
 ghost use Rattle.docker_state.specs.Meaning.{floor_meant, item_meant, row_meant, state_meant};
-ghost use Rattle.docker_state.specs.RoomAfter.{HasRoomAfter};
 
 use crate::floor::{common_floor, floor_of};
 use crate::item::{LedgerItem, item_of};
 use crate::ledger::{kept_items, room_for, union_of};
 use crate::live::Live;
 use crate::near::entry_near;
-use crate::rows::{are_many, greatest_rows, kept_rows, made_rows, room_after, rows_with_room};
+use crate::rows::{are_many, greatest_rows, kept_rows, made_rows};
 use crate::uid_rows::rows_of_uid;
 use cif_file::{CifFile, FileParts, Key};
 use cif_line::{Day, Tiploc, Uid};
@@ -281,11 +280,12 @@ impl State {
 
     /// The parts of the state, with room for `more` rows after its own. Its index is dropped. If
     /// memory runs out, returns the state as it was.
-    fn opened(self, alloc: Global, more: usize) -> Result<Opened, State>
+    fn opened(self, more: usize) -> Result<Opened, State>
         ensures parts { IfOk result (λ opened.
             state_meant opened.horizon opened.ledger.items opened.rows.items ≡ self) }
         ensures ascending { IfOk result (λ opened. AreAscending opened.rows.items) }
-        ensures room { IfOk result (λ opened. HasRoomAfter more opened.rows opened.room) }
+        ensures room { IfOk result (λ opened.
+            vec_len opened.rows + more ≤ vec_capacity opened.rows) }
         ensures valid { IfOk result (λ opened.
             IsValid (state_meant opened.horizon opened.ledger.items opened.rows.items)) }
         ensures err { IfErr result (λ back. back ≡ self) }
@@ -296,23 +296,33 @@ impl State {
             entries,
             index,
         } = self;
-        let rows = entries.into_rows();
-        match room_after(alloc, &rows, more) {
-            Ok(room) => {
-                drop(index);
-                Ok(Opened {
-                    horizon,
-                    ledger,
-                    rows,
-                    room,
-                })
-            }
-            Err(_) => Err(State {
+        match entries.with_room(more) {
+            Ok(rows) => Ok(Opened {
                 horizon,
                 ledger,
-                entries: Table::from_rows(rows),
+                rows,
+            }),
+            Err(entries) => Err(State {
+                horizon,
+                ledger,
+                entries,
                 index,
             }),
+        }
+    }
+
+    /// The join of any two states. The rows of the shorter table are placed among those of the
+    /// longer one.
+    fn join_into_longer(self, alloc: Global, other: State) -> Result<State, (State, State)>
+        ensures ok { IfOk result (IsJoin self other) }
+        ensures err { IfErr result (λ both. (both.0 ≡ self) × (both.1 ≡ other)) }
+    {
+        if other.entries.len() <= self.entries.len() {
+            return self.join_rows(alloc, other);
+        }
+        match other.join_rows(alloc, self) {
+            Ok(joined) => Ok(joined),
+            Err((theirs, own)) => Err((own, theirs)),
         }
     }
 
@@ -329,7 +339,7 @@ impl State {
             return Err((self, other));
         };
         let floor = self.floor_with(&other);
-        let opened = match self.opened(alloc, other.entries.len()) {
+        let opened = match self.opened(other.entries.len()) {
             Ok(opened) => opened,
             Err(back) => return Err((back, other)),
         };
@@ -337,7 +347,6 @@ impl State {
             horizon: own,
             ledger: first,
             rows,
-            room,
         } = opened;
         let State {
             horizon: theirs,
@@ -345,11 +354,9 @@ impl State {
             entries: right,
             index: their_index,
         } = other;
-        // Both indexes are dropped before the rows' room is written, so that the three are never in
-        // memory at once.
+        // Both old indexes are dropped before a row is placed.
         drop(their_index);
-        let left = rows_with_room(rows, room);
-        let left = lapsed_under(left, own, theirs);
+        let left = lapsed_under(rows, own, theirs);
         let right = lapsed_under(right.into_rows(), theirs, own);
         let joined = join_rows(left, right);
         let items = union_of(first.as_slice(), second.as_slice(), items);
@@ -420,16 +427,15 @@ impl Merge for State {
         if other.covers(&self) {
             return Ok(other.raised(own));
         }
-        self.join_rows(alloc, other)
+        self.join_into_longer(alloc, other)
     }
 }
 
-/// The parts of a state without its index, and room for more rows.
+/// The parts of a state without its index, with room after its rows.
 struct Opened {
     horizon: u16,
     ledger: Vec<LedgerItem>,
     rows: Vec<(Key, Entry)>,
-    room: Option<Vec<(Key, Entry)>>,
 }
 
 /// Rows that have lapsed under their own horizon, lapsed under another horizon too. If that isn't

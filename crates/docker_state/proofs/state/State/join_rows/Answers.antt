@@ -17,8 +17,7 @@ join_rows-joined-requires-clause-room c =
     let left_len = c.lapsed_under-left.ensures.len in
     let left_room = c.lapsed_under-left.ensures.capacity in
     let right_len = c.lapsed_under-right.ensures.len in
-    let left_same = c.rows_with_room-left.ensures.items in
-    let room = c.rows_with_room-left.ensures.room (c.len-3.result) c.in-Ok.ensures.room in
+    let room = c.in-Ok.ensures.room in
     let size = c.into_rows.result.ok.0 in
     let same = ap length c.into_rows.ensures.rows in
     let count = c.len-3.ensures in
@@ -57,8 +56,7 @@ returns-clause-ok c =
     c.union_of-items.ensures.members))
     c.kept_items-ledger.ensures.ascending c.kept_items-ledger.ensures.members
     c.max.result c.max.ensures c.lapsed_under-left.result.items c.lapsed_under-right.result.items
-    (c.lapsed_under-left.ensures.lapsed
-    ∙ ap (λ rows. lapse_entries (max c.in-Ok.opened.horizon c.other.inside.horizon) (map row_meant rows)) c.rows_with_room-left.ensures.items)
+    c.lapsed_under-left.ensures.lapsed
     (c.lapsed_under-right.ensures.lapsed
     ∙ ap (λ rows. lapse_entries (max c.other.inside.horizon c.in-Ok.opened.horizon) (map row_meant rows)) c.into_rows.ensures.rows)
     c.join_rows-joined.result.items c.from_rows-entries.result c.join_rows-joined.ensures
@@ -81,8 +79,7 @@ invariant_of-result c =
     c.union_of-items.ensures.members))
     c.kept_items-ledger.ensures.ascending c.kept_items-ledger.ensures.members
     c.max.result c.max.ensures c.lapsed_under-left.result.items c.lapsed_under-right.result.items
-    (c.lapsed_under-left.ensures.lapsed
-    ∙ ap (λ rows. lapse_entries (max c.in-Ok.opened.horizon c.other.inside.horizon) (map row_meant rows)) c.rows_with_room-left.ensures.items)
+    c.lapsed_under-left.ensures.lapsed
     (c.lapsed_under-right.ensures.lapsed
     ∙ ap (λ rows. lapse_entries (max c.other.inside.horizon c.in-Ok.opened.horizon) (map row_meant rows)) c.into_rows.ensures.rows)
     c.join_rows-joined.result.items c.from_rows-entries.result c.join_rows-joined.ensures
