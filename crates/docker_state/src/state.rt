@@ -311,7 +311,7 @@ impl State {
         }
     }
 
-    /// The join of any two states. The rows of the shorter table are placed among those of the
+    /// The join of any two states. The rows of the shorter table are placed among the rows of the
     /// longer one.
     fn join_into_longer(self, alloc: Global, other: State) -> Result<State, (State, State)>
         ensures ok { IfOk result (IsJoin self other) }
