@@ -6,7 +6,7 @@ use Rattle.docker_model.specs.file.File.{most_records}
 use Rattle.docker_model.specs.records.Record.{Kind, kind_of, tiploc_insert, tiploc_amend, tiploc_delete, association, basic_schedule}
 use Rattle.docker_model.specs.file.Change.{Change, Key, Act, acts_by_kind, changes_of_record, changes_from, changes, keeps_code}
 use Rattle.cif_file.specs.declared.ended.Ended.{Ended}
-use Rattle.cif_file.specs.declared.kept.Kept.{Kept}
+use Rattle.cif_file.specs.declared.kept.FileSoFar.{FileSoFar}
 use Rattle.cif_file.specs.declared.tally.Tally.{Tally}
 use Rattle.cif_file.specs.KeeperRead.{KeepsAll, CountsChanges}
 use Rattle.cif_file.specs.EndedRead.{file_ended, parts_ended, count_ended}
@@ -15,7 +15,7 @@ use Rattle.cif_file.specs.MadeChanges.{ArePartsOfFile}
 use Rattle.cif_file.specs.FileRead.{IsRead, IsCounted}
 use Rattle.cif_file.specs.ParserRead.{IsOfFileText, IsCountOfFileText, IsEndedText, ParserState, WasFed, IsReading, EndsBy}
 use Rattle.cif_file.specs.SourceRead.{ReadsText, CountsText, ReadsEnded}
-use Rattle.cif_file.specs.declared.parser.Reading.{Reading}
+use Rattle.cif_file.specs.declared.parser.FileReading.{FileReading}
 use Rattle.cif_file.proofs.ParserLemmas.{reading_at_none}
 
 -- ---- how many changes there are
@@ -48,7 +48,7 @@ few_changes n (line ∷ following) =
 
 -- ---- the file
 
-pub of_file : (limit : ℕ) (text : List ℕ) (ended : Ended Kept) → IsEndedText KeepsAll limit text ended → IsOfFileText (file_ended ended) limit text
+pub of_file : (limit : ℕ) (text : List ℕ) (ended : Ended FileSoFar) → IsEndedText KeepsAll limit text ended → IsOfFileText (file_ended ended) limit text
 of_file limit text ended is = record {
   records = is.records;
   is_text = is.is_text;
@@ -56,7 +56,7 @@ of_file limit text ended is = record {
 }
 
 -- the returned file is made of records
-is_read : (limit : ℕ) (text : List ℕ) (ended : Ended Kept) → limit ≤ most_records → IsEndedText KeepsAll limit text ended → IsRead (file_ended ended)
+is_read : (limit : ℕ) (text : List ℕ) (ended : Ended FileSoFar) → limit ≤ most_records → IsEndedText KeepsAll limit text ended → IsRead (file_ended ended)
 unfolding of_file
 is_read limit text ended few is =
     let file = of_file limit text ended is in
@@ -64,7 +64,7 @@ is_read limit text ended few is =
     record { records = is.records; of_records = file.of_records; is_file = is.is_text.is; few = omega arith }
 
 -- its parts belong to it, and the places that its changes name are noted
-are_parts : (limit : ℕ) (text : List ℕ) (ended : Ended Kept) → limit ≤ most_records → IsEndedText KeepsAll limit text ended
+are_parts : (limit : ℕ) (text : List ℕ) (ended : Ended FileSoFar) → limit ≤ most_records → IsEndedText KeepsAll limit text ended
     → ArePartsOfFile (parts_ended ended)
 are_parts limit text ended few is = record {
   read = is_read limit text ended few is;
@@ -72,21 +72,21 @@ are_parts limit text ended few is = record {
 }
 
 -- the limit of a reading is at most `most_records`
-limit_at : (reading : Reading Kept) (limit : ℕ) (text : List ℕ) → IsReading KeepsAll reading limit text → limit ≤ most_records
+limit_at : (reading : FileReading FileSoFar) (limit : ℕ) (text : List ℕ) → IsReading KeepsAll reading limit text → limit ≤ most_records
 limit_at reading limit text at = let room = reading.records.room in let same = at.counted.limit_is in omega arith
 
 -- like `are_parts`, for a parser that was fed a text and returned no fault
-pub are_parts_some : (parser : ParserState) (ended : Ended Kept) → WasFed parser → parser.fault ≡ None → EndsBy KeepsAll parser.reading ended
+pub are_parts_some : (parser : ParserState) (ended : Ended FileSoFar) → WasFed parser → parser.fault ≡ None → EndsBy KeepsAll parser.reading ended
     → ArePartsOfFile (parts_ended ended)
 are_parts_some parser ended fed none ends =
     let at = reading_at_none parser fed.limit fed.text none fed.read in
     are_parts fed.limit fed.text ended (limit_at parser.reading fed.limit fed.text at) (ends fed.limit fed.text at)
 
 -- like `of_file`, for a text that a source held
-pub reads_text : (limit : ℕ) (left : Option (List ℕ)) (ended : Ended Kept) → ReadsEnded KeepsAll limit left ended → ReadsText limit left (file_ended ended)
+pub reads_text : (limit : ℕ) (left : Option (List ℕ)) (ended : Ended FileSoFar) → ReadsEnded KeepsAll limit left ended → ReadsText limit left (file_ended ended)
 reads_text limit left ended reads = record { text = reads.text; held = reads.held; of_text = of_file limit reads.text ended reads.of_text }
 
-pub reads_parts : (limit : ℕ) (left : Option (List ℕ)) (ended : Ended Kept) → limit ≤ most_records → ReadsEnded KeepsAll limit left ended
+pub reads_parts : (limit : ℕ) (left : Option (List ℕ)) (ended : Ended FileSoFar) → limit ≤ most_records → ReadsEnded KeepsAll limit left ended
     → ArePartsOfFile (parts_ended ended)
 reads_parts limit left ended few reads = are_parts limit reads.text ended few reads.of_text
 

@@ -29,9 +29,9 @@ use Rattle.cif_journey.specs.declared.cause.FileCause.TheVariants.{Memory}
 use Rattle.cif_file.specs.declared.fault.FileFault.{FileFault}
 use Rattle.cif_file.specs.declared.front.Front.{Front}
 use Rattle.cif_file.specs.declared.ended.Ended.{Ended}
-use Rattle.cif_file.specs.declared.kept.Kept.{Kept}
+use Rattle.cif_file.specs.declared.kept.FileSoFar.{FileSoFar}
 use Rattle.cif_file.specs.declared.records.Records.{Records}
-use Rattle.cif_file.specs.declared.parser.Reading.{Reading}
+use Rattle.cif_file.specs.declared.parser.FileReading.{FileReading}
 use Rattle.cif_file.specs.Cut.{IsCut, BeginsWithEighty, before_rest}
 use Rattle.cif_file.proofs.TextLemmas.{record_cut}
 use Rattle.cif_journey.specs.Cause.{cause_meant}
@@ -150,7 +150,7 @@ front_cause wants limit records line cause under told = by (cause_meant cause) t
 -- ---- a line that ends
 
 -- the line was taken, with its bytes that came before
-pub ended_read : {K : Type 0} (keeps : Keeps K) (old new : Reading K) (limit : ℕ) (text front : List ℕ) → IsReading keeps old limit text → HasNoFeed front
+pub ended_read : {K : Type 0} (keeps : Keeps K) (old new : FileReading K) (limit : ℕ) (text front : List ℕ) → IsReading keeps old limit text → HasNoFeed front
     → HasCounted keeps new.records limit (told_lines text ++ strip_carriage_return (open_line text ++ front) ∷ []) → new.partial.items ≡ []
     → IsReading keeps new limit (text ++ (front ++ 10 ∷ []))
 ended_read keeps old new limit text front reading plain counted none = record {
@@ -160,7 +160,7 @@ ended_read keeps old new limit text front reading plain counted none = record {
 }
 
 -- its fault is returned
-pub ended_fault : {K : Type 0} (keeps : Keeps K) (wants : Type 0) (old : Reading K) (limit : ℕ) (text front : List ℕ) (fault : FileFault)
+pub ended_fault : {K : Type 0} (keeps : Keeps K) (wants : Type 0) (old : FileReading K) (limit : ℕ) (text front : List ℕ) (fault : FileFault)
     → IsReading keeps old limit text → HasNoFeed front
     → IsFaultNext wants limit (told_lines text) (strip_carriage_return (open_line text ++ front)) fault → IsFaultTold limit (text ++ (front ++ 10 ∷ [])) fault
 ended_fault keeps wants old limit text front fault reading plain next = by (cause_meant fault.cause) next.cause
@@ -175,7 +175,7 @@ ended_fault keeps wants old limit text front fault reading plain next = by (caus
         (fault_at_feed limit text front [] told.place plain told.at reading.counted.within told.here)
 
 -- or the line is too long
-pub ended_long : {K : Type 0} (keeps : Keeps K) (old : Reading K) (limit : ℕ) (text front : List ℕ) (fault : FileFault) → IsReading keeps old limit text
+pub ended_long : {K : Type 0} (keeps : Keeps K) (old : FileReading K) (limit : ℕ) (text front : List ℕ) (fault : FileFault) → IsReading keeps old limit text
     → HasNoFeed front
     → 82 ≤ length (open_line text ++ front)
     → IsLongNext limit (told_lines text) fault → IsFaultTold limit (text ++ (front ++ 10 ∷ [])) fault
@@ -193,7 +193,7 @@ ended_long keeps old limit text front fault reading plain many next =
 -- ---- more of a line
 
 -- more bytes of a line are kept
-pub kept_read : {K : Type 0} (keeps : Keeps K) (old new : Reading K) (limit : ℕ) (text more : List ℕ) → IsReading keeps old limit text → HasNoFeed more
+pub kept_read : {K : Type 0} (keeps : Keeps K) (old new : FileReading K) (limit : ℕ) (text more : List ℕ) → IsReading keeps old limit text → HasNoFeed more
     → length old.partial.items + length more ≤ 81 → new.records ≡ old.records
     → new.partial.items ≡ old.partial.items ++ more → IsReading keeps new limit (text ++ more)
 kept_read keeps old new limit text more reading plain few records kept = record {
@@ -207,7 +207,7 @@ kept_read keeps old new limit text more reading plain few records kept = record 
 }
 
 -- or the line is too long
-pub kept_long : {K : Type 0} (keeps : Keeps K) (old : Reading K) (limit : ℕ) (text more : List ℕ) (fault : FileFault) → IsReading keeps old limit text
+pub kept_long : {K : Type 0} (keeps : Keeps K) (old : FileReading K) (limit : ℕ) (text more : List ℕ) (fault : FileFault) → IsReading keeps old limit text
     → HasNoFeed more
     → ¬ (length old.partial.items + length more ≤ 81)
     → IsLongNext limit (told_lines text) fault → IsFaultTold limit (text ++ more) fault
@@ -245,14 +245,14 @@ counted_open : {K : Type 0} (keeps : Keeps K) (records : Records K) (limit : ℕ
 counted_open keeps records limit text some counted = subst (HasCounted keeps records limit) (sym (lines_of_open text some)) counted
 
 -- if no line is open, all lines are complete
-pub counted_ended : {K : Type 0} (keeps : Keeps K) (reading : Reading K) (limit : ℕ) (text : List ℕ) → IsReading keeps reading limit text
+pub counted_ended : {K : Type 0} (keeps : Keeps K) (reading : FileReading K) (limit : ℕ) (text : List ℕ) → IsReading keeps reading limit text
     → reading.partial.items ≡ []
     → HasCounted keeps reading.records limit (lines_of text)
 counted_ended keeps reading limit text is none =
     subst (HasCounted keeps reading.records limit) (sym (lines_of_ended text (sym is.partial_is ∙ none))) is.counted
 
 -- a fault of the open line at the end is the text's
-pub end_fault : {K : Type 0} (keeps : Keeps K) (wants : Type 0) (reading : Reading K) (limit : ℕ) (text : List ℕ) (fault : FileFault)
+pub end_fault : {K : Type 0} (keeps : Keeps K) (wants : Type 0) (reading : FileReading K) (limit : ℕ) (text : List ℕ) (fault : FileFault)
     → IsReading keeps reading limit text → 0 < length (open_line text)
     → IsFaultNext wants limit (told_lines text) (strip_carriage_return (open_line text)) fault → IsRefused limit text fault
 end_fault keeps wants reading limit text fault is some next = by (cause_meant fault.cause) next.cause
@@ -287,7 +287,7 @@ no_end_at_end keeps records limit text fault counted ends =
     }))
 
 -- no complete record is at fault
-pub reading_tells_none : {K : Type 0} (keeps : Keeps K) (reading : Reading K) (limit : ℕ) (text : List ℕ) → IsReading keeps reading limit text
+pub reading_tells_none : {K : Type 0} (keeps : Keeps K) (reading : FileReading K) (limit : ℕ) (text : List ℕ) → IsReading keeps reading limit text
     → (fault : model.FileFault)
     → ¬ IsFaultSoFar limit text fault
 reading_tells_none keeps reading limit text is = no_fault_told limit text is.counted.has.place is.counted.has.at is.counted.within is.short
@@ -350,7 +350,7 @@ refused_within keeps records limit taken cause fault ended counted number within
 -- ---- a line that ends, by what was taken of it
 
 -- if bytes don't fit, they are more than 81 with the bytes that came before
-pub ended_many : {K : Type 0} (keeps : Keeps K) (old : Reading K) (limit : ℕ) (text front : List ℕ) → IsReading keeps old limit text
+pub ended_many : {K : Type 0} (keeps : Keeps K) (old : FileReading K) (limit : ℕ) (text front : List ℕ) → IsReading keeps old limit text
     → ¬ (length old.partial.items + length front ≤ 81)
     → 82 ≤ length (open_line text ++ front)
 ended_many keeps old limit text front reading many =
@@ -359,21 +359,21 @@ ended_many keeps old limit text front reading many =
     above 81 (length (open_line text ++ front)) (λ few. many (omega arith))
 
 -- the line that was taken is the line of the text
-pub taken_is : {K : Type 0} (keeps : Keeps K) (old : Reading K) (limit : ℕ) (text front raw line : List ℕ) → IsReading keeps old limit text
+pub taken_is : {K : Type 0} (keeps : Keeps K) (old : FileReading K) (limit : ℕ) (text front raw line : List ℕ) → IsReading keeps old limit text
     → raw ≡ old.partial.items ++ front
     → line ≡ strip_carriage_return raw
     → line ≡ strip_carriage_return (open_line text ++ front)
 taken_is keeps old limit text front raw line reading whole strip = strip ∙ ap strip_carriage_return (whole ∙ ap (λ l. l ++ front) reading.partial_is)
 
 -- the line that was taken is the line that ended
-pub ended_ok : {K : Type 0} (keeps : Keeps K) (old new : Reading K) (limit : ℕ) (text front line : List ℕ) → IsReading keeps old limit text → HasNoFeed front
+pub ended_ok : {K : Type 0} (keeps : Keeps K) (old new : FileReading K) (limit : ℕ) (text front line : List ℕ) → IsReading keeps old limit text → HasNoFeed front
     → line ≡ strip_carriage_return (open_line text ++ front)
     → HasCounted keeps new.records limit (told_lines text ++ line ∷ []) → new.partial.items ≡ [] → IsReading keeps new limit (text ++ (front ++ 10 ∷ []))
 ended_ok keeps old new limit text front line reading plain same counted none =
     ended_read keeps old new limit text front reading plain (subst (λ l. HasCounted keeps new.records limit (told_lines text ++ l ∷ [])) same counted) none
 
 -- a fault of the line that ends is the text's
-pub ended_err : {K : Type 0} (keeps : Keeps K) (wants : Type 0) (old : Reading K) (limit : ℕ) (text front line : List ℕ) (fault : FileFault)
+pub ended_err : {K : Type 0} (keeps : Keeps K) (wants : Type 0) (old : FileReading K) (limit : ℕ) (text front line : List ℕ) (fault : FileFault)
     → IsReading keeps old limit text → HasNoFeed front
     → line ≡ strip_carriage_return (open_line text ++ front) → FaultsNext keeps wants old.records line fault
     → IsFaultTold limit (text ++ (front ++ 10 ∷ [])) fault
@@ -382,7 +382,7 @@ ended_err keeps wants old limit text front line fault reading plain same told =
     (subst (λ l. IsFaultNext wants limit (told_lines text) l fault) same (told limit (told_lines text) reading.counted))
 
 -- no bytes of the line came before
-pub empty_is : {K : Type 0} (old : Reading K) → true ≡ (length old.partial.items == 0) → old.partial.items ≡ []
+pub empty_is : {K : Type 0} (old : FileReading K) → true ≡ (length old.partial.items == 0) → old.partial.items ≡ []
 empty_is old none = by old.partial.items (eqb-true (length old.partial.items) 0 (sym none))
   where
     by : (bytes : List ℕ) → length bytes ≡ 0 → bytes ≡ []
@@ -390,7 +390,7 @@ empty_is old none = by old.partial.items (eqb-true (length old.partial.items) 0 
     by (byte ∷ bytes) h = absurd (omega arith)
 
 -- if bytes are kept, a line is open
-pub some_is_open : {K : Type 0} (keeps : Keeps K) (old : Reading K) (limit : ℕ) (text : List ℕ) → IsReading keeps old limit text
+pub some_is_open : {K : Type 0} (keeps : Keeps K) (old : FileReading K) (limit : ℕ) (text : List ℕ) → IsReading keeps old limit text
     → false ≡ (length old.partial.items == 0)
     → 0 < length (open_line text)
 some_is_open keeps old limit text reading some =
@@ -399,7 +399,7 @@ some_is_open keeps old limit text reading some =
     above 0 (length (open_line text)) (λ none. not_none (omega (arith, size)))
 
 -- the last line, which no line feed ended, was taken
-pub counted_last : {K : Type 0} (keeps : Keeps K) (old : Reading K) (records : Records K) (limit : ℕ) (text raw line : List ℕ) → IsReading keeps old limit text
+pub counted_last : {K : Type 0} (keeps : Keeps K) (old : FileReading K) (records : Records K) (limit : ℕ) (text raw line : List ℕ) → IsReading keeps old limit text
     → false ≡ (length old.partial.items == 0) → raw ≡ old.partial.items
     → line ≡ strip_carriage_return raw → HasCounted keeps records limit (told_lines text ++ line ∷ []) → HasCounted keeps records limit (lines_of text)
 counted_last keeps old records limit text raw line reading some same strip counted =
@@ -550,7 +550,7 @@ pub none_at_reading : (parser : ParserState) (limit : ℕ) (text : List ℕ) →
 none_at_reading parser limit text at is = subst (IsReadingOrFault parser.reading limit text) (sym at) is
 
 -- the reading of a parser that returned no fault has read what the parser was fed
-pub reading_of : (parser : ParserState) (reading : Reading Kept) (limit : ℕ) (text : List ℕ) → parser.fault ≡ None → parser.reading ≡ reading
+pub reading_of : (parser : ParserState) (reading : FileReading FileSoFar) (limit : ℕ) (text : List ℕ) → parser.fault ≡ None → parser.reading ≡ reading
     → HasRead parser limit text → IsReading KeepsAll reading limit text
 reading_of parser reading limit text none same has = subst (λ r. IsReading KeepsAll r limit text) same (reading_at_none parser limit text none has)
 
@@ -560,7 +560,7 @@ had_failed parser fault at none = none fault at
 
 -- ---- a fault of a record that wasn't complete before
 
-later_than : {K : Type 0} (keeps : Keeps K) (reading : Reading K) (limit : ℕ) (text : List ℕ) (fault : FileFault) → IsReading keeps reading limit text
+later_than : {K : Type 0} (keeps : Keeps K) (reading : FileReading K) (limit : ℕ) (text : List ℕ) (fault : FileFault) → IsReading keeps reading limit text
     → fault.number ≡ length (told_lines text) + 1
     → lines_told text < fault.number
 later_than keeps reading limit text fault is number = let same = lines_told_short text is.short in omega arith
@@ -575,14 +575,14 @@ no_want : (wants : Type 0) (fault : FileFault) (cause : model.FileCause) → cau
 no_want wants fault cause told memory = let bad : ◌≡◌ {A = Option model.FileCause} None (Some cause) = sym (ap cause_meant memory) ∙ told in absurd cc
 
 -- the fault of a line after the text is later
-pub later_next : {K : Type 0} (keeps : Keeps K) (wants : Type 0) (reading : Reading K) (line : List ℕ) (fault : FileFault)
+pub later_next : {K : Type 0} (keeps : Keeps K) (wants : Type 0) (reading : FileReading K) (line : List ℕ) (fault : FileFault)
     → FaultsNext keeps wants reading.records line fault → IsLater keeps wants reading fault
 later_next keeps wants reading line fault told = λ limit text is.
     let next = told limit (told_lines text) is.counted in
     (later_than keeps reading limit text fault is next.number, wants_of wants limit (told_lines text) line fault next)
 
 -- the fault of a line that is too long is later
-pub later_long : {K : Type 0} (keeps : Keeps K) (wants : Type 0) (reading : Reading K) (fault : FileFault)
+pub later_long : {K : Type 0} (keeps : Keeps K) (wants : Type 0) (reading : FileReading K) (fault : FileFault)
     → ((limit : ℕ) (text : List ℕ) → IsReading keeps reading limit text → IsLongNext limit (told_lines text) fault) → IsLater keeps wants reading fault
 later_long keeps wants reading fault told = λ limit text is.
     let next = told limit text is in
@@ -593,14 +593,14 @@ later_front : (text more : List ℕ) (fault : FileFault) → lines_told (text ++
 later_front text more fault later = let grown = lines_told_grow text more in omega arith
 
 -- a fault after more was read is a fault after what was read before
-pub later_piece : {K : Type 0} (keeps : Keeps K) (wants : Type 0) (old new : Reading K) (front : List ℕ) (fault : FileFault)
+pub later_piece : {K : Type 0} (keeps : Keeps K) (wants : Type 0) (old new : FileReading K) (front : List ℕ) (fault : FileFault)
     → GoesOn (IsReading keeps old) front (IsReading keeps new) → IsLater keeps wants new fault
     → IsLater keeps wants old fault
 later_piece keeps wants old new front fault read later = λ limit text is.
     let behind = later limit (text ++ front) (read limit text is) in (later_front text front fault behind.0, behind.1)
 
 -- the fault that a text has no end comes after all complete lines
-pub later_end : {K : Type 0} (keeps : Keeps K) (wants : Type 0) (reading : Reading K) (fault : FileFault)
+pub later_end : {K : Type 0} (keeps : Keeps K) (wants : Type 0) (reading : FileReading K) (fault : FileFault)
     → ((limit : ℕ) (text : List ℕ) → IsReading keeps reading limit text → IsNoEndOf (lines_of text) fault)
     → IsLater keeps wants reading fault
 later_end keeps wants reading fault told = λ limit text is.
@@ -610,27 +610,27 @@ later_end keeps wants reading fault told = λ limit text is.
     (omega arith, no_want wants fault no_end (told limit text is).1)
 
 -- the fault that a text has no end isn't out of memory
-pub last_end : {K : Type 0} (keeps : Keeps K) (reading : Reading K) (fault : FileFault)
+pub last_end : {K : Type 0} (keeps : Keeps K) (reading : FileReading K) (fault : FileFault)
     → ((limit : ℕ) (text : List ℕ) → IsReading keeps reading limit text → IsNoEndOf (lines_of text) fault)
     → IsLast keeps reading fault
 last_end keeps reading fault told = λ memory limit text is.
     let bad : ◌≡◌ {A = Option model.FileCause} None (Some no_end) = sym (ap cause_meant memory) ∙ (told limit text is).1 in absurd cc
 
 -- the open line is the last one
-pub last_open : {K : Type 0} (keeps : Keeps K) (wants : Type 0) (reading : Reading K) (line : List ℕ) (fault : FileFault)
+pub last_open : {K : Type 0} (keeps : Keeps K) (wants : Type 0) (reading : FileReading K) (line : List ℕ) (fault : FileFault)
     → false ≡ (length reading.partial.items == 0) → FaultsNext keeps wants reading.records line fault
     → IsLast keeps reading fault
 last_open keeps wants reading line fault some told =
     λ _ limit text is. (told limit (told_lines text) is.counted).number ∙ sym (length_at_end text (some_is_open keeps reading limit text is some))
 
 -- if the fault is later than what was read, it is later than what a parser without a fault was fed
-pub names_later : (parser : ParserState) (reading : Reading Kept) (fault : FileFault) → parser.fault ≡ None → parser.reading ≡ reading
+pub names_later : (parser : ParserState) (reading : FileReading FileSoFar) (fault : FileFault) → parser.fault ≡ None → parser.reading ≡ reading
     → IsLater KeepsAll ⊤ reading fault
     → NamesLater parser fault
 names_later parser reading fault none same told = λ _ limit text has. (told limit text (reading_of parser reading limit text none same has)).0
 
 -- and if it is at the last record of the one, it is at the last record of the other
-pub names_last : (parser : ParserState) (reading : Reading Kept) (fault : FileFault) → parser.fault ≡ None → parser.reading ≡ reading
+pub names_last : (parser : ParserState) (reading : FileReading FileSoFar) (fault : FileFault) → parser.fault ≡ None → parser.reading ≡ reading
     → IsLast KeepsAll reading fault
     → NamesLast parser fault
 names_last parser reading fault none same told =
@@ -639,7 +639,7 @@ names_last parser reading fault none same told =
 -- ---- a record that a text begins with
 
 -- the record was taken
-pub record_read : {K : Type 0} (keeps : Keeps K) (before : Told) (old new : Reading K) (text rest front line behind : List ℕ)
+pub record_read : {K : Type 0} (keeps : Keeps K) (before : Told) (old new : FileReading K) (text rest front line behind : List ℕ)
     → TakesUpTo before text rest (IsReading keeps old) → BeginsWithEighty rest front behind → line ≡ front → IsRecord front
     → old.partial.items ≡ [] → CountsNext keeps old.records line new.records → new.partial.items ≡ []
     → TakesUpTo before text behind (IsReading keeps new)
@@ -651,7 +651,7 @@ record_read keeps before old new text rest front line behind up_to begins same i
     (taken limit (told_lines told) reading.counted) after)
 
 -- its fault is the text's
-pub record_fault : {K : Type 0} (keeps : Keeps K) (wants : Type 0) (old : Reading K) (rest front line behind : List ℕ) (fault : FileFault)
+pub record_fault : {K : Type 0} (keeps : Keeps K) (wants : Type 0) (old : FileReading K) (rest front line behind : List ℕ) (fault : FileFault)
     → BeginsWithEighty rest front behind → line ≡ front → IsRecord front → old.partial.items ≡ []
     → FaultsNext keeps wants old.records line fault
     → TellsFault (IsReading keeps old) rest fault

@@ -14,7 +14,7 @@ use Rattle.cif_file.specs.declared.fault.ReadFault.{ReadFault}
 use Rattle.cif_file.specs.declared.fault.ReadFault.TheVariants as read
 use Rattle.cif_journey.specs.Cause.{cause_meant}
 use Rattle.cif_file.specs.declared.ended.Ended.{Ended}
-use Rattle.cif_file.specs.declared.parser.Reading.{Reading}
+use Rattle.cif_file.specs.declared.parser.FileReading.{FileReading}
 use Rattle.cif_file.specs.KeeperRead.{Keeps}
 use Rattle.cif_file.specs.FileTaken.{TakesFile, RefusesPiece}
 use Rattle.cif_file.proofs.ParserLemmas.{reading_tells_none}
@@ -28,12 +28,12 @@ sound_at_start : (limit : ℕ) (fault : model.FileFault) → ¬ IsFaultSoFar lim
 sound_at_start limit fault told = let number = told.is.number in let none : fault.number ≤ 0 = told.told in absurd (omega (arith, number, none))
 
 -- at first nothing was taken
-pub at_start : {K : Type 0} (keeps : Keeps K) (limit : ℕ) (reading : Reading K) → IsReading keeps reading limit [] → limit ≤ 4294967294
+pub at_start : {K : Type 0} (keeps : Keeps K) (limit : ℕ) (reading : FileReading K) → IsReading keeps reading limit [] → limit ≤ 4294967294
     → TakesFile keeps reading limit []
 at_start keeps limit reading has few = record { read = has; few = few; sound = sound_at_start limit }
 
 -- a piece that was read was taken
-pub takes_more : {K : Type 0} (keeps : Keeps K) (before after : Reading K) (piece : List ℕ) {A : Type 0} (result : Result A FileFault)
+pub takes_more : {K : Type 0} (keeps : Keeps K) (before after : FileReading K) (piece : List ℕ) {A : Type 0} (result : Result A FileFault)
     → OnOk result (GoesOn (IsReading keeps before) piece (IsReading keeps after))
     → OnOk result (BehindEach (TakesFile keeps) before (λ limit text. TakesFile keeps after limit (text ++ piece)))
 takes_more keeps before after piece (Ok done) read = λ limit text has.
@@ -42,7 +42,7 @@ takes_more keeps before after piece (Ok done) read = λ limit text has.
 takes_more keeps before after piece (Err fault) read = tt
 
 -- a fault that was returned refuses the piece
-pub refuses_more : {K : Type 0} (keeps : Keeps K) (wants : Type 0) (before : Reading K) (piece : List ℕ) {A : Type 0} (result : Result A FileFault)
+pub refuses_more : {K : Type 0} (keeps : Keeps K) (wants : Type 0) (before : FileReading K) (piece : List ℕ) {A : Type 0} (result : Result A FileFault)
     → IfErr result (TellsFault (IsReading keeps before) piece) → IfErr result (IsLater keeps wants before)
     → IfErr result (λ fault. BehindEach (TakesFile keeps) before (λ limit text. RefusesPiece wants limit text piece fault))
 refuses_more keeps wants before piece (Ok done) told later = tt
@@ -67,7 +67,7 @@ held_all (Some told) (Some rest) text lost end =
     same ∙ ap (λ r. text ++ r) end ∙ append-nil text
 
 -- what is returned for the text that was read to the end
-pub file_read : {K : Type 0} (keeps : Keeps K) (limit count : ℕ) (initial now : Option (List ℕ)) (reading : Reading K) (result : Result (Ended K) ReadFault)
+pub file_read : {K : Type 0} (keeps : Keeps K) (limit count : ℕ) (initial now : Option (List ℕ)) (reading : FileReading K) (result : Result (Ended K) ReadFault)
     → HasFed (TakesFile keeps) count limit [] initial now reading → IsEnd now → IfOk result (EndsBy keeps reading)
     → IfOk result (ReadsEnded keeps limit initial)
 file_read keeps limit count initial now reading (Ok ended) at end of =
@@ -147,7 +147,7 @@ fault_at_end limit text fault told result refused memory file is =
     subst (IsFaultOf limit text) as_file.0 (refused_of limit text fault refused as_file.1)
 
 -- if memory ran out at the end, it ran out at the last record
-pub memory_at_end : {K : Type 0} (keeps : Keeps K) (wants : Type 0) {A : Type 0} (limit : ℕ) (text : List ℕ) (reading : Reading K) (fault : FileFault)
+pub memory_at_end : {K : Type 0} (keeps : Keeps K) (wants : Type 0) {A : Type 0} (limit : ℕ) (text : List ℕ) (reading : FileReading K) (fault : FileFault)
     (result : ReadFault) → IsReading keeps reading limit text
     → IsRefused limit text fault → IsLater keeps wants reading fault → IsLast keeps reading fault → (fault.cause ≢ Memory → result ≡ read.File fault)
     → ◌≡◌ {A = Result A ReadFault} (Err result) (Err read.Memory)
@@ -160,25 +160,25 @@ memory_at_end keeps wants limit text reading fault result has refused later last
     )
 
 -- it is the fault of what the source held
-pub refused_at_end : {K : Type 0} (keeps : Keeps K) (limit count : ℕ) (initial now : Option (List ℕ)) (reading : Reading K) (fault : FileFault)
+pub refused_at_end : {K : Type 0} (keeps : Keeps K) (limit count : ℕ) (initial now : Option (List ℕ)) (reading : FileReading K) (fault : FileFault)
     → (at : HasFed (TakesFile keeps) count limit [] initial now reading) → IsEnd now → IsFaultOf limit at.bytes fault → RefusesText limit initial fault
 refused_at_end keeps limit count initial now reading fault at end is =
     record { text = at.bytes; held = held_all initial now at.bytes at.lost end; is = is }
 
 -- if memory ran out at the end, it ran out for a text that the source held
-pub wants_at_end : {K : Type 0} (keeps : Keeps K) (wants : Type 0) (limit count : ℕ) (initial now : Option (List ℕ)) (reading : Reading K)
+pub wants_at_end : {K : Type 0} (keeps : Keeps K) (wants : Type 0) (limit count : ℕ) (initial now : Option (List ℕ)) (reading : FileReading K)
     → (at : HasFed (TakesFile keeps) count limit [] initial now reading) → IsEnd now
     → wants × WantsMemoryAt limit (lines_of at.bytes) (length (lines_of at.bytes)) → WantsMemoryBy wants 65536 limit initial now
 wants_at_end keeps wants limit count initial now reading at end wanting =
     inr (wanting.0, inr (record { text = at.bytes; held = held_all initial now at.bytes at.lost end; wanting = wanting.1 }))
 
 -- a piece of a file was refused
-abbrev HasRefusedFile : {K : Type 0} → Keeps K → Type 0 → ℕ → Option (List ℕ) → Option (List ℕ) → Reading K → FileFault → Type 0
+abbrev HasRefusedFile : {K : Type 0} → Keeps K → Type 0 → ℕ → Option (List ℕ) → Option (List ℕ) → FileReading K → FileFault → Type 0
 HasRefusedFile keeps wants limit initial next reading fault =
     HasRefused (TakesFile keeps) (λ _ n text piece told. RefusesPiece wants n text piece told) 65536 limit [] initial next reading fault
 
 -- the fault of a piece is the fault of what the source held
-pub refused_before : {K : Type 0} (keeps : Keeps K) (wants : Type 0) {A : Type 0} (limit : ℕ) (initial next : Option (List ℕ)) (reading : Reading K)
+pub refused_before : {K : Type 0} (keeps : Keeps K) (wants : Type 0) {A : Type 0} (limit : ℕ) (initial next : Option (List ℕ)) (reading : FileReading K)
     (fault told : FileFault) (result : ReadFault) → HasRefusedFile keeps wants limit initial next reading fault
     → (fault.cause ≡ Memory → result ≡ read.Memory) → (fault.cause ≢ Memory → result ≡ read.File fault)
     → ◌≡◌ {A = Result A ReadFault} (Err result) (Err (read.File told)) → RefusesText limit initial told
@@ -199,7 +199,7 @@ refused_before keeps wants limit initial next reading fault told result has memo
     by (Some bytes) (Some rest) lost = record { text = text ++ rest; held = cc; is = of rest }
 
 -- if memory ran out before the end, it ran out at a record that the piece is the first to complete
-pub wants_before : {K : Type 0} (keeps : Keeps K) (wants : Type 0) {A : Type 0} (limit : ℕ) (initial next : Option (List ℕ)) (reading : Reading K)
+pub wants_before : {K : Type 0} (keeps : Keeps K) (wants : Type 0) {A : Type 0} (limit : ℕ) (initial next : Option (List ℕ)) (reading : FileReading K)
     (fault : FileFault) (result : ReadFault) → HasRefusedFile keeps wants limit initial next reading fault
     → (fault.cause ≢ Memory → result ≡ read.File fault) → ◌≡◌ {A = Result A ReadFault} (Err result) (Err read.Memory)
     → WantsMemoryBy wants 65536 limit initial next

@@ -2,7 +2,7 @@
 use Rattle.std.specs.Prelude.{◌≡◌, ℕ, List, [], length, slice_index_or}
 use Rattle.docker_model.specs.file.Change.{changes}
 use Rattle.cif_file.specs.declared.ended.Ended.{Ended}
-use Rattle.cif_file.specs.declared.kept.Kept.{Kept}
+use Rattle.cif_file.specs.declared.kept.FileSoFar.{FileSoFar}
 use Rattle.cif_file.specs.declared.parts.FileParts.{FileParts}
 use Rattle.cif_file.specs.declared.tally.Tally.{Tally}
 use Rattle.cif_file.specs.KeeperRead.{Keeps}
@@ -16,7 +16,7 @@ pub record IsEnded {K : Type 0} (keeps : Keeps K) (records : List (List ℕ)) (e
   pub kept : keeps ended.keeper [] (changes records)
 
 -- the parts of the file, if the changes themselves were kept
-abbrev pub parts_ended : Ended Kept → FileParts
+abbrev pub parts_ended : Ended FileSoFar → FileParts
 parts_ended ended = record {
   header = ended.header;
   records = ended.records;
@@ -25,7 +25,7 @@ parts_ended ended = record {
 }
 
 -- the file
-abbrev pub file_ended : Ended Kept → FileRead
+abbrev pub file_ended : Ended FileSoFar → FileRead
 file_ended ended = file_of_parts (parts_ended ended)
 
 -- the counts of the file, if the changes were counted

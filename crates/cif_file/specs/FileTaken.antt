@@ -7,19 +7,19 @@ use Rattle.docker_model.specs.file.FileFault as model
 use Rattle.cif_laws.proofs.files.ToldBound.{text_without_fault_is_bounded}
 use Rattle.cif_journey.specs.declared.cause.FileCause.TheVariants.{Memory}
 use Rattle.cif_file.specs.declared.fault.FileFault.{FileFault}
-use Rattle.cif_file.specs.declared.parser.Reading.{Reading}
+use Rattle.cif_file.specs.declared.parser.FileReading.{FileReading}
 use Rattle.cif_file.specs.KeeperRead.{Keeps}
 use Rattle.cif_file.specs.ParserRead.{IsReading, IsFaultTold}
 
 -- a text was read that has no fault so far, under a limit on the number of its records
-pub record TakesFile {K : Type 0} (keeps : Keeps K) (reading : Reading K) (limit : ℕ) (text : List ℕ) : Type 0 where
+pub record TakesFile {K : Type 0} (keeps : Keeps K) (reading : FileReading K) (limit : ℕ) (text : List ℕ) : Type 0 where
   pub read : IsReading keeps reading limit text
   pub few : limit ≤ most_records
   pub sound : (fault : model.FileFault) → ¬ IsFaultSoFar limit text fault
 
 -- a text that a reading has taken is bounded: at most 82 bytes for each record of the limit, and 81
 -- more
-pub taken_is_bounded : {K : Type 0} (keeps : Keeps K) (reading : Reading K) (limit : ℕ) (text : List ℕ) → TakesFile keeps reading limit text
+pub taken_is_bounded : {K : Type 0} (keeps : Keeps K) (reading : FileReading K) (limit : ℕ) (text : List ℕ) → TakesFile keeps reading limit text
     → length text < 2 ^ 64
 taken_is_bounded keeps reading limit text has =
     let most = text_without_fault_is_bounded limit text has.sound in

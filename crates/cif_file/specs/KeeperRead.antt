@@ -4,7 +4,7 @@ use Rattle.docker_model.specs.file.Change.{Change, changes_of_record, schedule_b
 use Rattle.cif_change.specs.declared.key.Key.TheVariants as key
 use Rattle.cif_journey.specs.JourneyRead.{progress_meant}
 use Rattle.cif_file.specs.declared.opened.Opened.{Opened}
-use Rattle.cif_file.specs.declared.kept.Kept.{Kept}
+use Rattle.cif_file.specs.declared.kept.FileSoFar.{FileSoFar}
 use Rattle.cif_file.specs.MadeChanges.{HasMade}
 use Rattle.cif_file.specs.declared.tally.Tally.{Tally}
 use Rattle.cif_change.specs.Meaning.{key_meant}
@@ -39,7 +39,7 @@ AddsSingle keeps old number line new =
     (lines : Lines) (made : List Change) → keeps old lines made → keeps new lines (made ++ changes_of_record number line [])
 
 -- the lines and the changes themselves are kept, and the places that the changes name are noted
-abbrev pub KeepsAll : Kept → Lines → List Change → Type 0
+abbrev pub KeepsAll : FileSoFar → Lines → List Change → Type 0
 KeepsAll kept lines changes = (kept.lines.items ≡ lines) × HasMade kept.made changes
 
 -- the changes are counted, if their number fits in 64 bits

@@ -15,9 +15,9 @@ use Rattle.cif_journey.specs.declared.cause.FileCause.{FileCause}
 use Rattle.cif_journey.specs.declared.cause.FileCause.TheVariants.{Memory}
 use Rattle.cif_file.specs.declared.ended.Ended.{Ended}
 use Rattle.cif_file.specs.declared.front.Front.{Front}
-use Rattle.cif_file.specs.declared.kept.Kept.{Kept}
+use Rattle.cif_file.specs.declared.kept.FileSoFar.{FileSoFar}
 use Rattle.cif_file.specs.declared.records.Records.{Records}
-use Rattle.cif_file.specs.declared.parser.Reading.{Reading}
+use Rattle.cif_file.specs.declared.parser.FileReading.{FileReading}
 use Rattle.cif_journey.specs.Cause.{cause_meant}
 use Rattle.cif_file.specs.Cut.{before_rest}
 use Rattle.cif_file.specs.FileRead.{FileRead, FileCounted, IsOfRecords, IsCountOfRecords}
@@ -97,7 +97,7 @@ abbrev pub EndsUnended : {K : Type 0} → Keeps K → Records K → FileFault �
 EndsUnended keeps state fault = (limit : ℕ) (records : Lines) → HasCounted keeps state limit records → IsNoEndOf records fault
 
 -- there was no fault: every complete line was taken, and the line after them is unfinished
-pub record IsReading {K : Type 0} (keeps : Keeps K) (reading : Reading K) (limit : ℕ) (text : List ℕ) : Type 0 where
+pub record IsReading {K : Type 0} (keeps : Keeps K) (reading : FileReading K) (limit : ℕ) (text : List ℕ) : Type 0 where
   pub counted : HasCounted keeps reading.records limit (told_lines text)
   pub partial_is : reading.partial.items ≡ open_line text
   pub short : length (open_line text) ≤ 81
@@ -109,7 +109,7 @@ pub record IsEndedText {K : Type 0} (keeps : Keeps K) (limit : ℕ) (text : List
   pub of_records : IsEnded keeps records ended
 
 -- what was read is the text of a file, and this is returned for it
-abbrev pub EndsBy : {K : Type 0} → Keeps K → Reading K → Ended K → Type 0
+abbrev pub EndsBy : {K : Type 0} → Keeps K → FileReading K → Ended K → Type 0
 EndsBy keeps reading ended = (limit : ℕ) (text : List ℕ) → IsReading keeps reading limit text → IsEndedText keeps limit text ended
 
 -- memory ran out at the record of this number: one of these, within the limit, and some file begins
@@ -140,10 +140,10 @@ IsRefused limit text fault = IsCauseOf limit text fault.number (cause_meant faul
 
 -- what a parser keeps
 pub record ParserState : Type 0 where
-  pub reading : Reading Kept
+  pub reading : FileReading FileSoFar
   pub fault : Option FileFault
 
-abbrev pub IsReadingOrFault : Reading Kept → ℕ → List ℕ → Option FileFault → Type 0
+abbrev pub IsReadingOrFault : FileReading FileSoFar → ℕ → List ℕ → Option FileFault → Type 0
 IsReadingOrFault reading limit text None = IsReading KeepsAll reading limit text
 IsReadingOrFault reading limit text (Some fault) = IsFaultTold limit text fault
 
@@ -180,7 +180,7 @@ abbrev pub HasNotFailed : ParserState → Type 0
 HasNotFailed parser = (fault : FileFault) → ¬ HasFailed parser fault
 
 -- no text that was read before completes the record of the fault; and memory ran out only if it may
-abbrev pub IsLater : {K : Type 0} → Keeps K → Type 0 → Reading K → FileFault → Type 0
+abbrev pub IsLater : {K : Type 0} → Keeps K → Type 0 → FileReading K → FileFault → Type 0
 IsLater keeps wants reading fault =
     (limit : ℕ) (text : List ℕ) → IsReading keeps reading limit text → (lines_told text < fault.number) × (fault.cause ≡ Memory → wants)
 
@@ -190,7 +190,7 @@ abbrev pub NamesLater : ParserState → FileFault → Type 0
 NamesLater parser fault = HasNotFailed parser → (limit : ℕ) (text : List ℕ) → HasRead parser limit text → lines_told text < fault.number
 
 -- if memory ran out, it ran out at the last record of the text that was read
-abbrev pub IsLast : {K : Type 0} → Keeps K → Reading K → FileFault → Type 0
+abbrev pub IsLast : {K : Type 0} → Keeps K → FileReading K → FileFault → Type 0
 IsLast keeps reading fault = fault.cause ≡ Memory → (limit : ℕ) (text : List ℕ) → IsReading keeps reading limit text → fault.number ≡ length (lines_of text)
 
 -- like `IsLast`, for a parser that returned no fault

@@ -6,7 +6,7 @@ ghost use Rattle.cif_file.specs.EndedRead.{file_ended, parts_ended, count_ended}
 use crate::count::FileCount;
 use crate::file::CifFile;
 use crate::header_line::HeaderLine;
-use crate::kept::Kept;
+use crate::kept::FileSoFar;
 use crate::made::Made;
 use crate::parts::FileParts;
 use crate::tally::Tally;
@@ -19,7 +19,7 @@ pub(crate) struct Ended<K> {
     pub(crate) keeper: K,
 }
 
-impl Ended<Kept> {
+impl Ended<FileSoFar> {
     ghost use Rattle.std.specs.Prelude.{◌≡◌};
 
     /// The file with the changes that were kept.

@@ -1,5 +1,5 @@
 //! Why a text isn't a file, and why no file was read from a source.
-ghost use Rattle.std.specs.Prelude.{◌≡◌, Some};
+ghost use Rattle.std.specs.Prelude.{Some};
 ghost use Rattle.cif_file.specs.FaultText.{fault_text, read_fault_text};
 
 use cif_journey::FileCause;

@@ -1,10 +1,8 @@
 //! The records of a file so far.
-ghost use Rattle.std.specs.Prelude.{◌≡◌, ℕ, ◌+◌, ◌↔◌, List, [], ◌∷◌, ◌++◌, length, map, IsOk, IfErr, IsErr, OnOk, OnErr, MatchOption, Some, true, false, is_some, IsTrue};
+ghost use Rattle.std.specs.Prelude.{◌≡◌, ℕ, ◌+◌, ◌↔◌, List, [], ◌∷◌, ◌++◌, length, IsOk, IfErr, OnOk, OnErr, MatchOption, Some, true, false, IsTrue};
 ghost use Rattle.docker_model.specs.records.Record.{HasKind, IsRecord};
 ghost use Rattle.docker_model.specs.file.File.{follows_basic, IsFile};
-ghost use Rattle.docker_model.specs.file.Change.{changes};
 ghost use Rattle.cif_line.specs.Kind.{meaning};
-ghost use Rattle.cif_journey.specs.Cause.{cause_meant};
 ghost use Rattle.cif_journey.specs.JourneyRead.{FaultsLine, JudgesLine, is_over_by, progress_meant};
 ghost use Rattle.cif_file.specs.KeeperRead.{Closes};
 ghost use Rattle.cif_file.specs.UnitRead.{IsUnitOf, IsOfSome};

@@ -1,5 +1,5 @@
 //! The counts of the file that a source holds.
-ghost use Rattle.std.specs.Prelude.{◌≡◌, ◌≢◌, ◌+◌, ◌-◌, ◌^◌, ◌<◌, ◌≤◌, ◌↔◌, [], IfOk, IsOk, Err};
+ghost use Rattle.std.specs.Prelude.{◌≡◌, ◌-◌, ◌^◌, ◌<◌, ◌≤◌, [], IfOk, IsOk, Err};
 ghost use Rattle.cif_line.specs.Device.{CountsFailure, IsEnd, Reads};
 ghost use Rattle.cif_file.specs.SourceRead.{CountsText, RefusesText, ReadsNoFurther};
 

@@ -11,18 +11,18 @@ use std::alloc::{AllocError, Global};
 
 /// What the records of a file so far have made, and the lines of the schedule that is being read.
 #[derive(Debug, Drop)]
-pub(crate) struct Kept {
+pub(crate) struct FileSoFar {
     alloc: Global,
     lines: Vec<Line>,
     made: Made,
 }
 
-impl Kept {
+impl FileSoFar {
     /// No line and no change.
-    pub(crate) fn new(alloc: Global) -> Kept
+    pub(crate) fn new(alloc: Global) -> FileSoFar
         ensures { KeepsAll result [] [] }
     {
-        Kept {
+        FileSoFar {
             alloc,
             lines: Vec::new(alloc),
             made: Made::new(alloc),
@@ -33,12 +33,12 @@ impl Kept {
     pub(crate) fn into_made(self) -> Made
         ensures { result ≡ self.made }
     {
-        let Kept { made, .. } = self;
+        let FileSoFar { made, .. } = self;
         made
     }
 }
 
-impl Keeper for Kept {
+impl Keeper for FileSoFar {
     ghost use Rattle.std.specs.Prelude.{⊤};
 
     ghost keeps = { KeepsAll };

@@ -1,5 +1,5 @@
 //! The next line of a file.
-ghost use Rattle.std.specs.Prelude.{◌≡◌, ℕ, ◌+◌, ◌<◌, List, [], ◌∷◌, ◌++◌, length, IsOk, IsErr, IfOk, IfErr, OnOk, Some};
+ghost use Rattle.std.specs.Prelude.{◌≡◌, ◌<◌, IsErr, IfOk, IfErr, OnOk, Some};
 ghost use Rattle.docker_model.specs.records.Record.{IsRecord};
 ghost use Rattle.cif_laws.specs.FileStage.{Place};
 ghost use Rattle.cif_laws.specs.RecordCause.{length_cause};

@@ -8,7 +8,7 @@ ghost use Rattle.cif_line.specs.Kind.{meaning};
 ghost use Rattle.cif_change.specs.Meaning.{change_meant, key_meant};
 
 use cif_change::{Act, Body, Change, Key, Lines, ScheduleKey};
-use cif_journey::{FileCause, Progress, behind_basic};
+use cif_journey::{FileCause, Progress, progress_after_basic};
 use cif_line::{Basic, Kind, Line};
 use std::alloc::{AllocError, Global};
 
@@ -89,7 +89,7 @@ pub(crate) fn opened_schedule(number: u32, view: &Basic<'_>) -> Opened
     Opened {
         number,
         key: schedule_key(view),
-        progress: behind_basic(view),
+        progress: progress_after_basic(view),
     }
 }
 

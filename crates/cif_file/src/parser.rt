@@ -1,5 +1,5 @@
 //! A parser that is fed a file piece by piece.
-ghost use Rattle.std.specs.Prelude.{◌≡◌, ℕ, ◌+◌, ◌≤◌, ◌↔◌, length, IsTrue, List, [], ◌∷◌, ◌++◌, IsOk, IfOk, IfErr, OnOk, Err};
+ghost use Rattle.std.specs.Prelude.{◌≡◌, ◌+◌, ◌≤◌, ◌↔◌, length, IsTrue, [], ◌∷◌, ◌++◌, IsOk, IfOk, IfErr, OnOk, Err};
 ghost use Rattle.cif_laws.specs.LinesTold.{HasNoFeed};
 ghost use Rattle.cif_file.specs.ParserRead.{HasRead, HasFailed, HasNotFailed, IsReading, EndsBy, IsLater, NamesLater, IsLast, NamesLast, GoesOn, TakesUpTo, TellsFault, TellsNoFault, EndsAs, EndsInFault};
 
@@ -7,7 +7,7 @@ use crate::ended::Ended;
 use crate::fault::FileFault;
 use crate::file::CifFile;
 use crate::keeper::Keeper;
-use crate::kept::Kept;
+use crate::kept::FileSoFar;
 use crate::records::{MOST_RECORDS, Records};
 use crate::text::{split_eighty, split_line, without_return};
 use arrayvec::ArrayVec;
@@ -20,7 +20,7 @@ const MOST_PARTIAL: usize = 81;
 
 /// The records of a file so far, and the bytes of a line whose end hasn't come yet.
 #[derive(Debug, Drop)]
-pub(crate) struct Reading<K> {
+pub(crate) struct FileReading<K> {
     records: Records<K>,
     partial: ArrayVec<u8, MOST_PARTIAL>,
 }
@@ -33,14 +33,14 @@ fn extend(partial: &mut ArrayVec<u8, MOST_PARTIAL>, more: &[u8]) -> bool
     partial.try_extend_from_slice(more).is_ok()
 }
 
-impl<K: Keeper> Reading<K> {
+impl<K: Keeper> FileReading<K> {
     /// Before the first byte of a file of at most `limit` records.
-    pub(crate) fn new(keeper: K, limit: u32) -> Reading<K>
+    pub(crate) fn new(keeper: K, limit: u32) -> FileReading<K>
         requires limit { limit ≤ MOST_RECORDS }
         requires none { K.keeps keeper [] [] }
         ensures { IsReading K.keeps result limit [] }
     {
-        Reading {
+        FileReading {
             records: Records::new(keeper, limit),
             partial: ArrayVec::new(),
         }
@@ -125,7 +125,7 @@ impl<K: Keeper> Reading<K> {
         ensures later { IfErr result (IsLater K.keeps K.wants self) }
         ensures last { IfErr result (IsLast K.keeps self) }
     {
-        let Reading {
+        let FileReading {
             mut records,
             partial,
         } = self;
@@ -143,7 +143,7 @@ impl<K: Keeper> Reading<K> {
 /// so far, and the bytes of a line whose end hasn't come yet.
 #[derive(Debug, Drop)]
 pub struct FileParser {
-    reading: Reading<Kept>,
+    reading: FileReading<FileSoFar>,
     fault: Option<FileFault>,
 }
 
@@ -165,7 +165,7 @@ impl FileParser {
         ensures { HasRead result limit [] }
     {
         FileParser {
-            reading: Reading::new(Kept::new(alloc), limit),
+            reading: FileReading::new(FileSoFar::new(alloc), limit),
             fault: None,
         }
     }

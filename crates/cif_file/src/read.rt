@@ -1,5 +1,5 @@
 //! The file that a source holds.
-ghost use Rattle.std.specs.Prelude.{◌≡◌, ◌≢◌, ℕ, ◌+◌, ◌-◌, ◌^◌, ◌<◌, ◌≤◌, ◌↔◌, List, [], length, IfOk, IsOk, Err};
+ghost use Rattle.std.specs.Prelude.{◌≡◌, ◌≢◌, ℕ, ◌-◌, ◌^◌, ◌<◌, ◌≤◌, List, [], length, IfOk, IsOk, Err};
 ghost use Rattle.docker_model.specs.file.Text.{lines_of};
 ghost use Rattle.cif_line.specs.Device.{CountsFailure, IsEnd};
 ghost use Rattle.cif_file.specs.ParserRead.{IsReading, WantsMemoryAt, EndsBy};
@@ -9,8 +9,8 @@ use crate::ended::Ended;
 use crate::fault::{FileFault, ReadFault};
 use crate::file::CifFile;
 use crate::keeper::Keeper;
-use crate::kept::Kept;
-use crate::parser::Reading;
+use crate::kept::FileSoFar;
+use crate::parser::FileReading;
 use crate::records::MOST_RECORDS;
 use cif_journey::FileCause;
 use cif_line::{FeedFault, PIECE, Source, Taker, feed_all};
@@ -32,13 +32,13 @@ pub fn read_file<S: Source>(alloc: Global, source: &mut S, limit: u32) -> Result
     ensures failures { CountsFailure (result ≡ Err ReadFault.Source)
         (S.failures source.old) (S.failures source.new) }
 {
-    match read_source(alloc, source, Kept::new(alloc), limit) {
+    match read_source(alloc, source, FileSoFar::new(alloc), limit) {
         Ok(ended) => Ok(ended.into_file()),
         Err(fault) => Err(fault),
     }
 }
 
-impl<K: Keeper> Taker for Reading<K> {
+impl<K: Keeper> Taker for FileReading<K> {
     ghost use Rattle.std.specs.Prelude.{ℕ};
     ghost use Rattle.cif_file.specs.FileTaken.{TakesFile, RefusesPiece, taken_is_bounded};
 
@@ -78,7 +78,7 @@ pub(crate) fn read_source<S: Source, K: Keeper>(
     ensures failures { CountsFailure (result ≡ Err ReadFault.Source)
         (S.failures source.old) (S.failures source.new) }
 {
-    let mut reading = Reading::new(keeper, limit);
+    let mut reading = FileReading::new(keeper, limit);
     match feed_all(alloc, source, &mut reading) {
         Ok(_) => ended_of(reading),
         Err(FeedFault::Source) => Err(ReadFault::Source),
@@ -88,7 +88,7 @@ pub(crate) fn read_source<S: Source, K: Keeper>(
 }
 
 /// What was kept of the file that was read.
-fn ended_of<K: Keeper>(reading: Reading<K>) -> Result<Ended<K>, ReadFault>
+fn ended_of<K: Keeper>(reading: FileReading<K>) -> Result<Ended<K>, ReadFault>
     ensures ok { IfOk result (EndsBy K.keeps reading) }
     ensures file { (limit : ℕ) (text : List ℕ) → IsReading K.keeps reading limit text →
         (fault : _) → result ≡ Err (ReadFault.File fault) → IsFaultOf limit text fault }

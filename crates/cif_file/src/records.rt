@@ -23,9 +23,7 @@ pub(crate) struct Records<K> {
 }
 
 impl<K: Keeper> Records<K> {
-    ghost use Rattle.std.specs.Prelude.{◌≡◌, ℕ, ◌+◌, ◌≤◌, ◌<◌, List, [], ◌∷◌, ◌++◌, length, IsOk, IfOk, IfErr, OnOk, Some};
-    ghost use Rattle.docker_model.specs.file.File.{IsFile};
-    ghost use Rattle.docker_model.specs.file.FileFault.{no_end};
+    ghost use Rattle.std.specs.Prelude.{ℕ, ◌+◌, ◌≤◌, ◌<◌, List, [], IfOk, IfErr, OnOk, Some};
     ghost use Rattle.cif_journey.specs.Cause.{cause_meant};
     ghost use Rattle.cif_file.specs.ParserRead.{HasCounted, CountsNext, FaultsNext, IsLongNext, IsRefusedNext, EndsCounted, EndsUnended};
 

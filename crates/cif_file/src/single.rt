@@ -1,5 +1,5 @@
 //! Records that are units by themselves, and the changes that they make.
-ghost use Rattle.std.specs.Prelude.{◌≡◌, ℕ, length, ◌++◌, [], ◌∷◌, map, true, false, OnOk, MatchOption, if◌then◌else◌};
+ghost use Rattle.std.specs.Prelude.{◌≡◌, ℕ, length, [], true, false, OnOk, MatchOption, if◌then◌else◌};
 ghost use Rattle.docker_model.specs.records.Record.{HasKind, columns, tiploc_amend};
 ghost use Rattle.docker_model.specs.records.Field.{is_deletion, as_new};
 ghost use Rattle.docker_model.specs.file.Change.{changes_of_record, keeps_code, tiploc_key, association_named, tiploc_named, tiploc_details, association_body, delete, put};

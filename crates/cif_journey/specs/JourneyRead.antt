@@ -10,7 +10,7 @@ use Rattle.cif_laws.specs.TimesSoFar.{last_of}
 use Rattle.cif_laws.specs.ScheduleStage.{after_basic, after_details, in_journey, after_journey, stage_of, stage_after, may_lack}
 use Rattle.cif_laws.specs.ScheduleStage as place
 use Rattle.cif_journey.specs.declared.cause.FileCause.{FileCause}
-use Rattle.cif_journey.specs.declared.journey_times.Times.{Times}
+use Rattle.cif_journey.specs.declared.journey_times.LineTimes.{LineTimes}
 use Rattle.cif_journey.specs.declared.progress.Progress.{Progress}
 use Rattle.cif_journey.specs.declared.stage.ScheduleStage.{ScheduleStage}
 use Rattle.cif_journey.specs.declared.stage.ScheduleStage.TheVariants.{AfterBasic, AfterDetails, InJourney, AfterJourney}
@@ -53,11 +53,11 @@ time_list None = []
 time_list (Some time) = time ∷ []
 
 -- the times of a line of the code, each if given
-abbrev pub times_list : Times → List ℕ
+abbrev pub times_list : LineTimes → List ℕ
 times_list times = time_list times.first ++ time_list times.second ++ time_list times.third
 
 -- they are the times of this line
-abbrev pub AreTimesOf : List ℕ → Times → Type 0
+abbrev pub AreTimesOf : List ℕ → LineTimes → Type 0
 AreTimesOf line times = map (λ time. time.1) (times_of line) ≡ times_list times
 
 -- the stage after one more line of a kind; before the first line there is no stage

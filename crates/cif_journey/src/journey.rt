@@ -1,5 +1,5 @@
 //! The reader of one schedule's lines.
-ghost use Rattle.std.specs.Prelude.{◌≡◌, ℕ, ◌≤◌, IsTrue, IsOk, IsErr, IfErr, List, [], ◌∷◌, ◌++◌};
+ghost use Rattle.std.specs.Prelude.{◌≡◌, ℕ, IsTrue, IsOk, IsErr, IfErr, List, [], ◌∷◌, ◌++◌};
 ghost use Rattle.cif_journey.specs.JourneyRead.{HasLines, IsScheduleCause, JudgesLine, JudgesWhole};
 ghost use Rattle.cif_journey.specs.Cause.{cause_meant};
 

@@ -1,5 +1,5 @@
 //! The times of a journey's lines, and how often it passes midnight.
-ghost use Rattle.std.specs.Prelude.{◌≡◌, ℕ, ◌+◌, ◌≤◌, ◌<◌, ◌↔◌, IsOk, IfOk, IfErr, Some, None, true};
+ghost use Rattle.std.specs.Prelude.{◌≡◌, ◌+◌, ◌≤◌, ◌<◌, ◌↔◌, IsOk, IfOk, IfErr, Some, None, true};
 ghost use Rattle.docker_model.specs.records.Record.{HasKind, origin_location, intermediate_location, terminating_location};
 ghost use Rattle.docker_model.specs.records.Field.{HasGoodFields, leftmost_bad_field};
 ghost use Rattle.docker_model.specs.file.File.{follows_basic};
@@ -18,7 +18,7 @@ pub(crate) struct Clock {
 
 /// The times of a line in their order. A line has at most three.
 #[derive(Clone, Copy, PartialEq, Eq, Debug)]
-pub(crate) struct Times {
+pub(crate) struct LineTimes {
     first: Option<Time>,
     second: Option<Time>,
     third: Option<Time>,
@@ -56,7 +56,7 @@ impl Clock {
     }
 
     /// The clock after the times of one more line.
-    pub(crate) fn past(self, times: Times) -> Clock
+    pub(crate) fn past(self, times: LineTimes) -> Clock
         requires { self.falls < 250 }
         ensures falls { result.falls ≡ self.falls + falls_after self.last (times_list times) }
         ensures last { result.last ≡
@@ -67,7 +67,7 @@ impl Clock {
 }
 
 /// The times of a line after a basic schedule, or its leftmost bad field.
-pub(crate) fn times_at(kind: Kind, line: &Line) -> Result<Times, FieldFault>
+pub(crate) fn times_at(kind: Kind, line: &Line) -> Result<LineTimes, FieldFault>
     requires kind { HasKind (meaning kind) line.now }
     requires follows { follows_basic (Some (meaning kind)) ≡ true }
     ensures ok { IsOk result ↔ HasGoodFields line.now }
@@ -78,7 +78,7 @@ pub(crate) fn times_at(kind: Kind, line: &Line) -> Result<Times, FieldFault>
         Kind::OriginLocation => origin_times(line),
         Kind::IntermediateLocation => call_times(line),
         Kind::TerminatingLocation => terminus_times(line),
-        _ => Ok(Times {
+        _ => Ok(LineTimes {
             first: None,
             second: None,
             third: None,
@@ -87,14 +87,14 @@ pub(crate) fn times_at(kind: Kind, line: &Line) -> Result<Times, FieldFault>
 }
 
 /// The departure of an origin.
-fn origin_times(line: &Line) -> Result<Times, FieldFault>
+fn origin_times(line: &Line) -> Result<LineTimes, FieldFault>
     requires kind { HasKind origin_location line.now }
     ensures ok { IsOk result ↔ HasGoodFields line.now }
     ensures value { IfOk result (AreTimesOf line.now) }
     ensures err { IfErr result (λ fault. leftmost_bad_field line.now ≡ Some fault.0) }
 {
     let view = origin(line)?;
-    Ok(Times {
+    Ok(LineTimes {
         first: Some(view.departure()),
         second: None,
         third: None,
@@ -102,14 +102,14 @@ fn origin_times(line: &Line) -> Result<Times, FieldFault>
 }
 
 /// The arrival, the pass and the departure at an intermediate location, each if given.
-fn call_times(line: &Line) -> Result<Times, FieldFault>
+fn call_times(line: &Line) -> Result<LineTimes, FieldFault>
     requires kind { HasKind intermediate_location line.now }
     ensures ok { IsOk result ↔ HasGoodFields line.now }
     ensures value { IfOk result (AreTimesOf line.now) }
     ensures err { IfErr result (λ fault. leftmost_bad_field line.now ≡ Some fault.0) }
 {
     let view = call(line)?;
-    Ok(Times {
+    Ok(LineTimes {
         first: view.arrival(),
         second: view.pass(),
         third: view.departure(),
@@ -117,14 +117,14 @@ fn call_times(line: &Line) -> Result<Times, FieldFault>
 }
 
 /// The arrival at a terminating location.
-fn terminus_times(line: &Line) -> Result<Times, FieldFault>
+fn terminus_times(line: &Line) -> Result<LineTimes, FieldFault>
     requires kind { HasKind terminating_location line.now }
     ensures ok { IsOk result ↔ HasGoodFields line.now }
     ensures value { IfOk result (AreTimesOf line.now) }
     ensures err { IfErr result (λ fault. leftmost_bad_field line.now ≡ Some fault.0) }
 {
     let view = terminus(line)?;
-    Ok(Times {
+    Ok(LineTimes {
         first: Some(view.arrival()),
         second: None,
         third: None,

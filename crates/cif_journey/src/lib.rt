@@ -11,4 +11,4 @@ mod steps;
 pub use cause::FileCause;
 pub use journey::Journey;
 pub use progress::Progress;
-pub use steps::behind_basic;
+pub use steps::progress_after_basic;

@@ -1,7 +1,7 @@
 //! The steps of a reader of a schedule's lines.
-ghost use Rattle.std.specs.Prelude.{◌≡◌, ◌==◌, ℕ, ◌↔◌, IsTrue, IsOk, IsErr, IfOk, IfErr, OnOk, Some, true, List, [], ◌∷◌, ◌++◌};
+ghost use Rattle.std.specs.Prelude.{◌≡◌, ◌==◌, ℕ, ◌↔◌, IsTrue, IsOk, IsErr, IfOk, IfErr, OnOk, Some, true, List, [], ◌∷◌};
 ghost use Rattle.docker_model.specs.records.Record.{HasKind, IsRecord, basic_schedule, column};
-ghost use Rattle.docker_model.specs.records.Field.{is_deletion, HasGoodFields};
+ghost use Rattle.docker_model.specs.records.Field.{is_deletion};
 ghost use Rattle.docker_model.specs.file.File.{follows_basic};
 ghost use Rattle.cif_laws.specs.ScheduleStage.{is_sound_next, is_first_line};
 ghost use Rattle.cif_laws.specs.RecordCause.{first_line_cause, field_cause};
@@ -156,13 +156,13 @@ fn behind_first(kind: Kind, line: &Line) -> Result<Progress, FileCause>
     ensures err { IfErr result (λ cause. cause_meant cause ≡ Some (first_line_cause line.now)) }
 {
     match kind {
-        Kind::BasicSchedule => behind_first_basic(line),
+        Kind::BasicSchedule => progress_after_first_basic(line),
         _ => Err(FileCause::Place),
     }
 }
 
 /// The progress after a basic schedule, if its fields are good.
-fn behind_first_basic(line: &Line) -> Result<Progress, FileCause>
+fn progress_after_first_basic(line: &Line) -> Result<Progress, FileCause>
     requires record { IsRecord line.now }
     requires kind { HasKind basic_schedule line.now }
     ensures ok { IsOk result ↔ (is_first_line line.now ≡ true) }
@@ -170,11 +170,11 @@ fn behind_first_basic(line: &Line) -> Result<Progress, FileCause>
     ensures err { IfErr result (λ cause. cause_meant cause ≡ Some (first_line_cause line.now)) }
 {
     let view = basic(line)?;
-    Ok(behind_basic(&view))
+    Ok(progress_after_basic(&view))
 }
 
 /// The progress after a basic schedule.
-pub fn behind_basic(view: &Basic<'_>) -> Progress
+pub fn progress_after_basic(view: &Basic<'_>) -> Progress
     requires { is_first_line view.now ≡ true }
     ensures { HasLines (progress_meant result) (view.now ∷ []) }
 {

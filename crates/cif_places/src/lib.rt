@@ -9,6 +9,6 @@ mod noting;
 mod piece;
 mod places;
 
-pub use names::Names;
+pub use names::PlaceNames;
 pub use notes::Notes;
 pub use piece::Piece;

@@ -10,18 +10,18 @@ use std::alloc::Global;
 /// Places in the order in which they came. A place may occur more than once. Its number is one of
 /// its indexes.
 #[derive(Debug, Drop)]
-pub struct Names {
+pub struct PlaceNames {
     /// The places.
     pub list: Vec<[u8; 7]>,
     memo: Memo,
 }
 
-impl Names {
+impl PlaceNames {
     /// No place yet. It takes no memory.
-    pub(crate) fn new(alloc: Global) -> Names
+    pub(crate) fn new(alloc: Global) -> PlaceNames
         ensures { result.list.items ≡ [] }
     {
-        Names {
+        PlaceNames {
             list: Vec::new(alloc),
             memo: Memo::new(alloc),
         }

@@ -6,7 +6,7 @@ ghost use Rattle.docker_model.specs.state.Op.{put_with, body_of};
 ghost use Rattle.cif_change.specs.Meaning.{key_meant, body_meant, change_meant};
 ghost use Rattle.cif_places.specs.Noted.{Item, AreNoted, ArePicked, HasNoted, items_put, no_piece};
 
-use crate::names::Names;
+use crate::names::PlaceNames;
 use crate::noting::piece_of;
 use crate::piece::Piece;
 use cif_change::{Act, Body, Change, Key};
@@ -18,7 +18,7 @@ use std::alloc::Global;
 #[derive(Debug, Drop)]
 pub struct Notes {
     /// The places that have numbers.
-    pub names: Names,
+    pub names: PlaceNames,
     /// The numbers of the places that the rows name, row by row.
     pub numbers: Vec<u32>,
     /// For each row, the numbers that belong to it.
@@ -31,7 +31,7 @@ impl Notes {
         ensures { HasNoted [] result }
     {
         Notes {
-            names: Names::new(alloc),
+            names: PlaceNames::new(alloc),
             numbers: Vec::new(alloc),
             pieces: Vec::new(alloc),
         }

@@ -6,7 +6,7 @@ ghost use Rattle.cif_change.specs.Meaning.{key_meant, body_meant};
 ghost use Rattle.cif_places.specs.NamedPlaces.{location_lines, AreRanks};
 ghost use Rattle.cif_places.specs.Noted.{IsNext, Keeps};
 
-use crate::names::Names;
+use crate::names::PlaceNames;
 use crate::piece::Piece;
 use crate::places::{is_location, tiploc_in};
 use cif_change::{Body, Key};
@@ -14,7 +14,7 @@ use cif_line::{Line, Memory};
 
 /// Notes the places of what is put at a key. Returns which of the numbers are its own.
 pub(crate) fn piece_of(
-    names: &mut Names,
+    names: &mut PlaceNames,
     numbers: &mut Vec<u32>,
     key: &Key,
     body: &Body,
@@ -59,7 +59,11 @@ fn count_of(numbers: &Vec<u32>) -> Result<u32, Memory>
 }
 
 /// Notes the TIPLOC of each location record among some lines.
-fn note_locations(names: &mut Names, numbers: &mut Vec<u32>, lines: &[Line]) -> Result<(), Memory>
+fn note_locations(
+    names: &mut PlaceNames,
+    numbers: &mut Vec<u32>,
+    lines: &[Line],
+) -> Result<(), Memory>
     ensures names { Keeps names.old.list.items names.new.list.items }
     ensures numbers { Keeps numbers.old.items numbers.new.items }
     ensures noted { IsOk result → AreRanks names.new.list.items
@@ -77,7 +81,7 @@ fn note_locations(names: &mut Names, numbers: &mut Vec<u32>, lines: &[Line]) -> 
 }
 
 /// Notes a place.
-fn note_place(names: &mut Names, numbers: &mut Vec<u32>, place: &[u8; 7]) -> Result<(), Memory>
+fn note_place(names: &mut PlaceNames, numbers: &mut Vec<u32>, place: &[u8; 7]) -> Result<(), Memory>
     ensures names { Keeps names.old.list.items names.new.list.items }
     ensures numbers { Keeps numbers.old.items numbers.new.items }
     ensures noted { IsOk result → AreRanks names.new.list.items (place.now ∷ [])

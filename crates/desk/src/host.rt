@@ -1,6 +1,6 @@
 //! A session on the real devices.
 use docker_cmd::{Fault, JobFault};
-use docker_program::{Folder, Input, Output, hold_standard, own_words, tell};
+use docker_program::{Folder, InputDevice, OutputDevice, hold_standard, own_words, tell};
 use docker_serve::serve;
 use std::process::ExitCode;
 
@@ -17,7 +17,7 @@ fn serve_own_words(rt: &HostRuntime) -> u8 {
     match own_words(rt).and_then(|words| serve_strings(rt, words.as_slice())) {
         Ok(status) => status,
         Err(JobFault::Usage) => serve_words(rt, &[]),
-        Err(fault) => tell(&Fault::Job(fault), &mut Output::stderr(rt)),
+        Err(fault) => tell(&Fault::Job(fault), &mut OutputDevice::stderr(rt)),
     }
 }
 
@@ -32,10 +32,10 @@ fn serve_words(rt: &HostRuntime, words: &[&str]) -> u8 {
     serve(
         rt.alloc(),
         words,
-        &mut Input::stdin(rt),
-        &mut Input::without_file(rt),
+        &mut InputDevice::stdin(rt),
+        &mut InputDevice::without_file(rt),
         &mut Folder::new(rt),
-        &mut Output::stdout(rt),
-        &mut Output::stderr(rt),
+        &mut OutputDevice::stdout(rt),
+        &mut OutputDevice::stderr(rt),
     )
 }

@@ -1,5 +1,4 @@
 //! What a desk prints, and the desks that the rows begin with.
-ghost use Rattle.std.specs.Prelude.{◌≡◌};
 
 use crate::answers::answers;
 use crate::compare::same;

@@ -1,5 +1,4 @@
 //! What a desk takes and receives, and what it then knows.
-ghost use Rattle.std.specs.Prelude.{◌≡◌};
 
 use crate::compare::same;
 use crate::desks::{desk_of, ends, prints};

@@ -14,10 +14,10 @@ use Rattle.state_laws.proofs.texts.StateFaultStays.{bad_part_stays, long_stays}
 use Rattle.std.proofs.Math.Seq.{take-append_seam}
 use Rattle.state_laws.specs.TextStage.{advance, after_mark, after_items, after_entries, after_lines, after_op, with_entry}
 use Rattle.state_laws.proofs.texts.PartJudged.{Judged, Good, judge}
-use Rattle.docker_bytes.specs.declared.reading.Reading.{Reading}
-use Rattle.docker_parts.specs.FaultMeaning.{IsBadHere}
-use Rattle.docker_parts.specs.Stage.{begins_item, LeadsTo}
-use Rattle.docker_bytes.specs.Reading.{format_of, before_of, text_of, IsReading, ReadsOn, IsToldSoFar, IsOpen}
+use Rattle.docker_bytes.specs.declared.reading.StateReading.{StateReading}
+use Rattle.state_parts.specs.FaultMeaning.{IsBadHere}
+use Rattle.state_parts.specs.Stage.{begins_item, LeadsTo}
+use Rattle.docker_bytes.specs.StateReading.{format_of, before_of, text_of, IsReading, ReadsOn, IsToldSoFar, IsOpen}
 
 -- what of a piece comes before a rest of it
 abbrev pub before_rest : List ℕ → List ℕ → List ℕ
@@ -134,7 +134,7 @@ good_next format before bytes good some wide small not_bad = by (judge format be
     by (inr fine) = fine
 
 -- the reading after a part that isn't bad
-pub part_read : {K : Type 0} (old new : Reading K) (bytes : List ℕ) → IsReading old → old.partial.items ≡ [] → length bytes ≡ width (before_of old) → 0 < length bytes
+pub part_read : {K : Type 0} (old new : StateReading K) (bytes : List ℕ) → IsReading old → old.partial.items ≡ [] → length bytes ≡ width (before_of old) → 0 < length bytes
     → ((i : ℕ) → get_or bytes i 0 < 256)
     → old.reached + length bytes ≤ old.limit → LeadsTo (format_of old) (before_of old) bytes new.stage new.parts new.lines → new.partial.items ≡ []
     → new.reached ≡ old.reached + length bytes → new.limit ≡ old.limit → format_of new ≡ format_of old
@@ -184,7 +184,7 @@ part_read old new bytes is none wide some small fits leads empty reached same ke
         ∙ ap (items_before (format_of old)) (sym leads.is) ∙ ap (λ f. items_before f (before_of new)) (sym kept))
 
 -- a part that is bad, or for which memory ran out; its last bytes are these
-pub part_refused : {K : Type 0} (old : Reading K) (front bytes : List ℕ) (at : ℕ) (cause : Option StateCause) → IsReading old → bytes ≡ old.partial.items ++ front
+pub part_refused : {K : Type 0} (old : StateReading K) (front bytes : List ℕ) (at : ℕ) (cause : Option StateCause) → IsReading old → bytes ≡ old.partial.items ++ front
     → length bytes ≡ width (before_of old)
     → 0 < length front → old.reached + length bytes ≤ old.limit → at ≡ old.item_at → IsBadHere (format_of old) (before_of old) bytes cause
     → IsToldSoFar (format_of old) old.limit (text_of old) front at cause
@@ -283,11 +283,11 @@ rest_first piece = (none, ap (λ xs. xs ++ piece) none)
     none = let zero_left : length piece - length piece ≡ 0 = omega arith in ap (λ n. take n piece) zero_left
 
 -- before the first part of a piece nothing of it was read
-pub reads_none : {K : Type 0} (now : Reading K) (piece : List ℕ) → IsReading now → ReadsOn now now (before_rest piece piece)
+pub reads_none : {K : Type 0} (now : StateReading K) (piece : List ℕ) → IsReading now → ReadsOn now now (before_rest piece piece)
 reads_none now piece is =
     subst (ReadsOn now now) (sym (rest_first piece).0) (record { reading = is; text = sym (append-nil (text_of now)); limit = refl; format = refl })
 
-module _ {K : Type 0} (initial now : Reading K) (piece rest : List ℕ) (whole : before_rest piece rest ++ rest ≡ piece) (on : ReadsOn initial now (before_rest piece rest))
+module _ {K : Type 0} (initial now : StateReading K) (piece rest : List ℕ) (whole : before_rest piece rest ++ rest ≡ piece) (on : ReadsOn initial now (before_rest piece rest))
   where
     -- the bytes so far and the rest
     pub all_text : text_of now ++ rest ≡ text_of initial ++ piece
@@ -307,7 +307,7 @@ module _ {K : Type 0} (initial now : Reading K) (piece rest : List ℕ) (whole :
         (subst (λ xs. IsToldSoFar (format_of now) now.limit xs front at cause) on.text told))))
 
     -- the bytes so far and a front of the rest
-    pub reads_further : (next : Reading K) (front behind : List ℕ) → rest ≡ front ++ behind → ReadsOn now next front
+    pub reads_further : (next : StateReading K) (front behind : List ℕ) → rest ≡ front ++ behind → ReadsOn now next front
         → ReadsOn initial next (before_rest piece behind)
     reads_further next front behind split further = record {
       reading = further.reading;
@@ -318,7 +318,7 @@ module _ {K : Type 0} (initial now : Reading K) (piece rest : List ℕ) (whole :
     }
 
     -- a rest that ends before the part does leaves the text open
-    pub open_text : (next : Reading K) → length now.partial.items + length rest < width (before_of now) → ReadsOn now next rest
+    pub open_text : (next : StateReading K) → length now.partial.items + length rest < width (before_of now) → ReadsOn now next rest
         → IsOpen (format_of initial) initial.limit (text_of initial ++ piece)
     open_text next short further =
         subst (λ f. IsOpen f initial.limit (text_of initial ++ piece)) on.format

@@ -6,11 +6,11 @@ use Rattle.docker_model.specs.state.StatePart.{at_end, items_before, text_before
 use Rattle.docker_model.specs.state.StateFault.{too_short, IsShort, IsStateText}
 use Rattle.state_laws.proofs.texts.TextOrFault.{end_or_part}
 use Rattle.state_laws.proofs.texts.OneStateFault.{no_fault_of_state}
-use Rattle.docker_parts.specs.declared.stage.Stage.{Stage}
-use Rattle.docker_parts.specs.declared.stage.Stage.TheVariants as stage
-use Rattle.docker_bytes.specs.declared.reading.Reading.{Reading}
-use Rattle.docker_parts.specs.Stage.{stage_meant}
-use Rattle.docker_bytes.specs.Reading.{format_of, before_of, text_of, IsReading, IsWhole, IsOpen, IsToldAtEnd}
+use Rattle.state_parts.specs.declared.stage.Stage.{Stage}
+use Rattle.state_parts.specs.declared.stage.Stage.TheVariants as stage
+use Rattle.docker_bytes.specs.declared.reading.StateReading.{StateReading}
+use Rattle.state_parts.specs.Stage.{stage_meant}
+use Rattle.docker_bytes.specs.StateReading.{format_of, before_of, text_of, IsReading, IsWhole, IsOpen, IsToldAtEnd}
 use Rattle.docker_bytes.specs.ParserRead.{ParserState, HasRead}
 use Rattle.std.proofs.lemmas.Bool.{cases_lt}
 use Rattle.std.proofs.lemmas.List.{nil_from_length}
@@ -30,7 +30,7 @@ state_at_end (stage.Line count key stamp n) parts state lines is = cc
 state_at_end stage.End parts state lines is = cc
 
 -- if no part is next, all parts were read
-at_its_end : {K : Type 0} (reading : Reading K) → IsReading reading → width (before_of reading) ≡ 0 → before_of reading ≡ at_end reading.parts
+at_its_end : {K : Type 0} (reading : StateReading K) → IsReading reading → width (before_of reading) ≡ 0 → before_of reading ≡ at_end reading.parts
 at_its_end reading is none = by (end_or_part (format_of reading) (before_of reading) is.ready.good)
   where
     by : ((state : State) × (before_of reading ≡ at_end state)) ⊎ (0 < width (before_of reading)) → before_of reading ≡ at_end reading.parts
@@ -38,7 +38,7 @@ at_its_end reading is none = by (end_or_part (format_of reading) (before_of read
     by (inl told) = told.1 ∙ ap at_end (state_at_end reading.stage reading.parts told.0 reading.lines told.1)
 
 -- if no part is next, the text is the text of the parts
-pub whole_text : {K : Type 0} (reading : Reading K) → IsReading reading → width (before_of reading) ≡ 0
+pub whole_text : {K : Type 0} (reading : StateReading K) → IsReading reading → width (before_of reading) ≡ 0
     → IsStateText (format_of reading) reading.limit (text_of reading) reading.parts
 whole_text reading is none = record {
   valid = subst (AreGood (format_of reading)) end is.ready.good;
@@ -56,14 +56,14 @@ whole_text reading is none = record {
     empty = let short = is.short in omega arith
 
 -- the end of the text is where the next item would begin
-pub wanting_at_end : {K : Type 0} (reading : Reading K) → IsReading reading → width (before_of reading) ≡ 0
+pub wanting_at_end : {K : Type 0} (reading : StateReading K) → IsReading reading → width (before_of reading) ≡ 0
     → IsToldAtEnd (format_of reading) reading.limit (text_of reading) reading.item_at None
 wanting_at_end reading is none =
     let whole = whole_text reading is none in
     ((reading.parts, whole), is.item_is ∙ ap length (ap (items_before (format_of reading)) (at_its_end reading is none) ∙ sym whole.is))
 
 -- if a part is next, the text is too short, and the fault is at the part's item
-pub short_at_end : {K : Type 0} (reading : Reading K) → IsReading reading → 0 < width (before_of reading)
+pub short_at_end : {K : Type 0} (reading : StateReading K) → IsReading reading → 0 < width (before_of reading)
     → IsShort (format_of reading) reading.limit (text_of reading) (record { at = reading.item_at; cause = too_short })
 short_at_end reading is some = record {
   before = before_of reading;
@@ -78,7 +78,7 @@ short_at_end reading is some = record {
 }
 
 -- if a part is next, the text is open
-pub open_reading : {K : Type 0} (reading : Reading K) → IsReading reading → 0 < width (before_of reading) → IsOpen (format_of reading) reading.limit (text_of reading)
+pub open_reading : {K : Type 0} (reading : StateReading K) → IsReading reading → 0 < width (before_of reading) → IsOpen (format_of reading) reading.limit (text_of reading)
 open_reading reading is some = (
   record { at = length (items_before (format_of reading) (before_of reading)); cause = too_short },
   record {
@@ -114,7 +114,7 @@ sound_text parser format limit text has =
     by (inr none) = inr (parser.reading.parts, whole_text parser.reading has.sound (omega arith))
 
 -- if a part is next, what a parser has read is not complete
-pub not_whole_yet : {K : Type 0} (parser : ParserState K) (reading : Reading K) (format : Format) (limit : ℕ) (text : List ℕ) → parser.reading ≡ reading
+pub not_whole_yet : {K : Type 0} (parser : ParserState K) (reading : StateReading K) (format : Format) (limit : ℕ) (text : List ℕ) → parser.reading ≡ reading
     → HasRead parser format limit text → ¬ (width (before_of reading) ≡ 0) → ¬ IsWhole format limit text
 not_whole_yet parser reading format limit text same has some whole =
     let read = open_reading parser.reading has.sound

@@ -1,9 +1,9 @@
 pub mod FaultText
 pub mod ReadFaultText
-pub mod Reading
+pub mod StateReading
 pub mod ParserRead
 pub mod SourceRead
 pub mod StateTaken
 pub mod Excerpts
-pub use Rattle.docker_parts.specs.FaultMeaning
+pub use Rattle.state_parts.specs.FaultMeaning
 pub use Rattle.docker_excerpt.specs.Values

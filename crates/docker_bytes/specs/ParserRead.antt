@@ -2,16 +2,16 @@
 use Rattle.std.specs.Prelude.{◌≡◌, ℕ, List, [], Option, Some, None}
 use Rattle.docker_model.specs.state.StateText.{Format}
 use Rattle.docker_bytes.specs.declared.fault.StateFault.{StateFault}
-use Rattle.docker_bytes.specs.declared.reading.Reading.{Reading}
-use Rattle.docker_bytes.specs.Reading.{format_of, text_of, IsReading}
+use Rattle.docker_bytes.specs.declared.reading.StateReading.{StateReading}
+use Rattle.docker_bytes.specs.StateReading.{format_of, text_of, IsReading}
 
 -- what a parser keeps
 pub record ParserState (K : Type 0) : Type 0 where
-  pub reading : Reading K
+  pub reading : StateReading K
   pub fault : Option StateFault
 
 -- as long as no fault was returned, what was read is sound
-abbrev pub IsSound : {K : Type 0} → Reading K → Option StateFault → Type 0
+abbrev pub IsSound : {K : Type 0} → StateReading K → Option StateFault → Type 0
 IsSound reading fault = fault ≡ None → IsReading reading
 
 -- the parser of a format has used exactly these bytes, under this limit, and returned no fault

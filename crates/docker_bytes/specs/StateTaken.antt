@@ -7,7 +7,7 @@ use Rattle.docker_bytes.specs.declared.fault.StateFault.{StateFault}
 use Rattle.docker_bytes.specs.declared.read.ReadFault.{ReadFault}
 use Rattle.docker_bytes.specs.declared.read.ReadFault.TheVariants as fault
 use Rattle.docker_bytes.specs.ParserRead.{ParserState, HasRead}
-use Rattle.docker_bytes.specs.Reading.{before_of, format_of, IsWanting}
+use Rattle.docker_bytes.specs.StateReading.{before_of, format_of, IsWanting}
 use Rattle.docker_bytes.specs.SourceRead.{IsFaultOf}
 
 -- what stays as it is while a parser takes a text: the format, and the limit on its bytes

@@ -5,14 +5,14 @@ ghost use Rattle.docker_model.specs.state.State.{IsValid};
 ghost use Rattle.docker_model.specs.state.StateText.{dks_2};
 ghost use Rattle.docker_model.specs.state.StateText as formats;
 ghost use Rattle.docker_bytes.specs.ParserRead.{HasRead};
-ghost use Rattle.docker_bytes.specs.Reading.{IsWhole, JoinsText};
+ghost use Rattle.docker_bytes.specs.StateReading.{IsWhole, JoinsText};
 ghost use Rattle.docker_bytes.specs.SourceRead.{RefusesState, IsFaultOf, ReadsOnePieceMore, WantsMemory, JoinsState};
 
 use crate::parser::Parser;
 use crate::read::{ReadFault, fault_of, read_pieces};
 use cif_line::{PIECE, Source};
-use docker_parts::format::Format;
-use docker_parts::{Received, Receiver, State};
+use state_parts::format::Format;
+use state_parts::{Received, Receiver, State};
 use std::alloc::Global;
 use std::marker::Brand;
 use std::mem;

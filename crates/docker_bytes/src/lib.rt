@@ -13,10 +13,10 @@ mod reading;
 mod state_parser;
 
 pub use docker_excerpt::{Excerpt, KeptLedger};
-pub use docker_parts::{StateCause, encoded_len, write_state};
 pub use excerpt::{read_excerpt, read_ledger};
 pub use fault::{StateFault, Step};
 pub use join::join_state;
 pub use migration::migrate;
 pub use read::{ReadFault, read_state};
 pub use state_parser::StateParser;
+pub use state_parts::{StateCause, encoded_len, write_state};

@@ -1,14 +1,14 @@
 //! A parser that is fed the text of a state piece by piece, and gives its parts to a keeper.
 ghost use Rattle.std.specs.Prelude.{◌≡◌, ℕ, ◌+◌, ◌≤◌, List, [], ◌++◌, length, take, IsOk, IsErr, IfOk, IfErr, Ok, Err, None};
 ghost use Rattle.docker_model.specs.state.StateText as formats;
-ghost use Rattle.docker_parts.specs.FormatMeaning.{format_meant};
-ghost use Rattle.docker_bytes.specs.Reading.{IsFaultTold, IsUnended, IsStep, IsMadeOf, IsWhole, JoinsText};
+ghost use Rattle.state_parts.specs.FormatMeaning.{format_meant};
+ghost use Rattle.docker_bytes.specs.StateReading.{IsFaultTold, IsUnended, IsStep, IsMadeOf, IsWhole, JoinsText};
 ghost use Rattle.docker_bytes.specs.ParserRead.{HasRead, HasFailed};
 
 use crate::fault::{StateFault, Step};
-use crate::reading::Reading;
-use docker_parts::format::Format;
-use docker_parts::{Keeper, Maker, Received, Receiver, State, Told};
+use crate::reading::StateReading;
+use state_parts::format::Format;
+use state_parts::{Keeper, Maker, Received, Receiver, State, Told};
 use std::alloc::Global;
 use std::marker::Model;
 
@@ -16,7 +16,7 @@ use std::marker::Model;
 /// far, and at most 80 bytes of the next part.
 #[derive(Debug, Drop)]
 pub(crate) struct Parser<K: Keeper> {
-    reading: Reading<K>,
+    reading: StateReading<K>,
     fault: Option<StateFault>,
 }
 
@@ -37,7 +37,7 @@ impl<K: Keeper> Parser<K> {
         ensures { HasRead result (format_meant format) limit [] }
     {
         Parser {
-            reading: Reading::new(alloc, format, limit, Told::new(keeper)),
+            reading: StateReading::new(alloc, format, limit, Told::new(keeper)),
             fault: None,
         }
     }

@@ -1,23 +1,23 @@
 //! Reads a text in pieces, part by part.
 ghost use Rattle.std.specs.Prelude.{◌≡◌, ◌+◌, ◌-◌, ◌/◌, ◌<◌, ◌≤◌, ◌↔◌, [], ◌++◌, length, min, take, IsTrue, IsOk, IsErr, IfOk, IfErr};
 ghost use Rattle.docker_model.specs.state.StatePart.{width};
-ghost use Rattle.docker_parts.specs.FormatMeaning.{format_meant};
-ghost use Rattle.docker_bytes.specs.Reading.{format_of, before_of, text_of, IsReading, ReadsOn, IsPartRefused, IsFaultTold, IsUnended, IsStep, IsMadeOf, JoinsText, IsLineOf, HasOneLineMore};
+ghost use Rattle.state_parts.specs.FormatMeaning.{format_meant};
+ghost use Rattle.docker_bytes.specs.StateReading.{format_of, before_of, text_of, IsReading, ReadsOn, IsPartRefused, IsFaultTold, IsUnended, IsStep, IsMadeOf, JoinsText, IsLineOf, HasOneLineMore};
 
 use crate::fault::{StateFault, Step};
 use arrayvec::ArrayVec;
-use docker_parts::format::{Format, LINE};
-use docker_parts::{
+use fixed_text::put;
+use state_parts::format::{Format, LINE};
+use state_parts::{
     Gathered, Keeper, Maker, Received, Receiver, ScheduleKey, Stage, State, StateCause, Told,
     judged_inner_line, step,
 };
-use fixed_text::put;
 use std::alloc::Global;
 
 /// A text so far: what its parts have said, the next part with the bytes of it that came, and where
 /// its item began.
 #[derive(Debug, Drop)]
-pub(crate) struct Reading<K: Keeper> {
+pub(crate) struct StateReading<K: Keeper> {
     alloc: Global,
     format: Format,
     limit: u64,
@@ -29,16 +29,16 @@ pub(crate) struct Reading<K: Keeper> {
     reached: u64,
 }
 
-impl<K: Keeper> Reading<K> {
+impl<K: Keeper> StateReading<K> {
     /// No bytes and no parts yet, of a text of the format with at most `limit` bytes.
-    pub(crate) fn new(alloc: Global, format: Format, limit: u64, parts: Told<K>) -> Reading<K>
+    pub(crate) fn new(alloc: Global, format: Format, limit: u64, parts: Told<K>) -> StateReading<K>
         requires { parts ≡ record { horizon = 0; ledger = []; entries = [] } }
         ensures reading { IsReading result }
         ensures text { text_of result ≡ [] }
         ensures limit { result.limit ≡ limit }
         ensures format { format_of result ≡ format_meant format }
     {
-        Reading {
+        StateReading {
             alloc,
             format,
             limit,
@@ -258,7 +258,7 @@ impl<K: Keeper> Reading<K> {
     }
 }
 
-impl<K: Maker> Reading<K> {
+impl<K: Maker> StateReading<K> {
     /// What is made of the state whose text was read, or the fault of a text that ends before the
     /// state does.
     pub(crate) fn finish(self) -> Result<K::Made, StateFault>
@@ -267,7 +267,7 @@ impl<K: Maker> Reading<K> {
         ensures err { IfErr result (λ fault. IsUnended (format_of self) self.limit
             (text_of self) fault) }
     {
-        let Reading {
+        let StateReading {
             alloc: _,
             format: _,
             limit: _,
@@ -294,7 +294,7 @@ impl<K: Maker> Reading<K> {
     }
 }
 
-impl<R: Receiver> Reading<Received<R>> {
+impl<R: Receiver> StateReading<Received<R>> {
     /// The receiving state, joined with the state whose text was read, or the fault of a text that
     /// ends before the state does. A fault leaves the receiving state as it was.
     pub(crate) fn join(self) -> (State, Result<(), StateFault>)

@@ -3,13 +3,13 @@ ghost use Rattle.std.specs.Prelude.{◌≡◌, ℕ, ◌+◌, ◌≤◌, List, []
 ghost use Rattle.docker_model.specs.state.StateText.{dks_2};
 ghost use Rattle.docker_model.specs.state.StateText as formats;
 ghost use Rattle.docker_model.specs.state.StateFault.{IsStateText};
-ghost use Rattle.docker_bytes.specs.Reading.{IsFaultTold, IsUnended, IsStep, IsWhole};
+ghost use Rattle.docker_bytes.specs.StateReading.{IsFaultTold, IsUnended, IsStep, IsWhole};
 ghost use Rattle.docker_bytes.specs.ParserRead.{HasRead, HasFailed};
 
 use crate::fault::{StateFault, Step};
 use crate::parser::Parser;
-use docker_parts::format::Format;
-use docker_parts::{State, Whole};
+use state_parts::format::Format;
+use state_parts::{State, Whole};
 use std::alloc::Global;
 use std::marker::Model;
 

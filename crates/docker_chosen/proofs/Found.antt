@@ -10,7 +10,7 @@ use Rattle.docker_model.specs.docker.LiveRows.{Train}
 use Rattle.cif_laws.proofs.lists.BoolsAndOptions.{none_some}
 use Rattle.cif_laws.proofs.lists.Membership.{Contains-map}
 use Rattle.state_laws.proofs.joins.StagedEntry.{entry_at_iff}
-use Rattle.docker_train.specs.Along.{IsLiveTrain}
+use Rattle.train_choice.specs.Along.{IsLiveTrain}
 use Rattle.docker_chosen.specs.TrainText.{IsStampOf}
 
 -- an op that has a body puts it

@@ -26,7 +26,7 @@ use Rattle.docker_laws.proofs.dockers.LapsedChoice.{chosen_iff}
 use Rattle.docker_laws.proofs.dockers.PrintedDocker.{day_bound}
 use Rattle.docker_laws.proofs.dockers.GoodBodies.{good_bodies}
 use Rattle.docker_laws.proofs.dockers.NearStarts.{event_near, association_near}
-use Rattle.docker_train.specs.Along.{IsLiveTrain}
+use Rattle.train_choice.specs.Along.{IsLiveTrain}
 use Rattle.docker_chosen.specs.TrainText.{Stamped, IsFoundFor, IsStampOf, IsTrainText, train_text}
 use Rattle.docker_chosen.specs.Origin.{CameFrom, IsFoundToRun, change_of}
 use Rattle.docker_chosen.proofs.Found.{stamp_is, entry_there}

@@ -9,7 +9,7 @@ use Rattle.docker_model.specs.state.Op.{put_with}
 use Rattle.docker_model.specs.state.State.{State, entry_at, live_table}
 use Rattle.docker_model.specs.docker.LiveRows.{Train, IsChosenOn}
 use Rattle.docker_model.specs.docker.DockerText.{ended}
-use Rattle.docker_train.specs.Ranked.{is_cancellation}
+use Rattle.train_choice.specs.Ranked.{is_cancellation}
 
 -- a schedule, with the stamp of the change that put it: its file, and its record's number there
 pub record Stamped : Type 0 where

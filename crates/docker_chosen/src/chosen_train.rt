@@ -8,8 +8,8 @@ ghost use Rattle.docker_chosen.specs.TrainText as text;
 use crate::stamped::Stamped;
 use cif_line::{Day, Line, Uid};
 use docker_join::Stamp;
-use docker_train::ScheduleView;
 use std::marker::Model;
+use train_choice::ScheduleView;
 
 /// A UID and a day, with the schedule chosen for them, if there is one.
 #[derive(Debug, Drop)]

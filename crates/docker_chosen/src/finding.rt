@@ -1,7 +1,7 @@
 //! Finds the schedule that is chosen for a UID on a day.
 ghost use Rattle.std.specs.Prelude.{◌≡◌, ◌<◌, ◌↔◌, IfOk, IfErr, Err};
 ghost use Rattle.docker_model.specs.state.State.{live_table};
-ghost use Rattle.docker_train.specs.Along.{IsLiveTrain};
+ghost use Rattle.train_choice.specs.Along.{IsLiveTrain};
 ghost use Rattle.docker_chosen.specs.Answer.{IsAnswerOf};
 ghost use Rattle.docker_chosen.specs.TrainText.{IsStampOf};
 
@@ -11,7 +11,7 @@ use cif_file::Key;
 use cif_line::{Day, Uid};
 use docker_day::DockerFault;
 use docker_state::State;
-use docker_train::{ScheduleView, chosen};
+use train_choice::{ScheduleView, chosen};
 
 /// The schedule that is chosen for a UID on a day, with the stamp of the change that put it.
 /// `Lapsed` if the day is before the horizon, because schedules that ran on it may have lapsed. It

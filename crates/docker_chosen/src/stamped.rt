@@ -3,8 +3,8 @@ ghost use Rattle.std.specs.Prelude.{◌≡◌, ◌<◌};
 ghost use Rattle.docker_join.specs.Meaning.{stamp_meant};
 
 use docker_join::Stamp;
-use docker_train::ScheduleView;
 use std::marker::Model;
+use train_choice::ScheduleView;
 
 /// A live schedule, with the stamp of the change that put it.
 #[derive(Debug, Drop)]

@@ -1,6 +1,6 @@
 //! What a job holds of what it has read: `print` and `files` hold no more of a state than they
 //! write.
-ghost use Rattle.std.specs.Prelude.{◌≡◌, ◌+◌, ◌-◌, ◌^◌, ◌<◌, ◌⊎◌, ℕ, IfOk};
+ghost use Rattle.std.specs.Prelude.{◌≡◌, ◌-◌, ◌^◌, ◌<◌, ◌⊎◌, ℕ, IfOk};
 ghost use Rattle.docker_model.specs.state.StateText.{dks_2};
 ghost use Rattle.docker_cmd.specs.Holding.{IsWrittenFrom, held_meant, place_read};
 ghost use Rattle.docker_cmd.specs.Prepared.{CountsSources, DeviceBytes, HasNoSource, HasSecondSource, HoldsSomeState, ReadsContent, ReadsTask, office_read, one_state, output_of, sources_of};

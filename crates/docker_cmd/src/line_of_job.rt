@@ -19,7 +19,7 @@ use std::str;
 const LONGEST: usize = 255;
 
 /// A job line without its line feed.
-type Line = ArrayVec<u8, LONGEST>;
+type JobLine = ArrayVec<u8, LONGEST>;
 
 /// The most words that a line has, with a space between two.
 const MOST_WORDS: usize = 128;
@@ -127,7 +127,7 @@ fn words_in(line: &str) -> LineWords<'_>
 
 /// Reads the first line of a source, and leaves the source after its line feed. It returns `Usage`
 /// if the line is too long, has a byte that isn't printable or has no line feed.
-fn read_line<S: Source>(source: &mut S) -> Result<Line, JobFault>
+fn read_line<S: Source>(source: &mut S) -> Result<JobLine, JobFault>
     requires { S.failures source.old < 2 ^ 64 - 1 }
     ensures line { IfOk result (λ line. ReadsLine (S.left source.old) line.items
         (S.left source.new)) }
@@ -137,7 +137,7 @@ fn read_line<S: Source>(source: &mut S) -> Result<Line, JobFault>
     ensures failures { CountsFailure (result ≡ Err JobFault.Source)
         (S.failures source.old) (S.failures source.new) }
 {
-    let mut line = Line::new();
+    let mut line = JobLine::new();
     for _ in 0..=LONGEST {
         let Some(byte) = read_byte(source)? else {
             return Err(JobFault::Usage);

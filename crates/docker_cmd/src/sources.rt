@@ -61,8 +61,10 @@ pub(crate) fn read_sources<S: Source, T: Source>(
         Sources::TakenFile => Ok(Content::Office(office_of_file(alloc, first)?)),
         Sources::State => Ok(Content::Office(office_of_state(alloc, first)?)),
         Sources::OlderState => Ok(Content::Office(office_of_older_state(alloc, first)?)),
-        Sources::StateAndFile => Ok(Content::Office(taken_behind(alloc, first, second)?)),
-        Sources::TwoStates => Ok(Content::Office(joined_behind(alloc, first, second)?)),
+        Sources::StateAndFile => Ok(Content::Office(office_of_state_and_file(
+            alloc, first, second,
+        )?)),
+        Sources::TwoStates => Ok(Content::Office(office_of_two_states(alloc, first, second)?)),
     }
 }
 
@@ -117,7 +119,7 @@ fn office_of_older_state<S: Source>(alloc: Global, source: &mut S) -> Result<Off
 }
 
 /// An office with the state that the first source holds, which then took the file in the second.
-fn taken_behind<S: Source, T: Source>(
+fn office_of_state_and_file<S: Source, T: Source>(
     alloc: Global,
     first: &mut S,
     second: &mut T,
@@ -138,7 +140,7 @@ fn taken_behind<S: Source, T: Source>(
 
 /// An office with the state that the first source holds, which then received the state in the
 /// second.
-fn joined_behind<S: Source, T: Source>(
+fn office_of_two_states<S: Source, T: Source>(
     alloc: Global,
     first: &mut S,
     second: &mut T,

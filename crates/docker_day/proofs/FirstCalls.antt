@@ -16,9 +16,9 @@ use Rattle.docker_model.specs.records.Record.{column}
 use Rattle.docker_model.specs.state.Row.{Row, AreRowsOf}
 use Rattle.docker_model.specs.state.Table.{Table}
 use Rattle.docker_laws.proofs.dockers.TrainOfRows.{trains_tell}
-use Rattle.docker_train.specs.Occurrences as events
-use Rattle.docker_train.specs.Occurrences.{occurrences}
-use Rattle.docker_train.specs.declared.walk.Occurrence.{Occurrence}
+use Rattle.train_choice.specs.Occurrences as events
+use Rattle.train_choice.specs.Occurrences.{occurrences}
+use Rattle.train_choice.specs.declared.walk.Occurrence.{Occurrence}
 use Rattle.docker_model.specs.state.State.{live_table}
 use Rattle.docker_day.specs.Visits.{Visit}
 use Rattle.docker_day.specs.declared.base_calls.BaseCalls.{BaseCalls}

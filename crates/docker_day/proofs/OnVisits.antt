@@ -6,7 +6,7 @@ use Rattle.docker_model.specs.docker.DockerLine.{DockerLine}
 use Rattle.docker_model.specs.docker.Gathering.{gathered}
 use Rattle.docker_model.specs.docker.LiveRows.{train_in, link_in}
 use Rattle.docker_model.specs.state.State.{live_table}
-use Rattle.docker_train.specs.Known.{PlaceDay}
+use Rattle.train_choice.specs.Known.{PlaceDay}
 use Rattle.docker_day.specs.Lines.{Adds}
 use Rattle.docker_day.specs.RowViews.{IsLiveView, row_back, row_piece, row_under_way, view_lines}
 use Rattle.docker_day.specs.declared.row_view.RowView.{RowView}

@@ -21,17 +21,17 @@ use Rattle.cif_laws.proofs.orders.Orders.{exact_schedule_key, exact_association_
 use Rattle.docker_laws.proofs.dockers.OneChoice.{one_schedule, one_association}
 use Rattle.docker_laws.proofs.dockers.TrainOfRows.{trains_tell}
 use Rattle.docker_laws.proofs.dockers.LinkOfRows.{links_tell}
-use Rattle.docker_train.specs.Occurrences.{Occurrence}
-use Rattle.docker_train.specs.UpTo.{occurrences_to}
-use Rattle.docker_train.specs.Along.{IsLiveTrain, IsLiveLink}
-use Rattle.docker_train.specs.Midnights.{some_late}
+use Rattle.train_choice.specs.Occurrences.{Occurrence}
+use Rattle.train_choice.specs.UpTo.{occurrences_to}
+use Rattle.train_choice.specs.Along.{IsLiveTrain, IsLiveLink}
+use Rattle.train_choice.specs.Midnights.{some_late}
 use Rattle.docker_day.specs.Lines.{line_at_event, is_here, is_today, lines_there, schedule_piece, Adds}
 use Rattle.docker_day.specs.RowViews.{IsLiveView, row_back, row_lately, row_may_run, row_under_way, view_lines, view_of}
 use Rattle.docker_day.specs.declared.row_view.RowView.{RowView}
 use Rattle.docker_day.specs.declared.row_view.RowView.TheVariants.{Train, Link, Other}
-use Rattle.docker_train.specs.Lately.{runs_back}
-use Rattle.docker_train.specs.Ranked.{is_cancellation}
-use Rattle.docker_train.proofs.LatelyRuns.{idle_lately}
+use Rattle.train_choice.specs.Lately.{runs_back}
+use Rattle.train_choice.specs.Ranked.{is_cancellation}
+use Rattle.train_choice.proofs.LatelyRuns.{idle_lately}
 use Rattle.docker_day.proofs.TrainLines.{event_lines_are}
 use Rattle.docker_day.proofs.UpToLast.{lines_to_last}
 use Rattle.docker_day.proofs.LinkLines.{three_backs}

@@ -10,8 +10,8 @@ use Rattle.docker_model.specs.state.Table.{Table}
 use Rattle.docker_model.specs.docker.LiveRows.{train_in, link_in}
 use Rattle.docker_model.specs.docker.Gathering.{gathered, row_lines}
 use Rattle.docker_model.specs.docker.DockerLine.{DockerLine}
-use Rattle.docker_train.specs.Along.{AreGoodRows, AreLive}
-use Rattle.docker_train.specs.Known.{PlaceDay}
+use Rattle.train_choice.specs.Along.{AreGoodRows, AreLive}
+use Rattle.train_choice.specs.Known.{PlaceDay}
 use Rattle.docker_day.specs.Lines.{Adds}
 use Rattle.docker_day.specs.RowViews.{AreLiveViews, IsLiveView, lines_of, row_may_run, view_lines, view_of, views_in, views_of}
 use Rattle.docker_day.specs.Portions.{AreLeft, AreOpened, ArePassedOver, HaveMoved}

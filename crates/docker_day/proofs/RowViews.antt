@@ -8,7 +8,7 @@ use Rattle.docker_model.specs.docker.LiveRows as live_rows
 use Rattle.docker_model.specs.docker.LiveRows.{schedule_of, association_of}
 use Rattle.docker_model.specs.state.Row.{Row}
 use Rattle.docker_model.specs.state.Table.{Table}
-use Rattle.docker_train.specs.Along.{AreLive}
+use Rattle.train_choice.specs.Along.{AreLive}
 use Rattle.docker_day.specs.RowViews.{AreLiveViews, IsLiveView, lines_of, view_lines, view_of, views_of}
 
 -- a live row is live as it is opened

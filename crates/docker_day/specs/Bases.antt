@@ -5,10 +5,10 @@ use Rattle.std.specs.Ordering.{nat_cmp}
 use Rattle.docker_model.specs.docker.LiveRows.{Train, train_in}
 use Rattle.docker_model.specs.state.Row.{Row, AreRowsOf}
 use Rattle.docker_model.specs.state.Table.{Table}
-use Rattle.docker_train.specs.Occurrences as events
-use Rattle.docker_train.specs.Occurrences.{occurrences}
-use Rattle.docker_train.specs.Walk.{occurrence_meant}
-use Rattle.docker_train.specs.declared.walk.Occurrence.{Occurrence}
+use Rattle.train_choice.specs.Occurrences as events
+use Rattle.train_choice.specs.Occurrences.{occurrences}
+use Rattle.train_choice.specs.EventWalk.{occurrence_meant}
+use Rattle.train_choice.specs.declared.walk.Occurrence.{Occurrence}
 use Rattle.docker_day.specs.declared.base_calls.BaseCalls.{BaseCalls}
 use Rattle.docker_day.specs.Lines.{is_call}
 

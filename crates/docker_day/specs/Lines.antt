@@ -16,10 +16,10 @@ use Rattle.docker_model.specs.state.Row.{Row, AreRowsOf}
 use Rattle.docker_model.specs.docker.LiveRows.{Train, Link, train_in, link_in}
 use Rattle.docker_model.specs.docker.Association.{category_occasion, partner_start}
 use Rattle.docker_model.specs.docker.Gathering.{event_lines, runs_by, partner_identity, is_in_force}
-use Rattle.docker_train.specs.Occurrences.{Occurrence, occurrences}
-use Rattle.docker_train.specs.Midnights.{some_late}
-use Rattle.docker_train.specs.UpTo.{occurrences_to}
-use Rattle.docker_train.specs.Lately.{runs_back}
+use Rattle.train_choice.specs.Occurrences.{Occurrence, occurrences}
+use Rattle.train_choice.specs.Midnights.{some_late}
+use Rattle.train_choice.specs.UpTo.{occurrences_to}
+use Rattle.train_choice.specs.Lately.{runs_back}
 
 -- the line of an event of the schedule with this key, on a start day and with these ends
 abbrev pub line_at_event : ScheduleKey → ℕ → Detail → Occurrence → DockerLine

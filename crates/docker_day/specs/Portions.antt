@@ -6,8 +6,8 @@ use Rattle.docker_model.specs.state.Table.{Table}
 use Rattle.docker_model.specs.docker.DockerLine.{DockerLine}
 use Rattle.docker_model.specs.docker.LiveRows.{train_in, link_in}
 use Rattle.docker_model.specs.docker.Gathering.{gathered}
-use Rattle.docker_train.specs.Along.{AreGoodRows, AreLive}
-use Rattle.docker_train.specs.Known.{PlaceDay}
+use Rattle.train_choice.specs.Along.{AreGoodRows, AreLive}
+use Rattle.train_choice.specs.Known.{PlaceDay}
 use Rattle.docker_day.specs.RowViews.{views_in, views_of}
 use Rattle.docker_day.specs.declared.row_view.RowView.{RowView}
 

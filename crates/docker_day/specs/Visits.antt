@@ -2,7 +2,7 @@
 use Rattle.std.specs.Prelude.{◌≡◌, ℕ, ◌≤◌, ◌-◌, nat_le, if◌then◌else◌, List, Option, Some, None, ⊤}
 use Rattle.docker_model.specs.state.State.{State, live_table}
 use Rattle.docker_model.specs.docker.DockerLine.{DockerLine}
-use Rattle.docker_train.specs.Known.{StartDay, PlaceDay}
+use Rattle.train_choice.specs.Known.{StartDay, PlaceDay}
 use Rattle.docker_day.specs.Lines.{Adds}
 use Rattle.docker_day.specs.RowViews.{IsLiveView, row_piece}
 use Rattle.docker_day.specs.declared.row_view.RowView.{RowView}

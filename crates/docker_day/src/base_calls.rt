@@ -3,24 +3,24 @@ ghost use Rattle.std.specs.Prelude.{◌≡◌, ℕ, Some, None, if◌then◌else
 ghost use Rattle.std.specs.BTreeMap.{get};
 ghost use Rattle.std.specs.Ordering.{nat_cmp};
 ghost use Rattle.std.specs.Str.{bytes_eq};
-ghost use Rattle.docker_train.specs.Walk.{occurrence_meant};
+ghost use Rattle.train_choice.specs.EventWalk.{occurrence_meant};
 ghost use Rattle.docker_day.specs.Bases.{HasCall, HasEvent, meant_if};
 ghost use Rattle.docker_day.specs.Lines.{is_call};
 
-use crate::call::Call;
+use crate::first_event::FirstEvent;
 use crate::location::suffix_in;
 use crate::starts::is_here;
 use cif_line::{Memory, Tiploc, Uid};
-use docker_train::{Events, Occurrence};
 use std::alloc::Global;
 use std::collections::BTreeMap;
+use train_choice::{Events, Occurrence};
 
 /// A UID, and the calls of its train at some place on some start day: for each suffix, the first
 /// event with it. There are none if the train doesn't run then.
 #[derive(Debug, Drop)]
 pub(crate) struct BaseCalls<'a> {
     pub(crate) uid: Uid,
-    pub(crate) calls: BTreeMap<u8, Call<'a>>,
+    pub(crate) calls: BTreeMap<u8, FirstEvent<'a>>,
 }
 
 impl<'a> BaseCalls<'a> {
@@ -53,7 +53,7 @@ pub(crate) fn first_calls<'a>(
     alloc: Global,
     events: Events<'a>,
     place: &Tiploc,
-) -> Result<BTreeMap<u8, Call<'a>>, Memory>
+) -> Result<BTreeMap<u8, FirstEvent<'a>>, Memory>
     ensures { IfOk result (λ calls. (suffix : ℕ)
         → get nat_cmp calls suffix ≡ find (is_call place.now suffix) events.entry) }
 {
@@ -66,7 +66,7 @@ pub(crate) fn first_calls<'a>(
 
 /// Updates the first events with one more event, if it is at the place.
 fn add_event<'a>(
-    calls: &mut BTreeMap<u8, Call<'a>>,
+    calls: &mut BTreeMap<u8, FirstEvent<'a>>,
     event: &Occurrence<'a>,
     place: &Tiploc,
 ) -> Result<(), Memory>
@@ -74,7 +74,7 @@ fn add_event<'a>(
         calls.new) }
 {
     if is_here(event, place) {
-        add_call(calls, suffix_in(event.line), Call::of(event))
+        add_call(calls, suffix_in(event.line), FirstEvent::of(event))
     } else {
         Ok(())
     }
@@ -82,9 +82,9 @@ fn add_event<'a>(
 
 /// Updates the first events with one more event of a call, if its suffix has none yet.
 fn add_call<'a>(
-    calls: &mut BTreeMap<u8, Call<'a>>,
+    calls: &mut BTreeMap<u8, FirstEvent<'a>>,
     suffix: u8,
-    call: Call<'a>,
+    call: FirstEvent<'a>,
 ) -> Result<(), Memory>
     ensures { OnOk result (HasCall suffix calls.old call.entry calls.new) }
 {

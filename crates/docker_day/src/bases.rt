@@ -8,13 +8,13 @@ ghost use Rattle.docker_model.specs.docker.LiveRows.{train_in};
 ghost use Rattle.docker_day.specs.Bases.{first_call, meant_if};
 
 use crate::base_calls::{BaseCalls, first_calls};
-use crate::call::Call;
+use crate::first_event::FirstEvent;
 use cif_line::{Day, Memory, Tiploc, Uid};
 use docker_state::State;
-use docker_train::{Occurrence, train_on};
 use std::alloc::Global;
 use std::collections::BTreeMap;
 use std::marker::Model;
+use train_choice::{Occurrence, train_on};
 
 /// The calls at a place of the base trains that start on a day. The calls of the train asked for
 /// last are kept. A walk meets the associations of a base train one after the other, so the lines
@@ -30,7 +30,7 @@ pub(crate) struct Bases<'a> {
 
 impl<'a> Model for Bases<'a> {
     ghost use Rattle.docker_model.specs.state.State.{live_table};
-    ghost use Rattle.docker_train.specs.Known.{PlaceDay};
+    ghost use Rattle.train_choice.specs.Known.{PlaceDay};
     ghost use Rattle.docker_day.specs.Bases.{AreKnownCalls};
 
     ghost Value = { PlaceDay };
@@ -113,7 +113,7 @@ fn calls_of<'a>(
     uid: &Uid,
     place: &Tiploc,
     day: Day,
-) -> Result<BTreeMap<u8, Call<'a>>, Memory>
+) -> Result<BTreeMap<u8, FirstEvent<'a>>, Memory>
     ensures { IfOk result (λ calls. (suffix : ℕ) (rows : List Row)
         → AreRowsOf (live_table state.now) rows
         → get nat_cmp calls suffix

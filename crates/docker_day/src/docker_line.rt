@@ -7,17 +7,17 @@ ghost use Rattle.docker_model.specs.file.Change.{ScheduleKey};
 ghost use Rattle.docker_model.specs.docker.DockerLine.{docker_line_cmp};
 ghost use Rattle.cif_laws.proofs.orders.Orders.{docker_line_total};
 ghost use Rattle.cif_line.specs.Letter.{stp_letter};
-ghost use Rattle.docker_train.specs.Meaning.{occasion_meant};
+ghost use Rattle.train_choice.specs.Meaning.{occasion_meant};
 ghost use Rattle.docker_day.specs.Details.{detail_meant};
-ghost use Rattle.docker_train.specs.Walk.{occurrence_meant};
+ghost use Rattle.train_choice.specs.EventWalk.{occurrence_meant};
 ghost use Rattle.docker_day.specs.Lines.{line_at_event, line_of_link, cmp_at_one_time, cmp_at_one_event, cmp_of_one_train};
 
 use crate::detail::Detail;
 use crate::location::{Location, suffix_in};
 use cif_line::{Day, Stp, Time, Uid};
-use docker_train::{LinkView, Occasion, Occurrence, ScheduleView};
 use std::cmp::Ordering;
 use std::marker::Model;
+use train_choice::{LinkView, Occasion, Occurrence, ScheduleView};
 
 /// A line of a docker: an event of a train, or an association of its train with another. Lines are
 /// ordered by time, occasion, UID, start day, event number and UID of the associated train.
@@ -41,7 +41,7 @@ pub struct DockerLine<'a> {
 impl<'a> Model for DockerLine<'a> {
     ghost use Rattle.docker_model.specs.docker.DockerLine as lines;
     ghost use Rattle.cif_line.specs.Letter.{stp_letter};
-    ghost use Rattle.docker_train.specs.Meaning.{occasion_meant};
+    ghost use Rattle.train_choice.specs.Meaning.{occasion_meant};
     ghost use Rattle.docker_day.specs.Details.{detail_meant};
 
     ghost Value = { lines.DockerLine };

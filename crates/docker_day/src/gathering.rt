@@ -1,7 +1,7 @@
 //! The lines that a row has in a docker.
 ghost use Rattle.std.specs.Prelude.{◌≡◌, OnOk};
 ghost use Rattle.docker_model.specs.state.State.{live_table};
-ghost use Rattle.docker_train.specs.Along.{IsLiveLink};
+ghost use Rattle.train_choice.specs.Along.{IsLiveLink};
 ghost use Rattle.docker_day.specs.Lines.{Adds, link_here};
 ghost use Rattle.docker_day.specs.RowViews.{IsLiveView, row_lately, row_under_way, view_lines};
 ghost use Rattle.docker_day.specs.Visits.{AddsAt, AddsIf, IsLiveAt};
@@ -13,7 +13,7 @@ use crate::train_lines::{add_schedule, is_lately, is_under_way};
 use crate::visit::Visit;
 use crate::visits::Visits;
 use cif_line::{Day, Memory, Tiploc};
-use docker_train::LinkView;
+use train_choice::LinkView;
 
 /// Adds the lines of a row, which has this index, for each start day whose trains can be there on
 /// the day.

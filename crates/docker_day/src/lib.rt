@@ -3,11 +3,11 @@
 
 mod base_calls;
 mod bases;
-mod call;
 mod detail;
 mod docker_line;
 mod docker_list;
 mod fault;
+mod first_event;
 mod gathering;
 mod link_lines;
 mod location;
@@ -23,7 +23,7 @@ mod visits;
 pub use detail::Detail;
 pub use docker_line::DockerLine;
 pub use docker_list::Docker;
-pub use docker_train::{Occasion, ScheduleView, chosen, falls, runs};
 pub use fault::DockerFault;
 pub use making::docker;
 pub use print::write_docker;
+pub use train_choice::{Occasion, ScheduleView, chosen, falls, runs};

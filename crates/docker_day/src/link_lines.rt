@@ -7,16 +7,16 @@ ghost use Rattle.docker_model.specs.docker.Association.{category_occasion, is_da
 ghost use Rattle.docker_model.specs.docker.Gathering.{is_in_force, partner_identity};
 ghost use Rattle.docker_model.specs.state.Row.{Row, AreRowsOf};
 ghost use Rattle.docker_model.specs.docker.LiveRows.{train_in, link_in};
-ghost use Rattle.docker_train.specs.Meaning.{occasion_meant};
-ghost use Rattle.docker_train.specs.Walk.{occurrence_meant};
-ghost use Rattle.docker_train.specs.Along.{IsLiveLink};
+ghost use Rattle.train_choice.specs.Meaning.{occasion_meant};
+ghost use Rattle.train_choice.specs.EventWalk.{occurrence_meant};
+ghost use Rattle.train_choice.specs.Along.{IsLiveLink};
 ghost use Rattle.docker_day.specs.Lines.{listed, link_line_at, link_line_with, link_piece};
 
 use crate::docker_line::DockerLine;
 use crate::starts::{is_today, partner_start};
 use crate::visit::Visit;
 use cif_line::Memory;
-use docker_train::{LinkView, Occasion, Occurrence, is_cancellation};
+use train_choice::{LinkView, Occasion, Occurrence, is_cancellation};
 
 /// The line of an association at the place of a visit, if it counts on the start day and its base
 /// train runs then.

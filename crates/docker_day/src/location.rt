@@ -1,14 +1,12 @@
 //! What a docker shows of a location record.
 ghost use Rattle.std.specs.Prelude.{◌≡◌, ◌+◌, ◌-◌, ◌<◌, ◌≤◌, if◌then◌else◌};
-ghost use Rattle.std.specs.Str.{bytes_eq};
 ghost use Rattle.docker_model.specs.records.Record.{kind_of, columns, column};
-ghost use Rattle.docker_model.specs.docker.DockerLine.{platform_by_kind, track_by_kind, path_by_kind, public_by_kind};
-ghost use Rattle.docker_model.specs.records.PrintedTime.{shown_public, spaces};
-ghost use Rattle.docker_train.specs.Meaning.{occasion_meant};
+ghost use Rattle.docker_model.specs.records.PrintedTime.{shown_public};
+ghost use Rattle.train_choice.specs.Meaning.{occasion_meant};
 ghost use Rattle.docker_day.specs.Locations.{location_meant, location_by_kind, public_at};
 
 use cif_line::{Kind, Line, kind};
-use docker_train::Occasion;
+use train_choice::Occasion;
 
 /// What a docker shows of a location record, as it is printed. What the record doesn't have is
 /// spaces.

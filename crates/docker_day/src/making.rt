@@ -20,8 +20,8 @@ use cif_file::{Body, Key};
 use cif_line::{Day, Memory, Tiploc};
 use docker_join::Op;
 use docker_state::State;
-use docker_train::{associations_at, schedules_at};
 use std::alloc::Global;
+use train_choice::{associations_at, schedules_at};
 
 /// The docker of a timing point and a day: the events of the trains that run, and the associations,
 /// there on that day. `Lapsed` if and only if the state has a horizon and the day is before the

@@ -3,7 +3,6 @@ ghost use Rattle.std.specs.Prelude.{◌≡◌, ℕ, List, ◌-◌, ◌^◌, ◌<
 ghost use Rattle.std.specs.List.{flat_map};
 ghost use Rattle.cif_line.specs.Device.{CountsFailure, Takes, TakesPart};
 ghost use Rattle.docker_model.specs.state.Table.{Table};
-ghost use Rattle.docker_model.specs.records.PrintedTime.{spaces, day_text};
 ghost use Rattle.docker_model.specs.docker.DockerText.{IsDockerText, detail_text, line_text, last_line, ended};
 ghost use Rattle.docker_day.specs.Details.{detail_meant};
 ghost use Rattle.docker_day.specs.DockerValue.{head, text_of};

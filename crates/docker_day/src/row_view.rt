@@ -6,7 +6,7 @@ ghost use Rattle.docker_model.specs.docker.LiveRows.{schedule_of};
 ghost use Rattle.docker_day.specs.RowViews.{view_of};
 
 use cif_file::{Body, Key};
-use docker_train::{LinkView, ScheduleView, association_of, schedule_of};
+use train_choice::{LinkView, ScheduleView, association_of, schedule_of};
 
 /// A row, opened: its schedule, its association, or neither.
 #[derive(Default, Drop)]

@@ -1,13 +1,12 @@
 //! The start days of the trains that can be somewhere on a day.
 ghost use Rattle.std.specs.Prelude.{◌≡◌, ◌+◌, ◌≤◌};
 ghost use Rattle.docker_model.specs.docker.Association.{partner_start};
-ghost use Rattle.docker_model.specs.records.Record.{columns};
-ghost use Rattle.docker_train.specs.Walk.{occurrence_meant};
+ghost use Rattle.train_choice.specs.EventWalk.{occurrence_meant};
 ghost use Rattle.docker_day.specs.Lines.{is_here, is_today};
 
 use crate::location::tiploc_in;
 use cif_line::{Day, Tiploc};
-use docker_train::{Occurrence, day_back};
+use train_choice::{Occurrence, day_back};
 
 /// The start day of the associated train, if the base train starts on a day. It is the next day for
 /// the date indicator `N`, the day before for `P`, and otherwise the same day. `None` if there is

@@ -1,14 +1,14 @@
 //! The lines of a train's events.
-ghost use Rattle.std.specs.Prelude.{◌≡◌, ◌≤◌, ◌&&◌, ◌++◌, List, [], OnOk, IfSome, IsNone, codes, if◌then◌else◌};
+ghost use Rattle.std.specs.Prelude.{◌≡◌, ◌≤◌, ◌&&◌, ◌++◌, [], OnOk, IfSome, IsNone, codes, if◌then◌else◌};
 ghost use Rattle.docker_model.specs.state.State.{live_table};
 ghost use Rattle.docker_model.specs.docker.DockerLine.{ends, tiploc_of_first};
 ghost use Rattle.docker_model.specs.docker.Gathering.{event_lines};
 ghost use Rattle.docker_day.specs.Details.{detail_meant};
-ghost use Rattle.docker_train.specs.Occurrences.{occurrences};
-ghost use Rattle.docker_train.specs.Walk.{occurrence_meant};
+ghost use Rattle.train_choice.specs.Occurrences.{occurrences};
+ghost use Rattle.train_choice.specs.EventWalk.{occurrence_meant};
 ghost use Rattle.docker_day.specs.Lines.{Adds, is_here, is_today, lines_there, is_lately, is_under_way, schedule_piece};
-ghost use Rattle.docker_train.specs.Along.{IsLiveTrain};
-ghost use Rattle.docker_train.specs.UpTo.{occurrences_to};
+ghost use Rattle.train_choice.specs.Along.{IsLiveTrain};
+ghost use Rattle.train_choice.specs.UpTo.{occurrences_to};
 
 use crate::detail::Detail;
 use crate::docker_line::DockerLine;
@@ -16,7 +16,7 @@ use crate::location::tiploc_in;
 use crate::starts::{is_here, is_today};
 use crate::visit::Visit;
 use cif_line::{Day, Memory, Tiploc};
-use docker_train::{Occurrence, ScheduleView, ends_of, passes_midnight};
+use train_choice::{Occurrence, ScheduleView, ends_of, passes_midnight};
 
 /// Adds the lines of a schedule on a visit, if its train runs by it then. `row` is the index of the
 /// schedule's row. `Memory` if out of memory.

@@ -6,17 +6,17 @@ ghost use Rattle.docker_model.specs.state.Row.{Row, AreRowsOf};
 ghost use Rattle.docker_model.specs.docker.Choice.{group_of, schedule_runs};
 ghost use Rattle.docker_model.specs.docker.Gathering.{counts_as, identity_of, runs_by};
 ghost use Rattle.docker_model.specs.docker.LiveRows.{train_in, link_in};
-ghost use Rattle.docker_train.specs.Along.{IsLiveTrain};
-ghost use Rattle.docker_train.specs.Keys.{association_key_meant};
+ghost use Rattle.train_choice.specs.Along.{IsLiveTrain};
+ghost use Rattle.train_choice.specs.Keys.{association_key_meant};
 ghost use Rattle.docker_day.specs.Bases.{first_call, meant_if};
 
 use crate::bases::Bases;
 use cif_file::AssocKey;
 use cif_line::{Day, Memory, Tiploc, Uid};
 use docker_state::State;
-use docker_train::{DayLinks, DayTrains, Identities, Occurrence, ScheduleView};
 use std::alloc::Global;
 use std::marker::Model;
+use train_choice::{DayLinks, DayTrains, Identities, Occurrence, ScheduleView};
 
 /// The visit to a place on a day by the trains that start on that day or on an earlier one. What was
 /// looked up for it is kept: which trains and associations count on the start day, where base trains

@@ -1,14 +1,14 @@
 //! A place on a day, for the trains of all start days that can be there.
 ghost use Rattle.std.specs.Prelude.{◌≡◌, IfOk};
-ghost use Rattle.docker_train.specs.Known.{PlaceDay};
+ghost use Rattle.train_choice.specs.Known.{PlaceDay};
 ghost use Rattle.docker_day.specs.Visits.{visit_back};
 
 use crate::visit::Visit;
 use cif_line::{Day, Memory, Tiploc};
 use docker_state::State;
-use docker_train::day_back;
 use std::alloc::Global;
 use std::marker::Model;
+use train_choice::day_back;
 
 /// The visits to a place on a day: by the trains that start on the day, and by the trains that
 /// start on each of the two days before it, if there are such days.
@@ -20,7 +20,7 @@ pub(crate) struct Visits<'a> {
 }
 
 impl<'a> Model for Visits<'a> {
-    ghost use Rattle.docker_train.specs.Known.{PlaceDay};
+    ghost use Rattle.train_choice.specs.Known.{PlaceDay};
     ghost use Rattle.docker_day.specs.Visits.{AreVisits};
 
     ghost Value = { PlaceDay };

@@ -1,5 +1,5 @@
 //! How an answer is written.
-ghost use Rattle.std.specs.Prelude.{◌≡◌, ◌-◌, ◌^◌, ◌<◌, length, IsErr, OnOk, OnErr};
+ghost use Rattle.std.specs.Prelude.{◌≡◌, ◌-◌, ◌^◌, ◌<◌, IsErr, OnOk, OnErr};
 ghost use Rattle.cif_line.specs.Device.{CountsFailure, Takes, TakesPart};
 ghost use Rattle.docker_desk.specs.Answers.{answer_text, header_text, line_count};
 
@@ -9,7 +9,7 @@ use fixed_text::put;
 use itoa::Buffer;
 
 /// The header of an answer, with its line feed. It has room for all numbers.
-type Header = ArrayVec<u8, 64>;
+type AnswerHeader = ArrayVec<u8, 64>;
 
 /// Writes the answer with a status and a text: its header, and then the text as it is. If a write
 /// fails, the sink has gained a proper beginning of the answer.
@@ -27,10 +27,10 @@ pub fn write_answer<K: Sink>(status: u8, text: &[u8], sink: &mut K) -> Result<()
 }
 
 /// The header of an answer.
-fn header(status: u8, lines: usize, bytes: usize) -> Header
+fn header(status: u8, lines: usize, bytes: usize) -> AnswerHeader
     ensures { result.items ≡ header_text status lines bytes }
 {
-    let mut header = Header::new();
+    let mut header = AnswerHeader::new();
     put(&mut header, Buffer::new().format(status).as_bytes());
     put(&mut header, b" ");
     put(&mut header, Buffer::new().format(lines).as_bytes());

@@ -1,5 +1,5 @@
 //! The lines of a source.
-ghost use Rattle.std.specs.Prelude.{◌≡◌, ◌-◌, ◌^◌, ◌<◌, Err, false};
+ghost use Rattle.std.specs.Prelude.{◌≡◌, ◌-◌, ◌^◌, ◌<◌, Err};
 ghost use Rattle.cif_line.specs.Device.{CountsFailure};
 ghost use Rattle.docker_desk.specs.Lines.{EndsLine, EndsSkipping, MeetsEnd, asked_meant, cut_or_end, is_end_of_lines, with_ahead};
 
@@ -11,13 +11,13 @@ use cif_line::{Source, is_printable};
 const LONGEST: usize = 255;
 
 /// A line without its line feed.
-pub type Line = ArrayVec<u8, LONGEST>;
+pub type RequestLine = ArrayVec<u8, LONGEST>;
 
 /// What the next line of a source is.
 #[derive(Debug)]
 pub enum Asked {
     /// At most 255 printable bytes, without the line feed after them.
-    Line(Line),
+    Line(RequestLine),
     /// More bytes, or a byte that isn't printable. The line was read up to its line feed.
     Bad,
     /// What comes after the last line feed.
@@ -58,7 +58,7 @@ pub fn next_line<S: Source>(ahead: &mut Ahead, source: &mut S) -> Result<Asked, 
     ensures meets_end { MeetsEnd (is_end_of_lines result) (S.ended source.old) (S.ended source.new)
         (S.passed source.old) (S.passed source.new) }
 {
-    let mut line = Line::new();
+    let mut line = RequestLine::new();
     for _ in 0..=LONGEST {
         let Some(byte) = ahead.next_byte(source)? else {
             return Ok(without_feed(&line));
@@ -75,7 +75,7 @@ pub fn next_line<S: Source>(ahead: &mut Ahead, source: &mut S) -> Result<Asked, 
 }
 
 /// What a line is that ends without a line feed after these bytes. It is the end if there are none.
-fn without_feed(line: &Line) -> Asked
+fn without_feed(line: &RequestLine) -> Asked
     ensures { asked_meant result ≡ cut_or_end line.now.items }
 {
     if line.is_empty() {

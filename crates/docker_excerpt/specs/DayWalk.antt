@@ -4,7 +4,7 @@ use Rattle.docker_model.specs.file.Change.{Key}
 use Rattle.docker_model.specs.state.Op.{Entry}
 use Rattle.docker_model.specs.docker.NearDay.{near_entries}
 use Rattle.docker_excerpt.specs.declared.day_walk.DayWalk.{DayWalk}
-use Rattle.docker_excerpt.specs.Walk.{HasWalked}
+use Rattle.docker_excerpt.specs.ExcerptWalk.{HasWalked}
 
 -- the walk has passed these entries: it has walked over the ones that may count near its day
 pub record HasPassed (walk : DayWalk) (entries : List (Key × Entry)) : Type 0 where

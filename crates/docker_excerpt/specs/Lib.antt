@@ -1,5 +1,5 @@
 pub mod Walked
-pub mod Walk
+pub mod ExcerptWalk
 pub mod DayWalk
 pub mod Values
 pub mod Ledger

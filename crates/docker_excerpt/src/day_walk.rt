@@ -11,18 +11,18 @@ ghost use Rattle.docker_excerpt.specs.Walked.{state_of_entries};
 ghost use Rattle.docker_excerpt.specs.DayWalk.{HasPassed};
 
 use crate::near::may_count;
-use crate::walk::Walk;
+use crate::walk::ExcerptWalk;
 use cif_file::Key;
 use cif_line::{Day, Memory, Tiploc};
 use docker_join::Entry;
-use docker_parts::Given;
+use state_parts::Given;
 use std::alloc::Global;
 
 /// A walk over the entries that may count near a day.
 #[derive(Drop)]
 pub(crate) struct DayWalk {
     day: Day,
-    walk: Walk,
+    walk: ExcerptWalk,
     near: Given,
 }
 
@@ -35,7 +35,7 @@ impl DayWalk {
     {
         DayWalk {
             day,
-            walk: Walk::new(alloc, place),
+            walk: ExcerptWalk::new(alloc, place),
             near: Given::new(),
         }
     }

@@ -7,7 +7,7 @@ ghost use Rattle.cif_file.specs.Meaning.{key_meant};
 ghost use Rattle.docker_join.specs.Meaning.{entry_meant, row_meant};
 ghost use Rattle.docker_state.specs.Meaning.{item_meant};
 ghost use Rattle.docker_state.specs.Parts.{last_key};
-ghost use Rattle.docker_parts.specs.Told.{horizon_meant, under, with_item, with_row};
+ghost use Rattle.state_parts.specs.Told.{horizon_meant, under, with_item, with_row};
 ghost use Rattle.docker_excerpt.specs.Values.{with_entries};
 
 use crate::day_walk::DayWalk;

@@ -7,14 +7,14 @@ ghost use Rattle.cif_file.specs.Meaning.{key_meant};
 ghost use Rattle.docker_join.specs.Meaning.{entry_meant};
 ghost use Rattle.docker_state.specs.Meaning.{item_meant};
 ghost use Rattle.docker_state.specs.Parts.{last_key};
-ghost use Rattle.docker_parts.specs.Told.{with_item};
+ghost use Rattle.state_parts.specs.Told.{with_item};
 ghost use Rattle.docker_excerpt.specs.Values.{with_entries};
 
 use cif_file::Key;
 use cif_line::Memory;
 use docker_join::Entry;
-use docker_parts::{Given, Keeper};
 use docker_state::{LedgerItem, Parts};
+use state_parts::{Given, Keeper};
 use std::alloc::Global;
 use std::fmt;
 use std::marker::Model;

@@ -7,8 +7,8 @@ use crate::excerpting::Excerpting;
 use cif_file::Key;
 use cif_line::{Day, Memory, Tiploc};
 use docker_join::Entry;
-use docker_parts::{Keeper, Maker};
 use docker_state::LedgerItem;
+use state_parts::{Keeper, Maker};
 use std::alloc::Global;
 use std::marker::{Brand, Model, PhantomData};
 

@@ -8,18 +8,18 @@ ghost use Rattle.docker_model.specs.docker.ExcerptWalk.{has_uid, goes_on, excerp
 ghost use Rattle.cif_file.specs.Meaning.{key_meant};
 ghost use Rattle.docker_join.specs.Meaning.{entry_meant, row_meant};
 ghost use Rattle.docker_excerpt.specs.Walked.{state_of_entries};
-ghost use Rattle.docker_excerpt.specs.Walk.{HasWalked};
+ghost use Rattle.docker_excerpt.specs.ExcerptWalk.{HasWalked};
 
 use crate::needs::{goes_on, has_name, is_here, is_needed_with, name_in};
 use cif_file::{Key, ScheduleKey};
 use cif_line::{Memory, Tiploc, Uid};
 use docker_join::Entry;
-use docker_parts::Given;
+use state_parts::Given;
 use std::alloc::Global;
 
 /// What is kept so far, and the run of schedules of one UID. The run is separate until it ends.
 #[derive(Debug, Drop)]
-pub(crate) struct Walk {
+pub(crate) struct ExcerptWalk {
     place: Tiploc,
     kept: Vec<(Key, Entry)>,
     run: Vec<(Key, Entry)>,
@@ -29,13 +29,13 @@ pub(crate) struct Walk {
     names: Vec<Uid>,
 }
 
-impl Walk {
+impl ExcerptWalk {
     /// Nothing kept yet. It takes no memory.
-    pub(crate) fn new(alloc: Global, place: Tiploc) -> Walk
+    pub(crate) fn new(alloc: Global, place: Tiploc) -> ExcerptWalk
         ensures walked { HasWalked result [] }
         ensures place { result.place ≡ place }
     {
-        Walk {
+        ExcerptWalk {
             place,
             kept: Vec::new(alloc),
             run: Vec::new(alloc),

@@ -1,7 +1,7 @@
 //! What holds of every run. Its offices may take, send, lose, repeat, reorder, receive or reload
 //! anything: the files and horizons that an office knows determine its bytes and its dockers. Each
 //! law is the contract of a function with an empty body, so it holds for every value that it names.
-ghost use Rattle.std.specs.Prelude.{◌≡◌, ℕ, List, ◌↔◌};
+ghost use Rattle.std.specs.Prelude.{◌≡◌, ℕ, List};
 ghost use Rattle.docker_model.specs.state.State.{State, live_table};
 ghost use Rattle.docker_model.specs.state.StateText.{dks_2, state_text};
 ghost use Rattle.docker_model.specs.state.Summary.{HaveDistinctMoments};

@@ -1,5 +1,5 @@
 //! The events of a run, one by one.
-ghost use Rattle.std.specs.Prelude.{◌≡◌, ◌≢◌, ℕ, ◌+◌, ◌^◌, ◌<◌, ◌≤◌, [], All, length, vec_len, vec_capacity, IfSome, IfNone, IsOk, IsErr, IfOk, IfErr, Some, Err};
+ghost use Rattle.std.specs.Prelude.{◌≡◌, ◌≢◌, ◌+◌, ◌^◌, ◌<◌, ◌≤◌, [], All, length, vec_len, vec_capacity, IfSome, IfNone, IsOk, IsErr, IfOk, IfErr, Some, Err};
 ghost use Rattle.cif_file.specs.SourceRead.{RefusesText};
 ghost use Rattle.docker_bytes.specs.SourceRead.{JoinsState, ReadsState, RefusesState};
 ghost use Rattle.docker_model.specs.state.StateText.{dks_2, state_text};

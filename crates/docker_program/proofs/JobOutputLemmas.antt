@@ -11,7 +11,7 @@ use Rattle.docker_cmd.specs.OfficeFault.{OfficeFault}
 use Rattle.docker_cmd.specs.OfficeFault.TheVariants as office
 use Rattle.docker_cmd.specs.declared.fault.Fault.TheVariants.{Office}
 use Rattle.docker_program.specs.Devices.{IsCounted, IsEither, LeavesOtherFiles, written}
-use Rattle.docker_program.specs.Names.{file_stored, stored_by}
+use Rattle.docker_program.specs.SourceNames.{file_stored, stored_by}
 use Rattle.docker_program.specs.Program.{EndsWriting, StoresAllOrNothing, StoresOutput, Writes, WritesPart, WritesPartTo, WritesTo, result_status}
 
 none_some : (name : Text) → ◌≡◌ {A = Option Text} None (Some name) → ⊥

@@ -7,9 +7,9 @@ use Rattle.docker_cmd.specs.OfficeFault.{OfficeFault}
 use Rattle.docker_cmd.specs.OfficeFault.TheVariants as office
 use Rattle.docker_program.specs.Devices.{AreOpened, AreThere, FileDevice, Given, IsCounted, LeavesOthers, first_held, first_left, given, second_held, second_left}
 use Rattle.docker_cmd.specs.Words.{Text}
-use Rattle.docker_program.specs.declared.names.Names as declared
-use Rattle.docker_program.specs.declared.names.Names.TheVariants as code
-use Rattle.docker_program.specs.Names.{Names, no_source, standard_input, one_file, file_and_input, two_files, names_meant, names_of}
+use Rattle.docker_program.specs.declared.names.SourceNames as declared
+use Rattle.docker_program.specs.declared.names.SourceNames.TheVariants as code
+use Rattle.docker_program.specs.SourceNames.{SourceNames, no_source, standard_input, one_file, file_and_input, two_files, names_meant, names_of}
 use Rattle.docker_program.specs.Program.{IsOpened, ReadsNamed, result_status}
 
 -- the devices with this much left in each
@@ -18,7 +18,7 @@ now input left first first_now second second_now =
     given input left (record first { left = first_now }) (record second { left = second_now })
 
 -- what the first source held doesn't depend on what is left
-same_first : (names : Names) (rest input before left : DeviceBytes) (first second : FileDevice) (one two : DeviceBytes) →
+same_first : (names : SourceNames) (rest input before left : DeviceBytes) (first second : FileDevice) (one two : DeviceBytes) →
     first_held names rest (given input before first second) ≡ first_held names rest (now input left first one second two)
 same_first no_source rest input before left first second one two = refl
 same_first standard_input rest input before left first second one two = refl
@@ -27,7 +27,7 @@ same_first (file_and_input name) rest input before left first second one two = r
 same_first (two_files name other) rest input before left first second one two = refl
 
 -- nor does what the second source held
-same_second : (names : Names) (rest input before left : DeviceBytes) (first second : FileDevice) (one two : DeviceBytes) →
+same_second : (names : SourceNames) (rest input before left : DeviceBytes) (first second : FileDevice) (one two : DeviceBytes) →
     second_held names rest (given input before first second) ≡ second_held names rest (now input left first one second two)
 same_second no_source rest input before left first second one two = refl
 same_second standard_input rest input before left first second one two = refl
@@ -36,7 +36,7 @@ same_second (file_and_input name) rest input before left first second one two = 
 same_second (two_files name other) rest input before left first second one two = refl
 
 -- nor does which files are there
-still_there : (names : Names) (input before left : DeviceBytes) (first second : FileDevice) (one two : DeviceBytes) →
+still_there : (names : SourceNames) (input before left : DeviceBytes) (first second : FileDevice) (one two : DeviceBytes) →
     AreThere names (given input before first second) → AreThere names (now input left first one second two)
 still_there no_source input before left first second one two there = tt
 still_there standard_input input before left first second one two there = tt
@@ -45,7 +45,7 @@ still_there (file_and_input name) input before left first second one two there =
 still_there (two_files name other) input before left first second one two there = there
 
 -- the sources of these names are there, and were read in order
-record AreRead (names : Names) (given : Given) (job : JobView) (rest : DeviceBytes) (result : Result PreparedView OfficeFault) : Type 0 where
+record AreRead (names : SourceNames) (given : Given) (job : JobView) (rest : DeviceBytes) (result : Result PreparedView OfficeFault) : Type 0 where
   there : AreThere names given
   others : LeavesOthers names rest given
   reads : ReadsInOrder job (first_held names rest given) (first_left names given) (second_held names rest given) (second_left names given) result
@@ -78,7 +78,7 @@ by_result given job rest (Err office.Sink) read = read.reads.ends
 
 -- if the files of a job's names were opened and read in order, the job's sources were read with
 -- this result
-pub reads_named : (job : JobView) (names : Names) → names ≡ names_of job →
+pub reads_named : (job : JobView) (names : SourceNames) → names ≡ names_of job →
     (rest input before left : DeviceBytes) (first second : FileDevice) (one two : DeviceBytes) (result : Result PreparedView OfficeFault) →
     AreOpened names rest (given input before first second) → LeavesOthers names rest (now input left first one second two) →
     ReadsInOrder job (first_left names (given input before first second)) (first_left names (now input left first one second two))
@@ -98,7 +98,7 @@ reads_named job names is rest input before left first second one two result open
     }))
 
 -- no source of these names is standard input
-abbrev pub AreFiles : Names → Type 0
+abbrev pub AreFiles : SourceNames → Type 0
 AreFiles no_source = ⊤
 AreFiles standard_input = ⊥
 AreFiles (one_file name) = ⊤
@@ -106,7 +106,7 @@ AreFiles (file_and_input name) = ⊥
 AreFiles (two_files name other) = ⊤
 
 -- like `reads_named`, for files only: standard input is left as it was
-pub reads_files : (job : JobView) (names : Names) → names ≡ names_of job → AreFiles names →
+pub reads_files : (job : JobView) (names : SourceNames) → names ≡ names_of job → AreFiles names →
     (rest input : DeviceBytes) (first second : FileDevice) (one two : DeviceBytes) (result : Result PreparedView OfficeFault) →
     AreOpened names rest (given input rest first second) → ReadsInOrder job first.left one second.left two result →
     ReadsNamed (now input rest first one second two) job rest result
@@ -120,7 +120,7 @@ reads_files job (two_files name other) is files rest input first second one two 
     reads_named job (two_files name other) is rest input rest rest first second one two result opened refl reads
 
 -- if the names are none, one file or two files, no source is standard input
-pub are_files : (names : declared.Names) →
+pub are_files : (names : declared.SourceNames) →
     (names ≡ code.None) ⊎ (((name : Bor Text) × (names ≡ code.File name)) ⊎ ((name : Bor Text) × (other : Bor Text) × (names ≡ code.Files name other))) →
     AreFiles (names_meant names)
 are_files names (inl is) = subst (λ names. AreFiles (names_meant names)) (sym is) tt

@@ -10,7 +10,7 @@ use Rattle.docker_cmd.specs.declared.fault.Fault.TheVariants.{Job, Office}
 use Rattle.docker_cmd.specs.OfficeFault.{OfficeFault}
 use Rattle.docker_cmd.specs.OfficeFault.TheVariants as office
 use Rattle.docker_program.specs.Devices.{Given, IsUnwritten, Written, written}
-use Rattle.docker_program.specs.Names.{stored_by}
+use Rattle.docker_program.specs.SourceNames.{stored_by}
 use Rattle.docker_program.specs.Past.{Past, with_draft, with_draft_from, with_draft_of, with_look, with_look_at}
 use Rattle.docker_program.specs.Program.{AskForNone, AskForSome, AsksAtMost, AsksFor, AsksStore, EndsBy, EndsWriting, FaultSink, HasRead, IsAsked, IsPrepared, IsUsageStatus, Performs, ReadsNamed, Writes, ending_status}
 

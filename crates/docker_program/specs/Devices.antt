@@ -3,7 +3,7 @@ use Rattle.std.specs.Prelude.{◌≡◌, ℕ, Bool, true, false, ⊤, ◌⊎◌,
 use Rattle.cif_line.specs.Device.{CountsFailure}
 use Rattle.docker_cmd.specs.Words.{Text}
 use Rattle.docker_cmd.specs.Prepared.{DeviceBytes}
-use Rattle.docker_program.specs.Names.{Names, no_source, standard_input, one_file, file_and_input, two_files}
+use Rattle.docker_program.specs.SourceNames.{SourceNames, no_source, standard_input, one_file, file_and_input, two_files}
 
 -- a device that opens a file to be read: what was left in it before, what the file of each name
 -- holds, which names have no file, and what is left in it now
@@ -70,7 +70,7 @@ abbrev pub IsEither : DeviceBytes → DeviceBytes → DeviceBytes → Type 0
 IsEither old put now = (now ≡ old) ⊎ (now ≡ put)
 
 -- what the first source held when it was opened; `rest` is what standard input held then
-abbrev pub first_held : Names → DeviceBytes → Given → DeviceBytes
+abbrev pub first_held : SourceNames → DeviceBytes → Given → DeviceBytes
 first_held no_source rest given = given.first.before
 first_held standard_input rest given = rest
 first_held (one_file name) rest given = given.first.held name
@@ -78,7 +78,7 @@ first_held (file_and_input name) rest given = given.first.held name
 first_held (two_files name other) rest given = given.first.held name
 
 -- what the second source held when it was opened
-abbrev pub second_held : Names → DeviceBytes → Given → DeviceBytes
+abbrev pub second_held : SourceNames → DeviceBytes → Given → DeviceBytes
 second_held no_source rest given = given.second.before
 second_held standard_input rest given = given.second.before
 second_held (one_file name) rest given = given.second.before
@@ -86,7 +86,7 @@ second_held (file_and_input name) rest given = rest
 second_held (two_files name other) rest given = given.second.held other
 
 -- what is left of the first source
-abbrev pub first_left : Names → Given → DeviceBytes
+abbrev pub first_left : SourceNames → Given → DeviceBytes
 first_left no_source given = given.first.left
 first_left standard_input given = given.left
 first_left (one_file name) given = given.first.left
@@ -94,7 +94,7 @@ first_left (file_and_input name) given = given.first.left
 first_left (two_files name other) given = given.first.left
 
 -- what is left of the second source
-abbrev pub second_left : Names → Given → DeviceBytes
+abbrev pub second_left : SourceNames → Given → DeviceBytes
 second_left no_source given = given.second.left
 second_left standard_input given = given.second.left
 second_left (one_file name) given = given.second.left
@@ -102,7 +102,7 @@ second_left (file_and_input name) given = given.left
 second_left (two_files name other) given = given.second.left
 
 -- the device that is neither the first source nor the second is as it was
-abbrev pub LeavesOthers : Names → DeviceBytes → Given → Type 0
+abbrev pub LeavesOthers : SourceNames → DeviceBytes → Given → Type 0
 LeavesOthers no_source rest given = given.left ≡ rest
 LeavesOthers standard_input rest given = given.first.left ≡ given.first.before
 LeavesOthers (one_file name) rest given = given.left ≡ rest
@@ -110,7 +110,7 @@ LeavesOthers (file_and_input name) rest given = given.second.left ≡ given.seco
 LeavesOthers (two_files name other) rest given = given.left ≡ rest
 
 -- the files of these names are there
-abbrev pub AreThere : Names → Given → Type 0
+abbrev pub AreThere : SourceNames → Given → Type 0
 AreThere no_source given = ⊤
 AreThere standard_input given = ⊤
 AreThere (one_file name) given = given.first.is_missing name ≡ false
@@ -133,14 +133,14 @@ pub record IsOneOpened (name : Text) (rest : DeviceBytes) (given : Given) : Type
   pub second : given.second.left ≡ given.second.before
 
 -- the files of these names were opened, and nothing was read from them or after the job line
-pub record AreOpened (names : Names) (rest : DeviceBytes) (given : Given) : Type 0 where
+pub record AreOpened (names : SourceNames) (rest : DeviceBytes) (given : Given) : Type 0 where
   pub there : AreThere names given
   pub first : first_left names given ≡ first_held names rest given
   pub second : second_left names given ≡ second_held names rest given
   pub others : LeavesOthers names rest given
 
 -- a file wasn't opened: the first, or the second after the first was opened
-abbrev pub FailsToOpen : Names → DeviceBytes → Given → Type 0
+abbrev pub FailsToOpen : SourceNames → DeviceBytes → Given → Type 0
 FailsToOpen no_source rest given = ⊥
 FailsToOpen standard_input rest given = ⊥
 FailsToOpen (one_file name) rest given = IsUnopened rest given

@@ -1,5 +1,5 @@
 pub mod Devices
-pub mod Names
+pub mod SourceNames
 pub mod Past
 pub mod Program
 pub mod RealDevices

@@ -16,7 +16,7 @@ use Rattle.docker_cmd.specs.declared.fault.Fault.{Fault}
 use Rattle.docker_cmd.specs.declared.fault.Fault.TheVariants.{Job, Office}
 use Rattle.docker_program.specs.declared.files.OpenFault.{OpenFault}
 use Rattle.docker_program.specs.declared.files.OpenFault.TheVariants as opening
-use Rattle.docker_program.specs.Names.{names_of, stored_by}
+use Rattle.docker_program.specs.SourceNames.{names_of, stored_by}
 use Rattle.docker_program.specs.Past.{Past, with_draft_of, with_look_at}
 use Rattle.docker_program.specs.Devices.{Given, Written, IsUnwritten, LeavesOtherFiles, AreThere, FailsToOpen, LeavesOthers, first_held, first_left, second_held, second_left}
 

@@ -1,6 +1,6 @@
 //! The real devices: standard input, an opened file, standard output and standard error. Their
 //! bytes can't be named in a contract.
-ghost use Rattle.std.specs.Prelude.{◌≡◌, ◌<◌, ◌≤◌, ◌^◌, ◌-◌, None, IfSome, false, length};
+ghost use Rattle.std.specs.Prelude.{◌≡◌, ◌<◌, ◌≤◌, ◌-◌, None, IfSome, false, length};
 
 use crate::files::{Files, OpenFault};
 use cif_line::{Failed, Sink, Source};
@@ -19,7 +19,7 @@ enum From {
 
 /// A source of real bytes: standard input, or a file once one is opened.
 #[derive(Drop)]
-pub struct Input {
+pub struct InputDevice {
     rt: HostRuntime,
     from: From,
     failures: u64,
@@ -27,7 +27,7 @@ pub struct Input {
     passed: bool,
 }
 
-impl Model for Input {
+impl Model for InputDevice {
     ghost use Rattle.docker_program.specs.RealDevices.{InputView};
 
     ghost Value = { InputView };
@@ -39,12 +39,12 @@ impl Model for Input {
     } };
 }
 
-impl Input {
+impl InputDevice {
     /// Standard input, from where it stands.
-    pub fn stdin(rt: &HostRuntime) -> Input
+    pub fn stdin(rt: &HostRuntime) -> InputDevice
         ensures { result.failures ≡ 0 }
     {
-        Input {
+        InputDevice {
             rt: *rt,
             from: From::Stdin(rt.stdin()),
             failures: 0,
@@ -54,10 +54,10 @@ impl Input {
     }
 
     /// No file yet. A read before one is opened fails.
-    pub fn without_file(rt: &HostRuntime) -> Input
+    pub fn without_file(rt: &HostRuntime) -> InputDevice
         ensures { result.failures ≡ 0 }
     {
-        Input {
+        InputDevice {
             rt: *rt,
             from: From::Closed,
             failures: 0,
@@ -67,7 +67,7 @@ impl Input {
     }
 }
 
-impl Source for Input {
+impl Source for InputDevice {
     ghost left = { λ _. None };
 
     ghost failures = { λ input. input.failures };
@@ -100,7 +100,7 @@ impl Source for Input {
     }
 }
 
-impl Files for Input {
+impl Files for InputDevice {
     ghost held = { λ _ _. None };
 
     ghost is_missing = { λ _ _. false };
@@ -145,12 +145,12 @@ enum To {
 
 /// A sink of real bytes. It isn't buffered: what it takes is written.
 #[derive(Drop)]
-pub struct Output {
+pub struct OutputDevice {
     to: To,
     failures: u64,
 }
 
-impl Model for Output {
+impl Model for OutputDevice {
     ghost use Rattle.docker_program.specs.RealDevices.{OutputView};
 
     ghost Value = { OutputView };
@@ -158,29 +158,29 @@ impl Model for Output {
     ghost view = { λ output. record { failures = output.failures } };
 }
 
-impl Output {
+impl OutputDevice {
     /// Standard output. Nobody has to be reading it.
-    pub fn stdout(rt: &HostRuntime) -> Output
+    pub fn stdout(rt: &HostRuntime) -> OutputDevice
         ensures { result.failures ≡ 0 }
     {
-        Output {
+        OutputDevice {
             to: To::Stdout(rt.stdout()),
             failures: 0,
         }
     }
 
     /// Standard error. Nobody has to be reading it.
-    pub fn stderr(rt: &HostRuntime) -> Output
+    pub fn stderr(rt: &HostRuntime) -> OutputDevice
         ensures { result.failures ≡ 0 }
     {
-        Output {
+        OutputDevice {
             to: To::Stderr(rt.stderr()),
             failures: 0,
         }
     }
 }
 
-impl Sink for Output {
+impl Sink for OutputDevice {
     ghost taken = { λ _. None };
 
     ghost failures = { λ output. output.failures };

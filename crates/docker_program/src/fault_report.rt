@@ -1,5 +1,5 @@
 //! How a fault is reported.
-ghost use Rattle.std.specs.Prelude.{◌≡◌, ◌+◌, ◌-◌, ◌^◌, ◌<◌, Some};
+ghost use Rattle.std.specs.Prelude.{◌≡◌, ◌-◌, ◌^◌, ◌<◌, Some};
 ghost use Rattle.docker_cmd.specs.FaultLine.{status_of};
 ghost use Rattle.docker_program.specs.Program.{Tells};
 

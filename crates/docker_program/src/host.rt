@@ -3,7 +3,7 @@ ghost use Rattle.std.specs.Prelude.{◌≤◌};
 ghost use Rattle.docker_cmd.specs.Words.{texts};
 ghost use Rattle.docker_program.specs.Program.{IsUsageStatus};
 
-use crate::devices::{Input, Output};
+use crate::devices::{InputDevice, OutputDevice};
 use crate::fault_report::tell;
 use crate::folder::Folder;
 use crate::program::perform;
@@ -27,12 +27,12 @@ pub fn run_words(rt: &HostRuntime, words: &[&str]) -> u8
     perform(
         rt.alloc(),
         words,
-        &mut Input::stdin(rt),
-        &mut Input::without_file(rt),
-        &mut Input::without_file(rt),
+        &mut InputDevice::stdin(rt),
+        &mut InputDevice::without_file(rt),
+        &mut InputDevice::without_file(rt),
         &mut Folder::new(rt),
-        &mut Output::stdout(rt),
-        &mut Output::stderr(rt),
+        &mut OutputDevice::stdout(rt),
+        &mut OutputDevice::stderr(rt),
     )
 }
 
@@ -40,7 +40,7 @@ pub fn run_words(rt: &HostRuntime, words: &[&str]) -> u8
 fn run_own_words(rt: &HostRuntime) -> u8 {
     match own_words(rt).and_then(|words| run_strings(rt, words.as_slice())) {
         Ok(status) => status,
-        Err(fault) => tell(&Fault::Job(fault), &mut Output::stderr(rt)),
+        Err(fault) => tell(&Fault::Job(fault), &mut OutputDevice::stderr(rt)),
     }
 }
 

@@ -1,21 +1,21 @@
 //! What the words of a job name.
 ghost use Rattle.std.specs.Prelude.{◌≡◌, option_map};
-ghost use Rattle.docker_program.specs.Names.{behind_file, file_or_input, first_word, names_meant, names_of, second_word, stored_by};
+ghost use Rattle.docker_program.specs.SourceNames.{behind_file, file_or_input, first_word, names_meant, names_of, second_word, stored_by};
 
-use crate::names::{Names, STDIN};
+use crate::names::{STDIN, SourceNames};
 use docker_cmd::{Job, Output, Task};
 
 /// The sources of a job.
-pub(crate) fn names(job: &Job) -> Names<'_>
+pub(crate) fn names(job: &Job) -> SourceNames<'_>
     ensures { names_meant result ≡ names_of job.now }
 {
     match job.task() {
-        Task::New => Names::None,
+        Task::New => SourceNames::None,
         Task::Check | Task::Day { .. } | Task::Print { .. } | Task::Files => {
             file_or_input(first_word(job))
         }
         Task::Take | Task::Merge => behind_file(first_word(job), second_word(job)),
-        Task::Horizon { .. } | Task::Migrate => Names::File(first_word(job)),
+        Task::Horizon { .. } | Task::Migrate => SourceNames::File(first_word(job)),
     }
 }
 
@@ -30,23 +30,23 @@ pub(crate) fn stored_name(job: &Job) -> Option<&str>
 }
 
 /// The source of a word that may name standard input.
-fn file_or_input(word: &str) -> Names<'_>
+fn file_or_input(word: &str) -> SourceNames<'_>
     ensures { names_meant result ≡ file_or_input word.now }
 {
     if word == STDIN {
-        return Names::Stdin;
+        return SourceNames::Stdin;
     }
-    Names::File(word)
+    SourceNames::File(word)
 }
 
 /// The sources of a file's name and a second word that may name standard input.
-fn behind_file<'a>(name: &'a str, word: &'a str) -> Names<'a>
+fn behind_file<'a>(name: &'a str, word: &'a str) -> SourceNames<'a>
     ensures { names_meant result ≡ behind_file name.now word.now }
 {
     if word == STDIN {
-        return Names::FileAndStdin(name);
+        return SourceNames::FileAndStdin(name);
     }
-    Names::Files(name, word)
+    SourceNames::Files(name, word)
 }
 
 /// The first word after the subcommand.

@@ -1,8 +1,7 @@
 //! Where a job writes.
-ghost use Rattle.std.specs.Prelude.{◌≡◌, ◌≢◌, ◌+◌, ◌-◌, ◌^◌, ◌<◌, ◌↔◌, Some, OnOk, OnErr, Err, option_map};
-ghost use Rattle.docker_cmd.specs.Prepared.{output_of, state_written};
+ghost use Rattle.std.specs.Prelude.{◌≡◌, ◌+◌, ◌-◌, ◌^◌, ◌<◌, Some, Err, option_map};
 ghost use Rattle.docker_program.specs.Devices.{IsCounted, LeavesNoDraft, written};
-ghost use Rattle.docker_program.specs.Names.{stored_by};
+ghost use Rattle.docker_program.specs.SourceNames.{stored_by};
 ghost use Rattle.docker_program.specs.Past.{with_draft, with_draft_from};
 ghost use Rattle.docker_program.specs.Program.{EndsWriting, result_status};
 

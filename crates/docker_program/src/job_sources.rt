@@ -3,19 +3,23 @@ ghost use Rattle.std.specs.Prelude.{◌≡◌, ◌≢◌, ◌+◌, ◌-◌, ◌^
 ghost use Rattle.cif_line.specs.Device.{CountsFailure};
 ghost use Rattle.docker_cmd.specs.Prepared.{DeviceBytes};
 ghost use Rattle.docker_program.specs.Devices.{AreOpened, FailsToOpen, IsCounted, device_of, given};
-ghost use Rattle.docker_program.specs.Names.{names_meant, stored_by};
+ghost use Rattle.docker_program.specs.SourceNames.{names_meant, stored_by};
 ghost use Rattle.docker_program.specs.Program.{ReadsNamed, result_status};
 
 use crate::files::{Files, OpenFault};
 use crate::job_names::names;
-use crate::names::Names;
+use crate::names::SourceNames;
 use crate::stores::{Looked, Stores};
 use cif_line::Source;
 use docker_cmd::{Job, OfficeFault, Prepared, prepare};
 use std::alloc::Global;
 
 /// Opens the files of these names, all before anything is read from one.
-fn open_files<F: Files>(names: &Names<'_>, first: &mut F, second: &mut F) -> Result<(), OpenFault>
+fn open_files<F: Files>(
+    names: &SourceNames<'_>,
+    first: &mut F,
+    second: &mut F,
+) -> Result<(), OpenFault>
     requires first { F.failures first.old < 2 ^ 64 - 1 }
     requires second { F.failures second.old < 2 ^ 64 - 1 }
     ensures opened { OnOk result ((input rest : DeviceBytes) →
@@ -33,9 +37,9 @@ fn open_files<F: Files>(names: &Names<'_>, first: &mut F, second: &mut F) -> Res
         × (F.failures second.new ≡ F.failures second.old) }
 {
     match names {
-        Names::None | Names::Stdin => Ok(()),
-        Names::File(name) | Names::FileAndStdin(name) => first.open(name),
-        Names::Files(name, other) => {
+        SourceNames::None | SourceNames::Stdin => Ok(()),
+        SourceNames::File(name) | SourceNames::FileAndStdin(name) => first.open(name),
+        SourceNames::Files(name, other) => {
             first.open(name)?;
             second.open(other)
         }
@@ -69,8 +73,10 @@ pub(crate) fn read_sources<'a, W: Stores, S: Source, F: Files>(
     let names = names(job);
     open_files(&names, first, second)?;
     match names {
-        Names::Stdin => prepare(alloc, job, stdin, second),
-        Names::FileAndStdin(_) => prepare(alloc, job, first, stdin),
-        Names::None | Names::File(_) | Names::Files(..) => prepare(alloc, job, first, second),
+        SourceNames::Stdin => prepare(alloc, job, stdin, second),
+        SourceNames::FileAndStdin(_) => prepare(alloc, job, first, stdin),
+        SourceNames::None | SourceNames::File(_) | SourceNames::Files(..) => prepare(
+            alloc, job, first, second,
+        ),
     }
 }

@@ -16,7 +16,7 @@ mod request;
 mod standard;
 mod stores;
 
-pub use devices::{Input, Output};
+pub use devices::{InputDevice, OutputDevice};
 pub use fault_report::tell;
 pub use files::{Files, OpenFault};
 pub use folder::{Draft, Folder, Seen};

@@ -5,7 +5,7 @@ pub(crate) const STDIN: &str = "stdin";
 
 /// The sources of a job, in the order of its words.
 #[derive(Clone, Copy, Debug)]
-pub(crate) enum Names<'a> {
+pub(crate) enum SourceNames<'a> {
     /// None.
     None,
     /// Standard input.

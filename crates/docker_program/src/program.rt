@@ -1,8 +1,8 @@
 //! The order of the program's work.
-ghost use Rattle.std.specs.Prelude.{◌≡◌, ◌≢◌, ◌+◌, ◌-◌, ◌^◌, ◌<◌, ◌↔◌, IfSome, None, Some, option_map};
+ghost use Rattle.std.specs.Prelude.{◌≡◌, ◌+◌, ◌-◌, ◌^◌, ◌<◌, IfSome, Some, option_map};
 ghost use Rattle.docker_cmd.specs.Words.{texts};
 ghost use Rattle.docker_program.specs.Devices.{IsCounted, LeavesNoDraft, device_of, given, written};
-ghost use Rattle.docker_program.specs.Names.{stored_by};
+ghost use Rattle.docker_program.specs.SourceNames.{stored_by};
 ghost use Rattle.docker_program.specs.Past.{with_look_at};
 ghost use Rattle.docker_program.specs.Program.{AsksStore, EndsBy, Performs, ending_status, fault_in, fault_sink};
 

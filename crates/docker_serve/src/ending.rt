@@ -1,5 +1,5 @@
 //! How a session ends.
-ghost use Rattle.std.specs.Prelude.{◌≡◌, ◌-◌, ◌^◌, ◌<◌, List, ℕ};
+ghost use Rattle.std.specs.Prelude.{◌-◌, ◌^◌, ◌<◌};
 ghost use Rattle.docker_program.specs.Program.{fault_sink};
 ghost use Rattle.docker_serve.specs.Serving.{EndsWithStatus, TellsLine};
 

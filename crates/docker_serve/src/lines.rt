@@ -1,6 +1,5 @@
 //! The lines of a session, one after the other.
-ghost use Rattle.std.specs.Prelude.{◌≡◌, false, ◌+◌, ◌-◌, ◌^◌, ◌<◌, ◌≤◌, MatchOption, IfSome, IsNone, Some, Option};
-ghost use Rattle.cif_line.specs.Device.{Takes, TakesPart};
+ghost use Rattle.std.specs.Prelude.{◌≡◌, false, ◌+◌, ◌-◌, ◌^◌, ◌<◌, ◌≤◌, Some, Option};
 ghost use Rattle.docker_desk.specs.Lines.{with_ahead};
 ghost use Rattle.docker_program.specs.Devices.{LeavesNoDraft};
 ghost use Rattle.docker_session.specs.Replies.{answer_meant, bytes_told};

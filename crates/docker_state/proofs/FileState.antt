@@ -31,7 +31,7 @@ use Rattle.docker_join.specs.Records.{HasRecords}
 use Rattle.docker_join.specs.Rows.{AreAscending}
 use Rattle.docker_state.specs.declared.item.LedgerItem.{LedgerItem}
 use Rattle.docker_state.specs.Meaning.{item_meant, row_meant, state_meant}
-use Rattle.docker_index.specs.Rooms.{AreMadeBy}
+use Rattle.state_index.specs.Rooms.{AreMadeBy}
 use Rattle.docker_state.specs.Rows.{made_by}
 use Rattle.docker_join.proofs.MeantOrder.{ascending_meant}
 use Rattle.docker_state.proofs.StateJoin.{op_records}

@@ -10,8 +10,8 @@ use Rattle.state_laws.proofs.states.KeptEntries.{entries_stay}
 use Rattle.state_laws.proofs.joins.JoinValid.{raised_is_valid}
 use Rattle.docker_model.specs.file.Change as model
 use Rattle.docker_model.specs.state.Op as ops
-use Rattle.docker_index.specs.declared.index.Index.{Index}
-use Rattle.docker_index.specs.Spots.{IsIndexOf}
+use Rattle.state_index.specs.declared.index.Index.{Index}
+use Rattle.state_index.specs.Spots.{IsIndexOf}
 use Rattle.cif_change.specs.declared.key.Key.{Key}
 use Rattle.docker_join.specs.declared.entry.Entry.{Entry}
 use Rattle.docker_state.specs.declared.item.LedgerItem.{LedgerItem}

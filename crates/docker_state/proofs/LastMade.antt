@@ -19,7 +19,7 @@ use Rattle.cif_change.specs.declared.key.Key.{Key}
 use Rattle.cif_change.specs.declared.change.Change.{Change}
 use Rattle.cif_file.specs.Meaning.{key_meant, change_meant}
 use Rattle.docker_join.specs.declared.entry.Entry.{Entry}
-use Rattle.docker_index.specs.Noted.{Item, ArePicked, items_of, items_put}
+use Rattle.state_index.specs.Noted.{Item, ArePicked, items_of, items_put}
 use Rattle.docker_state.specs.Meaning.{row_meant}
 use Rattle.docker_state.specs.Rows.{Made, AreNumbered, is_made_of_key, last_made, last_rows, made_by, numbers_in, rows_in}
 use Rattle.docker_state.proofs.LastRows.{by_entry, AreSorted}

@@ -12,7 +12,7 @@ use Rattle.cif_file.specs.Meaning.{key_meant}
 use Rattle.docker_join.specs.declared.entry.Entry.{Entry}
 use Rattle.docker_join.specs.Meaning.{entry_meant, op_meant}
 use Rattle.cif_places.specs.declared.notes.Notes.{Notes}
-use Rattle.docker_index.specs.Noted.{Item, HasNoted, items_of}
+use Rattle.state_index.specs.Noted.{Item, HasNoted, items_of}
 use Rattle.docker_state.specs.declared.item.LedgerItem.{LedgerItem}
 use Rattle.docker_state.specs.Meaning.{item_meant, row_meant, state_meant}
 

@@ -19,7 +19,7 @@ use Rattle.docker_join.specs.Rows.{AreAscending, IsJoinOfRows}
 use Rattle.docker_state.specs.declared.item.LedgerItem.{LedgerItem}
 use Rattle.docker_state.specs.Meaning.{item_meant, row_meant, state_meant}
 use Rattle.state_laws.proofs.states.OneJoin.{floor_unique}
-use Rattle.docker_index.specs.Joined.{AreJoined}
+use Rattle.state_index.specs.Joined.{AreJoined}
 use Rattle.docker_join.proofs.MergedRows.{walk, walk_joins}
 use Rattle.docker_join.proofs.MeantOrder.{ascending_meant, meant_ascending}
 use Rattle.docker_state.proofs.LapsedTables.{joined_lapses}

@@ -3,8 +3,8 @@ use Rattle.std.specs.Prelude.{ℕ, List, map}
 use Rattle.docker_model.specs.state.State.{IsValid}
 use Rattle.cif_change.specs.declared.key.Key.{Key}
 use Rattle.docker_join.specs.declared.entry.Entry.{Entry}
-use Rattle.docker_index.specs.declared.index.Index.{Index}
-use Rattle.docker_index.specs.Spots.{IsIndexOf}
+use Rattle.state_index.specs.declared.index.Index.{Index}
+use Rattle.state_index.specs.Spots.{IsIndexOf}
 use Rattle.docker_state.specs.declared.item.LedgerItem.{LedgerItem}
 use Rattle.docker_state.specs.Meaning.{row_meant, state_meant}
 

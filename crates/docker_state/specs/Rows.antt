@@ -9,7 +9,7 @@ use Rattle.cif_change.specs.declared.key.Key.{Key}
 use Rattle.cif_file.specs.Meaning.{key_meant}
 use Rattle.docker_join.specs.declared.entry.Entry.{Entry}
 use Rattle.docker_join.specs.Meaning.{row_meant}
-use Rattle.docker_index.specs.Noted.{Item}
+use Rattle.state_index.specs.Noted.{Item}
 
 -- the key of a change, with the entry that it makes in a file of this stamp
 abbrev pub made_by : FileStamp → model.Change → model.Key × ops.Entry

@@ -12,8 +12,8 @@ use crate::item::LedgerItem;
 use crate::state::State;
 use cif_file::Key;
 use cif_line::Memory;
-use docker_index::{Notes, Room, note_row};
 use docker_join::Entry;
+use state_index::{Notes, Room, note_row};
 use std::alloc::Global;
 use std::marker::Model;
 

@@ -3,9 +3,9 @@ ghost use Rattle.std.specs.Prelude.{◌≡◌, ℕ, ◌+◌, ◌≤◌, List, []
 ghost use Rattle.docker_model.specs.file.Change as model;
 ghost use Rattle.docker_model.specs.state.State as states;
 ghost use Rattle.docker_model.specs.state.Index.{AreCalling, AreLinked, AreOfUid};
-ghost use Rattle.docker_index.specs.Noted.{AreNoted, items_of};
-ghost use Rattle.docker_index.specs.Rooms.{HasRoomFor};
-ghost use Rattle.docker_index.specs.Spots.{IsIndexOf};
+ghost use Rattle.state_index.specs.Noted.{AreNoted, items_of};
+ghost use Rattle.state_index.specs.Rooms.{HasRoomFor};
+ghost use Rattle.state_index.specs.Spots.{IsIndexOf};
 ghost use Rattle.docker_model.specs.state.State.{entry_at, live_table, raise_horizon, HaveLapsed, IsValid, IsJoin};
 ghost use Rattle.docker_model.specs.records.Date.{IsDay};
 ghost use Rattle.docker_model.specs.state.Lapse.{lapse_entries, lapse_table};
@@ -30,8 +30,8 @@ use crate::rows::{are_many, greatest_rows, kept_rows, made_rows};
 use crate::uid_rows::rows_of_uid;
 use cif_file::{CifFile, FileParts, Key};
 use cif_line::{Day, Tiploc, Uid};
-use docker_index::{Index, Moves, Notes, Room, Standing};
 use docker_join::{Entry, FileStamp, Merge, Table, join_rows, lapse_rows};
+use state_index::{Index, Moves, Notes, Room, Standing};
 use std::alloc::Global;
 use std::marker::Model;
 
@@ -280,7 +280,7 @@ impl State {
 
     /// The parts of the state, with room for `more` rows after its own. Its index is dropped. If
     /// memory runs out, returns the state as it was.
-    fn opened(self, more: usize) -> Result<Opened, State>
+    fn opened(self, more: usize) -> Result<OpenedState, State>
         ensures parts { IfOk result (λ opened.
             state_meant opened.horizon opened.ledger.items opened.rows.items ≡ self) }
         ensures ascending { IfOk result (λ opened. AreAscending opened.rows.items) }
@@ -297,7 +297,7 @@ impl State {
             index,
         } = self;
         match entries.with_room(more) {
-            Ok(rows) => Ok(Opened {
+            Ok(rows) => Ok(OpenedState {
                 horizon,
                 ledger,
                 rows,
@@ -343,7 +343,7 @@ impl State {
             Ok(opened) => opened,
             Err(back) => return Err((back, other)),
         };
-        let Opened {
+        let OpenedState {
             horizon: own,
             ledger: first,
             rows,
@@ -432,7 +432,7 @@ impl Merge for State {
 }
 
 /// The parts of a state without its index, with room after its rows.
-struct Opened {
+struct OpenedState {
     horizon: u16,
     ledger: Vec<LedgerItem>,
     rows: Vec<(Key, Entry)>,

@@ -8,8 +8,8 @@ use crate::dice::Dice;
 use crate::knowledge::{FILES, Knowledge, Known, OFFICES, Step, texts_of_files};
 use cif_file::MOST_RECORDS;
 use cif_line::{Day, Kept};
-use docker_encode::encoded_len;
 use docker_office::{Event, Exchange, Office, Reply, RunFault, run};
+use state_writer::encoded_len;
 use std::alloc::Global;
 use std::process::Abort;
 

@@ -4,8 +4,8 @@
 use super::same;
 use cif_file::{AssocKey, Body, Key, Lines, ScheduleKey};
 use cif_line::{Day, Line, Stp, Tiploc, Uid};
-use docker_index::{Index, Mark, Moves, Room, notes_of_rows};
 use docker_join::{Entry, FileStamp, Merge, Op, Stamp, Table};
+use state_index::{Index, Mark, Moves, Room, notes_of_rows};
 use std::alloc::Global;
 use std::process::Abort;
 

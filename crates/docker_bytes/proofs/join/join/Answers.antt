@@ -1,6 +1,6 @@
 use Rattle.std.proofs.Common.{subst}
 use Rattle.std.specs.Prelude.{IfErr}
-use Rattle.docker_bytes.specs.Reading.{IsUnended}
+use Rattle.docker_bytes.specs.StateReading.{IsUnended}
 use Rattle.docker_bytes.proofs.ReadLemmas.{ended_as_state, ended_as_memory}
 use Rattle.docker_bytes.proofs.join.join.Goals as goal
 

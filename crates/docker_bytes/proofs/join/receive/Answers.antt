@@ -1,6 +1,6 @@
 use Rattle.std.proofs.Common.{refl, sym, subst, []}
 use Rattle.docker_model.specs.state.StateText.{dks_2}
-use Rattle.docker_bytes.specs.Reading.{JoinsText}
+use Rattle.docker_bytes.specs.StateReading.{JoinsText}
 use Rattle.docker_bytes.specs.SourceRead.{ReadsAll, RefusesState, ReadsOnePieceMore, WantsSoFar}
 use Rattle.docker_bytes.proofs.ReadLemmas.{unread, as_asked, refused_of_all, wants_of_all, wants_more, joined_of_all}
 use Rattle.docker_bytes.proofs.join.receive.Goals as goal

@@ -99,46 +99,46 @@ returns-in_err-office_of_older_state-in-OlderState g c =
       counted = c.in_err-office_of_older_state-in-OlderState.ensures.counted (g.T.Source.failures c.args.second.now);
     })
 
-pub returns-in_ok-taken_behind-in-StateAndFile : goal.returns-in_ok-taken_behind-in-StateAndFile
-returns-in_ok-taken_behind-in-StateAndFile g c =
+pub returns-in_ok-office_of_state_and_file-in-StateAndFile : goal.returns-in_ok-office_of_state_and_file-in-StateAndFile
+returns-in_ok-office_of_state_and_file-in-StateAndFile g c =
     record {
-      reads = read_at c.args.sources code.StateAndFile (g.S.Source.left c.args.first.now) (g.S.Source.left c.taken_behind.new.first)
-          (g.T.Source.left c.args.second.now) (g.T.Source.left c.taken_behind.new.second) (office_read c.in_ok-taken_behind-in-StateAndFile.field-0) c.in-StateAndFile.is
-          c.in_ok-taken_behind-in-StateAndFile.ensures.reads;
+      reads = read_at c.args.sources code.StateAndFile (g.S.Source.left c.args.first.now) (g.S.Source.left c.office_of_state_and_file.new.first)
+          (g.T.Source.left c.args.second.now) (g.T.Source.left c.office_of_state_and_file.new.second) (office_read c.in_ok-office_of_state_and_file-in-StateAndFile.field-0) c.in-StateAndFile.is
+          c.in_ok-office_of_state_and_file-in-StateAndFile.ensures.reads;
       none = some_at _ c.args.sources code.StateAndFile c.in-StateAndFile.is (λ none. cc);
-      order = read_second (subst (λ (s : Sources). HasSecondSource (sources_meant s)) (sym c.in-StateAndFile.is) (inl refl)) c.in_ok-taken_behind-in-StateAndFile.ensures.order;
-      counted = c.in_ok-taken_behind-in-StateAndFile.ensures.counted;
+      order = read_second (subst (λ (s : Sources). HasSecondSource (sources_meant s)) (sym c.in-StateAndFile.is) (inl refl)) c.in_ok-office_of_state_and_file-in-StateAndFile.ensures.order;
+      counted = c.in_ok-office_of_state_and_file-in-StateAndFile.ensures.counted;
     }
 
-pub returns-in_err-taken_behind-in-StateAndFile : goal.returns-in_err-taken_behind-in-StateAndFile
-returns-in_err-taken_behind-in-StateAndFile g c =
-    let same = err_from_is_err_and c.from_residual-in_err-taken_behind-in-StateAndFile.result c.from_residual-in_err-taken_behind-in-StateAndFile.ensures.1 in
+pub returns-in_err-office_of_state_and_file-in-StateAndFile : goal.returns-in_err-office_of_state_and_file-in-StateAndFile
+returns-in_err-office_of_state_and_file-in-StateAndFile g c =
+    let same = err_from_is_err_and c.from_residual-in_err-office_of_state_and_file-in-StateAndFile.result c.from_residual-in_err-office_of_state_and_file-in-StateAndFile.ensures.1 in
     rw (same.1, same.2) (record {
-      reads = refused_at c.args.sources code.StateAndFile (g.S.Source.left c.args.first.now) (g.S.Source.left c.taken_behind.new.first)
-          (g.T.Source.left c.args.second.now) (g.T.Source.left c.taken_behind.new.second) _ c.in-StateAndFile.is c.in_err-taken_behind-in-StateAndFile.ensures.reads;
+      reads = refused_at c.args.sources code.StateAndFile (g.S.Source.left c.args.first.now) (g.S.Source.left c.office_of_state_and_file.new.first)
+          (g.T.Source.left c.args.second.now) (g.T.Source.left c.office_of_state_and_file.new.second) _ c.in-StateAndFile.is c.in_err-office_of_state_and_file-in-StateAndFile.ensures.reads;
       none = some_at _ c.args.sources code.StateAndFile c.in-StateAndFile.is (λ none. cc);
-      order = read_second (subst (λ (s : Sources). HasSecondSource (sources_meant s)) (sym c.in-StateAndFile.is) (inl refl)) c.in_err-taken_behind-in-StateAndFile.ensures.order;
-      counted = c.in_err-taken_behind-in-StateAndFile.ensures.counted;
+      order = read_second (subst (λ (s : Sources). HasSecondSource (sources_meant s)) (sym c.in-StateAndFile.is) (inl refl)) c.in_err-office_of_state_and_file-in-StateAndFile.ensures.order;
+      counted = c.in_err-office_of_state_and_file-in-StateAndFile.ensures.counted;
     })
 
-pub returns-in_ok-joined_behind-in-TwoStates : goal.returns-in_ok-joined_behind-in-TwoStates
-returns-in_ok-joined_behind-in-TwoStates g c =
+pub returns-in_ok-office_of_two_states-in-TwoStates : goal.returns-in_ok-office_of_two_states-in-TwoStates
+returns-in_ok-office_of_two_states-in-TwoStates g c =
     record {
-      reads = read_at c.args.sources code.TwoStates (g.S.Source.left c.args.first.now) (g.S.Source.left c.joined_behind.new.first)
-          (g.T.Source.left c.args.second.now) (g.T.Source.left c.joined_behind.new.second) (office_read c.in_ok-joined_behind-in-TwoStates.field-0) c.in-TwoStates.is
-          c.in_ok-joined_behind-in-TwoStates.ensures.reads;
+      reads = read_at c.args.sources code.TwoStates (g.S.Source.left c.args.first.now) (g.S.Source.left c.office_of_two_states.new.first)
+          (g.T.Source.left c.args.second.now) (g.T.Source.left c.office_of_two_states.new.second) (office_read c.in_ok-office_of_two_states-in-TwoStates.field-0) c.in-TwoStates.is
+          c.in_ok-office_of_two_states-in-TwoStates.ensures.reads;
       none = some_at _ c.args.sources code.TwoStates c.in-TwoStates.is (λ none. cc);
-      order = read_second (subst (λ (s : Sources). HasSecondSource (sources_meant s)) (sym c.in-TwoStates.is) (inr refl)) c.in_ok-joined_behind-in-TwoStates.ensures.order;
-      counted = c.in_ok-joined_behind-in-TwoStates.ensures.counted;
+      order = read_second (subst (λ (s : Sources). HasSecondSource (sources_meant s)) (sym c.in-TwoStates.is) (inr refl)) c.in_ok-office_of_two_states-in-TwoStates.ensures.order;
+      counted = c.in_ok-office_of_two_states-in-TwoStates.ensures.counted;
     }
 
-pub returns-in_err-joined_behind-in-TwoStates : goal.returns-in_err-joined_behind-in-TwoStates
-returns-in_err-joined_behind-in-TwoStates g c =
-    let same = err_from_is_err_and c.from_residual-in_err-joined_behind-in-TwoStates.result c.from_residual-in_err-joined_behind-in-TwoStates.ensures.1 in
+pub returns-in_err-office_of_two_states-in-TwoStates : goal.returns-in_err-office_of_two_states-in-TwoStates
+returns-in_err-office_of_two_states-in-TwoStates g c =
+    let same = err_from_is_err_and c.from_residual-in_err-office_of_two_states-in-TwoStates.result c.from_residual-in_err-office_of_two_states-in-TwoStates.ensures.1 in
     rw (same.1, same.2) (record {
-      reads = refused_at c.args.sources code.TwoStates (g.S.Source.left c.args.first.now) (g.S.Source.left c.joined_behind.new.first)
-          (g.T.Source.left c.args.second.now) (g.T.Source.left c.joined_behind.new.second) _ c.in-TwoStates.is c.in_err-joined_behind-in-TwoStates.ensures.reads;
+      reads = refused_at c.args.sources code.TwoStates (g.S.Source.left c.args.first.now) (g.S.Source.left c.office_of_two_states.new.first)
+          (g.T.Source.left c.args.second.now) (g.T.Source.left c.office_of_two_states.new.second) _ c.in-TwoStates.is c.in_err-office_of_two_states-in-TwoStates.ensures.reads;
       none = some_at _ c.args.sources code.TwoStates c.in-TwoStates.is (λ none. cc);
-      order = read_second (subst (λ (s : Sources). HasSecondSource (sources_meant s)) (sym c.in-TwoStates.is) (inr refl)) c.in_err-joined_behind-in-TwoStates.ensures.order;
-      counted = c.in_err-joined_behind-in-TwoStates.ensures.counted;
+      order = read_second (subst (λ (s : Sources). HasSecondSource (sources_meant s)) (sym c.in-TwoStates.is) (inr refl)) c.in_err-office_of_two_states-in-TwoStates.ensures.order;
+      counted = c.in_err-office_of_two_states-in-TwoStates.ensures.counted;
     })

@@ -1,7 +1,7 @@
 use Rattle.std.proofs.Common.{sym, subst, ◌∙◌}
 use Rattle.std.proofs.lemmas.Result.{on_ok_weaker}
-use Rattle.docker_train.specs.Occurrences as events
-use Rattle.docker_train.specs.Walk.{occurrence_meant}
+use Rattle.train_choice.specs.Occurrences as events
+use Rattle.train_choice.specs.EventWalk.{occurrence_meant}
 use Rattle.docker_day.specs.Bases.{HasCall}
 use Rattle.docker_day.proofs.FirstCalls.{elsewhere, taken_here}
 use Rattle.docker_day.proofs.base_calls.add_event.Goals as goal

@@ -1,7 +1,7 @@
 use Rattle.std.proofs.Common.{ap, sym, ◌∙◌}
 use Rattle.std.proofs.lemmas.Result.{on_ok_weaker}
 use Rattle.docker_model.specs.state.State.{live_table}
-use Rattle.docker_train.specs.Known.{PlaceDay}
+use Rattle.train_choice.specs.Known.{PlaceDay}
 use Rattle.docker_day.specs.RowViews.{row_lately, row_under_way}
 use Rattle.docker_day.specs.Visits.{Visit}
 use Rattle.docker_day.proofs.OnVisits.{adds_on_visits, adds_today_alone}

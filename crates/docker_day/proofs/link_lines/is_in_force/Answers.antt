@@ -5,7 +5,7 @@ use Rattle.docker_model.specs.docker.Choice.{association_runs, group_of}
 use Rattle.docker_model.specs.docker.Gathering.{counts_as}
 use Rattle.docker_model.specs.docker.LiveRows.{link_in}
 use Rattle.docker_model.specs.state.State.{live_table}
-use Rattle.docker_train.specs.Ranked.{is_cancellation}
+use Rattle.train_choice.specs.Ranked.{is_cancellation}
 use Rattle.docker_day.proofs.PassedOver.{not_in_force}
 use Rattle.docker_day.proofs.link_lines.is_in_force.Goals as goal
 

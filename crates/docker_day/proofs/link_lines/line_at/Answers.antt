@@ -1,6 +1,6 @@
 use Rattle.std.proofs.Common.{[], ◌∷◌, ap, sym, ◌∙◌}
-use Rattle.docker_train.specs.Meaning.{occasion_meant}
-use Rattle.docker_train.specs.Walk.{occurrence_meant}
+use Rattle.train_choice.specs.Meaning.{occasion_meant}
+use Rattle.train_choice.specs.EventWalk.{occurrence_meant}
 use Rattle.docker_day.specs.Lines.{line_of_link, is_today}
 use Rattle.docker_day.specs.Visits.{Visit}
 use Rattle.docker_day.proofs.Adding.{told_if}

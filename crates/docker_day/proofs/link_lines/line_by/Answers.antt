@@ -1,7 +1,7 @@
 use Rattle.std.proofs.Common.{◌≡◌, Some, ap, sym, ◌∙◌, rules}
 use Rattle.docker_model.specs.docker.LiveRows.{train_in}
-use Rattle.docker_train.specs.Meaning.{occasion_meant}
-use Rattle.docker_train.specs.Walk.{occurrence_meant}
+use Rattle.train_choice.specs.Meaning.{occasion_meant}
+use Rattle.train_choice.specs.EventWalk.{occurrence_meant}
 use Rattle.docker_day.specs.Bases.{first_call, meant_if}
 use Rattle.docker_day.proofs.FirstCalls.{with_base}
 use Rattle.docker_day.proofs.link_lines.line_by.Goals as goal

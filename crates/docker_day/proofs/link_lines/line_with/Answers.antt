@@ -6,7 +6,7 @@ use Rattle.docker_model.specs.docker.LiveRows.{train_in}
 use Rattle.docker_model.specs.file.Journey.{Occasion}
 use Rattle.docker_model.specs.state.Row.{Row, AreRowsOf}
 use Rattle.docker_model.specs.state.State.{live_table}
-use Rattle.docker_train.specs.Meaning.{occasion_meant}
+use Rattle.train_choice.specs.Meaning.{occasion_meant}
 use Rattle.docker_day.specs.Lines.{listed, link_line_with}
 use Rattle.docker_day.proofs.link_lines.line_with.Goals as goal
 

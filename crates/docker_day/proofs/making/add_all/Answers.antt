@@ -1,7 +1,7 @@
 use Rattle.std.proofs.Common.{◌∙◌}
 use Rattle.std.proofs.lemmas.Result.{on_ok_weaker}
 use Rattle.docker_model.specs.state.State.{live_table}
-use Rattle.docker_train.specs.Known.{PlaceDay}
+use Rattle.train_choice.specs.Known.{PlaceDay}
 use Rattle.docker_day.proofs.Gathered.{both_gathered}
 use Rattle.docker_day.proofs.OnVisits.{gathered_at}
 use Rattle.docker_day.proofs.making.add_all.Goals as goal

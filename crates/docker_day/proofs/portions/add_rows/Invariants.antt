@@ -1,6 +1,6 @@
 use Rattle.std.proofs.Common.{◌≡◌, length}
 use Rattle.docker_model.specs.state.State.{live_table}
-use Rattle.docker_train.specs.Along.{AreGoodRows, AreLive}
+use Rattle.train_choice.specs.Along.{AreGoodRows, AreLive}
 use Rattle.docker_day.specs.Portions.{HaveMoved}
 use Rattle.docker_day.proofs.portions.add_rows.Given as goal
 

@@ -1,5 +1,5 @@
 use Rattle.std.proofs.Common.{◌≡◌, [], false, length}
-use Rattle.docker_train.specs.Along.{AreGoodRows}
+use Rattle.train_choice.specs.Along.{AreGoodRows}
 use Rattle.docker_day.specs.Portions.{AreLeft, AreOpened, ArePassedOver}
 use Rattle.docker_day.proofs.portions.open_portion.Given as goal
 

@@ -2,7 +2,7 @@ use Rattle.std.proofs.Common.{◌++◌, ap, ◌∙◌, refl}
 use Rattle.std.specs.Prelude.{codes}
 use Rattle.std.proofs.lemmas.Result.{on_ok_weaker}
 use Rattle.docker_model.specs.docker.DockerLine.{ends, tiploc_of_first}
-use Rattle.docker_train.specs.UpTo.{occurrences_to}
+use Rattle.train_choice.specs.UpTo.{occurrences_to}
 use Rattle.docker_day.specs.Lines.{lines_there}
 use Rattle.docker_day.proofs.TrainLines.{event_lines_are, no_event_lines}
 use Rattle.docker_day.proofs.UpToLast.{lines_to_last}

@@ -1,5 +1,5 @@
 use Rattle.std.proofs.Common.{◌≡◌, ◌++◌}
-use Rattle.docker_train.specs.UpTo.{occurrences_to}
+use Rattle.train_choice.specs.UpTo.{occurrences_to}
 use Rattle.docker_day.specs.Details.{detail_meant}
 use Rattle.docker_day.specs.Lines.{lines_there}
 use Rattle.docker_day.proofs.train_lines.add_there.Given as goal

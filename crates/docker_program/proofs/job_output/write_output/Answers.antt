@@ -1,5 +1,5 @@
 use Rattle.std.proofs.Common.{◌≡◌, None, rules}
-use Rattle.docker_program.specs.Names.{stored_by}
+use Rattle.docker_program.specs.SourceNames.{stored_by}
 use Rattle.docker_program.proofs.JobOutputLemmas.{counted_printed, ends_printed}
 use Rattle.docker_program.proofs.job_output.write_output.Goals as goal
 

@@ -1,6 +1,6 @@
 use Rattle.std.proofs.Common.{◌≡◌, ◌+◌, arith, sym, ap, subst, ◌∙◌}
 use Rattle.docker_program.specs.Devices.{AreOpened, file_device, given}
-use Rattle.docker_program.specs.Names.{standard_input, file_and_input, names_meant}
+use Rattle.docker_program.specs.SourceNames.{standard_input, file_and_input, names_meant}
 use Rattle.docker_program.proofs.JobSourcesLemmas.{are_files, counted_beside, counted_together, reads_files, reads_named}
 use Rattle.docker_program.specs.Program.{result_status}
 use Rattle.docker_program.proofs.job_sources.read_sources.Goals as goal

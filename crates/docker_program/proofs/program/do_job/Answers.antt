@@ -2,7 +2,7 @@ use Rattle.std.proofs.Common.{Err, Ok, refl, sym, ◌∙◌, ap}
 use Rattle.std.proofs.lemmas.Result.{err_from_is_err_and}
 use Rattle.docker_cmd.specs.Words.{texts}
 use Rattle.docker_program.specs.Devices.{written}
-use Rattle.docker_program.specs.Names.{stored_by}
+use Rattle.docker_program.specs.SourceNames.{stored_by}
 use Rattle.docker_program.proofs.ProgramLemmas.{asks_a_draft, asks_a_look, asks_nothing, ends_done, ends_from, ends_unread, ends_unwritten}
 use Rattle.docker_program.proofs.program.do_job.Goals as goal
 

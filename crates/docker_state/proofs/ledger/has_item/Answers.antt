@@ -1,6 +1,6 @@
 use Rattle.cif_laws.proofs.orders.Orders.{ledger_item_total, exact_ledger_item}
 use Rattle.docker_state.specs.Meaning.{item_meant}
-use Rattle.docker_index.proofs.Search.{search_tells}
+use Rattle.state_index.proofs.Search.{search_tells}
 use Rattle.docker_state.proofs.ledger.has_item.Goals as goal
 
 pub returns : goal.returns

@@ -11,7 +11,7 @@ use Rattle.docker_join.specs.Records.{HasRecords}
 use Rattle.docker_join.specs.Rows.{AreAscending}
 use Rattle.docker_state.specs.Meaning.{row_meant}
 use Rattle.docker_state.proofs.LastRows.{lasts_ascend}
-use Rattle.docker_index.specs.Noted.{ArePicked, items_of}
+use Rattle.state_index.specs.Noted.{ArePicked, items_of}
 use Rattle.docker_state.specs.Rows.{Made, rows_in}
 use Rattle.docker_state.proofs.GreatestRows.{last_is_greatest, greatest_is_last}
 use Rattle.docker_state.proofs.LastMade.{sorted_made, last_is, last_len, last_picked}

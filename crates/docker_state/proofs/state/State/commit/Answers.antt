@@ -4,7 +4,7 @@ use Rattle.docker_model.specs.state.Staging.{staged_state}
 use Rattle.state_laws.proofs.joins.StagedState.{join_with_staged}
 use Rattle.cif_change.specs.declared.key.Key.{Key}
 use Rattle.docker_join.specs.declared.entry.Entry.{Entry}
-use Rattle.docker_index.specs.Noted.{HasNoted, items_of}
+use Rattle.state_index.specs.Noted.{HasNoted, items_of}
 use Rattle.docker_state.specs.Meaning.{item_meant, row_meant}
 use Rattle.docker_state.specs.Staging.{Staging}
 use Rattle.docker_state.proofs.StagingLemmas.{nothing_new_is_join, something_new}

@@ -3,7 +3,7 @@ use Rattle.docker_model.specs.state.State.{State, IsJoin}
 use Rattle.docker_model.specs.state.Stamp.{IsFloor}
 use Rattle.cif_change.specs.declared.key.Key.{Key}
 use Rattle.docker_join.specs.declared.entry.Entry.{Entry}
-use Rattle.docker_index.specs.Joined.{AreJoined, AreMoves}
+use Rattle.state_index.specs.Joined.{AreJoined, AreMoves}
 use Rattle.docker_state.specs.Meaning.{floor_meant, item_meant, row_meant, state_meant}
 use Rattle.docker_state.proofs.StateJoin.{rows_joined}
 use Rattle.docker_state.proofs.state.State.index_of_join.Goals as goal

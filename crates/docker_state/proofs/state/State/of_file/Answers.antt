@@ -8,9 +8,9 @@ use Rattle.docker_model.specs.state.Op.{key_cmp}
 use Rattle.cif_file.specs.Meaning.{change_meant}
 use Rattle.docker_join.specs.Meaning.{file_stamp_meant}
 use Rattle.docker_join.proofs.MeantOrder.{ascending_meant}
-use Rattle.cif_places.specs.declared.names.Names.{Names}
-use Rattle.docker_index.specs.Rooms.{HasRoomFor}
-use Rattle.docker_index.specs.Noted.{ArePicked, items_of, items_put}
+use Rattle.cif_places.specs.declared.names.PlaceNames.{PlaceNames}
+use Rattle.state_index.specs.Rooms.{HasRoomFor}
+use Rattle.state_index.specs.Noted.{ArePicked, items_of, items_put}
 use Rattle.docker_state.specs.Meaning.{row_meant}
 use Rattle.docker_state.specs.Rows.{rows_in}
 use Rattle.docker_state.proofs.FileState.{changes_are, made_records, file_summary, file_valid, ledger_of_file, made_of_file, rows_made_by}
@@ -108,7 +108,7 @@ of_rows-requires-clause-valid c =
 
 pub of_rows-requires-clause-room : goal.of_rows-requires-clause-room
 of_rows-requires-clause-room c =
-    subst (λ (names : Names). HasRoomFor (map row_meant c.greatest_rows-rows.result.0.items) names.list.items c.in-Ok-for_notes.room)
+    subst (λ (names : PlaceNames). HasRoomFor (map row_meant c.greatest_rows-rows.result.0.items) names.list.items c.in-Ok-for_notes.room)
     (sym c.picked-notes.ensures.names)
     (c.in-Ok-for_notes.ensures.made (map change_meant c.into_parts-parts.result.changes.items) (map row_meant c.greatest_rows-rows.result.0.items)
     c.into_parts-parts.ensures.parts.noted

@@ -1,0 +1,10 @@
+-- The lines so far were taken.
+use Rattle.std.proofs.Common.{length}
+use Rattle.cif_file.specs.ParserRead.{IsReading, TakesUpTo}
+use Rattle.cif_file.proofs.parser.FileReading.feed.Given as goal
+
+abbrev pub invariant-loop-front : goal.invariant-loop-front
+invariant-loop-front g l = TakesUpTo (IsReading g.K.Keeper.keeps l.fn.self) l.piece l.rest (IsReading g.K.Keeper.keeps l.self)
+
+abbrev pub decreases-loop-front : goal.decreases-loop-front
+decreases-loop-front g l = length l.rest

@@ -1,0 +1,50 @@
+use Rattle.std.proofs.Common.{refl, sym, [], ◌<◌, ◌+◌, length, append-nil, arith}
+use Rattle.std.proofs.lemmas.Result.{err_from_is_err_and}
+use Rattle.docker_model.specs.state.StatePart.{width}
+use Rattle.state_parts.specs.FaultMeaning.{cause_meant}
+use Rattle.docker_bytes.specs.StateReading.{before_of}
+use Rattle.docker_bytes.proofs.ReadingLemmas.{before_rest, open_text, told_of_piece, rest_more, reads_further}
+use Rattle.docker_bytes.proofs.reading.StateReading.read.Goals as goal
+
+pub returns-then-rest-missing-clause-step : goal.returns-then-rest-missing-clause-step
+returns-then-rest-missing-clause-step g c =
+    let wide = c.width-width.ensures.value c.parts.self.parts c.parts.self.lines in
+    let kept = c.len.ensures.value in
+    let below = c.if-rest-missing.true in
+    let short : length c.parts.self.partial.items + length c.parts.rest.now < width (before_of c.parts.self) = omega arith in (
+      refl,
+      open_text c.args.self.now c.parts.self c.args.piece.now c.parts.rest.now c.parts.invariant.whole c.parts.invariant.on c.keep.new.self short
+          (c.in_ok-keep.ensures.ok refl),
+    )
+
+pub returns-in_err-take-clause-err : goal.returns-in_err-take-clause-err
+returns-in_err-take-clause-err g c =
+    let same = err_from_is_err_and c.from_residual-in_err-take.result c.from_residual-in_err-take.ensures.1 in
+    let fault = c.in_err-take.field-0.0 in
+    rw (same.1, same.2) (told_of_piece c.args.self.now c.parts.self c.args.piece.now c.parts.rest.now c.parts.invariant.whole c.parts.invariant.on
+    c.split_at.result.0.now c.split_at.result.1.now fault.at (cause_meant fault.cause) c.split_at.ensures.by_index.0 c.in_err-take.ensures.err)
+
+pub returns-in_err-rest-clause-err : goal.returns-in_err-rest-clause-err
+returns-in_err-rest-clause-err g c =
+    let same = err_from_is_err_and c.from_residual-in_err-rest.result c.from_residual-in_err-rest.ensures.1 in
+    let fault = c.in_err-rest.field-0.0 in
+    let behind = c.split_at.result.1.now in
+    let further = rest_more c.args.piece.now c.parts.rest.now c.split_at.result.0.now behind c.parts.invariant.whole c.split_at.ensures.by_index.0 in
+    let on = reads_further c.args.self.now c.parts.self c.args.piece.now c.parts.rest.now c.parts.invariant.whole c.parts.invariant.on c.take.new.self
+    c.split_at.result.0.now behind c.split_at.ensures.by_index.0 (c.in_ok-take.ensures.ok refl) in
+    rw (same.1, same.2) (told_of_piece c.args.self.now c.take.new.self c.args.piece.now behind further.1 on
+    behind [] fault.at (cause_meant fault.cause) (sym (append-nil behind)) c.in_err-rest.ensures.err)
+
+pub parts-preserved : goal.parts-preserved
+parts-preserved g c =
+    let behind = c.split_at.result.1.now in
+    let further = rest_more c.args.piece.now c.parts.rest.now c.split_at.result.0.now behind c.parts.invariant.whole c.split_at.ensures.by_index.0 in
+    let on = reads_further c.args.self.now c.parts.self c.args.piece.now c.parts.rest.now c.parts.invariant.whole c.parts.invariant.on c.take.new.self
+    c.split_at.result.0.now behind c.split_at.ensures.by_index.0 (c.in_ok-take.ensures.ok refl) in
+    let rest = c.in_ok-rest.rest.now in
+    let split = sym (c.in_ok-rest.ensures.rest) in
+    record {
+      whole = (rest_more c.args.piece.now behind (before_rest behind rest) rest further.1 split).1;
+      on = reads_further c.args.self.now c.take.new.self c.args.piece.now behind further.1 on c.take_lines.new.self
+          (before_rest behind rest) rest split c.in_ok-rest.ensures.on;
+    }

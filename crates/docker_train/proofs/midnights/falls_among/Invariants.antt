@@ -1,7 +1,0 @@
-use Rattle.std.proofs.Common.{◌≡◌}
-use Rattle.docker_train.specs.Falls.{falls_among}
-use Rattle.docker_train.proofs.midnights.falls_among.Given as goal
-
--- the event is not among the events so far
-abbrev pub invariant-loop-found : goal.invariant-loop-found
-invariant-loop-found l = falls_among l.event l.found-iterator ≡ falls_among l.event l.fn.events

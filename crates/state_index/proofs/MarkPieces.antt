@@ -1,0 +1,164 @@
+-- The marks of a place are one piece of marks that ascend.
+use Rattle.std.proofs.Common.{◌≡◌, ℕ, zero, suc, ◌<◌, ◌≤◌, List, [], ◌∷◌, ◌++◌, take, drop, length, get_or, refl, ap, sym, ◌∙◌, subst, inl, inr, ◌⊎◌, Bool, true, false, Contains, arith}
+use Rattle.std.specs.List.{AllByRecursion}
+use Rattle.std.specs.List.Sorted.{IsPartitionedBy, IsPartitionPoint}
+use Rattle.std.specs.declared.cmp.Ordering.{Ordering}
+use Rattle.std.specs.declared.cmp.Ordering.TheVariants.{Less, Equal, Greater}
+use Rattle.std.specs.Ordering.{is_lt, is_le, ordering_then, ordering_reverse, nat_cmp}
+use Rattle.std.specs.Cmp.{tied_itself, nat_cmp_total}
+use Rattle.std.proofs.lemmas.Bool.{cases_lt}
+use Rattle.std.proofs.lemmas.List.{append_assoc, take-append-drop}
+use Rattle.std.proofs.lemmas.List.Elements.{Contains-append_left}
+use Rattle.std.proofs.lemmas.Map.Lookups.{exact_unsigned}
+use Rattle.docker_model.specs.state.Order.{IsBelow, IsStrictlyAscending}
+use Rattle.cif_laws.proofs.lists.Membership.{Contains-cons, nil-Contains}
+use Rattle.state_index.specs.declared.mark.Mark.{Mark}
+use Rattle.state_index.specs.MarkOrder.{mark_cmp}
+use Rattle.state_index.specs.StandingRows.{IsPieceOf}
+
+module _ {A : Type 0} (P : A → Type 0) where
+  -- what holds of the first elements holds of the front
+  taken : (xs : List A) (n : ℕ) → n ≤ length xs → ((k : ℕ) (d : A) → 0 ≤ k → k < n → P (get_or xs k d)) → (z : A) → Contains (take n xs) z → P z
+  taken xs zero bound all z among = absurd (nil-Contains z among)
+  taken [] (suc n) bound all z among = absurd (let none : suc n ≤ 0 = bound in omega arith)
+  taken (x ∷ xs) (suc n) bound all z among =
+      by (taken xs n (omega arith) (λ k d low high. all (suc k) d (omega arith) (omega arith)) z) (Contains-cons x (take n xs) z among)
+    where
+      by : (Contains (take n xs) z → P z) → (x ≡ z) ⊎ Contains (take n xs) z → P z
+      by rest (inl same) = subst P same (all 0 x (omega arith) (omega arith))
+      by rest (inr inside) = rest inside
+
+  -- what holds of the other elements holds of the rest
+  dropped : (xs : List A) (n : ℕ) → n ≤ length xs → ((k : ℕ) (d : A) → n ≤ k → k < length xs → P (get_or xs k d)) → (z : A) → Contains (drop n xs) z → P z
+  dropped [] zero bound all z among = absurd (nil-Contains z among)
+  dropped [] (suc n) bound all z among = absurd (let none : suc n ≤ 0 = bound in omega arith)
+  dropped (x ∷ xs) zero bound all z among = by (dropped xs zero (omega arith) (λ k d low high. all (suc k) d (omega arith) (omega arith)) z)
+      (Contains-cons x xs z among)
+    where
+      by : (Contains xs z → P z) → (x ≡ z) ⊎ Contains xs z → P z
+      by rest (inl same) = subst P same (all 0 x (omega arith) (omega arith))
+      by rest (inr inside) = rest inside
+  dropped (x ∷ xs) (suc n) bound all z among = dropped xs n (omega arith) (λ k d low high. all (suc k) d (omega arith) (omega arith)) z among
+
+-- ---- a test that holds up to a place
+
+above_at : (low : Mark) (marks : List Mark) (j : ℕ) (d : Mark) → AllByRecursion (IsBelow mark_cmp low) marks → j < length marks → mark_cmp low
+    (get_or marks j d) ≡ Less
+above_at low [] j d above within = absurd (let none : j < 0 = within in omega arith)
+above_at low (mark ∷ marks) zero d above within = above.0
+above_at low (mark ∷ marks) (suc j) d above within = above_at low marks j d above.1 (omega arith)
+
+below_at : (marks : List Mark) (i j : ℕ) (d : Mark) → IsStrictlyAscending mark_cmp marks → i < j → j < length marks → mark_cmp (get_or marks i d)
+    (get_or marks j d) ≡ Less
+below_at [] i j d up before within = absurd (let none : j < 0 = within in omega arith)
+below_at (mark ∷ marks) i zero d up before within = absurd (omega arith)
+below_at (mark ∷ marks) zero (suc j) d up before within = above_at mark marks j d up.0 (omega arith)
+below_at (mark ∷ marks) (suc i) (suc j) d up before within = below_at marks i j d up.1 (omega arith) (omega arith)
+
+-- how a mark's place compares with a place
+abbrev by_place : ℕ → Mark → Ordering
+by_place place mark = nat_cmp mark.place place
+
+-- a test that holds of what is less, if it holds of what is equal, and of nothing that is greater
+abbrev GoesDown : (Ordering → Bool) → Type 0
+GoesDown test = (test Greater ≡ false) × (test Equal ≡ true → test Less ≡ true)
+
+module _ (test : Ordering → Bool) (down : GoesDown test) (place : ℕ) where
+  passes_below : (a b : Mark) → mark_cmp a b ≡ Less → test (by_place place b) ≡ true → test (by_place place a) ≡ true
+  passes_below a b below passes = by (nat_cmp a.place b.place) refl below (by_place place b) refl passes
+    where
+      by : (o : Ordering) → nat_cmp a.place b.place ≡ o → ordering_then o (nat_cmp a.at b.at) ≡ Less
+          → (p : Ordering) → by_place place b ≡ p → test p ≡ true → test (by_place place a) ≡ true
+      by Greater at told p at_b passed = absurd (let bad : Greater ≡ Less = told in cc)
+      by Equal at told p at_b passed = ap test (nat_cmp_total.congr a.place b.place place at ∙ at_b) ∙ passed
+      by Less at told Greater at_b passed = absurd (let bad : false ≡ true = sym down.0 ∙ passed in cc)
+      by Less at told Less at_b passed = ap test (nat_cmp_total.trans a.place b.place place at at_b) ∙ passed
+      by Less at told Equal at_b passed =
+          let other : nat_cmp place b.place ≡ Equal = nat_cmp_total.antisymm place b.place ∙ ap ordering_reverse at_b in
+          let same : nat_cmp place a.place ≡ nat_cmp b.place a.place = nat_cmp_total.congr place b.place a.place other in
+          let turned : nat_cmp b.place a.place ≡ Greater = nat_cmp_total.antisymm b.place a.place ∙ ap ordering_reverse at in
+          let less : by_place place a ≡ Less = nat_cmp_total.antisymm a.place place ∙ ap ordering_reverse (same ∙ turned) in
+          ap test less ∙ down.1 passed
+
+  pub parted : (marks : List Mark) → IsStrictlyAscending mark_cmp marks → IsPartitionedBy (λ mark. test (by_place place mark)) marks
+  parted marks up = λ i j d before within passes. by i j d before within passes (cases_lt i j)
+    where
+      by : (i j : ℕ) (d : Mark) → i ≤ j → j < length marks → test (by_place place (get_or marks j d)) ≡ true → (i < j) ⊎ (j ≤ i) → test
+          (by_place place (get_or marks i d)) ≡ true
+      by i j d before within passes (inl strictly) = passes_below (get_or marks i d) (get_or marks j d) (below_at marks i j d up strictly within) passes
+      by i j d before within passes (inr after) =
+          let same : j ≡ i = omega arith in
+          subst (λ k. test (by_place place (get_or marks k d)) ≡ true) same passes
+
+-- what is left after a front ascends
+pub behind_ascends : (marks : List Mark) (n : ℕ) → IsStrictlyAscending mark_cmp marks → IsStrictlyAscending mark_cmp (drop n marks)
+behind_ascends marks zero up = up
+behind_ascends [] (suc n) up = tt
+behind_ascends (mark ∷ marks) (suc n) up = behind_ascends marks n up.1
+
+-- whether a mark's place is below this place
+abbrev pub is_before : ℕ → Mark → Bool
+is_before place mark = is_lt (nat_cmp mark.place place)
+
+-- whether a mark's place is this place or below it
+abbrev pub is_up_to : ℕ → Mark → Bool
+is_up_to place mark = is_le (nat_cmp mark.place place)
+
+pub parted_before : (place : ℕ) (marks : List Mark) → IsStrictlyAscending mark_cmp marks → IsPartitionedBy (is_before place) marks
+parted_before place marks up = parted is_lt (refl, λ same. refl) place marks up
+
+pub parted_up_to : (place : ℕ) (marks : List Mark) → IsStrictlyAscending mark_cmp marks → IsPartitionedBy (is_up_to place) marks
+parted_up_to place marks up = parted is_le (refl, λ same. refl) place marks up
+
+not_itself : (place : ℕ) (mark : Mark) (o : Ordering) → nat_cmp mark.place place ≡ o → ¬ (o ≡ Equal) → ¬ (mark.place ≡ place)
+not_itself place mark o is other = λ same. other (sym is ∙ ap (λ p. nat_cmp p place) same ∙ tied_itself nat_cmp_total place)
+
+before_other : (place : ℕ) (mark : Mark) → is_before place mark ≡ true → ¬ (mark.place ≡ place)
+before_other place mark passes = by (nat_cmp mark.place place) refl passes
+  where
+    by : (o : Ordering) → nat_cmp mark.place place ≡ o → is_lt o ≡ true → ¬ (mark.place ≡ place)
+    by Less is told = not_itself place mark Less is (λ h. cc)
+    by Equal is told = absurd (let bad : false ≡ true = told in cc)
+    by Greater is told = absurd (let bad : false ≡ true = told in cc)
+
+behind_other : (place : ℕ) (mark : Mark) → is_up_to place mark ≡ false → ¬ (mark.place ≡ place)
+behind_other place mark fails = by (nat_cmp mark.place place) refl fails
+  where
+    by : (o : Ordering) → nat_cmp mark.place place ≡ o → is_le o ≡ false → ¬ (mark.place ≡ place)
+    by Greater is told = not_itself place mark Greater is (λ h. cc)
+    by Equal is told = absurd (let bad : true ≡ false = told in cc)
+    by Less is told = absurd (let bad : true ≡ false = told in cc)
+
+here_is : (place : ℕ) (mark : Mark) → is_before place mark ≡ false → is_up_to place mark ≡ true → mark.place ≡ place
+here_is place mark fails passes = by (nat_cmp mark.place place) refl fails passes
+  where
+    by : (o : Ordering) → nat_cmp mark.place place ≡ o → is_lt o ≡ false → is_le o ≡ true → mark.place ≡ place
+    by Equal is told up = exact_unsigned mark.place place is
+    by Less is told up = absurd (let bad : true ≡ false = told in cc)
+    by Greater is told up = absurd (let bad : false ≡ true = up in cc)
+
+-- the marks are cut in three where the two tests end
+pub piece_is : (place : ℕ) (marks rest piece : List Mark) (from to : ℕ) → from ≤ length marks → rest ≡ drop from marks → to ≤ length rest → piece
+    ≡ take to rest
+    → IsPartitionPoint (λ mark. is_before place mark ≡ true) (λ mark. is_before place mark ≡ false) marks from
+    → IsPartitionPoint (λ mark. is_up_to place mark ≡ true) (λ mark. is_up_to place mark ≡ false) rest to
+    → IsPieceOf place marks piece
+piece_is place marks rest piece from to from_within rest_is to_within piece_at before_parts here_parts = record {
+  before = take from marks;
+  behind = drop to rest;
+  whole = sym (
+      append_assoc (take from marks) piece (drop to rest)
+      ∙ (λ i. take from marks ++ (piece_at i ++ drop to rest))
+      ∙ (λ i. take from marks ++ (take-append-drop to rest ∙ rest_is) i)
+      ∙ take-append-drop from marks
+      );
+  none_before = λ mark among. before_other place mark (taken (λ s. is_before place s ≡ true) marks from from_within before_parts.0 mark among);
+  here = λ mark among.
+      let in_piece = subst (λ zs. Contains zs mark) piece_at among in
+      let all : Contains rest mark = subst (λ zs. Contains zs mark) (take-append-drop to rest)
+      (Contains-append_left (take to rest) (drop to rest) mark in_piece) in
+      here_is place mark
+      (dropped (λ s. is_before place s ≡ false) marks from from_within before_parts.1 mark (subst (λ zs. Contains zs mark) rest_is all))
+      (taken (λ s. is_up_to place s ≡ true) rest to to_within here_parts.0 mark in_piece);
+  none_behind = λ mark among. behind_other place mark (dropped (λ s. is_up_to place s ≡ false) rest to to_within here_parts.1 mark among);
+}

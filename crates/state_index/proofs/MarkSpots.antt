@@ -1,0 +1,166 @@
+-- Marks, and the spots that they stand for.
+use Rattle.std.proofs.Common.{◌≡◌, ℕ, List, [], ◌∷◌, ◌++◌, refl, ap, sym, ◌∙◌, subst, Some, None, Contains, Bool, true, false, cond, append-nil}
+use Rattle.std.specs.Prelude.{Option, ◌↔◌, filter, slice_get, option_map, option_and_then}
+use Rattle.std.specs.List.{cons_option}
+use Rattle.std.specs.Option.{is_some}
+use Rattle.std.specs.declared.cmp.Ordering.{Ordering}
+use Rattle.std.specs.declared.cmp.Ordering.TheVariants.{Less, Equal, Greater}
+use Rattle.std.specs.Ordering.{ordering_then, ordering_reverse, nat_cmp}
+use Rattle.std.specs.Cmp.{tied_itself}
+use Rattle.std.specs.Cmp.Lexicographic.{nat_list_cmp_total}
+use Rattle.std.proofs.lemmas.Cmp.{ranked}
+use Rattle.std.proofs.lemmas.List.Elements.{filter_map-append}
+use Rattle.std.proofs.lemmas.Map.Lookups.{exact_unsigned}
+use Rattle.docker_model.specs.state.Order.{bytes_cmp, IsStrictlyAscending}
+use Rattle.cif_laws.proofs.lists.Membership.{nil-Contains, cons-Contains, cons-Contains-first}
+use Rattle.state_index.specs.SpotOrder.{Spot, spot_cmp}
+use Rattle.state_index.specs.declared.mark.Mark.{Mark}
+use Rattle.state_index.specs.MarkOrder.{mark_cmp}
+use Rattle.state_index.specs.Spots.{Places, spot_at, spots_of, mark_spot, spots_in, AreMarksOf}
+use Rattle.state_index.specs.StandingRows.{live_row, standing_rows, standing_marks, is_put_at, is_put_at_mark, IsPieceAt, IsPieceOf}
+use Rattle.state_index.proofs.Positions.{Keyed, some_is, at_member, at_ascends, chosen_from, chosen_to, chosen_ascends}
+
+none_some : {A : Type 0} (a : A) → None ≡ Some a → ⊥
+none_some a h = cc
+
+-- the place and the row of a mark's spot
+pub spot_named : (names : List (List ℕ)) (mark : Mark) (spot : Spot) → mark_spot names mark ≡ Some spot
+    → (slice_get names mark.place ≡ Some spot.place) × (spot.at ≡ mark.at)
+spot_named names mark spot is = by (slice_get names mark.place) refl is
+  where
+    by : (o : Option (List ℕ)) → slice_get names mark.place ≡ o → option_map (spot_at mark.at) o ≡ Some spot
+        → (slice_get names mark.place ≡ Some spot.place) × (spot.at ≡ mark.at)
+    by None at told = absurd (none_some spot told)
+    by (Some place) at told =
+        let same : spot_at mark.at place ≡ spot = some_is (spot_at mark.at place) spot told in
+        (at ∙ ap (λ (s : Spot). Some s.place) same, sym (ap (λ (s : Spot). s.at) same))
+
+module _ (names : List (List ℕ)) (up : IsStrictlyAscending bytes_cmp names) where
+  -- places that ascend compare like their indexes
+  pub place_order : (i j : ℕ) (x y : List ℕ) → slice_get names i ≡ Some x → slice_get names j ≡ Some y → bytes_cmp x y ≡ nat_cmp i j
+  place_order i j x y is_x is_y = by (nat_cmp i j) refl
+    where
+      by : (o : Ordering) → nat_cmp i j ≡ o → bytes_cmp x y ≡ nat_cmp i j
+      by Less at = at_ascends bytes_cmp names up i j x y (ranked i j Less (sym at)) is_x is_y ∙ sym at
+      by Equal at =
+          let one : i ≡ j = ranked i j Equal (sym at) in
+          let same : x ≡ y = some_is x y (sym is_x ∙ ap (slice_get names) one ∙ is_y) in
+          sym (ap (bytes_cmp x) same) ∙ tied_itself nat_list_cmp_total x ∙ sym at
+      by Greater at =
+          nat_list_cmp_total.antisymm x y ∙ ap ordering_reverse (at_ascends bytes_cmp names up j i y x (ranked i j Greater (sym at)) is_y is_x) ∙ sym at
+
+  -- spots compare like their marks
+  pub same_order : (a b : Mark) (x y : Spot) → mark_spot names a ≡ Some x → mark_spot names b ≡ Some y → bytes_cmp x.place y.place ≡ nat_cmp a.place b.place
+  same_order a b x y is_x is_y = place_order a.place b.place x.place y.place (spot_named names a x is_x).0 (spot_named names b y is_y).0
+
+  pub same_cmp : (a b : Mark) (x y : Spot) → mark_spot names a ≡ Some x → mark_spot names b ≡ Some y → spot_cmp x y ≡ mark_cmp a b
+  same_cmp a b x y is_x is_y =
+      let rows : nat_cmp x.at y.at ≡ nat_cmp a.at b.at = λ i. nat_cmp ((spot_named names a x is_x).1 i) ((spot_named names b y is_y).1 i) in
+      λ i. ordering_then (same_order a b x y is_x is_y i) (rows i)
+
+  -- the spots of marks that ascend also ascend
+  pub spots_ascend : (marks : List Mark) → IsStrictlyAscending mark_cmp marks → IsStrictlyAscending spot_cmp (spots_in names marks)
+  spots_ascend marks rise = chosen_ascends (mark_spot names) mark_cmp spot_cmp (λ a b c d below is_c is_d. same_cmp a b c d is_c is_d ∙ below) marks rise
+
+  -- a place has one index
+  one_rank : (i j : ℕ) (place : List ℕ) → slice_get names i ≡ Some place → slice_get names j ≡ Some place → i ≡ j
+  one_rank i j place is_i is_j = exact_unsigned i j (sym (place_order i j place place is_i is_j) ∙ tied_itself nat_list_cmp_total place)
+
+  -- the marks of a place stand for its spots
+  pub piece_at : (rank : ℕ) (place : List ℕ) (marks piece : List Mark) → slice_get names rank ≡ Some place → IsPieceOf rank marks piece
+      → IsPieceAt place (spots_in names marks) (spots_in names piece)
+  piece_at rank place marks piece at is = record {
+    before = spots_in names is.before;
+    behind = spots_in names is.behind;
+    whole = ap (spots_in names) is.whole ∙ filter_map-append (mark_spot names) (is.before ++ piece) is.behind
+        ∙ ap (λ (front : List Spot). front ++ spots_in names is.behind) (filter_map-append (mark_spot names) is.before piece);
+    none_before = λ spot among same.
+        let found = chosen_from (mark_spot names) is.before spot among in
+        is.none_before found.0 found.1 (one_rank found.0.place rank place ((spot_named names found.0 spot found.2).0 ∙ ap Some same) at);
+    here = λ spot among.
+        let found = chosen_from (mark_spot names) piece spot among in
+        some_is spot.place place
+        (sym (spot_named names found.0 spot found.2).0 ∙ ap (slice_get names) (is.here found.0 found.1) ∙ at);
+    none_behind = λ spot among same.
+        let found = chosen_from (mark_spot names) is.behind spot among in
+        is.none_behind found.0 found.1 (one_rank found.0.place rank place ((spot_named names found.0 spot found.2).0 ∙ ap Some same) at);
+  }
+
+-- a place that is not named has no spot
+pub no_piece : (names : List (List ℕ)) (marks : List Mark) (place : List ℕ) → ¬ (Contains names place) → (all : List Spot) → all ≡ spots_in names marks
+    → IsPieceAt place all []
+no_piece names marks place never all all_is = record {
+  before = all;
+  behind = [];
+  whole = sym (append-nil (all ++ []) ∙ append-nil all);
+  none_before = λ spot among same.
+      let found = chosen_from (mark_spot names) marks spot (subst (λ zs. Contains zs spot) all_is among) in
+      never (subst (Contains names) same (at_member names found.0.place spot.place (spot_named names found.0 spot found.2).0));
+  here = λ spot among. absurd (nil-Contains spot among);
+  none_behind = λ spot among. absurd (nil-Contains spot among);
+}
+
+-- marks of one place name the rows that their spots name
+pub same_rows : (names : List (List ℕ)) (rank : ℕ) (place : List ℕ) → slice_get names rank ≡ Some place → (piece : List Mark)
+    → ((mark : Mark) → Contains piece mark → mark.place ≡ rank) → (rows : List Keyed) → standing_marks rows piece ≡ standing_rows rows (spots_in names piece)
+same_rows names rank place at [] here rows = refl
+same_rows names rank place at (mark ∷ piece) here rows =
+    by (mark_spot names mark) (ap (option_map (spot_at mark.at)) (ap (slice_get names) (here mark (cons-Contains-first mark piece)) ∙ at))
+    (same_rows names rank place at piece (λ m among. here m (cons-Contains mark piece m among)) rows)
+  where
+    by : (o : Option Spot) → o ≡ Some (spot_at mark.at place) → standing_marks rows piece ≡ standing_rows rows (spots_in names piece)
+        → standing_marks rows (mark ∷ piece) ≡ standing_rows rows (cons_option o (spots_in names piece))
+    by None told rest = absurd (none_some (spot_at mark.at place) told)
+    by (Some spot) told rest =
+        let same : spot ≡ spot_at mark.at place = some_is spot (spot_at mark.at place) told in
+        λ i. cons_option (option_and_then live_row (slice_get rows (sym (ap (λ (s : Spot). s.at) same) i))) (rest i)
+
+-- equal marks stand for equal spots
+pub same_spots : (names : List (List ℕ)) (marks others : List Mark) → ((mark : Mark) → Contains marks mark → Contains others mark) → (spot : Spot)
+    → Contains (spots_in names marks) spot → Contains (spots_in names others) spot
+same_spots names marks others same spot among =
+    let found = chosen_from (mark_spot names) marks spot among in
+    chosen_to (mark_spot names) others found.0 spot (same found.0 found.1) found.2
+
+-- marks in order, if they are the marks made from the rows
+pub marks_made : (places : Places) (rows : List Keyed) (names : List (List ℕ)) (made marks : List Mark) → IsStrictlyAscending bytes_cmp names
+    → spots_in names made ≡ spots_of places rows → IsStrictlyAscending mark_cmp marks → ((mark : Mark) → Contains marks mark ↔ Contains made mark)
+    → AreMarksOf places rows names marks
+marks_made places rows names made marks named are up same = record {
+  up = up;
+  are = record {
+    ascending = spots_ascend names named marks up;
+    members = λ spot. (
+      λ among. subst (λ zs. Contains zs spot) are (same_spots names marks made (λ m. (same m).0) spot among),
+      λ among. same_spots names made marks (λ m. (same m).1) spot (subst (λ zs. Contains zs spot) (sym are) among),
+    );
+  };
+}
+
+-- the marks that stay stand for the spots that stay
+pub kept_spots : (names : List (List ℕ)) (rows : List Keyed) (marks : List Mark)
+    → spots_in names (filter (is_put_at_mark rows) marks) ≡ filter (is_put_at rows) (spots_in names marks)
+kept_spots names rows [] = refl
+kept_spots names rows (mark ∷ marks) = by (mark_spot names mark) refl (is_put_at_mark rows mark) refl (kept_spots names rows marks)
+  where
+    by : (o : Option Spot) → mark_spot names mark ≡ o → (b : Bool) → is_put_at_mark rows mark ≡ b
+        → spots_in names (filter (is_put_at_mark rows) marks) ≡ filter (is_put_at rows) (spots_in names marks)
+        → spots_in names (filter (is_put_at_mark rows) (mark ∷ marks)) ≡ filter (is_put_at rows) (cons_option o (spots_in names marks))
+    by None at true put rest =
+        (λ i. spots_in names (cond (put i) (mark ∷ filter (is_put_at_mark rows) marks) (filter (is_put_at_mark rows) marks)))
+        ∙ (λ i. cons_option (at i) (spots_in names (filter (is_put_at_mark rows) marks))) ∙ rest
+    by None at false put rest =
+        (λ i. spots_in names (cond (put i) (mark ∷ filter (is_put_at_mark rows) marks) (filter (is_put_at_mark rows) marks))) ∙ rest
+    by (Some spot) at true put rest =
+        let row : spot.at ≡ mark.at = (spot_named names mark spot at).1 in
+        let stays : is_put_at rows spot ≡ true = (λ i. is_some (option_and_then live_row (slice_get rows (row i)))) ∙ put in
+        (λ i. spots_in names (cond (put i) (mark ∷ filter (is_put_at_mark rows) marks) (filter (is_put_at_mark rows) marks)))
+        ∙ (λ i. cons_option (at i) (spots_in names (filter (is_put_at_mark rows) marks)))
+        ∙ (λ i. spot ∷ rest i)
+        ∙ sym (λ i. cond (stays i) (spot ∷ filter (is_put_at rows) (spots_in names marks)) (filter (is_put_at rows) (spots_in names marks)))
+    by (Some spot) at false put rest =
+        let row : spot.at ≡ mark.at = (spot_named names mark spot at).1 in
+        let goes : is_put_at rows spot ≡ false = (λ i. is_some (option_and_then live_row (slice_get rows (row i)))) ∙ put in
+        (λ i. spots_in names (cond (put i) (mark ∷ filter (is_put_at_mark rows) marks) (filter (is_put_at_mark rows) marks)))
+        ∙ rest
+        ∙ sym (λ i. cond (goes i) (spot ∷ filter (is_put_at rows) (spots_in names marks)) (filter (is_put_at rows) (spots_in names marks)))

@@ -1,0 +1,21 @@
+-- A table that says of each row whether it is put.
+use Rattle.std.proofs.Common.{◌≡◌, List, refl, ap, sym, ◌∙◌, Bool, Some, None}
+use Rattle.std.specs.Prelude.{Option, slice_get, option_map, option_and_then}
+use Rattle.std.specs.Option.{is_some}
+use Rattle.std.proofs.lemmas.Option.{slice_get-map}
+use Rattle.state_index.specs.declared.mark.Mark.{Mark}
+use Rattle.state_index.specs.StandingRows.{live_row, is_put_at_mark, or_not, put_among, puts_in}
+use Rattle.state_index.specs.Turns.{is_put}
+use Rattle.state_index.proofs.Positions.{Keyed}
+use Rattle.state_index.proofs.LapsedSpots.{live_is}
+
+-- the table says of the row of a mark whether it is put
+pub told_put : (rows : List Keyed) (puts : List Bool) (mark : Mark) → puts ≡ puts_in rows
+    → put_among puts mark ≡ is_put_at_mark rows mark
+told_put rows puts mark is =
+    ap (λ (all : List Bool). put_among all mark) is
+    ∙ ap or_not (slice_get-map (λ (row : Keyed). is_put row.1.op) rows mark.at) ∙ by (slice_get rows mark.at)
+  where
+    by : (o : Option Keyed) → or_not (option_map (λ (row : Keyed). is_put row.1.op) o) ≡ is_some (option_and_then live_row o)
+    by None = refl
+    by (Some row) = sym (live_is row.0 row.1.op)

@@ -1,0 +1,102 @@
+-- The places of a row: where its schedule calls, or where its association is.
+use Rattle.std.proofs.Common.{◌≡◌, ℕ, List, [], refl, ap, subst, inl, inr, ◌⊎◌, true, false, Some, None, Contains}
+use Rattle.std.specs.Prelude.{Option, filter}
+use Rattle.docker_model.specs.records.Record.{Kind, header, tiploc_insert, tiploc_amend, tiploc_delete, association, basic_schedule, extra_details, origin_location, intermediate_location, terminating_location, change_en_route, trailer, kind_of, HasKind, columns, is_location}
+use Rattle.docker_model.specs.file.Change.{Key, tiploc_key, association_key, schedule_key, AssociationKey, ScheduleKey, tiploc_body, association_body, schedule_body}
+use Rattle.docker_model.specs.state.Op.{Op, deleted, lapsed, put_with}
+use Rattle.docker_model.specs.file.Journey.{CallsAt}
+use Rattle.cif_laws.proofs.lists.Membership.{nil-Contains, Contains-map, map-Contains, Contains-single, single-Contains}
+use Rattle.cif_laws.proofs.lists.FilteredMembers.{filter_back, filter_forth}
+use Rattle.state_index.specs.Spots.{call_places, link_places}
+use Rattle.state_index.specs.Turns.{is_put}
+
+-- the line is a location record
+abbrev IsLocation : List ℕ → Type 0
+IsLocation line = HasKind origin_location line ⊎ HasKind intermediate_location line ⊎ HasKind terminating_location line
+
+location_back : (line : List ℕ) → is_location (kind_of line) ≡ true → IsLocation line
+location_back line passed = by (kind_of line) refl passed
+  where
+    false_true : false ≡ true → ⊥
+    false_true h = cc
+
+    by : (kind : Option Kind) → kind_of line ≡ kind → is_location kind ≡ true → IsLocation line
+    by None is_kind passes = absurd (false_true passes)
+    by (Some header) is_kind passes = absurd (false_true passes)
+    by (Some tiploc_insert) is_kind passes = absurd (false_true passes)
+    by (Some tiploc_amend) is_kind passes = absurd (false_true passes)
+    by (Some tiploc_delete) is_kind passes = absurd (false_true passes)
+    by (Some association) is_kind passes = absurd (false_true passes)
+    by (Some basic_schedule) is_kind passes = absurd (false_true passes)
+    by (Some extra_details) is_kind passes = absurd (false_true passes)
+    by (Some origin_location) is_kind passes = inl is_kind
+    by (Some intermediate_location) is_kind passes = inr (inl is_kind)
+    by (Some terminating_location) is_kind passes = inr (inr is_kind)
+    by (Some change_en_route) is_kind passes = absurd (false_true passes)
+    by (Some trailer) is_kind passes = absurd (false_true passes)
+
+location_forth : (line : List ℕ) → IsLocation line → is_location (kind_of line) ≡ true
+location_forth line (inl is) = ap is_location is
+location_forth line (inr (inl is)) = ap is_location is
+location_forth line (inr (inr is)) = ap is_location is
+
+-- a row whose schedule calls at a place
+abbrev pub Calls : Key → Op → List ℕ → Type 0
+Calls key op place = (schedule : ScheduleKey) × (lines : List (List ℕ)) × (key ≡ schedule_key schedule) × (op ≡ put_with (schedule_body lines))
+    × CallsAt place lines
+
+calls_in : (schedule : ScheduleKey) (lines : List (List ℕ)) (place : List ℕ)
+    → Contains (call_places (schedule_key schedule) (put_with (schedule_body lines))) place → CallsAt place lines
+calls_in schedule lines place among =
+    let found = Contains-map (columns 3 9) (filter (λ line. is_location (kind_of line)) lines) place among in
+    let passed = filter_back (λ line. is_location (kind_of line)) lines found.0 found.1 in
+    record { line = found.0; among = passed.0; kind = location_back found.0 passed.1; here = found.2 }
+
+pub call_back : (key : Key) (op : Op) (place : List ℕ) → Contains (call_places key op) place → Calls key op place
+call_back (schedule_key key) (put_with (schedule_body lines)) place among = (key, lines, refl, refl, calls_in key lines place among)
+call_back (schedule_key key) (put_with (tiploc_body bytes)) place among = absurd (nil-Contains place among)
+call_back (schedule_key key) (put_with (association_body line)) place among = absurd (nil-Contains place among)
+call_back (schedule_key key) deleted place among = absurd (nil-Contains place among)
+call_back (schedule_key key) lapsed place among = absurd (nil-Contains place among)
+call_back (tiploc_key code) op place among = absurd (nil-Contains place among)
+call_back (association_key key) op place among = absurd (nil-Contains place among)
+
+pub call_forth : (schedule : ScheduleKey) (lines : List (List ℕ)) (place : List ℕ) → CallsAt place lines
+    → Contains (call_places (schedule_key schedule) (put_with (schedule_body lines))) place
+call_forth schedule lines place calls =
+    subst (Contains (call_places (schedule_key schedule) (put_with (schedule_body lines)))) calls.here
+    (map-Contains (columns 3 9) (filter (λ line. is_location (kind_of line)) lines) calls.line
+    (filter_forth (λ line. is_location (kind_of line)) lines calls.line calls.among (location_forth calls.line calls.kind)))
+
+-- a row whose association is at a place
+abbrev pub IsThere : Key → Op → List ℕ → Type 0
+IsThere key op place = (association : AssociationKey) × (line : List ℕ) × (key ≡ association_key association) × (op ≡ put_with (association_body line)) ×
+    (association.location ≡ place)
+
+pub link_back : (key : Key) (op : Op) (place : List ℕ) → Contains (link_places key op) place → IsThere key op place
+link_back (association_key key) (put_with (association_body line)) place among = (key, line, refl, refl, Contains-single key.location place among)
+link_back (association_key key) (put_with (tiploc_body bytes)) place among = absurd (nil-Contains place among)
+link_back (association_key key) (put_with (schedule_body lines)) place among = absurd (nil-Contains place among)
+link_back (association_key key) deleted place among = absurd (nil-Contains place among)
+link_back (association_key key) lapsed place among = absurd (nil-Contains place among)
+link_back (tiploc_key code) op place among = absurd (nil-Contains place among)
+link_back (schedule_key key) op place among = absurd (nil-Contains place among)
+
+pub link_forth : (key : AssociationKey) (line : List ℕ) (place : List ℕ) → key.location ≡ place
+    → Contains (link_places (association_key key) (put_with (association_body line))) place
+link_forth key line place here = single-Contains key.location place here
+
+-- a row that isn't put has no place
+pub no_calls : (key : Key) (op : Op) → is_put op ≡ false → call_places key op ≡ []
+no_calls (schedule_key key) deleted none = refl
+no_calls (schedule_key key) lapsed none = refl
+no_calls (schedule_key key) (put_with body) none = absurd (let bad : true ≡ false = none in cc)
+no_calls (tiploc_key code) op none = refl
+no_calls (association_key key) op none = refl
+
+pub no_links : (key : Key) (op : Op) → is_put op ≡ false → link_places key op ≡ []
+no_links (association_key key) deleted none = refl
+no_links (association_key key) lapsed none = refl
+no_links (association_key key) (put_with body) none = absurd (let bad : true ≡ false = none in cc)
+no_links (tiploc_key code) op none = refl
+no_links (schedule_key key) op none = refl

@@ -1,0 +1,85 @@
+-- The rows of the join of two tables, and where they come from.
+use Rattle.std.specs.Prelude.{◌≡◌, ℕ, ◌+◌, ◌<◌, ◌≤◌, ◌^◌, [], ◌↔◌, ◌⊎◌, List, map, slice_get, Option, Some, option_map, option_and_then, Contains}
+use Rattle.std.specs.List.{filter_map}
+use Rattle.std.specs.Vec.{vec_len, vec_capacity}
+use Rattle.std.specs.Ordering.{on, ord_max}
+use Rattle.docker_model.specs.file.Change as model
+use Rattle.docker_model.specs.state.Stamp.{FileStamp, IsKept}
+use Rattle.docker_model.specs.state.Lapse.{lapse_entry}
+use Rattle.docker_model.specs.state.Op as ops
+use Rattle.docker_model.specs.state.Op.{entry_cmp}
+use Rattle.docker_model.specs.state.State as states
+use Rattle.cif_change.specs.declared.key.Key.{Key}
+use Rattle.docker_join.specs.declared.stamp.FileStamp as stamp
+use Rattle.docker_join.specs.declared.entry.Entry.{Entry}
+use Rattle.docker_join.specs.Meaning.{file_stamp_meant, entry_meant, row_meant}
+use Rattle.docker_join.specs.Rows.{IsJoinOfRows}
+pub use Rattle.cif_places.specs.NamedPlaces.{AreRanks}
+use Rattle.state_index.specs.SpotOrder.{Spot}
+use Rattle.state_index.specs.declared.mark.Mark.{Mark}
+use Rattle.state_index.specs.declared.moves.Moves.{Moves}
+use Rattle.state_index.specs.Spots.{Places, call_places, link_places, spots_of}
+
+-- the floor that the code stands for
+abbrev pub floor_meant : Option stamp.FileStamp → Option FileStamp
+floor_meant floor = option_map file_stamp_meant floor
+
+-- among these entries of the key, one is kept under the floor and lapses under the horizon to this
+-- one
+abbrev pub LapsesTo : List (model.Key × ops.Entry) → Option FileStamp → ℕ → model.Key → ops.Entry → Type 0
+LapsesTo entries floor horizon key entry =
+    (before : ops.Entry) × Contains entries (key, before) × IsKept floor before.stamp.file × (lapse_entry horizon before ≡ entry)
+
+-- the entries are the ones that the join of two tables keeps under the floor, each lapsed under the
+-- horizon
+pub record AreJoined (first second : List (Key × Entry)) (floor : Option FileStamp) (horizon : ℕ) (joined : List (model.Key × ops.Entry)) : Type 0 where
+  pub whole : List (Key × Entry)
+  pub is_join : IsJoinOfRows (ord_max (on entry_meant entry_cmp)) first second whole
+  pub ascending : states.AreAscending joined
+  pub members : (key : model.Key) (entry : ops.Entry) → Contains joined (key, entry) ↔ LapsesTo (map row_meant whole) floor horizon key entry
+
+-- a spot, moved to where its row goes, if the row stands live in the join
+abbrev pub moved_spot : List (Option ℕ) → Spot → Option Spot
+moved_spot moves spot =
+    option_map (λ at. record { place = spot.place; at = at }) (option_and_then (λ (move : Option ℕ). move) (slice_get moves spot.at))
+
+-- spots, moved to where their rows go
+abbrev pub moved_spots : List (Option ℕ) → List Spot → List Spot
+moved_spots moves spots = filter_map (moved_spot moves) spots
+
+-- a mark, moved to where its place and its row go; `ranks` has the indexes of its places among
+-- other places
+abbrev pub moved_mark : List ℕ → List (Option ℕ) → Mark → Option Mark
+moved_mark ranks moves mark = option_and_then
+    (λ rank. option_map (λ at. record { place = rank; at = at }) (option_and_then (λ (move : Option ℕ). move) (slice_get moves mark.at)))
+    (slice_get ranks mark.place)
+
+-- marks, moved to where their places and their rows go
+abbrev pub moved_marks : List ℕ → List (Option ℕ) → List Mark → List Mark
+moved_marks ranks moves marks = filter_map (moved_mark ranks moves) marks
+
+-- of two rows that go into the join, the first goes before the second
+abbrev pub AreRising : List (Option ℕ) → Type 0
+AreRising moves = (i j p q : ℕ) → i < j → slice_get moves i ≡ Some (Some p) → slice_get moves j ≡ Some (Some q) → p < q
+
+-- the spots of the joined rows are the spots of both sides, moved to where their rows go
+abbrev pub HasMovedSpots : Places → List (model.Key × ops.Entry) → List (model.Key × ops.Entry) → List (model.Key × ops.Entry) → Moves → Type 0
+HasMovedSpots places first second joined moves = (spot : Spot) → Contains (spots_of places joined) spot
+    ↔ (Contains (moved_spots moves.first.items (spots_of places first)) spot ⊎ Contains (moved_spots moves.second.items (spots_of places second)) spot)
+
+-- the moves of the rows of two tables into their join
+pub record AreMoves (first second joined : List (model.Key × ops.Entry)) (moves : Moves) : Type 0 where
+  pub first_rise : AreRising moves.first.items
+  pub second_rise : AreRising moves.second.items
+  pub calls : HasMovedSpots call_places first second joined moves
+  pub links : HasMovedSpots link_places first second joined moves
+
+-- no move is made yet, and there is room for the moves of this many rows on both sides
+pub record HasRows (first second : ℕ) (moves : Moves) : Type 0 where
+  pub first_none : moves.first.items ≡ []
+  pub first_empty : vec_len moves.first ≡ 0
+  pub first_room : first ≤ vec_capacity moves.first
+  pub second_none : moves.second.items ≡ []
+  pub second_empty : vec_len moves.second ≡ 0
+  pub second_room : second ≤ vec_capacity moves.second
+  pub few : first + second < 2 ^ 32

@@ -1,0 +1,23 @@
+-- The marks of rows whose places are noted.
+use Rattle.std.specs.Prelude.{ℕ, ◌-◌, Bool, List, [], ◌∷◌, ◌++◌, map, length, get_or}
+use Rattle.cif_places.specs.declared.piece.Piece.{Piece}
+pub use Rattle.cif_places.specs.Noted.{Item, items_of, items_put, Keeps, if_asked, numbers_of, IsNoted, AreNoted, numbers_in, HasNoted, IsNext, no_piece, ArePicked}
+use Rattle.state_index.specs.declared.mark.Mark.{Mark}
+
+-- the mark of a number in a row, by the indexes of the places that have numbers
+abbrev pub mark_of : List ℕ → ℕ → ℕ → Mark
+mark_of ranks at number = record { place = get_or ranks number 0; at = at }
+
+-- the index of the last of this many rows that isn't among the rows left
+abbrev pub row_before : ℕ → List Piece → ℕ
+row_before rows left = rows - length left - 1
+
+-- the marks of this many rows, if these pieces are left
+abbrev pub noted_marks : Bool → List ℕ → List ℕ → ℕ → List Piece → List Mark
+noted_marks links ranks numbers rows [] = []
+noted_marks links ranks numbers rows (piece ∷ pieces) =
+    map (mark_of ranks (row_before rows pieces)) (numbers_of links numbers piece) ++ noted_marks links ranks numbers rows pieces
+
+-- the marks of these numbers of a row, and of the rows after it
+abbrev pub marks_left : Bool → List ℕ → List ℕ → ℕ → List Piece → List ℕ → List Mark
+marks_left links ranks numbers rows pieces here = map (mark_of ranks (row_before rows pieces)) here ++ noted_marks links ranks numbers rows pieces

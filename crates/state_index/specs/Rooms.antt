@@ -1,0 +1,47 @@
+-- The room for an index.
+use Rattle.std.specs.Prelude.{◌≡◌, ℕ, ◌<◌, ◌≤◌, ◌^◌, List, [], length, map, Contains}
+use Rattle.std.specs.Vec.{vec_len, vec_capacity}
+use Rattle.docker_model.specs.file.Change as model
+use Rattle.docker_model.specs.state.Op as ops
+use Rattle.docker_model.specs.state.Op.{op_of}
+use Rattle.docker_model.specs.state.Order.{bytes_cmp, IsStrictlyAscending}
+use Rattle.state_index.specs.declared.room.Room.{Room}
+use Rattle.state_index.specs.declared.slots.Slots.{Slots}
+use Rattle.state_index.specs.ByPlace.{AreCounts}
+use Rattle.state_index.specs.Joined.{AreRanks}
+use Rattle.state_index.specs.Spots.{call_places, link_places, spots_of}
+
+-- nothing is counted yet, and there is room for this many places and this many marks
+pub record HasSlots (places marks : ℕ) (slots : Slots) : Type 0 where
+  pub none : AreCounts [] slots.counts.items
+  pub len : length slots.counts.items ≡ places
+  pub no_next : slots.next.items ≡ []
+  pub empty_next : vec_len slots.next ≡ 0
+  pub room_next : places ≤ vec_capacity slots.next
+  pub room : marks ≤ length slots.marks.items
+
+-- room for the index of the rows: their places, in order, the index of each place that has a
+-- number, and slots for the marks
+pub record HasRoomFor (rows : List (model.Key × ops.Entry)) (names : List (List ℕ)) (room : Room) : Type 0 where
+  pub named : IsStrictlyAscending bytes_cmp room.places.items
+  pub ranks : AreRanks room.places.items names room.ranks.items
+  pub few_rows : length rows < 2 ^ 32
+  pub calls : HasSlots (length room.places.items) (length (spots_of call_places rows)) room.calls
+  pub links : HasSlots (length room.places.items) (length (spots_of link_places rows)) room.links
+
+-- each place of the first list is in the second
+abbrev pub Includes : List (List ℕ) → List (List ℕ) → Type 0
+Includes few many = (place : List ℕ) → Contains few place → Contains many place
+
+-- the places of names, ascending, and room for this many calls and this many rows
+pub record IsRoom (names : List (List ℕ)) (most_calls most_rows : ℕ) (room : Room) : Type 0 where
+  pub named : IsStrictlyAscending bytes_cmp room.places.items
+  pub ranks : AreRanks room.places.items names room.ranks.items
+  pub few_rows : most_rows < 2 ^ 32
+  pub calls : HasSlots (length room.places.items) most_calls room.calls
+  pub links : HasSlots (length room.places.items) most_rows room.links
+
+-- each row is one that a change makes
+abbrev pub AreMadeBy : List model.Change → List (model.Key × ops.Entry) → Type 0
+AreMadeBy changes rows = (row : model.Key × ops.Entry) → Contains rows row
+    → Contains {X = model.Key × ops.Op} (map (λ (change : model.Change). (change.key, op_of change.act)) changes) (row.0, row.1.op)

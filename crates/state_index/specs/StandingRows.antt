@@ -1,0 +1,69 @@
+-- The live rows at spots.
+use Rattle.std.specs.Prelude.{◌≡◌, ℕ, Bool, false, List, ◌++◌, map, Contains, Option, Some, None, slice_get, option_and_then}
+use Rattle.std.specs.List.{filter_map}
+use Rattle.std.specs.Option.{is_some}
+use Rattle.docker_model.specs.file.Change.{Key}
+use Rattle.docker_model.specs.state.Op.{Entry, body_of}
+use Rattle.docker_model.specs.state.Row.{Row}
+use Rattle.state_index.specs.SpotOrder.{Spot}
+use Rattle.state_index.specs.Turns.{is_put}
+use Rattle.state_index.specs.declared.mark.Mark.{Mark}
+
+-- the key of a row with its body, if it is put
+abbrev pub live_row : Key × Entry → Option Row
+live_row row = option_and_then (λ body. Some (row.0, body)) (body_of row.1.op)
+
+-- the live row that a spot names
+abbrev pub live_at : List (Key × Entry) → Spot → Option Row
+live_at rows spot = option_and_then live_row (slice_get rows spot.at)
+
+-- the live rows that spots name, in the order of the spots
+abbrev pub standing_rows : List (Key × Entry) → List Spot → List Row
+standing_rows rows spots = filter_map (live_at rows) spots
+
+-- the live row that a mark names
+abbrev pub live_at_mark : List (Key × Entry) → Mark → Option Row
+live_at_mark rows mark = option_and_then live_row (slice_get rows mark.at)
+
+-- the live rows that marks name, in the order of the marks
+abbrev pub standing_marks : List (Key × Entry) → List Mark → List Row
+standing_marks rows marks = filter_map (live_at_mark rows) marks
+
+-- the marks of the place that has this index; no mark before or after them is of that place
+pub record IsPieceOf (rank : ℕ) (marks piece : List Mark) : Type 0 where
+  pub before : List Mark
+  pub behind : List Mark
+  pub whole : marks ≡ (before ++ piece) ++ behind
+  pub none_before : (mark : Mark) → Contains before mark → ¬ (mark.place ≡ rank)
+  pub here : (mark : Mark) → Contains piece mark → mark.place ≡ rank
+  pub none_behind : (mark : Mark) → Contains behind mark → ¬ (mark.place ≡ rank)
+
+-- the spots of the place; no spot before or after them is of that place
+pub record IsPieceAt (place : List ℕ) (spots piece : List Spot) : Type 0 where
+  pub before : List Spot
+  pub behind : List Spot
+  pub whole : spots ≡ (before ++ piece) ++ behind
+  pub none_before : (spot : Spot) → Contains before spot → ¬ (spot.place ≡ place)
+  pub here : (spot : Spot) → Contains piece spot → spot.place ≡ place
+  pub none_behind : (spot : Spot) → Contains behind spot → ¬ (spot.place ≡ place)
+
+-- the row of a spot is put
+abbrev pub is_put_at : List (Key × Entry) → Spot → Bool
+is_put_at rows spot = is_some (live_at rows spot)
+
+-- the row of a mark is put
+abbrev pub is_put_at_mark : List (Key × Entry) → Mark → Bool
+is_put_at_mark rows mark = is_some (live_at_mark rows mark)
+
+-- whether each row is put
+abbrev pub puts_in : List (Key × Entry) → List Bool
+puts_in rows = map (λ (row : Key × Entry). is_put row.1.op) rows
+
+-- what was said of a row, or false if nothing was
+abbrev pub or_not : Option Bool → Bool
+or_not None = false
+or_not (Some put) = put
+
+-- whether the row of a mark is put, by what is said of each row
+abbrev pub put_among : List Bool → Mark → Bool
+put_among puts mark = or_not (slice_get puts mark.at)

@@ -1,0 +1,186 @@
+//! The index of some rows: where their live schedules call, and where their live associations are.
+ghost use Rattle.std.specs.Prelude.{◌≡◌, ℕ, ◌+◌, List, [], map, IfOk};
+ghost use Rattle.docker_model.specs.file.Change as model;
+ghost use Rattle.docker_model.specs.state.Op as ops;
+ghost use Rattle.docker_model.specs.state.Lapse.{lapse_entries};
+ghost use Rattle.docker_model.specs.state.State.{State, AreAscending, live_table};
+ghost use Rattle.docker_model.specs.state.Index.{AreCalling, AreLinked};
+ghost use Rattle.docker_join.specs.Meaning.{row_meant};
+ghost use Rattle.state_index.specs.Spots.{IsIndexOf};
+ghost use Rattle.docker_join.specs.Room.{HasRoomOf};
+ghost use Rattle.state_index.specs.Rooms.{HasRoomFor};
+ghost use Rattle.state_index.specs.Joined.{AreMoves};
+ghost use Rattle.state_index.specs.Noted.{AreNoted, items_of};
+
+use crate::fill::ascending;
+use crate::mark::Mark;
+use crate::merge::{Moved, merged, ranks_of, union_of};
+use crate::moves::Moves;
+use crate::puts::{keep_put, puts_of};
+use crate::room::Room;
+use crate::standing::{Standing, marks_at};
+use crate::walk::MarkWalk;
+use cif_file::Key;
+use cif_line::{Memory, Tiploc};
+use cif_places::Notes;
+use docker_join::Entry;
+use std::alloc::Global;
+
+/// An index of rows, each a key with its entry: which rows call or are linked at a place.
+#[derive(Debug, Drop)]
+pub struct Index {
+    /// The TIPLOCs that are named, ascending, each once.
+    pub places: Vec<[u8; 7]>,
+    /// Each place with each live schedule that calls there (by an LO, an LI or an LT), once,
+    /// ascending.
+    pub calls: Vec<Mark>,
+    /// Each place with each live association there, once, ascending.
+    pub links: Vec<Mark>,
+}
+
+impl Index {
+    /// The index of no rows.
+    pub fn new(alloc: Global) -> Index
+        ensures { IsIndexOf [] result }
+    {
+        Index {
+            places: Vec::new(alloc),
+            calls: Vec::new(alloc),
+            links: Vec::new(alloc),
+        }
+    }
+
+    /// The index of these rows, made from what was noted of them, in the room for it. It takes no
+    /// memory.
+    pub fn of_rows(room: Room, notes: Notes, rows: &[(Key, Entry)]) -> Index
+        requires room { HasRoomFor (map row_meant rows.now) notes.names.list.items room }
+        requires noted { AreNoted notes.names.list.items notes.numbers.items
+            (items_of (map row_meant rows.now)) notes.pieces.items }
+        ensures { IsIndexOf (map row_meant rows.now) result }
+    {
+        let Room {
+            places,
+            ranks,
+            calls,
+            links,
+        } = room;
+        let count = rows.len() as u32;
+        let ranks = ranks.as_slice();
+        let numbers = notes.numbers.as_slice();
+        let pieces = notes.pieces.as_slice();
+        let called = MarkWalk::of(ranks, numbers, pieces, count, false);
+        let linked = MarkWalk::of(ranks, numbers, pieces, count, true);
+        let calls = ascending(called, places.len(), calls);
+        let links = ascending(linked, places.len(), links);
+        Index {
+            places,
+            calls,
+            links,
+        }
+    }
+
+    /// Makes this the index of these rows, in place: a horizon was set, and some rows lapsed. It
+    /// may take one byte per row for a time. If the allocator refuses them, it takes longer.
+    pub fn lapse(&mut self, rows: &[(Key, Entry)])
+        ensures { (before : List (model.Key × ops.Entry)) (horizon : ℕ)
+            → map row_meant rows.now ≡ lapse_entries horizon before
+            → IsIndexOf before self.old → IsIndexOf (map row_meant rows.now) self.new }
+    {
+        let puts = puts_of(*self.calls.allocator(), rows);
+        keep_put(&mut self.calls, rows, &puts);
+        keep_put(&mut self.links, rows, &puts);
+    }
+
+    /// The index of the join of two tables, from the indexes of the two. It takes time linear in
+    /// both. `Memory` if the allocator refuses it.
+    pub fn of_join(
+        alloc: Global,
+        first: &Index,
+        second: &Index,
+        moves: &Moves,
+    ) -> Result<Index, Memory>
+        ensures { (rows others joined : List (model.Key × ops.Entry))
+            → AreMoves rows others joined moves.now → IsIndexOf rows first.now
+            → IsIndexOf others second.now → IfOk result (IsIndexOf joined) }
+    {
+        let places = union_of(alloc, first.places.as_slice(), second.places.as_slice())?;
+        let ranks = ranks_of(alloc, first.places.as_slice(), places.as_slice())?;
+        let others = ranks_of(alloc, second.places.as_slice(), places.as_slice())?;
+        let calls = room_for(alloc, first.calls.len(), second.calls.len())?;
+        let links = room_for(alloc, first.links.len(), second.links.len())?;
+        Ok(Index {
+            places,
+            calls: merged(
+                Moved::of(
+                    first.calls.as_slice(),
+                    ranks.as_slice(),
+                    moves.first.as_slice(),
+                ),
+                Moved::of(
+                    second.calls.as_slice(),
+                    others.as_slice(),
+                    moves.second.as_slice(),
+                ),
+                calls,
+            ),
+            links: merged(
+                Moved::of(
+                    first.links.as_slice(),
+                    ranks.as_slice(),
+                    moves.first.as_slice(),
+                ),
+                Moved::of(
+                    second.links.as_slice(),
+                    others.as_slice(),
+                    moves.second.as_slice(),
+                ),
+                links,
+            ),
+        })
+    }
+
+    /// Walks the live schedules that call at a TIPLOC, among the rows that this is the index of. It
+    /// finds them by a binary search.
+    pub fn calling<'a>(&'a self, rows: &'a [(Key, Entry)], tiploc: &Tiploc) -> Standing<'a>
+        requires index { IsIndexOf (map row_meant rows.now) self.now }
+        requires ascending { AreAscending (map row_meant rows.now) }
+        ensures { (state : State) → state.entries ≡ map row_meant rows.now
+            → AreCalling (live_table state) tiploc.now result }
+    {
+        Standing::of(
+            rows,
+            marks_at(
+                self.places.as_slice(),
+                self.calls.as_slice(),
+                tiploc.bytes(),
+            ),
+        )
+    }
+
+    /// Walks the live associations at a location, among the rows that this is the index of. It
+    /// finds them by a binary search.
+    pub fn linked<'a>(&'a self, rows: &'a [(Key, Entry)], tiploc: &Tiploc) -> Standing<'a>
+        requires index { IsIndexOf (map row_meant rows.now) self.now }
+        requires ascending { AreAscending (map row_meant rows.now) }
+        ensures { (state : State) → state.entries ≡ map row_meant rows.now
+            → AreLinked (live_table state) tiploc.now result }
+    {
+        Standing::of(
+            rows,
+            marks_at(
+                self.places.as_slice(),
+                self.links.as_slice(),
+                tiploc.bytes(),
+            ),
+        )
+    }
+}
+
+/// An empty vector with room for this many marks of each of two indexes. `Memory` if the allocator
+/// refuses it.
+fn room_for(alloc: Global, first: usize, second: usize) -> Result<Vec<Mark>, Memory>
+    ensures { IfOk result (HasRoomOf (first + second)) }
+{
+    let count = first.checked_add(second).ok_or(Memory)?;
+    Ok(Vec::with_capacity(alloc, count)?)
+}

@@ -1,0 +1,28 @@
+//! The spots of an index, as indexes of the live table. Each law is the contract of a function with
+//! no body: it holds of all that it names.
+ghost use Rattle.std.specs.Prelude.{◌≡◌, List};
+ghost use Rattle.docker_model.specs.file.Change.{Key};
+ghost use Rattle.docker_model.specs.state.Op.{Entry};
+ghost use Rattle.docker_model.specs.state.State.{State, AreAscending, live_table};
+ghost use Rattle.docker_model.specs.state.Index.{IsCallingIndex, IsLinkedIndex};
+ghost use Rattle.state_index.specs.declared.index.Index.{Index};
+ghost use Rattle.state_index.specs.Spots.{IsIndexOf, call_spots, link_spots};
+ghost use Rattle.state_index.specs.Tables.{calling_rows, linked_rows};
+
+/// The spots of a state's rows stand for the two indexes of its live table.
+pub fn indexes_of_rows()
+    ensures calls { (state : State) (index : Index)
+        → AreAscending state.entries → IsIndexOf state.entries index
+        → IsCallingIndex (live_table state) (calling_rows state.entries (call_spots index)) }
+    ensures links { (state : State) (index : Index)
+        → AreAscending state.entries → IsIndexOf state.entries index
+        → IsLinkedIndex (live_table state) (linked_rows state.entries (link_spots index)) }
+{}
+
+/// Rows have one index.
+pub fn one_index_of_rows()
+    ensures calls { (rows : List (Key × Entry)) (first second : Index)
+        → IsIndexOf rows first → IsIndexOf rows second → call_spots first ≡ call_spots second }
+    ensures links { (rows : List (Key × Entry)) (first second : Index)
+        → IsIndexOf rows first → IsIndexOf rows second → link_spots first ≡ link_spots second }
+{}

@@ -1,0 +1,28 @@
+//! Two indexes of the rows of a state: the TIPLOCs where its live schedules call, and the locations
+//! of its live associations. Re-exports the notes of rows from the crate below.
+#![tactic(auto)]
+
+mod fill;
+mod index;
+mod laws;
+mod mark;
+mod merge;
+mod moves;
+mod names;
+mod noted_rows;
+mod puts;
+mod room;
+mod slots;
+mod standing;
+mod turns;
+mod walk;
+
+pub use cif_places::{Notes, Piece, PlaceNames};
+pub use index::Index;
+pub use laws::{indexes_of_rows, one_index_of_rows};
+pub use mark::Mark;
+pub use moves::Moves;
+pub use noted_rows::{note_row, notes_of_rows};
+pub use room::Room;
+pub use slots::Slots;
+pub use standing::{Numbered, Standing};

@@ -1,0 +1,184 @@
+//! Where the rows of two tables go in their join.
+ghost use Rattle.std.specs.Prelude.{◌≡◌, ◌+◌, ◌<◌, ◌≤◌, ◌^◌, List, [], ◌∷◌, ◌++◌, vec_len, vec_capacity, length, map, IfOk};
+ghost use Rattle.docker_model.specs.file.Change as model;
+ghost use Rattle.docker_model.specs.state.Op as ops;
+ghost use Rattle.docker_join.specs.Meaning.{file_stamp_meant, op_meant, row_meant};
+ghost use Rattle.docker_join.specs.Rows.{AreAscending};
+ghost use Rattle.docker_model.specs.state.Lapse.{lapse};
+ghost use Rattle.state_index.specs.Turns.{AtKey, turn_meant, turns_of, firsts, seconds, is_kept, is_put, wins, goes, after, first_moves, second_moves};
+ghost use Rattle.state_index.specs.Joined.{floor_meant, AreJoined, AreMoves, HasRows};
+
+use crate::turns::{Turn, Turns};
+use cif_file::Key;
+use cif_line::Memory;
+use docker_join::{Entry, FileStamp, Op};
+use std::alloc::Global;
+
+/// For each row of two tables, in order, its index among the rows of their join. None if the other
+/// table's entry wins, if the floor doesn't keep the entry, or if the entry isn't live there.
+#[derive(Debug, Drop)]
+pub struct Moves {
+    /// The indexes of the first table's rows.
+    pub first: Vec<Option<u32>>,
+    /// The indexes of the second table's rows.
+    pub second: Vec<Option<u32>>,
+}
+
+impl Moves {
+    /// No moves yet, with room for the moves of this many rows of each table. `Memory` if the
+    /// allocator refuses it.
+    pub fn with_room(alloc: Global, first: usize, second: usize) -> Result<Moves, Memory>
+        ensures { IfOk result (HasRows first second) }
+    {
+        let all = first.checked_add(second).ok_or(Memory)?;
+        if u32::try_from(all).is_err() {
+            return Err(Memory);
+        }
+        let first = Vec::with_capacity(alloc, first)?;
+        let second = Vec::with_capacity(alloc, second)?;
+        Ok(Moves { first, second })
+    }
+
+    /// The moves of the rows of two tables into their join, which keeps what the floor keeps, each
+    /// lapsed under a horizon. A horizon is a day number from 0 for 1960-01-01. The moves need room
+    /// for the rows of both tables. It takes no memory.
+    pub fn of_tables(
+        self,
+        first: &[(Key, Entry)],
+        second: &[(Key, Entry)],
+        floor: &Option<FileStamp>,
+        horizon: u16,
+    ) -> Moves
+        requires room { HasRows (length first.now) (length second.now) self }
+        requires first { AreAscending first.now }
+        requires second { AreAscending second.now }
+        ensures { (joined : List (model.Key × ops.Entry))
+            → AreJoined first.now second.now (floor_meant floor.now) horizon joined
+            → AreMoves (map row_meant first.now) (map row_meant second.now) joined result }
+    {
+        self.walk(first, second, floor, horizon)
+    }
+
+    /// The moves of each row, turn by turn of the walk over both tables.
+    fn walk(
+        self,
+        first: &[(Key, Entry)],
+        second: &[(Key, Entry)],
+        floor: &Option<FileStamp>,
+        horizon: u16,
+    ) -> Moves
+        requires room { HasRows (length first.now) (length second.now) self }
+        ensures first { result.first.items
+            ≡ first_moves (floor_meant floor.now) horizon 0 (turns_of first.now second.now) }
+        ensures second { result.second.items
+            ≡ second_moves (floor_meant floor.now) horizon 0 (turns_of first.now second.now) }
+    {
+        let mut moves = self;
+        let mut at = 0;
+        for turn in Turns::of(first, second) {
+            at = moves.take(turn, floor, horizon, at);
+        }
+        moves
+    }
+
+    /// Takes a turn of the walk over both tables, after this many rows. Returns how many rows there
+    /// are with it.
+    fn take(&mut self, turn: Turn<'_>, floor: &Option<FileStamp>, horizon: u16, at: u32) -> u32
+        requires few { at + 1 < 2 ^ 32 }
+        requires first_room { vec_len self.old.first + length (firsts (turn_meant turn ∷ []))
+            ≤ vec_capacity self.old.first }
+        requires second_room { vec_len self.old.second + length (seconds (turn_meant turn ∷ []))
+            ≤ vec_capacity self.old.second }
+        ensures at { result ≤ at + 1 }
+        ensures first { (turns : List AtKey)
+            → self.new.first.items ++ first_moves (floor_meant floor.now) horizon result turns
+            ≡ self.old.first.items
+            ++ first_moves (floor_meant floor.now) horizon at (turn_meant turn.entry ∷ turns) }
+        ensures second { (turns : List AtKey)
+            → self.new.second.items ++ second_moves (floor_meant floor.now) horizon result turns
+            ≡ self.old.second.items
+            ++ second_moves (floor_meant floor.now) horizon at (turn_meant turn.entry ∷ turns) }
+        ensures first_len { vec_len self.new.first
+            ≡ vec_len self.old.first + length (firsts (turn_meant turn.entry ∷ [])) }
+        ensures second_len { vec_len self.new.second
+            ≡ vec_len self.old.second + length (seconds (turn_meant turn.entry ∷ [])) }
+        ensures first_capacity { vec_capacity self.new.first ≡ vec_capacity self.old.first }
+        ensures second_capacity { vec_capacity self.new.second ≡ vec_capacity self.old.second }
+    {
+        match turn {
+            Turn::First(one) => {
+                self.first
+                    .push_reserved(index_of(&one.1, floor, horizon, at));
+                index_after(&one.1, floor, at)
+            }
+            Turn::Second(other) => {
+                self.second
+                    .push_reserved(index_of(&other.1, floor, horizon, at));
+                index_after(&other.1, floor, at)
+            }
+            Turn::Both(one, other) => {
+                if wins(&one.1, &other.1) {
+                    self.first
+                        .push_reserved(index_of(&one.1, floor, horizon, at));
+                    self.second.push_reserved(None);
+                    index_after(&one.1, floor, at)
+                } else {
+                    self.first.push_reserved(None);
+                    self.second
+                        .push_reserved(index_of(&other.1, floor, horizon, at));
+                    index_after(&other.1, floor, at)
+                }
+            }
+        }
+    }
+}
+
+/// Whether the first of two entries of a key wins. If they are equal, the second wins.
+fn wins(one: &Entry, other: &Entry) -> bool
+    ensures { result ≡ wins one.now other.now }
+{
+    other < one
+}
+
+/// The index that a winning entry gets, after this many rows. None if it isn't kept, or isn't live.
+fn index_of(entry: &Entry, floor: &Option<FileStamp>, horizon: u16, at: u32) -> Option<u32>
+    ensures { result ≡ goes (floor_meant floor.now) horizon at entry.now }
+{
+    if is_kept(floor, &entry.stamp.file) && stays_put(&entry.op, horizon) {
+        Some(at)
+    } else {
+        None
+    }
+}
+
+/// How many rows there are with a winning entry, after this many rows.
+fn index_after(entry: &Entry, floor: &Option<FileStamp>, at: u32) -> u32
+    requires { at + 1 < 2 ^ 32 }
+    ensures { result ≡ after (floor_meant floor.now) at entry.now }
+{
+    if is_kept(floor, &entry.stamp.file) {
+        at + 1
+    } else {
+        at
+    }
+}
+
+/// Whether a floor keeps what has this file stamp.
+fn is_kept(floor: &Option<FileStamp>, stamp: &FileStamp) -> bool
+    ensures { result ≡ is_kept (floor_meant floor.now) (file_stamp_meant stamp.now) }
+{
+    match floor {
+        None => true,
+        Some(least) => *least <= *stamp,
+    }
+}
+
+/// Whether an op is a put that doesn't lapse under a horizon.
+fn stays_put(op: &Op, horizon: u16) -> bool
+    ensures { result ≡ is_put (lapse horizon (op_meant op.now)) }
+{
+    match op {
+        Op::Put(body) => horizon <= body.end_number(),
+        _ => false,
+    }
+}

@@ -1,0 +1,38 @@
+//! What rows name, noted as they come.
+ghost use Rattle.std.specs.Prelude.{◌++◌, [], ◌∷◌, List, map, IsOk, IsErr, IfOk};
+ghost use Rattle.cif_file.specs.Meaning.{key_meant};
+ghost use Rattle.docker_join.specs.Meaning.{op_meant, row_meant};
+ghost use Rattle.state_index.specs.Noted.{Item, HasNoted, items_of};
+
+use cif_file::Key;
+use cif_line::Memory;
+use cif_places::Notes;
+use docker_join::{Entry, Op};
+use std::alloc::Global;
+
+/// What these rows name. `Memory` if the allocator refuses it.
+pub fn notes_of_rows(alloc: Global, rows: &[(Key, Entry)]) -> Result<Notes, Memory>
+    ensures { IfOk result (HasNoted (items_of (map row_meant rows.now))) }
+{
+    let mut notes = Notes::new(alloc);
+    let mut rest = rows;
+    while let Some((row, behind)) = rest.split_first() {
+        note_row(&mut notes, &row.0, &row.1.op)?;
+        rest = behind;
+    }
+    Ok(notes)
+}
+
+/// Notes the next row: a key with its op. If it returns `Memory`, the row isn't noted.
+pub fn note_row(notes: &mut Notes, key: &Key, op: &Op) -> Result<(), Memory>
+    ensures ok { IsOk result → (items : List Item) → HasNoted items notes.old
+        → HasNoted (items ++ (key_meant key.now, op_meant op.now) ∷ []) notes.new }
+    ensures err { IsErr result → (items : List Item) → HasNoted items notes.old
+        → HasNoted items notes.new }
+{
+    match op {
+        Op::Put(body) => notes.note_put(key, body),
+        Op::Deleted => notes.note_none(),
+        Op::Lapsed => notes.note_none(),
+    }
+}

@@ -1,0 +1,59 @@
+//! Which rows are put, and the marks of those rows.
+ghost use Rattle.std.specs.Prelude.{◌≡◌, filter, map, IfSome};
+ghost use Rattle.docker_join.specs.Meaning.{op_meant, row_meant};
+ghost use Rattle.state_index.specs.Turns.{is_put};
+ghost use Rattle.state_index.specs.StandingRows.{is_put_at_mark, put_among, puts_in};
+
+use crate::mark::Mark;
+use crate::standing::is_put_at;
+use cif_file::Key;
+use docker_join::{Entry, Op};
+use std::alloc::Global;
+
+/// Whether each of these rows is put, in one byte per row. None if the allocator refuses them.
+pub(crate) fn puts_of(alloc: Global, rows: &[(Key, Entry)]) -> Option<Vec<bool>>
+    ensures { IfSome result (λ puts. puts.items ≡ puts_in (map row_meant rows.now)) }
+{
+    let Ok(mut puts) = Vec::with_capacity(alloc, rows.len()) else {
+        return None;
+    };
+    let mut rest = rows;
+    while let Some((row, behind)) = rest.split_first() {
+        puts.push_reserved(is_put(&row.1.op));
+        rest = behind;
+    }
+    Some(puts)
+}
+
+/// Keeps the marks whose rows are put. It looks into the table of the rows that are put, which is
+/// small, or into the rows if there is no table.
+pub(crate) fn keep_put(marks: &mut Vec<Mark>, rows: &[(Key, Entry)], puts: &Option<Vec<bool>>)
+    requires { IfSome puts.now (λ puts. puts.items ≡ puts_in (map row_meant rows.now)) }
+    ensures { marks.new.items
+        ≡ filter (is_put_at_mark (map row_meant rows.now)) marks.old.items }
+{
+    match puts {
+        Some(puts) => {
+            let puts = puts.as_slice();
+            marks.retain(|mark| is_put_in(puts, mark));
+        }
+        None => marks.retain(|mark| is_put_at(rows, mark)),
+    }
+}
+
+/// Whether the row of a mark is put, by the table of the rows that are put.
+fn is_put_in(puts: &[bool], mark: &Mark) -> bool
+    ensures { result ≡ put_among puts.now mark.now }
+{
+    match puts.get(mark.at as usize) {
+        Some(put) => *put,
+        None => false,
+    }
+}
+
+/// Whether an op is a put.
+fn is_put(op: &Op) -> bool
+    ensures { result ≡ is_put (op_meant op.now) }
+{
+    matches!(op, Op::Put(_))
+}

@@ -1,0 +1,72 @@
+//! The room for an index.
+ghost use Rattle.std.specs.Prelude.{◌<◌, List, IfOk};
+ghost use Rattle.docker_model.specs.file.Change as model;
+ghost use Rattle.docker_model.specs.state.Op as ops;
+ghost use Rattle.docker_model.specs.state.State.{AreAscending};
+ghost use Rattle.state_index.specs.Rooms.{HasRoomFor, AreMadeBy, IsRoom};
+ghost use Rattle.state_index.specs.Noted.{HasNoted, items_of, items_put};
+
+use crate::merge::ranks_of;
+use crate::names::ascending_places;
+use crate::slots::Slots;
+use cif_line::Memory;
+use cif_places::Notes;
+use std::alloc::Global;
+
+/// The places of an index that will be made, and room for the rest of it.
+#[derive(Debug, Drop)]
+pub struct Room {
+    /// The TIPLOCs that the rows name, ascending.
+    pub places: Vec<[u8; 7]>,
+    /// For each place that has a provisional number, its index among the places.
+    pub ranks: Vec<u32>,
+    /// Where the calls are sorted.
+    pub calls: Slots,
+    /// Where the links are sorted.
+    pub links: Slots,
+}
+
+impl Room {
+    /// Room for the index of the rows that were noted. If changes were noted, room for the index of
+    /// the rows that they make, one for each key. `Memory` if the allocator refuses it.
+    pub fn for_notes(alloc: Global, notes: &Notes) -> Result<Room, Memory>
+        ensures rows { (rows : List (model.Key × ops.Entry)) → HasNoted (items_of rows) notes.now
+            → IfOk result (HasRoomFor rows notes.now.names.list.items) }
+        ensures made { (changes : List model.Change) (rows : List (model.Key × ops.Entry))
+            → HasNoted (items_put changes) notes.now → AreAscending rows
+            → AreMadeBy changes rows → IfOk result (HasRoomFor rows notes.now.names.list.items) }
+    {
+        Room::for_names(
+            alloc,
+            notes.names.list.as_slice(),
+            notes.numbers.len(),
+            notes.pieces.len(),
+        )
+    }
+
+    /// The places of names, with room for this many calls and for the links of this many rows.
+    fn for_names(
+        alloc: Global,
+        names: &[[u8; 7]],
+        calls: usize,
+        rows: usize,
+    ) -> Result<Room, Memory>
+        ensures { IfOk result (IsRoom names.now calls rows) }
+    {
+        let mut places = Vec::with_capacity(alloc, names.len())?;
+        places.extend_from_slice(names)?;
+        let places = ascending_places(places);
+        let ranks = ranks_of(alloc, names, places.as_slice())?;
+        if u32::try_from(places.len()).is_err() || u32::try_from(rows).is_err() {
+            return Err(Memory);
+        }
+        let call_slots = Slots::new(alloc, places.len(), calls)?;
+        let link_slots = Slots::new(alloc, places.len(), rows)?;
+        Ok(Room {
+            places,
+            ranks,
+            calls: call_slots,
+            links: link_slots,
+        })
+    }
+}

@@ -1,0 +1,87 @@
+//! The walk over the rows of two tables, key by key.
+ghost use Rattle.std.specs.Iterator.{YieldsFirstBy, item_count};
+ghost use Rattle.state_index.specs.Turns.{turn_meant};
+
+use cif_file::Key;
+use docker_join::Entry;
+use std::cmp::Ordering;
+use std::marker::Model;
+
+/// What two tables have at one key.
+#[derive(Clone, Copy, Debug)]
+pub(crate) enum Turn<'a> {
+    /// Only the first table has the key.
+    First(&'a (Key, Entry)),
+    /// Only the second table has it.
+    Second(&'a (Key, Entry)),
+    /// Both have it.
+    Both(&'a (Key, Entry), &'a (Key, Entry)),
+}
+
+/// Walks the keys of two tables in order, with what the tables have at each key.
+#[derive(Clone, Debug, Drop)]
+pub(crate) struct Turns<'a> {
+    first: &'a [(Key, Entry)],
+    second: &'a [(Key, Entry)],
+}
+
+impl<'a> Model for Turns<'a> {
+    ghost use Rattle.std.specs.Prelude.{List};
+    ghost use Rattle.state_index.specs.Turns.{AtKey, turns_of};
+
+    ghost Value = { List AtKey };
+
+    ghost view = { λ turns. turns_of turns.first.now turns.second.now };
+}
+
+impl<'a> Turns<'a> {
+    ghost use Rattle.std.specs.Prelude.{◌≡◌, ◌+◌, ◌≤◌, length};
+    ghost use Rattle.state_index.specs.Turns.{turns_of, firsts, seconds};
+
+    /// The walk over the rows of two tables.
+    pub(crate) fn of(first: &'a [(Key, Entry)], second: &'a [(Key, Entry)]) -> Turns<'a>
+        ensures turns { result ≡ turns_of first.entry.now second.entry.now }
+        ensures few { length result ≤ length first.entry.now + length second.entry.now }
+        ensures first { firsts result ≡ first.entry.now }
+        ensures second { seconds result ≡ second.entry.now }
+    {
+        Turns { first, second }
+    }
+}
+
+impl<'a> Iterator for Turns<'a> {
+    type Item = Turn<'a>;
+
+    ghost next_gives = { YieldsFirstBy turn_meant (λ turns. turns) };
+
+    ghost remaining = { item_count (λ turns. turns) };
+
+    fn next(&mut self) -> Option<Turn<'a>> {
+        match (self.first, self.second) {
+            ([], []) => None,
+            ([one, left @ ..], []) => {
+                self.first = left;
+                Some(Turn::First(one))
+            }
+            ([], [other, right @ ..]) => {
+                self.second = right;
+                Some(Turn::Second(other))
+            }
+            ([one, left @ ..], [other, right @ ..]) => match one.0.cmp(&other.0) {
+                Ordering::Less => {
+                    self.first = left;
+                    Some(Turn::First(one))
+                }
+                Ordering::Equal => {
+                    self.first = left;
+                    self.second = right;
+                    Some(Turn::Both(one, other))
+                }
+                Ordering::Greater => {
+                    self.second = right;
+                    Some(Turn::Second(other))
+                }
+            },
+        }
+    }
+}

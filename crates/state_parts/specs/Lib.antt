@@ -1,0 +1,11 @@
+pub mod Told
+pub mod Receiving
+pub mod Stage
+pub mod FaultMeaning
+pub mod CauseText
+pub mod Judged
+pub mod Lines
+pub use Rattle.cif_change.specs.declared.key.ScheduleKey
+pub use Rattle.state_writer.specs.FormatMeaning
+pub use Rattle.docker_join.specs.Meaning
+pub use Rattle.docker_join.specs.declared.stamp.Stamp

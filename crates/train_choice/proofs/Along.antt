@@ -1,0 +1,197 @@
+-- The best along the rows of a walk is the chosen one.
+use Rattle.std.proofs.Common.{◌≡◌, ℕ, true, cond, List, [], ◌∷◌, ◌++◌, refl, ap, sym, ◌∙◌, subst, inl, inr, ◌⊎◌, Some, None, Contains, append_assoc, append-nil}
+use Rattle.std.specs.Prelude.{Option, ◌&&◌}
+use Rattle.std.proofs.lemmas.Slice.Eq.{bytes_eq-Decides}
+use Rattle.docker_model.specs.file.File.{first_record}
+use Rattle.std.specs.Ordering.{on}
+use Rattle.docker_model.specs.file.Change.{Key, tiploc_key, association_key, schedule_key, ScheduleKey, Body, tiploc_body, association_body, schedule_body}
+use Rattle.docker_model.specs.state.Table.{Table}
+use Rattle.docker_model.specs.docker.Choice.{Group, schedule_runs, schedule_choice_cmp, association_choice_cmp}
+use Rattle.docker_model.specs.docker.Best.{with_one_more}
+use Rattle.docker_model.specs.state.Row.{Row, AreRowsOf}
+use Rattle.docker_model.specs.docker.LiveRows.{Train, Link, HasSchedulesOf, HasAssociationsOf, IsChosenOn, IsLinkOn, unless_cancelled, train_in, link_in, schedule_of, association_of, is_running, is_linked}
+use Rattle.docker_model.specs.docker.ChoiceWalk.{IsChosenSoFar, IsLinkSoFar, next_chosen, next_link}
+use Rattle.docker_model.specs.state.State.{HasGoodBodies}
+use Rattle.docker_model.specs.state.Index.{AreCalling, AreLinked, AreOfUid}
+use Rattle.cif_laws.proofs.lists.Membership.{Contains-cons, cons-Contains, cons-Contains-first}
+use Rattle.docker_laws.proofs.dockers.ChoiceWalk.{none_chosen, chosen_more, none_linked, link_more}
+use Rattle.docker_laws.proofs.dockers.TrainOfRows.{best_is_chosen, one_answer, rows_have, chosen_tells}
+use Rattle.docker_laws.proofs.dockers.LinkOfRows.{best_is_link, one_link_answer, links_tell}
+use Rattle.train_choice.specs.Along.{chosen_along, link_along, AreGoodRows, AreLive, IsLiveTrain}
+
+no_train : (train : Train) → None ≡ Some train → ⊥
+no_train train h = cc
+
+no_link : (link : Link) → None ≡ Some link → ⊥
+no_link link h = cc
+
+chosen_behind : (uid : List ℕ) (day : ℕ) (front rows : List Row) (found : Option Train) → IsChosenSoFar uid day front found
+    → IsChosenSoFar uid day (front ++ rows) (chosen_along uid day found rows)
+chosen_behind uid day front [] found best = subst (λ (rs : List Row). IsChosenSoFar uid day rs found) (sym (append-nil front)) best
+chosen_behind uid day front (row ∷ rows) found best =
+    subst (λ (rs : List Row). IsChosenSoFar uid day rs (chosen_along uid day found (row ∷ rows))) (append_assoc front (row ∷ []) rows)
+    (chosen_behind uid day (front ++ row ∷ []) rows _ (chosen_more uid day front row.0 row.1 found best))
+
+link_behind : (group : Group) (day : ℕ) (front rows : List Row) (found : Option Link) → IsLinkSoFar group day front found
+    → IsLinkSoFar group day (front ++ rows) (link_along group day found rows)
+link_behind group day front [] found best = subst (λ (rs : List Row). IsLinkSoFar group day rs found) (sym (append-nil front)) best
+link_behind group day front (row ∷ rows) found best =
+    subst (λ (rs : List Row). IsLinkSoFar group day rs (link_along group day found (row ∷ rows))) (append_assoc front (row ∷ []) rows)
+    (link_behind group day (front ++ row ∷ []) rows _ (link_more group day front row.0 row.1 found best))
+
+-- along rows that have each schedule of a UID, the best is the chosen one
+pub chosen_of_uid : (live : Table) (uid : List ℕ) (day : ℕ) (rows : List Row) (found : Option Train) → HasSchedulesOf live uid rows
+    → found ≡ chosen_along uid day None rows → IsChosenOn live uid day found
+chosen_of_uid live uid day rows found has is =
+    best_is_chosen live rows uid has day found
+    (subst (IsChosenSoFar uid day rows) (sym is) (chosen_behind uid day [] rows None (none_chosen uid day)))
+
+-- along rows that have each association of a group, the best is the one that counts
+pub link_of_group : (live : Table) (group : Group) (day : ℕ) (rows : List Row) (found : Option Link) → HasAssociationsOf live group rows
+    → found ≡ link_along group day None rows → IsLinkOn live group day found
+link_of_group live group day rows found has is =
+    best_is_link live rows group has day found
+    (subst (IsLinkSoFar group day rows) (sym is) (link_behind group day [] rows None (none_linked group day)))
+
+-- the chosen schedule, unless it is a cancellation, is the train found in the rows of the table
+pub train_of_rows : (live : Table) (rows : List Row) (uid : List ℕ) (day : ℕ) (found : Option Train) → AreRowsOf live rows
+    → IsChosenOn live uid day found → unless_cancelled found ≡ train_in rows uid day
+train_of_rows live rows uid day found are chosen =
+    ap unless_cancelled (one_answer live uid day found _ chosen (chosen_tells live rows uid (rows_have live rows are uid) day))
+
+-- the association that counts is the one found in the rows of the table
+pub link_of_rows : (live : Table) (rows : List Row) (group : Group) (day : ℕ) (found : Option Link) → AreRowsOf live rows
+    → IsLinkOn live group day found → found ≡ link_in rows group day
+link_of_rows live rows group day found are is = one_link_answer live group day found (link_in rows group day) is (links_tell live rows are group day)
+
+-- the bodies of rows of a valid state are good
+pub good_rows : (live : Table) (rows : List Row) → HasGoodBodies live → ((key : Key) (body : Body) → Contains rows (key, body) → live key ≡ Some body)
+    → AreGoodRows rows
+good_rows live [] good each = tt
+good_rows live (row ∷ rows) good each = (
+  good row.0 row.1 (each row.0 row.1 (cons-Contains-first row rows)),
+  good_rows live rows good
+      (λ key body among. each key body (cons-Contains row rows (key, body) among)),
+)
+
+-- the bodies of the schedules of a UID are good
+pub good_of_uid : (live : Table) (uid : List ℕ) (rows : List Row) → HasGoodBodies live → AreOfUid live uid rows → AreGoodRows rows
+good_of_uid live uid rows good are = good_rows live rows good (λ key body among. ((are.members key body).0 among).4)
+
+-- rows are live if each of them is
+live_rows : (live : Table) (rows : List Row) → ((key : Key) (body : Body) → Contains rows (key, body) → live key ≡ Some body) → AreLive live rows
+live_rows live [] each = tt
+live_rows live (row ∷ rows) each = (
+  each row.0 row.1 (cons-Contains-first row rows),
+  live_rows live rows
+      (λ key body among. each key body (cons-Contains row rows (key, body) among)),
+)
+
+-- each association at a place is live
+linked_each : (live : Table) (place : List ℕ) (rows : List Row) → AreLinked live place rows
+    → (key : Key) (body : Body) → Contains rows (key, body) → live key ≡ Some body
+linked_each live place rows are key body among = let one = (are.members key body).0 among in ap live one.2 ∙ one.4.is_live ∙ ap Some (sym one.3)
+
+-- the associations at a place are live
+pub live_linked : (live : Table) (place : List ℕ) (rows : List Row) → AreLinked live place rows → AreLive live rows
+live_linked live place rows are = live_rows live rows (linked_each live place rows are)
+
+-- their bodies are good
+pub good_linked : (live : Table) (place : List ℕ) (rows : List Row) → HasGoodBodies live → AreLinked live place rows → AreGoodRows rows
+good_linked live place rows good are = good_rows live rows good (linked_each live place rows are)
+
+-- each schedule that calls at a place is live
+calling_each : (live : Table) (place : List ℕ) (rows : List Row) → AreCalling live place rows
+    → (key : Key) (body : Body) → Contains rows (key, body) → live key ≡ Some body
+calling_each live place rows are key body among = let one = (are.members key body).0 among in ap live one.2 ∙ one.4.is_live ∙ ap Some (sym one.3)
+
+-- the schedules that call at a place are live
+pub live_calling : (live : Table) (place : List ℕ) (rows : List Row) → AreCalling live place rows → AreLive live rows
+live_calling live place rows are = live_rows live rows (calling_each live place rows are)
+
+-- their bodies are good
+pub good_calling : (live : Table) (place : List ℕ) (rows : List Row) → HasGoodBodies live → AreCalling live place rows → AreGoodRows rows
+good_calling live place rows good are = good_rows live rows good (calling_each live place rows are)
+
+-- one more row of a schedule is one more schedule
+pub next_is_one : (uid : List ℕ) (day : ℕ) (found : Option Train) (key : Key) (body : Body) (train : Train) → schedule_of key body ≡ Some train
+    → with_one_more (on (λ (t : Train). t.key) schedule_choice_cmp) (is_running uid day) found train ≡ next_chosen uid day found key body
+next_is_one uid day found (schedule_key key) (schedule_body lines) train is =
+    let same : record { key = key; lines = lines } ≡ train = some_train (record { key = key; lines = lines }) train is in
+    (λ i. with_one_more (on (λ (t : Train). t.key) schedule_choice_cmp) (is_running uid day) found (sym same i))
+  where
+    some_train : (a b : Train) → Some a ≡ Some b → a ≡ b
+    some_train a b h = cc
+next_is_one uid day found (schedule_key key) (tiploc_body bytes) train is = absurd (no_train train is)
+next_is_one uid day found (schedule_key key) (association_body line) train is = absurd (no_train train is)
+next_is_one uid day found (tiploc_key code) body train is = absurd (no_train train is)
+next_is_one uid day found (association_key key) body train is = absurd (no_train train is)
+
+-- one more row of an association is one more association
+pub next_link_is_one : (group : Group) (day : ℕ) (found : Option Link) (key : Key) (body : Body) (link : Link) → association_of key body ≡ Some link
+    → with_one_more (on (λ (l : Link). l.key) association_choice_cmp) (is_linked group day) found link ≡ next_link group day found key body
+next_link_is_one group day found (association_key key) (association_body line) link is =
+    let same : record { key = key; line = line } ≡ link = some_link (record { key = key; line = line }) link is in
+    (λ i. with_one_more (on (λ (l : Link). l.key) association_choice_cmp) (is_linked group day) found (sym same i))
+  where
+    some_link : (a b : Link) → Some a ≡ Some b → a ≡ b
+    some_link a b h = cc
+next_link_is_one group day found (association_key key) (tiploc_body bytes) link is = absurd (no_link link is)
+next_link_is_one group day found (association_key key) (schedule_body lines) link is = absurd (no_link link is)
+next_link_is_one group day found (tiploc_key code) body link is = absurd (no_link link is)
+next_link_is_one group day found (schedule_key key) body link is = absurd (no_link link is)
+
+-- a row that isn't an association's changes nothing
+pub next_link_is_none : (group : Group) (day : ℕ) (found : Option Link) (key : Key) (body : Body) → association_of key body ≡ None
+    → found ≡ next_link group day found key body
+next_link_is_none group day found (association_key key) (association_body line) none = absurd (no_link (record { key = key; line = line }) (sym none))
+next_link_is_none group day found (association_key key) (tiploc_body bytes) none = refl
+next_link_is_none group day found (association_key key) (schedule_body lines) none = refl
+next_link_is_none group day found (tiploc_key code) body none = refl
+next_link_is_none group day found (schedule_key key) body none = refl
+
+-- the row of a schedule
+abbrev row_of : Train → Row
+row_of train = (schedule_key train.key, schedule_body train.lines)
+
+-- rows that have each schedule of a UID still do with a live one of these put in front
+has_in_front : (live : Table) (train : Train) (rows : List Row) → IsLiveTrain live train → HasSchedulesOf live train.key.uid rows
+    → HasSchedulesOf live train.key.uid (row_of train ∷ rows)
+has_in_front live train rows is_live has = record {
+  each = λ key body among. by key body (Contains-cons (row_of train) rows (key, body) among);
+  all = λ key lines same is. cons-Contains (row_of train) rows (schedule_key key, schedule_body lines) (has.all key lines same is);
+}
+  where
+    by : (key : Key) (body : Body) → (row_of train ≡ (key, body)) ⊎ Contains rows (key, body) → live key ≡ Some body
+    by key body (inl same) = subst (λ (row : Row). live row.0 ≡ Some row.1) same is_live
+    by key body (inr among) = has.each key body among
+
+-- a schedule that runs is the best of its own row
+best_alone : (train : Train) (day : ℕ) → schedule_runs (first_record train.lines) day ≡ true
+    → IsChosenSoFar train.key.uid day (row_of train ∷ []) (Some train)
+best_alone train day runs =
+    subst (IsChosenSoFar train.key.uid day (row_of train ∷ [])) (λ i. cond (running i) (Some train) None)
+    (chosen_more train.key.uid day [] (schedule_key train.key) (schedule_body train.lines) None (none_chosen train.key.uid day))
+  where
+    running : is_running train.key.uid day train ≡ true
+    running = λ i. (bytes_eq-Decides train.key.uid train.key.uid).1 refl i && runs i
+
+-- the best along the rows of its UID, starting from it, is the train of the day, unless it is a
+-- cancellation
+train_from_it : (live : Table) (rows : List Row) (train : Train) (day : ℕ) (walk : List Row) (found : Option Train) → AreRowsOf live rows
+    → IsLiveTrain live train → schedule_runs (first_record train.lines) day ≡ true → HasSchedulesOf live train.key.uid walk
+    → found ≡ chosen_along train.key.uid day (Some train) walk → unless_cancelled found ≡ train_in rows train.key.uid day
+train_from_it live rows train day walk found are is_live runs has is =
+    train_of_rows live rows train.key.uid day found are
+    (best_is_chosen live (row_of train ∷ walk) train.key.uid (has_in_front live train walk is_live has) day found
+    (subst (IsChosenSoFar train.key.uid day (row_of train ∷ walk)) (sym is)
+    (chosen_behind train.key.uid day (row_of train ∷ []) walk (Some train) (best_alone train day runs))))
+
+-- what is found when starting from it is the train of the day
+pub train_from_told : (live : Table) (rows : List Row) (train : Train) (key : ScheduleKey) (day : ℕ) (walk : List Row) (best found : Option Train)
+    → key ≡ train.key → AreRowsOf live rows → IsLiveTrain live train → schedule_runs (first_record train.lines) day ≡ true → HasSchedulesOf live key.uid walk
+    → best ≡ chosen_along key.uid day (Some train) walk → found ≡ unless_cancelled best → found ≡ train_in rows train.key.uid day
+train_from_told live rows train key day walk best found same are is_live runs has is told =
+    told
+    ∙ train_from_it live rows train day walk best are is_live runs (subst (λ (k : ScheduleKey). HasSchedulesOf live k.uid walk) same has)
+    (is ∙ ap (λ (k : ScheduleKey). chosen_along k.uid day (Some train) walk) same)

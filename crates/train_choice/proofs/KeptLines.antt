@@ -1,0 +1,99 @@
+-- What is known of the lines kept under the key of a schedule.
+use Rattle.std.proofs.Common.{◌≡◌, ℕ, ◌<◌, ◌≤◌, ◌^◌, true, false, List, ◌∷◌, ◌++◌, length, ap, sym, ◌∙◌, subst, inl, inr, ◌⊎◌, All, arith}
+use Rattle.std.specs.Prelude.{IsTrue, ◌==◌, ◌&&◌, nat_le}
+use Rattle.std.specs.List.{AllByRecursion}
+use Rattle.std.proofs.lemmas.List.Elements.{All-from_recursion, recursion_from_All}
+use Rattle.docker_model.specs.records.Record.{association, basic_schedule, extra_details, HasKind, column, columns}
+use Rattle.docker_model.specs.records.Date.{date_number, end_number, runs_on_weekday, weekday_of}
+use Rattle.docker_model.specs.records.Field.{HasGoodFields, is_deletion}
+use Rattle.docker_model.specs.file.File.{AreExtraDetails, IsSoundJourney, first_record}
+use Rattle.docker_model.specs.file.Change.{AssociationKey, ScheduleKey, schedule_key}
+use Rattle.docker_model.specs.docker.Choice.{schedule_runs}
+use Rattle.docker_model.specs.docker.Event.{falls_to}
+use Rattle.docker_model.specs.state.State.{IsAssociationOf, IsScheduleOf}
+use Rattle.cif_laws.proofs.records.Columns.{fields_good}
+use Rattle.cif_laws.proofs.lists.AllOf.{all_append}
+use Rattle.docker_laws.proofs.dockers.FewMidnights.{few_midnights, falls_below}
+use Rattle.train_choice.specs.Runs.{runs_until}
+use Rattle.train_choice.proofs.RunFields.{three_tests}
+
+-- the first line is a basic schedule
+pub first_kind : (key : ScheduleKey) (lines : List (List ℕ)) → IsScheduleOf key lines → HasKind basic_schedule (first_record lines)
+first_kind key lines of = subst (λ (ls : List (List ℕ)). HasKind basic_schedule (first_record ls)) (sym of.schedule.whole) of.schedule.kind
+
+-- its fields are good
+pub first_good : (key : ScheduleKey) (lines : List (List ℕ)) → IsScheduleOf key lines → HasGoodFields (first_record lines)
+first_good key lines of = subst (λ (ls : List (List ℕ)). HasGoodFields (first_record ls)) (sym of.schedule.whole) of.schedule.fields
+
+-- it is no deletion
+pub first_stays : (key : ScheduleKey) (lines : List (List ℕ)) → IsScheduleOf key lines → is_deletion (first_record lines) ≡ false
+first_stays key lines of = ap (λ (n : ℕ). n == 68) of.new
+
+-- there is a first line
+pub first_there : (key : ScheduleKey) (lines : List (List ℕ)) → IsScheduleOf key lines → 0 < length lines
+first_there key lines of = subst (λ (ls : List (List ℕ)). 0 < length ls) (sym of.schedule.whole) (omega arith)
+
+-- the lines can be counted
+pub lines_few : (key : ScheduleKey) (lines : List (List ℕ)) → IsScheduleOf key lines → length lines < 2 ^ 32
+lines_few key lines of = let few = of.few in omega arith
+
+details_good : (extra : List (List ℕ)) → AreExtraDetails extra → AllByRecursion HasGoodFields extra
+details_good extra (inl none) = subst (AllByRecursion HasGoodFields) (sym none) tt
+details_good extra (inr (line, is, kind)) = subst (AllByRecursion HasGoodFields) (sym is) (fields_good extra_details line kind tt, tt)
+
+-- the fields of each line are good
+pub lines_good : (key : ScheduleKey) (lines : List (List ℕ)) → IsScheduleOf key lines → All HasGoodFields lines
+lines_good key lines of =
+    subst (All HasGoodFields) (sym of.schedule.whole)
+    (All-from_recursion HasGoodFields (of.schedule.basic ∷ of.schedule.extra ++ of.schedule.journey) (
+      of.schedule.fields,
+      all_append HasGoodFields of.schedule.extra of.schedule.journey (details_good of.schedule.extra of.schedule.details)
+          (journey of.schedule.sound),
+    ))
+  where
+    journey : IsTrue (is_deletion of.schedule.basic) ⊎ IsSoundJourney of.schedule.journey → AllByRecursion HasGoodFields of.schedule.journey
+    journey (inl deletion) =
+        let stays : is_deletion of.schedule.basic ≡ false = subst (λ (ls : List (List ℕ)). is_deletion (first_record ls) ≡ false) of.schedule.whole
+        (first_stays key lines of) in
+        let bad : true ≡ false = sym deletion ∙ stays in cc
+    journey (inr sound) = recursion_from_All HasGoodFields of.schedule.journey sound.fields
+
+-- the train passes midnight at most twice
+pub falls_few : (key : ScheduleKey) (lines : List (List ℕ)) (number : ℕ) → IsScheduleOf key lines → falls_to lines number ≤ 2
+falls_few key lines number of = let all = few_midnights key lines of in let some = falls_below lines number in omega arith
+
+-- ---- when it runs, by the first day in its key
+
+same_key : (a b : ScheduleKey) → schedule_key a ≡ schedule_key b → a ≡ b
+same_key a b h = cc
+
+-- its days, by the first day in its key and the other two fields
+pub runs_by_key : (key : ScheduleKey) (lines : List (List ℕ)) (day : ℕ) → IsScheduleOf key lines
+    → (nat_le key.runs_from day && runs_until (columns 16 21 (first_record lines)) (columns 22 28 (first_record lines)) day)
+    ≡ schedule_runs (first_record lines) day
+runs_by_key key lines day of =
+    (λ i. nat_le (sym (same_key (record {
+      uid = columns 4 9 (first_record lines);
+      runs_from = date_number (columns 10 15 (first_record lines));
+      indicator = column 80 (first_record lines);
+    }) key of.key_is) i).runs_from day && runs_until (columns 16 21 (first_record lines)) (columns 22 28 (first_record lines)) day)
+    ∙ three_tests (nat_le (date_number (columns 10 15 (first_record lines))) day) (nat_le day (end_number (columns 16 21 (first_record lines))))
+    (runs_on_weekday (columns 22 28 (first_record lines)) (weekday_of day))
+
+pub ruleset kept_lines = (first_kind, first_good, first_stays, first_there, lines_few, lines_good, runs_by_key)
+
+-- ---- the line of an association
+
+-- it is an association
+pub link_kind : (key : AssociationKey) (line : List ℕ) → IsAssociationOf key line → HasKind association line
+link_kind key line of = of.kind
+
+-- its fields are good
+pub link_good : (key : AssociationKey) (line : List ℕ) → IsAssociationOf key line → HasGoodFields line
+link_good key line of = of.fields
+
+-- and it is no deletion
+pub link_stays : (key : AssociationKey) (line : List ℕ) → IsAssociationOf key line → is_deletion line ≡ false
+link_stays key line of = ap (λ (n : ℕ). n == 68) of.new
+
+pub ruleset kept_line = (link_kind, link_good, link_stays)

@@ -1,0 +1,136 @@
+-- What is kept is right, and stays right with one more.
+use Rattle.std.proofs.Common.{◌≡◌, ℕ, Bool, true, false, cond, List, refl, ap, sym, ◌∙◌, subst, Some}
+use Rattle.std.specs.Prelude.{Option, ◌&&◌, ◌==◌}
+use Rattle.std.specs.declared.cmp.Ordering.{Ordering}
+use Rattle.std.specs.BTreeMap.{BTreeMap, get, Updates}
+use Rattle.std.specs.Str.{bytes_eq}
+use Rattle.std.specs.declared.cmp.Ordering.TheVariants.{Equal}
+use Rattle.std.specs.Ordering.{on, ordering_then, nat_cmp, is_eq}
+use Rattle.std.specs.Cmp.{tied_then, unsigned_tied}
+use Rattle.std.proofs.lemmas.Map.Lookups.{exact_bytes, exact_unsigned}
+use Rattle.std.proofs.lemmas.Map.Text.{is_eq-slice_cmp}
+use Rattle.cif_laws.proofs.orders.AtMost.{eq_is}
+use Rattle.cif_laws.proofs.orders.Orders.{then_equal}
+use Rattle.docker_model.specs.docker.Best.{better}
+use Rattle.docker_model.specs.docker.Choice.{Group, group_of, association_choice_cmp, association_runs}
+use Rattle.docker_model.specs.docker.Gathering.{counts_as, identity_of}
+use Rattle.docker_model.specs.docker.LiveRows.{Link, is_of_group, link_in, train_in}
+use Rattle.docker_model.specs.file.Change.{AssociationKey}
+use Rattle.docker_model.specs.state.Op.{association_key_cmp}
+use Rattle.docker_model.specs.state.Order.{bytes_cmp}
+use Rattle.docker_model.specs.state.Row.{Row, AreRowsOf}
+use Rattle.docker_model.specs.state.Table.{Table}
+use Rattle.train_choice.specs.Known.{uid_day_cmp, AreIdentities, group_cmp, GroupLinks, AreDayLinks, HasOneMore}
+use Rattle.train_choice.specs.Ranked.{is_better}
+use Rattle.train_choice.proofs.BestSoFar.{best_stays, best_goes}
+
+-- ---- identities
+
+-- identities that are right stay so with one more that is right
+pub one_more_identity : (live : Table) (before after : BTreeMap (List ℕ × ℕ) (List ℕ)) (uid : List ℕ) (day : ℕ) (identity : List ℕ)
+    → AreIdentities live before → Updates uid_day_cmp before after (uid, day) (Some identity)
+    → ((rows : List Row) → AreRowsOf live rows → identity ≡ identity_of (train_in rows uid day)) → AreIdentities live after
+one_more_identity live before after uid day identity are updates right = λ other_uid other_day other is.
+    by other_uid other_day other (is_eq (uid_day_cmp (uid, day) (other_uid, other_day))) refl (sym (updates.0 (other_uid, other_day)) ∙ is)
+  where
+    some_same : (a b : List ℕ) → Some a ≡ Some b → a ≡ b
+    some_same a b h = cc
+
+    by : (other_uid : List ℕ) (other_day : ℕ) (other : List ℕ) (b : Bool) → is_eq (uid_day_cmp (uid, day) (other_uid, other_day)) ≡ b
+        → cond b (Some identity) (get uid_day_cmp before (other_uid, other_day)) ≡ Some other
+        → (rows : List Row) → AreRowsOf live rows → other ≡ identity_of (train_in rows other_uid other_day)
+    by other_uid other_day other true at is = λ rows each.
+        let parts = then_equal (bytes_cmp uid other_uid) (nat_cmp day other_day) (eq_is (uid_day_cmp (uid, day) (other_uid, other_day)) at) in
+        sym (some_same identity other is) ∙ right rows each
+        ∙ (λ i. identity_of (train_in rows (exact_bytes uid other_uid parts.0 i) (exact_unsigned day other_day parts.1 i)))
+    by other_uid other_day other false at is = are other_uid other_day other is
+
+-- ---- groups
+
+-- groups that compare as equal are the same group
+exact_group : (a b : Group) → group_cmp a b ≡ Equal → a ≡ b
+exact_group a b e =
+    let p = then_equal (bytes_cmp a.base b.base) _ e in
+    let q = then_equal (bytes_cmp a.associated b.associated) _ p.1 in
+    let r = then_equal (bytes_cmp a.location b.location) (nat_cmp a.suffix b.suffix) q.1 in
+    λ i. record {
+      base = exact_bytes a.base b.base p.0 i;
+      associated = exact_bytes a.associated b.associated q.0 i;
+      location = exact_bytes a.location b.location r.0 i;
+      suffix = exact_unsigned a.suffix b.suffix r.1 i;
+    }
+
+regrouped : (a b c d : Bool) → (a && (b && (c && d))) ≡ (a && b && c && d)
+regrouped true true true d = refl
+regrouped true true false d = refl
+regrouped true false c d = refl
+regrouped false b c d = refl
+
+-- a group is found by the key of an association in it
+at_group : (key : AssociationKey) (group : Group) → is_eq (group_cmp (group_of key) group) ≡ is_of_group group key
+at_group key group =
+    sym (tied_then (bytes_cmp key.base group.base) (ordering_then (bytes_cmp key.associated group.associated) rest))
+    ∙ (λ i. is_eq-slice_cmp key.base group.base i && sym (tied_then (bytes_cmp key.associated group.associated) rest) i)
+    ∙ (λ i. bytes_eq key.base group.base
+    && (is_eq-slice_cmp key.associated group.associated i && sym (tied_then (bytes_cmp key.location group.location) (nat_cmp key.suffix group.suffix)) i))
+    ∙ (λ i. bytes_eq key.base group.base && (bytes_eq key.associated group.associated
+    && (is_eq-slice_cmp key.location group.location i && unsigned_tied key.suffix group.suffix i)))
+    ∙ regrouped (bytes_eq key.base group.base) (bytes_eq key.associated group.associated) (bytes_eq key.location group.location) (key.suffix == group.suffix)
+  where
+    rest : Ordering
+    rest = ordering_then (bytes_cmp key.location group.location) (nat_cmp key.suffix group.suffix)
+
+own_group : (key : AssociationKey) (group : Group) → is_of_group group key ≡ true → group_of key ≡ group
+own_group key group is = exact_group (group_of key) group (eq_is (group_cmp (group_of key) group) (at_group key group ∙ is))
+
+-- the association kept for a group decides which one counts
+pub counts_told : (live : Table) (place : List ℕ) (day : ℕ) (best : GroupLinks) (key : AssociationKey) (link : Link) (answer : Bool)
+    → AreDayLinks live place day best → key.location ≡ place → Some link ≡ get group_cmp best (group_of key)
+    → answer ≡ is_eq (association_key_cmp link.key key)
+    → (rows : List Row) → AreRowsOf live rows → answer ≡ counts_as (link_in rows (group_of key) day) key
+counts_told live place day best key link answer are here kept is rows each =
+    is ∙ ap (λ (found : Option Link). counts_as found key) (kept ∙ are (group_of key) here rows each)
+
+module _ (day : ℕ) (link : Link) where
+  abbrev by_key : Link → Link → Ordering
+  by_key = on (λ (l : Link). l.key) association_choice_cmp
+
+  -- an association that doesn't run on the day changes nothing
+  pub not_running : (before : GroupLinks) → association_runs link.line day ≡ false → HasOneMore day before link before
+  not_running before idle = λ group. by (get group_cmp before group) (is_of_group group link.key)
+    where
+      by : (found : Option Link) (b : Bool) → found ≡ cond (b && association_runs link.line day) (better by_key found link) found
+      by found true = λ i. cond (sym idle i) (better by_key found link) found
+      by found false = refl
+
+  -- an association whose group has a better one changes nothing
+  pub better_there : (before : GroupLinks) → is_better by_key link (get group_cmp before (group_of link.key)) ≡ false → HasOneMore day before link before
+  better_there before is = λ group. by group (is_of_group group link.key) refl
+    where
+      whether : (found : Option Link) (b : Bool) → found ≡ better by_key found link → found ≡ cond b (better by_key found link) found
+      whether found true same = same
+      whether found false same = refl
+
+      by : (group : Group) (b : Bool) → is_of_group group link.key ≡ b
+          → get group_cmp before group
+          ≡ cond (b && association_runs link.line day) (better by_key (get group_cmp before group) link) (get group_cmp before group)
+      by group true own = whether (get group_cmp before group) (association_runs link.line day)
+          (best_stays by_key link (get group_cmp before group)
+          (subst (λ (g : Group). is_better by_key link (get group_cmp before g) ≡ false) (own_group link.key group own) is))
+      by group false other = refl
+
+  -- otherwise the association becomes the best of its group
+  pub best_of_group : (before after : GroupLinks) → association_runs link.line day ≡ true
+      → is_better by_key link (get group_cmp before (group_of link.key)) ≡ true → Updates group_cmp before after (group_of link.key) (Some link)
+      → HasOneMore day before link after
+  best_of_group before after runs is updates = λ group.
+      updates.0 group ∙ (λ i. cond (at_group link.key group i) (Some link) (get group_cmp before group)) ∙ by group (is_of_group group link.key) refl
+    where
+      by : (group : Group) (b : Bool) → is_of_group group link.key ≡ b
+          → cond b (Some link) (get group_cmp before group)
+          ≡ cond (b && association_runs link.line day) (better by_key (get group_cmp before group) link) (get group_cmp before group)
+      by group true own =
+          best_goes by_key link (get group_cmp before group)
+          (subst (λ (g : Group). is_better by_key link (get group_cmp before g) ≡ true) (own_group link.key group own) is)
+          ∙ (λ i. cond (sym runs i) (better by_key (get group_cmp before group) link) (get group_cmp before group))
+      by group false other = refl

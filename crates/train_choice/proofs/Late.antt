@@ -1,0 +1,95 @@
+-- A schedule has an event after a midnight if and only if one of its times is below the one before.
+use Rattle.std.proofs.Common.{◌≡◌, ℕ, ◌+◌, ◌==◌, ◌<◌, Bool, true, false, cond, List, [], ◌∷◌, ◌++◌, refl, sym, ◌∙◌, subst, Some, None, All, arith}
+use Rattle.std.specs.Prelude.{Option, ◌||◌, not, nat_lt}
+use Rattle.std.proofs.lemmas.Bool.{ltb-true}
+use Rattle.std.proofs.lemmas.List.Elements.{All-from_recursion, recursion_from_All}
+use Rattle.docker_model.specs.records.Field.{HasGoodFields}
+use Rattle.docker_model.specs.file.Journey.{Occasion, times_of}
+use Rattle.docker_model.specs.docker.EventWalk.{fall_at}
+use Rattle.train_choice.specs.Occurrences.{Occurrence, Progress, before_all, occurrences_at, occurrences_from, past_time, past_times, turned}
+use Rattle.train_choice.specs.Midnights.{some_late, ascends, falls_after, falls_along}
+
+abbrev Times : Type 0
+Times = List (Occasion × ℕ)
+
+-- the last time so far, or midnight before the first time
+abbrev last_or_midnight : Option ℕ → ℕ
+last_or_midnight None = 0
+last_or_midnight (Some last) = last
+
+fall_is : (last : Option ℕ) (time : ℕ) → fall_at last time ≡ cond (nat_lt time (last_or_midnight last)) 1 0
+fall_is None time = by (nat_lt time 0) refl
+  where
+    by : (b : Bool) → nat_lt time 0 ≡ b → ◌≡◌ {A = ℕ} 0 (cond b 1 0)
+    by false h = refl
+    by true h = let low : time < 0 = ltb-true time 0 h in absurd (omega arith)
+fall_is (Some last) time = refl
+
+sum : (a b c : ℕ) → a ≡ 0 → b ≡ c → a + b ≡ c
+sum a b c none same = omega arith
+
+-- what is known after some times: if they ascend to this one, no midnight was passed; if they
+-- don't, some event is after a midnight
+abbrev Told : Progress → List ℕ → Times → Option ℕ → Type 0
+Told p line times None = (rest : List Occurrence) → some_late (occurrences_at p line times ++ rest) ≡ true
+Told p line times (Some last) =
+    ((past_times p times).falls ≡ 0) × (last_or_midnight (past_times p times).last ≡ last)
+    × ((rest : List Occurrence) → some_late (occurrences_at p line times ++ rest) ≡ some_late rest)
+
+told : (p : Progress) (line : List ℕ) (times : Times) → p.falls ≡ 0 → Told p line times (ascends (last_or_midnight p.last) times)
+told p line [] zero = (zero, refl, λ rest. refl)
+told p line (time ∷ times) zero = by (nat_lt time.1 (last_or_midnight p.last)) refl (told (past_time p time) line times)
+  where
+    falls_are : (b : Bool) → nat_lt time.1 (last_or_midnight p.last) ≡ b → p.falls + fall_at p.last time.1 ≡ cond b 1 0
+    falls_are b h = sum p.falls (fall_at p.last time.1) (cond b 1 0) zero (fall_is p.last time.1 ∙ (λ i. cond (h i) 1 0))
+
+    behind : (found : Option ℕ) → p.falls + fall_at p.last time.1 ≡ 0 → Told (past_time p time) line times found → Told p line (time ∷ times) found
+    behind None none late = λ rest.
+        (λ i. not (none i == 0) || some_late (occurrences_at (past_time p time) line times ++ rest)) ∙ late rest
+    behind (Some last) none (falls, same, early) = (
+      falls,
+      same,
+      λ rest.
+          (λ i. not (none i == 0) || some_late (occurrences_at (past_time p time) line times ++ rest)) ∙ early rest,
+    )
+
+    by : (b : Bool) → nat_lt time.1 (last_or_midnight p.last) ≡ b
+        → (p.falls + fall_at p.last time.1 ≡ 0 → Told (past_time p time) line times (ascends time.1 times))
+        → Told p line (time ∷ times) (cond b None (ascends time.1 times))
+    by true h rec = λ rest.
+        (λ i. not (falls_are true h i == 0) || some_late (occurrences_at (past_time p time) line times ++ rest))
+    by false h rec = behind (ascends time.1 times) (falls_are false h) (rec (falls_are false h))
+
+along : (p : Progress) (lines : List (List ℕ)) → p.falls ≡ 0 → falls_along (last_or_midnight p.last) lines ≡ some_late (occurrences_from p lines)
+along p [] zero = refl
+along p (line ∷ lines) zero =
+    by (ascends (last_or_midnight p.last) (times_of line)) (told (turned p line) line (times_of line) zero)
+    (along (past_times (turned p line) (times_of line)) lines)
+  where
+    next : Progress
+    next = past_times (turned p line) (times_of line)
+
+    by : (found : Option ℕ) → Told (turned p line) line (times_of line) found
+        → (next.falls ≡ 0 → falls_along (last_or_midnight next.last) lines ≡ some_late (occurrences_from next lines))
+        → falls_after found (λ time. falls_along time lines) ≡ some_late (occurrences_at (turned p line) line (times_of line) ++ occurrences_from next lines)
+    by None late rec = sym (late (occurrences_from next lines))
+    by (Some last) (falls, same, early) rec =
+        (λ i. falls_along (sym same i) lines) ∙ rec falls ∙ sym (early (occurrences_from next lines))
+
+-- the times of some lines decide whether some event of a train in them is after a midnight
+pub late_by_times : (basic : List ℕ) (lines : List (List ℕ)) → falls_along 0 lines ≡ some_late (occurrences_from (before_all basic) lines)
+late_by_times basic lines = along (before_all basic) lines refl
+
+-- if the fields of all lines are good, so are the first line's
+pub first_good : (lines rest : List (List ℕ)) (line : List ℕ) → All HasGoodFields lines → lines ≡ line ∷ rest → HasGoodFields line
+first_good lines rest line good is = (recursion_from_All HasGoodFields (line ∷ rest) (subst (All HasGoodFields) is good)).0
+
+-- and the other lines'
+pub rest_good : (lines rest : List (List ℕ)) (line : List ℕ) → All HasGoodFields lines → lines ≡ line ∷ rest → All HasGoodFields rest
+rest_good lines rest line good is = All-from_recursion HasGoodFields rest (recursion_from_All HasGoodFields (line ∷ rest) (subst (All HasGoodFields) is good)).1
+
+-- after a line whose times ascend, the other lines decide
+pub goes_on : (last time : ℕ) (line : List ℕ) (rest lines : List (List ℕ)) → lines ≡ line ∷ rest → ascends last (times_of line) ≡ Some time
+    → falls_along time rest ≡ falls_along last lines
+goes_on last time line rest lines is up =
+    (λ i. falls_after (sym up i) (λ next. falls_along next rest)) ∙ (λ i. falls_along last (sym is i))

@@ -1,0 +1,44 @@
+-- A walk that advances from one line to the next.
+use Rattle.std.proofs.Common.{◌≡◌, ℕ, ◌+◌, ◌*◌, ◌≤◌, List, [], ◌∷◌, ◌++◌, length, ap, sym, ◌∙◌, subst, refl, All, arith}
+use Rattle.std.proofs.lemmas.List.Elements.{All-from_recursion, recursion_from_All}
+use Rattle.docker_model.specs.records.Field.{HasGoodFields}
+use Rattle.docker_model.specs.file.Journey.{Occasion, times_of}
+use Rattle.train_choice.specs.Meaning.{times_meant}
+use Rattle.train_choice.specs.Occurrences.{Progress, turned, occurrences_at, occurrences_from, past_times}
+use Rattle.train_choice.specs.EventWalk.{progress_of, events_here, behind_line, events_left, HasRoom, CanWalk}
+use Rattle.train_choice.specs.declared.walk.EventWalk.{EventWalk}
+
+no_times : (p : Progress) (line : List ℕ) (times : List (Occasion × ℕ)) → occurrences_at p line times ≡ [] → times ≡ []
+no_times p line [] none = refl
+no_times p line (time ∷ times) none = absurd (let bad : occurrences_at p line (time ∷ times) ≡ [] = none in cc)
+
+-- the fields of the next line are good
+pub next_good : (walk : EventWalk) (lines rest : List (List ℕ)) (line : List ℕ) → lines ≡ line ∷ rest → CanWalk walk lines → HasGoodFields line
+next_good walk lines rest line is can = (recursion_from_All HasGoodFields (line ∷ rest) (subst (All HasGoodFields) is can.good)).0
+
+-- once a line has no more events, the remaining events are the events of the next line and of the
+-- lines after it
+pub goes_on : (before ended after : EventWalk) (lines rest : List (List ℕ)) (line : List ℕ) → lines ≡ line ∷ rest → events_here before ≡ [] → events_here ended ≡ []
+    → behind_line ended ≡ behind_line before → after.line.now ≡ line → times_meant after.times ≡ times_of line → progress_of after ≡ turned
+    (progress_of ended) line
+    → events_left before lines ≡ events_left after rest
+goes_on before ended after lines rest line is none_before none behind at times progress =
+    (λ i. none_before i ++ occurrences_from (sym behind i) (is i))
+    ∙ (λ i. occurrences_from (past_times (progress_of ended) (no_times (progress_of ended) ended.line.now (times_meant ended.times) none i)) (line ∷ rest))
+    ∙ (λ i. occurrences_at (sym progress i) (sym at i) (sym times i) ++ occurrences_from (past_times (sym progress i) (sym times i)) rest)
+
+-- the walk can go on
+pub still_can : (before ended after : EventWalk) (lines rest : List (List ℕ)) (line : List ℕ) → lines ≡ line ∷ rest → CanWalk before lines
+    → ((more : ℕ) → HasRoom before more → HasRoom ended more) → length (times_meant after.times) ≤ 3 → progress_of after ≡ turned (progress_of ended) line
+    → CanWalk after rest
+still_can before ended after lines rest line is can room few progress =
+    let roomy = room (3 * length lines) can.room in
+    let bound = roomy.bound in
+    let below = roomy.few in
+    let number : after.number ≡ ended.number = ap (λ (p : Progress). p.number) progress in
+    let falls : after.falls ≡ ended.falls = ap (λ (p : Progress). p.falls) progress in
+    let long : length lines ≡ length rest + 1 = ap length is ∙ (let e : length (line ∷ rest) ≡ length rest + 1 = omega arith in e) in
+    record {
+      good = All-from_recursion HasGoodFields rest (recursion_from_All HasGoodFields (line ∷ rest) (subst (All HasGoodFields) is can.good)).1;
+      room = record { bound = omega arith; few = omega arith };
+    }

@@ -1,0 +1,9 @@
+use Rattle.std.proofs.Common.{◌≡◌}
+use Rattle.docker_model.specs.file.Journey.{times_of}
+use Rattle.train_choice.specs.Meaning.{times_meant}
+use Rattle.train_choice.specs.Midnights.{ascends}
+use Rattle.train_choice.proofs.midnights.ascending_to.Given as goal
+
+-- the times so far ascend to the last one
+abbrev pub invariant-loop-found : goal.invariant-loop-found
+invariant-loop-found l = ascends l.last (times_meant l.found-iterator) ≡ ascends l.before (times_of l.line)

@@ -1,0 +1,16 @@
+use Rattle.std.proofs.Common.{sym, ◌∙◌}
+use Rattle.train_choice.proofs.Late.{first_good, rest_good, goes_on}
+use Rattle.train_choice.proofs.midnights.falls_along.Goals as goal
+
+pub ascending_to-requires : goal.ascending_to-requires
+ascending_to-requires c = record {
+  good = first_good c.loop-line.behind.now c.in-Some.rest.now c.in-Some.line.now c.loop-line.invariant.good c.in-Some.ensures.cases.0;
+}
+
+pub loop-line-preserved : goal.loop-line-preserved
+loop-line-preserved c = record {
+  same = goes_on c.loop-line.last c.in-Some-ascending_to.time c.in-Some.line.now c.in-Some.rest.now c.loop-line.behind.now c.in-Some.ensures.cases.0
+      (sym c.ascending_to.ensures ∙ c.in-Some-ascending_to.is)
+      ∙ c.loop-line.invariant.same;
+  good = rest_good c.loop-line.behind.now c.in-Some.rest.now c.in-Some.line.now c.loop-line.invariant.good c.in-Some.ensures.cases.0;
+}

@@ -1,0 +1,14 @@
+use Rattle.std.proofs.Common.{◌≡◌, All, length}
+use Rattle.docker_model.specs.records.Field.{HasGoodFields}
+use Rattle.train_choice.specs.Midnights.{falls_along}
+use Rattle.train_choice.proofs.midnights.falls_along.Given as goal
+
+-- the times of the lines so far ascend to the last one
+abbrev pub invariant-loop-line : goal.invariant-loop-line
+invariant-loop-line l = record {
+  same : falls_along l.last l.behind ≡ falls_along 0 l.lines;
+  good : All HasGoodFields l.behind;
+}
+
+abbrev pub decreases-loop-line : goal.decreases-loop-line
+decreases-loop-line l = length l.behind

@@ -1,0 +1,45 @@
+-- How far a walk over a schedule's lines has come, and which events remain.
+use Rattle.std.specs.Prelude.{ℕ, ◌+◌, ◌*◌, ◌^◌, ◌≤◌, List, ◌++◌, length, All}
+use Rattle.docker_model.specs.records.Field.{HasGoodFields}
+use Rattle.train_choice.specs.Meaning.{occasion_meant, times_meant}
+use Rattle.train_choice.specs.Occurrences as model
+use Rattle.train_choice.specs.Occurrences.{Progress, occurrences_at, occurrences_from, past_times}
+use Rattle.train_choice.specs.declared.walk.Occurrence.{Occurrence}
+use Rattle.train_choice.specs.declared.walk.EventWalk.{EventWalk}
+
+-- an event
+abbrev pub occurrence_meant : Occurrence → model.Occurrence
+occurrence_meant event = record {
+  number = event.number;
+  occasion = occasion_meant event.occasion;
+  time = event.time;
+  falls = event.falls;
+  line = event.line.now;
+  identity = event.identity.now;
+}
+
+-- how far a walk has come
+abbrev pub progress_of : EventWalk → Progress
+progress_of walk = record { number = walk.number; falls = walk.falls; last = walk.last; identity = walk.identity.now }
+
+-- the remaining events of the line
+abbrev pub events_here : EventWalk → List model.Occurrence
+events_here walk = occurrences_at (progress_of walk) walk.line.now (times_meant walk.times)
+
+-- how far the walk will have come after the line
+abbrev pub behind_line : EventWalk → Progress
+behind_line walk = past_times (progress_of walk) (times_meant walk.times)
+
+-- the times of the line and `more` others can still be numbered
+pub record HasRoom (walk : EventWalk) (more : ℕ) : Type 0 where
+  pub bound : walk.number + length (times_meant walk.times) + more ≤ 2 ^ 40
+  pub few : walk.falls ≤ walk.number
+
+-- the remaining events of the line, and the events of the lines after it
+abbrev pub events_left : EventWalk → List (List ℕ) → List model.Occurrence
+events_left walk lines = events_here walk ++ occurrences_from (behind_line walk) lines
+
+-- the walk can go on over these lines
+pub record CanWalk (walk : EventWalk) (lines : List (List ℕ)) : Type 0 where
+  pub good : All HasGoodFields lines
+  pub room : HasRoom walk (3 * length lines)

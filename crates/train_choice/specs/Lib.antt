@@ -1,0 +1,12 @@
+pub mod Occurrences
+pub mod Meaning
+pub mod Keys
+pub mod EventWalk
+pub mod Falls
+pub mod Along
+pub mod Ranked
+pub mod Runs
+pub mod Midnights
+pub mod Lately
+pub mod UpTo
+pub mod Known

@@ -1,0 +1,136 @@
+//! Chooses the schedule of a train that counts on a day.
+ghost use Rattle.std.specs.Prelude.{◌≡◌, true, List, None, Some};
+ghost use Rattle.std.specs.Ordering.{on};
+ghost use Rattle.cif_file.specs.Meaning.{key_meant, body_meant};
+ghost use Rattle.docker_model.specs.state.State.{IsBodyOf, live_table};
+ghost use Rattle.docker_model.specs.file.File.{first_record};
+ghost use Rattle.docker_model.specs.docker.Choice.{schedule_choice_cmp, schedule_runs};
+ghost use Rattle.docker_model.specs.docker.Best.{with_one_more};
+ghost use Rattle.docker_model.specs.docker.ChoiceWalk.{next_chosen};
+ghost use Rattle.docker_model.specs.state.Row.{Row, AreRowsOf};
+ghost use Rattle.docker_model.specs.docker.LiveRows.{Train, IsChosenOn, is_running, train_in, unless_cancelled};
+ghost use Rattle.cif_line.specs.Letter.{stp_letter};
+ghost use Rattle.train_choice.specs.Along.{chosen_along, AreGoodRows, IsLiveTrain};
+ghost use Rattle.train_choice.specs.Ranked.{is_cancellation};
+
+use crate::near::Near;
+use crate::ranked::is_better;
+use crate::rows::schedule_of;
+use crate::schedule_view::ScheduleView;
+use crate::walks::schedules_of;
+use cif_file::{Body, Key};
+use cif_line::{Day, Stp, Uid};
+use docker_state::{Live, State};
+
+/// The schedule chosen for a UID and a day. Of the live schedules of the UID that run on the day,
+/// it is the one with the least STP indicator; of several of these, the one with the latest first
+/// day. It may be a cancellation. `None` if no schedule runs.
+pub fn chosen<'a>(state: &'a State, uid: &Uid, day: Day) -> Option<ScheduleView<'a>>
+    ensures { IsChosenOn (live_table state.now) uid.now day result }
+{
+    best_of(None, schedules_of(&Near::none(state), uid), uid, day)
+}
+
+/// The train of a UID that starts on a day: the chosen schedule, unless it is a cancellation.
+/// `None` if the train doesn't run.
+pub fn train_on<'a>(state: &'a State, uid: &Uid, day: Day) -> Option<ScheduleView<'a>>
+    ensures { (rows : List Row) → AreRowsOf (live_table state.now) rows
+        → result ≡ train_in rows uid.now day }
+{
+    unless_cancelled(chosen(state, uid, day))
+}
+
+/// The schedule, unless it is a cancellation.
+fn unless_cancelled(found: Option<ScheduleView<'_>>) -> Option<ScheduleView<'_>>
+    ensures { result ≡ unless_cancelled found.entry }
+{
+    let view = found?;
+    if is_cancellation(view.key().stp) {
+        None
+    } else {
+        Some(view)
+    }
+}
+
+/// Whether this is the STP indicator of a cancellation.
+pub fn is_cancellation(stp: Stp) -> bool
+    ensures { result ≡ is_cancellation (stp_letter stp) }
+{
+    stp == Stp::Cancellation
+}
+
+/// Like `train_on`, for the UID of a schedule that runs on the day. That schedule is the best so
+/// far before any row is read.
+pub(crate) fn train_from<'a>(
+    near: &Near<'a>,
+    train: &ScheduleView<'a>,
+    day: Day,
+) -> Option<ScheduleView<'a>>
+    requires live { IsLiveTrain (live_table near.now) train.now }
+    requires runs { schedule_runs (first_record train.now.lines) day ≡ true }
+    ensures { (rows : List Row) → AreRowsOf (live_table near.now) rows
+        → result ≡ train_in rows train.now.key.uid day }
+{
+    let uid = &train.key().uid;
+    unless_cancelled(best_of(Some(train.again()), schedules_of(near, uid), uid, day))
+}
+
+/// The best of the best so far and the schedules of these rows.
+fn best_of<'a>(
+    so_far: Option<ScheduleView<'a>>,
+    rows: Live<'a>,
+    uid: &Uid,
+    day: Day,
+) -> Option<ScheduleView<'a>>
+    requires { AreGoodRows rows }
+    ensures { result ≡ chosen_along uid.now day so_far.entry rows.entry }
+{
+    let mut found = so_far;
+    for (key, body) in rows {
+        found = with_row(found, key, body, uid, day);
+    }
+    found
+}
+
+/// The best so far, with one more row considered.
+fn with_row<'a>(
+    found: Option<ScheduleView<'a>>,
+    key: &'a Key,
+    body: &'a Body,
+    uid: &Uid,
+    day: Day,
+) -> Option<ScheduleView<'a>>
+    requires { IsBodyOf (key_meant key.now) (body_meant body.now) }
+    ensures { result ≡ next_chosen uid.now day found.entry (key_meant key.entry.now)
+        (body_meant body.entry.now) }
+{
+    match schedule_of(key, body) {
+        Some(view) => with_one(found, view, uid, day),
+        None => found,
+    }
+}
+
+/// The best so far, with one more schedule considered. Whether that one runs is checked only if it
+/// would be the best.
+fn with_one<'a>(
+    found: Option<ScheduleView<'a>>,
+    view: ScheduleView<'a>,
+    uid: &Uid,
+    day: Day,
+) -> Option<ScheduleView<'a>>
+    ensures { result ≡ with_one_more (on (λ (train : Train). train.key) schedule_choice_cmp)
+        (is_running uid.now day) found.entry view.entry }
+{
+    if is_better(&view, found.as_ref()) && is_running(&view, uid, day) {
+        Some(view)
+    } else {
+        found
+    }
+}
+
+/// Whether a schedule has this UID and runs on the day.
+fn is_running(view: &ScheduleView<'_>, uid: &Uid, day: Day) -> bool
+    ensures { result ≡ is_running uid.now day view.now }
+{
+    (view.key().uid == *uid) & view.runs_on(day)
+}

@@ -1,0 +1,141 @@
+//! The associations at a place that count on a start day.
+ghost use Rattle.std.specs.Prelude.{◌≡◌, List, None, IfOk, OnOk};
+ghost use Rattle.std.specs.BTreeMap.{get};
+ghost use Rattle.cif_file.specs.Meaning.{key_meant, body_meant};
+ghost use Rattle.docker_model.specs.docker.Choice.{Group, group_of};
+ghost use Rattle.docker_model.specs.docker.ChoiceWalk.{next_link};
+ghost use Rattle.docker_model.specs.docker.Gathering.{counts_as};
+ghost use Rattle.docker_model.specs.docker.LiveRows.{link_in};
+ghost use Rattle.docker_model.specs.state.Row.{Row, AreRowsOf};
+ghost use Rattle.docker_model.specs.state.State.{IsBodyOf, live_table};
+ghost use Rattle.train_choice.specs.Along.{link_along, AreGoodRows};
+ghost use Rattle.train_choice.specs.Keys.{association_key_meant};
+ghost use Rattle.train_choice.specs.Known.{group_cmp, HasOneMore};
+
+use crate::link_group::LinkGroup;
+use crate::link_view::LinkView;
+use crate::ranked::is_better;
+use crate::rows::association_of;
+use crate::walks::associations_at;
+use cif_file::{AssocKey, Body, Key};
+use cif_line::{Day, Memory, Tiploc};
+use docker_state::{Standing, State};
+use std::alloc::Global;
+use std::collections::BTreeMap;
+use std::marker::Model;
+
+/// The associations at a place that count on a start day of their base trains. In each group, it is
+/// the association that runs on the day and has the least STP indicator; of several of these, the
+/// one with the latest first day. One walk over the associations at the place finds them.
+#[derive(Debug, Drop)]
+pub struct DayLinks<'a> {
+    state: &'a State,
+    place: Tiploc,
+    day: Day,
+    best: BTreeMap<LinkGroup, LinkView<'a>>,
+}
+
+impl<'a> Model for DayLinks<'a> {
+    ghost use Rattle.docker_model.specs.state.State.{live_table};
+    ghost use Rattle.train_choice.specs.Known.{PlaceDay, AreDayLinks};
+
+    ghost Value = { PlaceDay };
+
+    ghost view = { λ links. record {
+      state = links.state.now;
+      place = links.place;
+      day = links.day;
+    } };
+
+    ghost invariant = { λ links.
+        AreDayLinks (live_table links.state.now) links.place links.day links.best };
+}
+
+impl<'a> DayLinks<'a> {
+    /// The associations at a place that count on a start day. `Memory` if there is no room for
+    /// them.
+    pub fn at(
+        alloc: Global,
+        state: &'a State,
+        place: &Tiploc,
+        day: Day,
+    ) -> Result<DayLinks<'a>, Memory>
+        ensures { IfOk result (λ links. links
+            ≡ record { state = state.entry.now; place = place.now; day = day }) }
+    {
+        let best = best_of(alloc, associations_at(state, place), day)?;
+        Ok(DayLinks {
+            state,
+            place: *place,
+            day,
+            best,
+        })
+    }
+
+    /// Whether this association at the place is the one that counts in its group.
+    pub fn counts(&self, key: &AssocKey) -> bool
+        requires { key.now.location ≡ self.now.place }
+        ensures { (rows : List Row) → AreRowsOf (live_table self.now.state) rows → result
+            ≡ counts_as (link_in rows (group_of (association_key_meant key.now)) self.now.day)
+            (association_key_meant key.now) }
+    {
+        match self.best.get(&LinkGroup::of(key)) {
+            Some(link) => link.key().cmp(key).is_eq(),
+            None => false,
+        }
+    }
+}
+
+/// The best association of each group along rows.
+fn best_of<'a>(
+    alloc: Global,
+    rows: Standing<'a>,
+    day: Day,
+) -> Result<BTreeMap<LinkGroup, LinkView<'a>>, Memory>
+    requires { AreGoodRows rows }
+    ensures { IfOk result (λ best. (group : Group) → get group_cmp best group
+        ≡ link_along group day None rows.entry) }
+{
+    let mut best = BTreeMap::new(alloc);
+    for (key, body) in rows {
+        add_row(&mut best, key, body, day)?;
+    }
+    Ok(best)
+}
+
+/// Updates the best associations with one more row.
+fn add_row<'a>(
+    best: &mut BTreeMap<LinkGroup, LinkView<'a>>,
+    key: &'a Key,
+    body: &'a Body,
+    day: Day,
+) -> Result<(), Memory>
+    requires { IsBodyOf (key_meant key.now) (body_meant body.now) }
+    ensures { OnOk result ((group : Group) → get group_cmp best.new group
+        ≡ next_link group day (get group_cmp best.old group) (key_meant key.entry.now)
+        (body_meant body.entry.now)) }
+{
+    match association_of(key, body) {
+        Some(link) => add(best, link, day),
+        None => Ok(()),
+    }
+}
+
+/// Updates the best associations with one more association.
+fn add<'a>(
+    best: &mut BTreeMap<LinkGroup, LinkView<'a>>,
+    link: LinkView<'a>,
+    day: Day,
+) -> Result<(), Memory>
+    ensures { OnOk result (HasOneMore day best.old link.entry best.new) }
+{
+    if !link.runs_on(day) {
+        return Ok(());
+    }
+    let group = LinkGroup::of(link.key());
+    if !is_better(&link, best.get(&group)) {
+        return Ok(());
+    }
+    best.insert(group, link)?;
+    Ok(())
+}

@@ -1,0 +1,101 @@
+//! The trains that start on a day. The last one looked up is kept.
+ghost use Rattle.std.specs.Prelude.{◌≡◌, true, List, IfSome};
+ghost use Rattle.docker_model.specs.file.File.{first_record};
+ghost use Rattle.docker_model.specs.state.State.{live_table};
+ghost use Rattle.docker_model.specs.state.Row.{Row, AreRowsOf};
+ghost use Rattle.docker_model.specs.docker.Choice.{schedule_runs};
+ghost use Rattle.docker_model.specs.docker.Gathering.{runs_by};
+ghost use Rattle.docker_model.specs.docker.LiveRows.{train_in};
+ghost use Rattle.train_choice.specs.Along.{IsLiveTrain};
+ghost use Rattle.train_choice.specs.Keys.{schedule_key_meant};
+
+use crate::choice::train_from;
+use crate::near::Near;
+use crate::schedule_view::ScheduleView;
+use crate::uid_train::UidTrain;
+use cif_file::ScheduleKey;
+use cif_line::Day;
+use docker_state::State;
+use std::marker::Model;
+
+/// The trains that start on a day. The train of the UID asked for last is kept. A walk meets the
+/// schedules of a UID one after the other, so the schedules of each UID are searched once.
+#[derive(Debug, Drop)]
+pub struct DayTrains<'a> {
+    state: &'a State,
+    day: Day,
+    last: Option<UidTrain<'a>>,
+}
+
+impl<'a> Model for DayTrains<'a> {
+    ghost use Rattle.docker_model.specs.state.State.{live_table};
+    ghost use Rattle.train_choice.specs.Known.{StartDay, IsKnownTrain};
+
+    ghost Value = { StartDay };
+
+    ghost view = { λ trains. record { state = trains.state.now; day = trains.day } };
+
+    ghost invariant = { λ trains.
+        IsKnownTrain (live_table trains.state.now) trains.day trains.last };
+}
+
+impl<'a> DayTrains<'a> {
+    /// The trains of a state that start on a day, none asked for yet.
+    pub fn of(state: &'a State, day: Day) -> DayTrains<'a>
+        ensures { result ≡ record { state = state.entry.now; day = day } }
+    {
+        DayTrains {
+            state,
+            day,
+            last: None,
+        }
+    }
+
+    /// Whether the train of a schedule's UID that starts on the day runs by this schedule. The
+    /// schedule runs on the day. The index of its row is where the search for the schedules of the
+    /// UID begins. It is a hint: a wrong index costs a search and changes no answer.
+    pub fn runs_by(&mut self, row: usize, train: &ScheduleView<'a>) -> bool
+        requires live { IsLiveTrain (live_table self.old.state) train.now }
+        requires runs { schedule_runs (first_record train.now.lines) self.old.day ≡ true }
+        ensures same { self.new ≡ self.old }
+        ensures answer { (rows : List Row) → AreRowsOf (live_table self.old.state) rows
+            → result ≡ runs_by (train_in rows train.now.key.uid self.old.day) train.now.key }
+    {
+        match self.known(train.key()) {
+            Some(answer) => answer,
+            None => self.look_up(row, train),
+        }
+    }
+
+    /// Whether the kept train runs by a schedule. `None` if no train is kept, or the train of
+    /// another UID.
+    fn known(&self, key: &ScheduleKey) -> Option<bool>
+        ensures { IfSome result (λ answer. (rows : List Row)
+            → AreRowsOf (live_table self.now.state) rows
+            → answer ≡ runs_by (train_in rows key.now.uid self.now.day)
+            (schedule_key_meant key.now)) }
+    {
+        match &self.last {
+            Some(last) => last.asked(key),
+            None => None,
+        }
+    }
+
+    /// Like `runs_by`, by a walk over the schedules of the UID. The train found is kept.
+    fn look_up(&mut self, row: usize, train: &ScheduleView<'a>) -> bool
+        requires live { IsLiveTrain (live_table self.old.state) train.now }
+        requires runs { schedule_runs (first_record train.now.lines) self.old.day ≡ true }
+        ensures same { self.new ≡ self.old }
+        ensures answer { (rows : List Row) → AreRowsOf (live_table self.old.state) rows
+            → result ≡ runs_by (train_in rows train.now.key.uid self.old.day) train.now.key }
+    {
+        let key = train.key();
+        let found = UidTrain {
+            uid: key.uid,
+            train: train_from(&Near::row(self.state, row), train, self.day),
+        };
+        let answer = found.runs_by(key);
+        self.last = Some(found);
+        answer
+    }
+}

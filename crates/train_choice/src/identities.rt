@@ -1,0 +1,83 @@
+//! The identities of trains. Each is kept once it has been looked up.
+ghost use Rattle.std.specs.Prelude.{◌≡◌, List, IfOk};
+ghost use Rattle.docker_model.specs.state.State.{live_table};
+ghost use Rattle.docker_model.specs.state.Row.{Row, AreRowsOf};
+ghost use Rattle.docker_model.specs.docker.Gathering.{identity_of};
+ghost use Rattle.docker_model.specs.docker.LiveRows.{train_in};
+
+use crate::choice::train_on;
+use crate::schedule_view::ScheduleView;
+use cif_line::{Day, Memory, Uid};
+use docker_state::State;
+use std::alloc::Global;
+use std::collections::BTreeMap;
+use std::marker::Model;
+
+/// The identities of trains by UID and start day. Each is kept once it has been looked up, so the
+/// schedules of a UID are searched once for each day.
+#[derive(Debug, Drop)]
+pub struct Identities<'a> {
+    state: &'a State,
+    known: BTreeMap<(Uid, Day), [u8; 4]>,
+}
+
+impl<'a> Model for Identities<'a> {
+    ghost use Rattle.docker_model.specs.state.State as states;
+    ghost use Rattle.train_choice.specs.Known.{AreIdentities};
+
+    ghost Value = { states.State };
+
+    ghost view = { λ identities. identities.state.now };
+
+    ghost invariant = { λ identities.
+        AreIdentities (states.live_table identities.state.now) identities.known };
+}
+
+impl<'a> Identities<'a> {
+    /// The identities of the trains of a state, none asked for yet.
+    pub fn of(alloc: Global, state: &'a State) -> Identities<'a>
+        ensures { result ≡ state.entry.now }
+    {
+        Identities {
+            state,
+            known: BTreeMap::new(alloc),
+        }
+    }
+
+    /// The identity, in its basic schedule, of the train of a UID that starts on a day. Question
+    /// marks if the train doesn't run then. `Memory` if there is no room to keep the identity.
+    pub fn identity(&mut self, uid: &Uid, day: Day) -> Result<[u8; 4], Memory>
+        ensures same { self.new ≡ self.old }
+        ensures identity { IfOk result (λ identity. (rows : List Row)
+            → AreRowsOf (live_table self.old) rows
+            → identity ≡ identity_of (train_in rows uid.now day)) }
+    {
+        let known = self.known.get(&(*uid, day)).copied();
+        match known {
+            Some(identity) => Ok(identity),
+            None => self.look_up(uid, day),
+        }
+    }
+
+    /// Like `identity`, by a walk over the schedules of the UID. The identity found is kept.
+    fn look_up(&mut self, uid: &Uid, day: Day) -> Result<[u8; 4], Memory>
+        ensures same { self.new ≡ self.old }
+        ensures identity { IfOk result (λ identity. (rows : List Row)
+            → AreRowsOf (live_table self.old) rows
+            → identity ≡ identity_of (train_in rows uid.now day)) }
+    {
+        let identity = identity_of(train_on(self.state, uid, day));
+        self.known.insert((*uid, day), identity)?;
+        Ok(identity)
+    }
+}
+
+/// The identity of a train in its basic schedule. Question marks if there is no train.
+fn identity_of(train: Option<ScheduleView<'_>>) -> [u8; 4]
+    ensures { result ≡ identity_of train.entry }
+{
+    match train {
+        Some(train) => *train.identity(),
+        None => *b"????",
+    }
+}

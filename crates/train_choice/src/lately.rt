@@ -1,0 +1,118 @@
+//! On which of a day and the two days before it a schedule runs. A train that starts on one of
+//! these three days can be somewhere on the day.
+ghost use Rattle.std.specs.Prelude.{◌≡◌, ◌≤◌, ◌||◌, ◌-◌, false};
+ghost use Rattle.std.specs.Option.{SomeIff};
+ghost use Rattle.docker_model.specs.records.Record.{HasKind, basic_schedule, columns};
+ghost use Rattle.docker_model.specs.records.Field.{HasGoodFields, is_deletion};
+ghost use Rattle.train_choice.specs.Lately.{AreLately, begun_back, lasts_back, lately_back, marked_back};
+
+use cif_line::{Day, Days, Line};
+
+/// On which of a day and the two days before it a schedule runs.
+#[derive(Clone, Copy, Debug)]
+pub struct Lately {
+    /// It runs on the day.
+    pub today: bool,
+    /// It runs on the day before it.
+    pub day_before: bool,
+    /// It runs two days before it.
+    pub two_before: bool,
+}
+
+impl Lately {
+    /// It runs on none of the three days.
+    pub(crate) fn never() -> Lately
+        ensures { AreLately (λ back. false) result }
+    {
+        Lately {
+            today: false,
+            day_before: false,
+            two_before: false,
+        }
+    }
+
+    /// Whether it runs on any of the three days.
+    pub fn is_some(&self) -> bool
+        ensures { result ≡ (self.now.today || self.now.day_before || self.now.two_before) }
+    {
+        self.today | self.day_before | self.two_before
+    }
+}
+
+/// The day `back` days before. `None` if there is no such day.
+pub fn day_back(day: Day, back: u16) -> Option<Day>
+    ensures { SomeIff result (back ≤ day) (day - back) }
+{
+    let number = day.number().checked_sub(back)?;
+    Day::from_number(number)
+}
+
+/// On which of a day and the two days before it a schedule runs that begins on `first`. The other
+/// fields come from its basic schedule. The end date is read only if it can matter.
+#[tactic(auto, using(crate::proofs::RunFields::schedule_fields))]
+pub(crate) fn days_lately(line: &Line, first: Day, day: Day) -> Lately
+    requires kind { HasKind basic_schedule line.now }
+    requires good { HasGoodFields line.now }
+    requires no_deletion { is_deletion line.now ≡ false }
+    ensures { AreLately (lately_back line.now first day) result }
+{
+    let days = match line.days_unless_deleted(22) {
+        Some(days) => days,
+        None => unreachable!(),
+    };
+    let begun = Lately {
+        today: begun_back(&days, first, day, 0),
+        day_before: begun_back(&days, first, day, 1),
+        two_before: begun_back(&days, first, day, 2),
+    };
+    if !begun.is_some() {
+        return begun;
+    }
+    match line.end_unless_deleted(16) {
+        Some(last) => Lately {
+            today: begun.today & lasts_back(last.number(), day, 0),
+            day_before: begun.day_before & lasts_back(last.number(), day, 1),
+            two_before: begun.two_before & lasts_back(last.number(), day, 2),
+        },
+        None => unreachable!(),
+    }
+}
+
+/// Whether there is a day `back` days before, it is not before the first day, and its weekday is
+/// marked.
+fn begun_back(days: &Days, first: Day, day: Day, back: u16) -> bool
+    ensures { result ≡ begun_back days.now first day back }
+{
+    match day_back(day, back) {
+        Some(start) => (first.number() <= start.number()) & days.on(start.weekday()),
+        None => false,
+    }
+}
+
+/// Whether the day `back` days before is not after the last day.
+fn lasts_back(last: u16, day: Day, back: u16) -> bool
+    ensures { result ≡ lasts_back last day back }
+{
+    day.number().saturating_sub(back) <= last
+}
+
+/// Whether a basic schedule marks the weekday of a day, or of one of the two days before it.
+pub(crate) fn is_marked_lately(line: &Line, day: Day) -> bool
+    ensures { result ≡ (marked_back (columns 22 28 line.now) day 0
+        || marked_back (columns 22 28 line.now) day 1 || marked_back (columns 22 28 line.now) day 2) }
+{
+    is_marked_back(line, day, 0) | is_marked_back(line, day, 1) | is_marked_back(line, day, 2)
+}
+
+/// Whether a basic schedule marks the weekday of the day `back` days before.
+fn is_marked_back(line: &Line, day: Day, back: u16) -> bool
+    ensures { result ≡ marked_back (columns 22 28 line.now) day back }
+{
+    match day_back(day, back) {
+        Some(start) => {
+            let marks: &[u8; 7] = line.field(22);
+            marks[start.weekday() as usize] == b'1'
+        }
+        None => false,
+    }
+}

@@ -1,0 +1,52 @@
+//! The groups in which associations are chosen.
+ghost use Rattle.std.specs.Prelude.{◌≡◌};
+ghost use Rattle.docker_model.specs.docker.Choice.{group_of};
+ghost use Rattle.train_choice.specs.Keys.{association_key_meant};
+
+use cif_file::AssocKey;
+use cif_line::{Tiploc, Uid};
+use std::marker::Model;
+
+/// The group of an association: its two trains, and where they meet. On each start day of the base
+/// train, at most one association of a group counts.
+#[derive(Clone, Copy, PartialEq, Eq, PartialOrd, Ord, Debug)]
+pub(crate) struct LinkGroup {
+    base: Uid,
+    associated: Uid,
+    location: Tiploc,
+    suffix: u8,
+}
+
+impl Model for LinkGroup {
+    ghost use Rattle.docker_model.specs.docker.Choice.{Group};
+
+    ghost Value = { Group };
+
+    ghost view = { λ group. record {
+      base = group.base;
+      associated = group.associated;
+      location = group.location;
+      suffix = group.suffix;
+    } };
+
+    ghost inverse = { λ group. record {
+      base = group.base;
+      associated = group.associated;
+      location = group.location;
+      suffix = group.suffix;
+    } };
+}
+
+impl LinkGroup {
+    /// The group of the association with this key.
+    pub(crate) fn of(key: &AssocKey) -> LinkGroup
+        ensures { result ≡ group_of (association_key_meant key.now) }
+    {
+        LinkGroup {
+            base: key.base,
+            associated: key.associated,
+            location: key.location,
+            suffix: key.suffix,
+        }
+    }
+}

@@ -1,0 +1,80 @@
+//! The midnights that a train passes.
+ghost use Rattle.std.specs.Prelude.{◌≡◌, ◌↔◌, ◌≤◌, All, Contains, IsSome, IfSome};
+ghost use Rattle.docker_model.specs.records.Field.{HasGoodFields};
+ghost use Rattle.docker_model.specs.file.Journey.{times_of};
+ghost use Rattle.docker_model.specs.docker.Event.{Event, events_of, falls_to};
+ghost use Rattle.train_choice.specs.Falls.{falls_among};
+ghost use Rattle.train_choice.specs.Midnights.{some_late, ascends, falls_along};
+ghost use Rattle.train_choice.specs.UpTo.{occurrences_to};
+
+use crate::events::Events;
+use crate::schedule_view::ScheduleView;
+use crate::times::EventTimes;
+use cif_line::{Line, Tiploc, kind};
+
+/// How many midnights lie between the start of a train and an event of its schedule: 0 to 2. Events
+/// are numbered from 1. `None` if there is no such event.
+#[tactic(auto, using(crate::proofs::FallsTold::falls_there, crate::proofs::FallsTold::falls_are))]
+pub fn falls(view: &ScheduleView<'_>, event: u64) -> Option<u8>
+    ensures there { IsSome result ↔
+        ((e : Event) × Contains (events_of view.now.lines) e × (e.number ≡ event)) }
+    ensures value { IfSome result (λ falls. falls ≡ falls_to view.now.lines event) }
+    ensures few { IfSome result (λ falls. falls ≤ 2) }
+{
+    let falls = falls_among(view.events(), event)?;
+    Some(falls as u8)
+}
+
+/// The falls up to the event with this number. `None` if it isn't among these events.
+fn falls_among(events: Events<'_>, event: u64) -> Option<u64>
+    ensures { result ≡ falls_among event events.entry }
+{
+    for found in events {
+        if found.number == event {
+            return Some(found.falls);
+        }
+    }
+    None
+}
+
+/// Whether some event of a train, up to its last one at a place, is after a midnight. This reads
+/// only the times of the lines, which costs less than a walk over the events.
+pub fn passes_midnight(view: &ScheduleView<'_>, place: &Tiploc) -> bool
+    ensures { result ≡ some_late (occurrences_to place.now view.now.lines) }
+{
+    falls_along(view.lines_to(place))
+}
+
+/// Whether in these lines some time is below the time before it.
+fn falls_along(lines: &[Line]) -> bool
+    requires good { All HasGoodFields lines.now }
+    ensures { result ≡ falls_along 0 lines.now }
+{
+    let mut last = 0;
+    let mut behind = lines;
+    while let Some((line, rest)) = behind.split_first() {
+        match ascending_to(line, last) {
+            Some(time) => last = time,
+            None => return true,
+        }
+        behind = rest;
+    }
+    false
+}
+
+/// The last time of a line in half minutes, or `before` if the line has none. `None` if a time is
+/// below the one before it.
+fn ascending_to(line: &Line, before: u16) -> Option<u16>
+    requires good { HasGoodFields line.now }
+    ensures { result ≡ ascends before (times_of line.now) }
+{
+    let mut last = before;
+    for found in EventTimes::of(kind(line), line) {
+        let time = found.1.half_minutes();
+        if time < last {
+            return None;
+        }
+        last = time;
+    }
+    Some(last)
+}

@@ -1,0 +1,53 @@
+//! What a line of a docker stands for.
+ghost use Rattle.std.specs.Prelude.{◌≡◌, [], ◌∷◌};
+ghost use Rattle.docker_model.specs.docker.DockerLine.{occasion_rank};
+ghost use Rattle.docker_model.specs.docker.DockerText.{occasion_text};
+ghost use Rattle.train_choice.specs.Meaning.{occasion_meant};
+
+/// What happens at a line: an event of a train, or an association of its train with another. Lines
+/// of the same time come in this order.
+#[derive(Clone, Copy, PartialEq, Eq, Debug)]
+pub enum Occasion {
+    /// The train arrives.
+    Arrival,
+    /// The train passes.
+    Pass,
+    /// Another train joins it (category `JJ`).
+    Joining,
+    /// Another train divides from it (category `VV`).
+    Dividing,
+    /// The train works on as another train (category `NP`).
+    NextWorking,
+    /// The train departs.
+    Departure,
+}
+
+impl Occasion {
+    /// Its letter in a docker: `A`, `P`, `J`, `V`, `N` or `D`.
+    pub fn letter(&self) -> u8
+        ensures { occasion_text (occasion_meant self.now) ≡ result ∷ [] }
+    {
+        match self {
+            Occasion::Arrival => b'A',
+            Occasion::Pass => b'P',
+            Occasion::Joining => b'J',
+            Occasion::Dividing => b'V',
+            Occasion::NextWorking => b'N',
+            Occasion::Departure => b'D',
+        }
+    }
+
+    /// Its rank among lines of the same time.
+    pub fn rank(&self) -> u8
+        ensures { result ≡ occasion_rank (occasion_meant self.now) }
+    {
+        match self {
+            Occasion::Arrival => 0,
+            Occasion::Pass => 1,
+            Occasion::Joining => 2,
+            Occasion::Dividing => 3,
+            Occasion::NextWorking => 4,
+            Occasion::Departure => 5,
+        }
+    }
+}

@@ -1,0 +1,40 @@
+//! The order in which schedules of a UID, and associations of a group, are chosen.
+ghost use Rattle.std.specs.Prelude.{◌≡◌, ℕ};
+ghost use Rattle.std.specs.Ordering.{is_lt};
+ghost use Rattle.std.specs.Option.{option_copied};
+ghost use Rattle.train_choice.specs.Ranked.{is_better, rank_cmp, rank_meant};
+
+use cif_line::{Day, Stp};
+
+/// What is chosen by its STP indicator and its first day.
+pub(crate) trait Ranked {
+    // the letter of its STP indicator, and its first day
+    ghost rank: { Self → ℕ × ℕ };
+
+    /// Its STP indicator and its first day.
+    fn rank(&self) -> (Stp, Day)
+        ensures { rank_meant result ≡ rank self.now };
+}
+
+/// Whether one more is better than the best so far, if there is one.
+pub(crate) fn is_better<R: Ranked>(more: &R, best: Option<&R>) -> bool
+    ensures { result ≡ is_better (rank_cmp R.rank) more.now (option_copied best.entry) }
+{
+    match best {
+        Some(best) => comes_before(more.rank(), best.rank()),
+        None => true,
+    }
+}
+
+/// Whether one comes before another in the order of choice: by the lower STP indicator, then by the
+/// later first day.
+fn comes_before(one: (Stp, Day), other: (Stp, Day)) -> bool
+    ensures { result ≡ is_lt (rank_cmp rank_meant one other) }
+{
+    let (stp, first) = one;
+    let (other_stp, other_first) = other;
+    stp.letter()
+        .cmp(&other_stp.letter())
+        .then(other_first.number().cmp(&first.number()))
+        .is_lt()
+}

@@ -1,0 +1,165 @@
+//! A live schedule.
+ghost use Rattle.std.specs.Prelude.{◌≡◌, ◌≤◌, ◌<◌, ◌^◌, ℕ, All, false, length, nat_lt};
+ghost use Rattle.docker_model.specs.records.Record.{basic_schedule, HasKind, columns};
+ghost use Rattle.docker_model.specs.records.Field.{HasGoodFields, is_deletion};
+ghost use Rattle.docker_model.specs.file.File.{first_record};
+ghost use Rattle.docker_model.specs.state.State.{IsScheduleOf};
+ghost use Rattle.docker_model.specs.docker.Choice.{schedule_runs};
+ghost use Rattle.docker_model.specs.docker.Event.{falls_to};
+ghost use Rattle.train_choice.specs.Keys.{schedule_key_meant};
+ghost use Rattle.train_choice.specs.Lately.{AreLately, may_run_lately, runs_back};
+ghost use Rattle.train_choice.specs.Occurrences.{occurrences};
+ghost use Rattle.train_choice.specs.UpTo.{occurrences_to, up_to_last};
+
+use crate::days_run::schedule_runs_on;
+use crate::events::Events;
+use crate::lately::{Lately, days_lately, is_marked_lately};
+use crate::ranked::Ranked;
+use crate::up_to::up_to_last;
+use cif_file::{Lines, ScheduleKey};
+use cif_line::{Day, Line, Stp, Tiploc};
+use std::marker::Model;
+
+/// A live schedule: its key, and its lines.
+#[derive(Debug, Drop)]
+pub struct ScheduleView<'a> {
+    key: &'a ScheduleKey,
+    lines: &'a Lines,
+}
+
+impl<'a> Model for ScheduleView<'a> {
+    ghost use Rattle.docker_model.specs.docker.LiveRows.{Train};
+    ghost use Rattle.docker_model.specs.state.State.{IsScheduleOf};
+    ghost use Rattle.train_choice.specs.Keys.{schedule_key_meant};
+
+    ghost Value = { Train };
+
+    ghost view = { λ view. record {
+      key = schedule_key_meant view.key.now;
+      lines = view.lines.now;
+    } };
+
+    ghost invariant = { λ view. IsScheduleOf (schedule_key_meant view.key.now) view.lines.now };
+}
+
+#[tactic(auto, using(crate::proofs::KeptLines::kept_lines))]
+impl<'a> ScheduleView<'a> {
+    /// A schedule whose lines are kept under this key.
+    pub(crate) fn of(key: &'a ScheduleKey, lines: &'a Lines) -> ScheduleView<'a>
+        requires { IsScheduleOf (schedule_key_meant key.now) lines.now }
+        ensures { result ≡ record {
+          key = schedule_key_meant key.entry.now;
+          lines = lines.entry.now;
+        } }
+    {
+        ScheduleView { key, lines }
+    }
+
+    /// The same schedule.
+    pub(crate) fn again(&self) -> ScheduleView<'a>
+        ensures { result ≡ self.now }
+    {
+        ScheduleView::of(self.key, self.lines)
+    }
+
+    /// The key: UID, first day and STP indicator.
+    pub fn key(&self) -> &'a ScheduleKey
+        ensures { schedule_key_meant result.now ≡ self.now.key }
+    {
+        self.key
+    }
+
+    /// The lines. The first is the basic schedule (BS), with transaction `N`.
+    pub fn lines(&self) -> &'a [Line]
+        ensures lines { result.now ≡ self.now.lines }
+        ensures kept { IsScheduleOf self.now.key self.now.lines }
+    {
+        self.lines.as_slice()
+    }
+
+    /// The basic schedule.
+    fn first(&self) -> &'a Line
+        ensures line { result.now ≡ first_record self.now.lines }
+        ensures kind { HasKind basic_schedule result.now }
+        ensures good { HasGoodFields result.now }
+        ensures no_deletion { is_deletion result.now ≡ false }
+    {
+        match self.lines.as_slice().first() {
+            Some(line) => line,
+            None => unreachable!(),
+        }
+    }
+
+    /// Whether it runs on a day. If it begins later, its lines aren't read.
+    pub fn runs_on(&self, day: Day) -> bool
+        ensures { result ≡ schedule_runs (first_record self.now.lines) day }
+    {
+        (self.key.runs_from.number() <= day.number()) && schedule_runs_on(self.first(), day)
+    }
+
+    /// On which of a day and the two days before it it runs. If it begins later, its lines aren't
+    /// read.
+    pub fn runs_lately(&self, day: Day) -> Lately
+        ensures { AreLately (runs_back self.now.lines day) result }
+    {
+        if begins_behind(self.key, day) {
+            return Lately::never();
+        }
+        days_lately(self.first(), self.key.runs_from, day)
+    }
+
+    /// Whether it has begun by a day, and the weekday of that day or of one of the two days before
+    /// it is marked. If not, it runs on none of the three. This reads the first day in its key and
+    /// three marks, which costs less than `runs_lately`.
+    pub fn may_run_lately(&self, day: Day) -> bool
+        ensures { result ≡ may_run_lately self.now.key self.now.lines day }
+    {
+        !begins_behind(self.key, day) && is_marked_lately(self.first(), day)
+    }
+
+    /// The train identity in the basic schedule.
+    pub fn identity(&self) -> &'a [u8; 4]
+        ensures { result.now ≡ columns 33 36 (first_record self.now.lines) }
+    {
+        self.first().field(33)
+    }
+
+    /// The events, in order.
+    pub fn events(&self) -> Events<'a>
+        ensures events { result ≡ occurrences self.now.lines }
+        ensures few { (number : ℕ) → falls_to self.now.lines number ≤ 2 }
+    {
+        Events::of(self.first(), self.identity(), self.lines.as_slice())
+    }
+
+    /// The events up to the last one at a place, in order.
+    pub fn events_to(&self, place: &Tiploc) -> Events<'a>
+        ensures { result ≡ occurrences_to place.now self.now.lines }
+    {
+        Events::of(self.first(), self.identity(), self.lines_to(place))
+    }
+
+    /// The lines up to the last one at a place.
+    pub(crate) fn lines_to(&self, place: &Tiploc) -> &'a [Line]
+        ensures lines { result.now ≡ up_to_last place.now self.now.lines }
+        ensures good { All HasGoodFields result.now }
+        ensures few { length result.now < 2 ^ 32 }
+    {
+        up_to_last(self.lines.as_slice(), place)
+    }
+}
+
+impl<'a> Ranked for ScheduleView<'a> {
+    ghost rank = { λ train. (train.key.indicator, train.key.runs_from) };
+
+    fn rank(&self) -> (Stp, Day) {
+        (self.key.stp, self.key.runs_from)
+    }
+}
+
+/// Whether a schedule begins after a day.
+fn begins_behind(key: &ScheduleKey, day: Day) -> bool
+    ensures { result ≡ nat_lt day (schedule_key_meant key.now).runs_from }
+{
+    day.number() < key.runs_from.number()
+}

@@ -1,0 +1,124 @@
+//! A walk over the lines of a schedule, line by line.
+ghost use Rattle.std.specs.Prelude.{◌≡◌, ℕ, ◌+◌, ◌≤◌, [], None, if◌then◌else◌, length, option_map};
+ghost use Rattle.cif_line.specs.Kind.{meaning};
+ghost use Rattle.std.specs.Iterator.{YieldsFirstBy};
+ghost use Rattle.docker_model.specs.records.Record.{kind_of};
+ghost use Rattle.docker_model.specs.records.Field.{HasGoodFields};
+ghost use Rattle.docker_model.specs.file.Journey.{times_of};
+ghost use Rattle.docker_model.specs.docker.EventWalk.{fall_at};
+ghost use Rattle.train_choice.specs.Meaning.{times_meant};
+ghost use Rattle.train_choice.specs.Occurrences.{turned, identity_behind};
+ghost use Rattle.train_choice.specs.EventWalk.{occurrence_meant, progress_of, events_here, behind_line, HasRoom};
+
+use crate::occasion::Occasion;
+use crate::times::EventTimes;
+use cif_line::{Kind, Line, Time, change, kind};
+
+/// An event of a schedule, as a walk over its lines meets it.
+#[derive(Clone, Copy, Debug)]
+pub struct Occurrence<'a> {
+    /// Its number among the events of the schedule, from 1.
+    pub number: u64,
+    /// What happens.
+    pub occasion: Occasion,
+    /// When.
+    pub time: Time,
+    /// How many midnights lie between the start of the train and the event.
+    pub falls: u64,
+    /// Its line.
+    pub line: &'a Line,
+    /// The identity of the train there.
+    pub identity: &'a [u8; 4],
+}
+
+/// How far a walk has come: a line, its remaining times, and what is carried from line to line.
+#[derive(Clone, Copy, Debug)]
+pub(crate) struct EventWalk<'a> {
+    line: &'a Line,
+    times: EventTimes,
+    number: u64,
+    falls: u64,
+    last: Option<Time>,
+    identity: &'a [u8; 4],
+}
+
+impl<'a> EventWalk<'a> {
+    /// A walk before the first line of a schedule, in which the train has this identity.
+    pub(crate) fn new(basic: &'a Line, identity: &'a [u8; 4]) -> EventWalk<'a>
+        ensures times { times_meant result.times ≡ [] }
+        ensures progress { progress_of result
+            ≡ record { number = 1; falls = 0; last = None; identity = identity.entry.now } }
+    {
+        EventWalk {
+            line: basic,
+            times: EventTimes::none(),
+            number: 1,
+            falls: 0,
+            last: None,
+            identity,
+        }
+    }
+
+    /// Advances to the next line.
+    pub(crate) fn advance(&mut self, line: &'a Line)
+        requires good { HasGoodFields line.now }
+        ensures line { self.new.line ≡ line.entry }
+        ensures times { times_meant self.new.times ≡ times_of line.entry.now }
+        ensures few { length (times_meant self.new.times) ≤ 3 }
+        ensures progress { progress_of self.new ≡ turned (progress_of self.old) line.entry.now }
+    {
+        self.line = line;
+        let kind = kind(line);
+        self.times = EventTimes::of(kind, line);
+        self.identity = identity_behind(kind, line, self.identity);
+    }
+
+    /// The next event of the line, if there is one.
+    pub(crate) fn next_event(&mut self) -> Option<Occurrence<'a>>
+        requires room { HasRoom self.old 0 }
+        ensures event { YieldsFirstBy occurrence_meant events_here self.old result self.new }
+        ensures behind { behind_line self.new ≡ behind_line self.old }
+        ensures room { (more : ℕ) → HasRoom self.old more → HasRoom self.new more }
+    {
+        let (occasion, time) = self.times.next()?;
+        let falls = self.falls + fall(self.last, time);
+        let event = Occurrence {
+            number: self.number,
+            occasion,
+            time,
+            falls,
+            line: self.line,
+            identity: self.identity,
+        };
+        self.number += 1;
+        self.falls = falls;
+        self.last = Some(time);
+        Some(event)
+    }
+}
+
+/// 1 if a time is below the last one before it, because a midnight lies between them. Otherwise 0.
+fn fall(last: Option<Time>, time: Time) -> u64
+    ensures value { result ≡ fall_at last time }
+    ensures few { result ≤ 1 }
+{
+    match last {
+        Some(last) => { if time < last { 1 } else { 0 } }
+        None => 0,
+    }
+}
+
+/// The identity of a train after a line of this kind. A change en route (CR) sets a new one. Any
+/// other line leaves it as it was.
+fn identity_behind<'a>(kind: Option<Kind>, line: &'a Line, identity: &'a [u8; 4]) -> &'a [u8; 4]
+    requires { option_map meaning kind ≡ kind_of line.now }
+    ensures { result.now ≡ identity_behind line.entry.now identity.entry.now }
+{
+    match kind {
+        Some(Kind::ChangeEnRoute) => match change(line) {
+            Ok(view) => view.identity(),
+            Err(_) => unreachable!(),
+        },
+        _ => identity,
+    }
+}
