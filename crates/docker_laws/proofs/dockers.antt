@@ -3,6 +3,7 @@ pub mod EventWalk
 pub mod FewMidnights
 pub mod StartDays
 pub mod GoodBodies
+pub mod KeptSchedules
 pub mod OneChoice
 pub mod OneDockerLine
 pub mod FirstOfRows

@@ -3,7 +3,7 @@ use Rattle.std.proofs.Common.{◌≡◌, ℕ, ◌<◌, ◌≤◌, ◌^◌, true,
 use Rattle.std.specs.Prelude.{IsTrue, ◌==◌, ◌&&◌, nat_le}
 use Rattle.std.specs.List.{AllByRecursion}
 use Rattle.std.proofs.lemmas.List.Elements.{All-from_recursion, recursion_from_All}
-use Rattle.docker_model.specs.records.Record.{association, basic_schedule, extra_details, HasKind, column, columns}
+use Rattle.docker_model.specs.records.Record.{association, extra_details, HasKind, column, columns}
 use Rattle.docker_model.specs.records.Date.{date_number, end_number, runs_on_weekday, weekday_of}
 use Rattle.docker_model.specs.records.Field.{HasGoodFields, is_deletion}
 use Rattle.docker_model.specs.file.File.{AreExtraDetails, IsSoundJourney, first_record}
@@ -14,24 +14,9 @@ use Rattle.docker_model.specs.state.State.{IsAssociationOf, IsScheduleOf}
 use Rattle.cif_laws.proofs.records.Columns.{fields_good}
 use Rattle.cif_laws.proofs.lists.AllOf.{all_append}
 use Rattle.docker_laws.proofs.dockers.FewMidnights.{few_midnights, falls_below}
+use Rattle.docker_laws.proofs.dockers.KeptSchedules.{first_kind, first_good, first_stays, first_there}
 use Rattle.train_choice.specs.Runs.{runs_until}
 use Rattle.train_choice.proofs.RunFields.{three_tests}
-
--- the first line is a basic schedule
-pub first_kind : (key : ScheduleKey) (lines : List (List ℕ)) → IsScheduleOf key lines → HasKind basic_schedule (first_record lines)
-first_kind key lines of = subst (λ (ls : List (List ℕ)). HasKind basic_schedule (first_record ls)) (sym of.schedule.whole) of.schedule.kind
-
--- its fields are good
-pub first_good : (key : ScheduleKey) (lines : List (List ℕ)) → IsScheduleOf key lines → HasGoodFields (first_record lines)
-first_good key lines of = subst (λ (ls : List (List ℕ)). HasGoodFields (first_record ls)) (sym of.schedule.whole) of.schedule.fields
-
--- it is no deletion
-pub first_stays : (key : ScheduleKey) (lines : List (List ℕ)) → IsScheduleOf key lines → is_deletion (first_record lines) ≡ false
-first_stays key lines of = ap (λ (n : ℕ). n == 68) of.new
-
--- there is a first line
-pub first_there : (key : ScheduleKey) (lines : List (List ℕ)) → IsScheduleOf key lines → 0 < length lines
-first_there key lines of = subst (λ (ls : List (List ℕ)). 0 < length ls) (sym of.schedule.whole) (omega arith)
 
 -- the lines can be counted
 pub lines_few : (key : ScheduleKey) (lines : List (List ℕ)) → IsScheduleOf key lines → length lines < 2 ^ 32

@@ -2,39 +2,16 @@
 use Rattle.std.proofs.Common.{◌≡◌, ℕ, List, true, false, Bool, cond, [], ◌∷◌, ◌++◌, subst, refl}
 use Rattle.std.specs.Prelude.{ℕ, ◌&&◌}
 use Rattle.std.specs.List.{AllByRecursion}
-use Rattle.docker_model.specs.records.Record.{association, basic_schedule, HasKind, columns}
+use Rattle.docker_model.specs.records.Record.{association, HasKind, columns}
 use Rattle.docker_model.specs.records.Date.{is_date, is_end_date, is_days}
 use Rattle.docker_model.specs.records.Field.{CheckedField, checked, HasGoodFields, is_deletion, is_tiploc, is_stp_indicator}
 use Rattle.cif_laws.proofs.records.Columns.{good_fields, IsGoodIn}
+use Rattle.docker_laws.proofs.dockers.KeptSchedules.{schedule_first, schedule_last, schedule_days}
 
 -- three tests, with the first two together
 pub three_tests : (a b c : Bool) → (a && (b && c)) ≡ ((a && b) && c)
 three_tests true b c = refl
 three_tests false b c = refl
-
--- a basic schedule's first day is a date
-pub schedule_first : (line : List ℕ) → HasKind basic_schedule line → HasGoodFields line → is_date (columns 10 15 line) ≡ true
-schedule_first line is good = (good_fields basic_schedule line is good).1.0
-
--- the checked fields after it
-schedule_later : Bool → List CheckedField
-schedule_later deletion = cond deletion [] (checked 16 21 is_end_date ∷ checked 22 28 is_days ∷ []) ++ checked 80 80 is_stp_indicator ∷ []
-
-schedule_behind : (line : List ℕ) → HasKind basic_schedule line → HasGoodFields line → is_deletion line ≡ false
-    → AllByRecursion (IsGoodIn line) (schedule_later false)
-unfolding schedule_later
-schedule_behind line is good stays =
-    subst (λ b. AllByRecursion (IsGoodIn line) (schedule_later b)) stays (good_fields basic_schedule line is good).1.1
-
--- its last day is good
-pub schedule_last : (line : List ℕ) → HasKind basic_schedule line → HasGoodFields line → is_deletion line ≡ false → is_end_date (columns 16 21 line) ≡ true
-unfolding schedule_later
-schedule_last line is good stays = (schedule_behind line is good stays).0
-
--- its weekdays are good
-pub schedule_days : (line : List ℕ) → HasKind basic_schedule line → HasGoodFields line → is_deletion line ≡ false → is_days (columns 22 28 line) ≡ true
-unfolding schedule_later
-schedule_days line is good stays = (schedule_behind line is good stays).1.0
 
 pub ruleset schedule_fields = (schedule_first, schedule_last, schedule_days, three_tests)
 
