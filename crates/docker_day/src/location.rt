@@ -1,5 +1,5 @@
 //! What a docker shows of a location record.
-ghost use Rattle.std.specs.Prelude.{◌≡◌, ◌+◌, ◌-◌, ◌<◌, ◌≤◌, if◌then◌else◌};
+ghost use Rattle.std.specs.Prelude.{◌≡◌, ◌+◌, ◌-◌, ◌<◌, ◌≤◌};
 ghost use Rattle.docker_model.specs.records.Record.{kind_of, columns, column};
 ghost use Rattle.docker_model.specs.records.PrintedTime.{shown_public};
 ghost use Rattle.train_choice.specs.Meaning.{occasion_meant};

@@ -1,5 +1,5 @@
 //! A walk over the lines of a schedule, line by line.
-ghost use Rattle.std.specs.Prelude.{◌≡◌, ℕ, ◌+◌, ◌≤◌, [], None, if◌then◌else◌, length, option_map};
+ghost use Rattle.std.specs.Prelude.{◌≡◌, ℕ, ◌+◌, ◌≤◌, [], None, length, option_map};
 ghost use Rattle.cif_line.specs.Kind.{meaning};
 ghost use Rattle.std.specs.Iterator.{YieldsFirstBy};
 ghost use Rattle.docker_model.specs.records.Record.{kind_of};
