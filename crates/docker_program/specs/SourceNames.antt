@@ -3,7 +3,7 @@ use Rattle.std.specs.Prelude.{Bool, List, [], ◌∷◌, Option, Some, None, cod
 use Rattle.std.specs.Str.{bytes_eq}
 use Rattle.docker_cmd.specs.Words.{Text}
 use Rattle.docker_cmd.specs.Job.{JobView, TaskView, new_task, check_task, day_task, take_task, merge_task, print_task, files_task, horizon_task, migrate_task}
-use Rattle.docker_cmd.specs.Writes.{OutputDevice, counts_written, docker_written, files_written, state_written, output_of}
+use Rattle.docker_cmd.specs.Writes.{Output, counts_written, docker_written, files_written, state_written, output_of}
 use Rattle.docker_program.specs.declared.names.SourceNames as declared
 use Rattle.docker_program.specs.declared.names.SourceNames.TheVariants as code
 
@@ -65,7 +65,7 @@ names_of job = sources_named job.task job.words
 
 -- the file that these words name for what is written: a state is stored in the first word's file,
 -- and anything else is printed
-abbrev pub file_stored : OutputDevice → List Text → Option Text
+abbrev pub file_stored : Output → List Text → Option Text
 file_stored counts_written words = None
 file_stored (docker_written place day) words = None
 file_stored files_written words = None
