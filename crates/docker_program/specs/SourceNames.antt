@@ -2,7 +2,9 @@
 use Rattle.std.specs.Prelude.{Bool, List, [], ◌∷◌, Option, Some, None, codes, if◌then◌else◌}
 use Rattle.std.specs.Str.{bytes_eq}
 use Rattle.docker_cmd.specs.Words.{Text}
-use Rattle.docker_cmd.specs.Job.{JobView, TaskView, new_task, check_task, day_task, take_task, merge_task, print_task, files_task, horizon_task, migrate_task}
+use Rattle.docker_cmd.specs.Job.{JobView}
+use Rattle.docker_cmd.specs.Reads as reads
+use Rattle.docker_cmd.specs.Reads.{Sources, sources_of}
 use Rattle.docker_cmd.specs.Writes.{Output, counts_written, docker_written, files_written, state_written, output_of}
 use Rattle.docker_program.specs.declared.names.SourceNames as declared
 use Rattle.docker_program.specs.declared.names.SourceNames.TheVariants as code
@@ -33,8 +35,8 @@ abbrev pub file_or_input : Text → SourceNames
 file_or_input word = if is_stdin word then standard_input else one_file word
 
 -- the sources of a file's name and a second word that may name standard input
-abbrev pub behind_file : Text → Text → SourceNames
-behind_file name word = if is_stdin word then file_and_input name else two_files name word
+abbrev pub file_and_word : Text → Text → SourceNames
+file_and_word name word = if is_stdin word then file_and_input name else two_files name word
 
 -- the first word, or the empty word if there is none
 abbrev pub first_word : List Text → Text
@@ -46,22 +48,26 @@ abbrev pub second_word : List Text → Text
 second_word [] = []
 second_word (word ∷ words) = first_word words
 
--- the sources that the words of a task name. If the job writes STATE, STATE is a file, whatever its
--- name
-abbrev pub sources_named : TaskView → List Text → SourceNames
-sources_named new_task words = no_source
-sources_named check_task words = file_or_input (first_word words)
-sources_named (day_task place day) words = file_or_input (first_word words)
-sources_named take_task words = behind_file (first_word words) (second_word words)
-sources_named merge_task words = behind_file (first_word words) (second_word words)
-sources_named (print_task place day) words = file_or_input (first_word words)
-sources_named files_task words = file_or_input (first_word words)
-sources_named (horizon_task day) words = one_file (first_word words)
-sources_named migrate_task words = one_file (first_word words)
+-- the source of the only word that names one: if the job writes a state, the word is the name of
+-- STATE, and names a file even if it is `stdin`
+abbrev pub only_source : Output → Text → SourceNames
+only_source counts_written word = file_or_input word
+only_source (docker_written place day) word = file_or_input word
+only_source files_written word = file_or_input word
+only_source state_written word = one_file word
+
+-- the sources that the words of a job name, by what it reads and writes
+abbrev pub sources_named : Sources → Output → List Text → SourceNames
+sources_named reads.no_source output words = no_source
+sources_named reads.checked_file output words = only_source output (first_word words)
+sources_named reads.taken_file output words = only_source output (first_word words)
+sources_named (reads.one_state format) output words = only_source output (first_word words)
+sources_named reads.state_and_file output words = file_and_word (first_word words) (second_word words)
+sources_named reads.two_states output words = file_and_word (first_word words) (second_word words)
 
 -- the sources that the words of a job name
 abbrev pub names_of : JobView → SourceNames
-names_of job = sources_named job.task job.words
+names_of job = sources_named (sources_of job.task) (output_of job.task) job.words
 
 -- the file that these words name for what is written: a state is stored in the first word's file,
 -- and anything else is printed

@@ -1,21 +1,23 @@
 //! What the words of a job name.
 ghost use Rattle.std.specs.Prelude.{◌≡◌, option_map};
-ghost use Rattle.docker_program.specs.SourceNames.{behind_file, file_or_input, first_word, names_meant, names_of, second_word, stored_by};
+ghost use Rattle.docker_cmd.specs.Writes.{output_meant};
+ghost use Rattle.docker_program.specs.SourceNames.{file_and_word, file_or_input, first_word, names_meant, names_of, only_source, second_word, stored_by};
 
 use crate::names::{STDIN, SourceNames};
-use docker_cmd::{Job, Output, Task};
+use docker_cmd::{Job, Output, Sources};
 
-/// The sources of a job.
+/// The sources of a job, by what its task reads and writes.
 pub(crate) fn names(job: &Job) -> SourceNames<'_>
     ensures { names_meant result ≡ names_of job.now }
 {
-    match job.task() {
-        Task::New => SourceNames::None,
-        Task::Check | Task::Day { .. } | Task::Print { .. } | Task::Files => {
-            file_or_input(first_word(job))
+    match job.task().reads() {
+        Sources::None => SourceNames::None,
+        Sources::CheckedFile | Sources::TakenFile | Sources::State | Sources::OlderState => {
+            only_source(job.task().writes(), first_word(job))
         }
-        Task::Take | Task::Merge => behind_file(first_word(job), second_word(job)),
-        Task::Horizon { .. } | Task::Migrate => SourceNames::File(first_word(job)),
+        Sources::StateAndFile | Sources::TwoStates => {
+            file_and_word(first_word(job), second_word(job))
+        }
     }
 }
 
@@ -26,6 +28,17 @@ pub(crate) fn stored_name(job: &Job) -> Option<&str>
     match job.task().writes() {
         Output::State => Some(first_word(job)),
         Output::Counts | Output::Docker { .. } | Output::Files => None,
+    }
+}
+
+/// The source of the only word that names one. If the job writes a state, the word is the name of
+/// STATE: a file, whatever its name.
+fn only_source(output: Output, word: &str) -> SourceNames<'_>
+    ensures { names_meant result ≡ only_source (output_meant output) word.now }
+{
+    match output {
+        Output::State => SourceNames::File(word),
+        Output::Counts | Output::Docker { .. } | Output::Files => file_or_input(word),
     }
 }
 
@@ -40,8 +53,8 @@ fn file_or_input(word: &str) -> SourceNames<'_>
 }
 
 /// The sources of a file's name and a second word that may name standard input.
-fn behind_file<'a>(name: &'a str, word: &'a str) -> SourceNames<'a>
-    ensures { names_meant result ≡ behind_file name.now word.now }
+fn file_and_word<'a>(name: &'a str, word: &'a str) -> SourceNames<'a>
+    ensures { names_meant result ≡ file_and_word name.now word.now }
 {
     if word == STDIN {
         return SourceNames::FileAndStdin(name);
