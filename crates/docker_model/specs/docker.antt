@@ -14,3 +14,5 @@ pub mod Gathering
 pub mod Excerpt
 pub mod ExcerptWalk
 pub mod NearDay
+pub mod StandIn
+pub mod Thinning
