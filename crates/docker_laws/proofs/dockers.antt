@@ -28,4 +28,6 @@ pub mod ExcerptSteps
 pub mod ExcerptTurns
 pub mod NearDocker
 pub mod NearState
+pub mod ThinBody
+pub mod ThinDocker
 pub mod NoLinesElsewhere

@@ -49,7 +49,7 @@ near_start day start near = by ((day + 1) - start) refl near.0 near.1
         Contains-append_right ((day + 1) ∷ day ∷ (day - 1) ∷ (day - 2) ∷ []) ((day - 3) ∷ []) start (first (day - 3) [] (omega arith))
 
 -- a schedule that runs on such a start day runs near the day
-runs_near_by : (day start : ℕ) (line : List ℕ) → IsStartNear day start → IsTrue (schedule_runs line start) → runs_near day line ≡ true
+pub runs_near_by : (day start : ℕ) (line : List ℕ) → IsStartNear day start → IsTrue (schedule_runs line start) → runs_near day line ≡ true
 runs_near_by day start line near runs = any_forth (λ (s : ℕ). schedule_runs line s) (near_starts day) start (near_start day start near) runs
 
 -- the partner starts at most one day after the base
@@ -71,13 +71,13 @@ partner_before indicator start day is = by (indicator == 78) (indicator == 80) i
     by false false some = let same : start ≡ day = cc in omega arith
 
 -- a train with an event on the day starts on the day or on one of the two days before
-started : (day start : ℕ) (lines : List (List ℕ)) (event : Event) → midnights lines ≤ 2 → event_day start lines event ≡ day
+pub started : (day start : ℕ) (lines : List (List ℕ)) (event : Event) → midnights lines ≤ 2 → event_day start lines event ≡ day
     → (start ≤ day) × (day ≤ start + 2)
 started day start lines event few today =
     subst (λ (d : ℕ). (start ≤ d) × (d ≤ start + 2)) today (event_within start lines event few)
 
 -- so its partner starts near the day
-partner_near : (day start : ℕ) → (start ≤ day) × (day ≤ start + 2) → (indicator partner : ℕ) → partner_start indicator start ≡ Some partner
+pub partner_near : (day start : ℕ) → (start ≤ day) × (day ≤ start + 2) → (indicator partner : ℕ) → partner_start indicator start ≡ Some partner
     → IsStartNear day partner
 partner_near day start within indicator partner is =
     let low = within.0 in

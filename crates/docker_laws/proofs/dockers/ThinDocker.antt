@@ -1,0 +1,357 @@
+-- A table and its thinned table for a place and a day have the same docker there on that day.
+use Rattle.std.proofs.Common.{◌≡◌, ℕ, ◌+◌, ◌≤◌, List, subst, inl, inr, ◌⊎◌, refl, ap, sym, ◌∙◌, Bool, true, false, cond, Some, None, arith}
+use Rattle.std.specs.Prelude.{Option, ◌↔◌, option_and_then}
+use Rattle.std.proofs.lemmas.Slice.Eq.{bytes_eq-Decides}
+use Rattle.docker_model.specs.records.Record.{columns, column}
+use Rattle.docker_model.specs.file.Journey.{midnights, CallsAt, calls_at}
+use Rattle.docker_model.specs.file.File.{first_record}
+use Rattle.docker_model.specs.file.Change.{Key, tiploc_key, schedule_key, association_key, ScheduleKey, AssociationKey, Body, tiploc_body, schedule_body, association_body}
+use Rattle.docker_model.specs.state.Table.{Table}
+use Rattle.docker_model.specs.state.State.{HasGoodBodies, IsBodyOf}
+use Rattle.docker_model.specs.docker.Event.{Event, event_day}
+use Rattle.docker_model.specs.docker.Choice.{schedule_runs, IsRunning, TrainRuns, Group, group_of, IsAssociated, IsChosenAssociation}
+use Rattle.docker_model.specs.docker.DockerLine.{DockerLine}
+use Rattle.docker_model.specs.docker.Association.{partner_start, IsIdentityOn, IsPartnerIdentity, IsAssociationLine}
+use Rattle.docker_model.specs.docker.DockerList.{IsEventLine, IsDockerList}
+use Rattle.docker_model.specs.docker.DockerText.{description_in, docker_text, IsDockerText}
+use Rattle.docker_model.specs.docker.NearDay.{runs_near, may_count}
+use Rattle.docker_model.specs.docker.StandIn.{IsStandIn, StandsFor}
+use Rattle.docker_model.specs.docker.Thinning.{thin_lines, lines_for, body_for, may_matter, thin_body, thinned}
+use Rattle.docker_model.specs.state.Op.{put_with}
+use Rattle.cif_laws.proofs.lists.BoolsAndOptions.{then_some, none_some}
+use Rattle.state_laws.proofs.indexes.CallsTest.{calls_test}
+use Rattle.docker_laws.proofs.dockers.Events.{event_calls}
+use Rattle.docker_laws.proofs.dockers.OneDockerLine.{first_event_is}
+use Rattle.docker_laws.proofs.dockers.FewMidnights.{HasFewMidnights, bodies_few}
+use Rattle.docker_laws.proofs.dockers.LapsedDocker.{text_with}
+use Rattle.docker_laws.proofs.dockers.NearDocker.{near_start, IsStartNear, runs_near_by, started, partner_near}
+use Rattle.docker_model.specs.docker.Excerpt.{IsExcerpt}
+use Rattle.docker_laws.proofs.dockers.ExcerptDocker.{excerpt_list_iff, excerpt_text_iff}
+use Rattle.docker_laws.proofs.dockers.ThinBody.{first_of_thin, thin_elsewhere, needed_is_body}
+
+-- ---- stand-ins
+
+-- a schedule's lines stand for the ones that stand for them
+turned : (place : List ℕ) (day : ℕ) (one other : List (List ℕ)) → IsStandIn place day one other → IsStandIn place day other one
+turned place day one other is = record {
+  runs = λ start near. sym (is.runs start near);
+  identity = sym is.identity;
+  calls = λ either. sym (is.calls (swap either));
+}
+  where
+    swap : CallsAt place other ⊎ CallsAt place one → CallsAt place one ⊎ CallsAt place other
+    swap (inl calls) = inr calls
+    swap (inr calls) = inl calls
+
+-- lines with the same first line stand for a schedule's if neither list calls at the place
+pub stand_in_by_first : (place : List ℕ) (day : ℕ) (whole lines : List (List ℕ)) → first_record lines ≡ first_record whole → calls_at place whole ≡ false
+    → calls_at place lines ≡ false → IsStandIn place day whole lines
+stand_in_by_first place day whole lines same none no_other = record {
+  runs = λ start near. ap (λ (line : List ℕ). schedule_runs line start) (sym same);
+  identity = ap (columns 33 36) (sym same);
+  calls = by;
+}
+  where
+    elsewhere : (others : List (List ℕ)) → calls_at place others ≡ false → ¬ CallsAt place others
+    elsewhere others never calls = absurd (let bad : false ≡ true = sym never ∙ (calls_test place others).1 calls in cc)
+
+    by : CallsAt place whole ⊎ CallsAt place lines → whole ≡ lines
+    by (inl calls) = absurd (elsewhere whole none calls)
+    by (inr calls) = absurd (elsewhere lines no_other calls)
+
+-- the lines that the place needs stand for all
+pub needed_stand_in : (place : List ℕ) (day : ℕ) (lines : List (List ℕ)) → IsStandIn place day lines (lines_for place lines)
+needed_stand_in place day lines = by (calls_at place lines) refl
+  where
+    by : (b : Bool) → calls_at place lines ≡ b → IsStandIn place day lines (cond b lines (thin_lines lines))
+    by true h = record { runs = λ start near. refl; identity = refl; calls = λ either. refl }
+    by false h = stand_in_by_first place day lines (thin_lines lines) (first_of_thin lines) h (thin_elsewhere place lines h)
+
+-- ---- two tables that a docker of a place and a day can't distinguish
+
+-- what one table has, the other has too as far as the docker needs it: a schedule that runs near
+-- the day, and an association at the place
+record Covers (one other : Table) (place : List ℕ) (day : ℕ) : Type 0 where
+  runs : (start : ℕ) → IsStartNear day start → (uid : List ℕ) (key : ScheduleKey) (lines : List (List ℕ)) → IsRunning one uid start key lines
+      → (others : List (List ℕ)) × IsRunning other uid start key others × IsStandIn place day lines others
+  links : (group : Group) → group.location ≡ place → (start : ℕ) (key : AssociationKey) (line : List ℕ) → IsAssociated one group start key line
+      → IsAssociated other group start key line
+  few : (key : ScheduleKey) (lines : List (List ℕ)) → one (schedule_key key) ≡ Some (schedule_body lines) → CallsAt place lines → midnights lines ≤ 2
+
+module _ (one other : Table) (place : List ℕ) (day : ℕ) (forth : Covers one other place day) (back : Covers other one place day) where
+  train_over : (start : ℕ) → IsStartNear day start → (uid : List ℕ) (key : ScheduleKey) (lines : List (List ℕ)) → TrainRuns one uid start key lines
+      → (others : List (List ℕ)) × TrainRuns other uid start key others × IsStandIn place day lines others
+  train_over start near uid key lines is =
+      let found = forth.runs start near uid key lines is.chosen.running in (
+        found.0,
+        record {
+          chosen = record {
+            running = found.1;
+            first = λ another others runs.
+                let was = back.runs start near uid another others runs in
+                is.chosen.first another was.0 was.1;
+          };
+          no_cancellation = is.no_cancellation;
+        },
+        found.2,
+      )
+
+  -- a train that calls at the place runs by the same lines
+  calling_over : (start : ℕ) → IsStartNear day start → (uid : List ℕ) (key : ScheduleKey) (lines : List (List ℕ)) → CallsAt place lines
+      → TrainRuns one uid start key lines → TrainRuns other uid start key lines
+  calling_over start near uid key lines calls is =
+      let found = train_over start near uid key lines is in
+      subst (TrainRuns other uid start key) (sym (found.2.calls (inl calls))) found.1
+
+  association_over : (group : Group) → group.location ≡ place → (start : ℕ) (key : AssociationKey) (line : List ℕ)
+      → IsChosenAssociation one group start key line → IsChosenAssociation other group start key line
+  association_over group here start key line is = record {
+    associated = forth.links group here start key line is.associated;
+    first = λ another others runs. is.first another others (back.links group here start another others runs);
+  }
+
+  -- a train with an event on the day at the place starts on the day or on one of the two before
+  started_near : (start : ℕ) (uid : List ℕ) (key : ScheduleKey) (lines : List (List ℕ)) (event : Event) → CallsAt place lines
+      → TrainRuns one uid start key lines → event_day start lines event ≡ day → (start ≤ day) × (day ≤ start + 2)
+  started_near start uid key lines event calls runs today = started day start lines event (forth.few key lines runs.chosen.running.is_live calls) today
+
+  near_of : (start : ℕ) → (start ≤ day) × (day ≤ start + 2) → IsStartNear day start
+  near_of start within = let low = within.0 in let high = within.1 in (omega arith, omega arith)
+
+  event_line_over : (line : DockerLine) → IsEventLine one place day line → IsEventLine other place day line
+  event_line_over line is =
+      let calls = event_calls is.schedule is.event place is.among is.here in
+      let within = started_near is.start is.key.uid is.key is.schedule is.event calls is.train_runs is.today in
+      record {
+        start = is.start;
+        key = is.key;
+        schedule = is.schedule;
+        train_runs = calling_over is.start (near_of is.start within) is.key.uid is.key is.schedule calls is.train_runs;
+        event = is.event;
+        among = is.among;
+        here = is.here;
+        today = is.today;
+        is = is.is;
+      }
+
+-- the partner's identity is the same on a start day near the day
+module _ (one other : Table) (place : List ℕ) (day : ℕ) (forth : Covers one other place day) (back : Covers other one place day) where
+  identity_over : (start : ℕ) → IsStartNear day start → (uid identity : List ℕ) → IsIdentityOn one uid identity start → IsIdentityOn other uid identity start
+  identity_over start near uid identity (inl runs) =
+      let found = train_over one other place day forth back start near uid runs.0 runs.1 runs.2 in
+      inl (runs.0, found.0, found.1, runs.3 ∙ found.2.identity)
+  identity_over start near uid identity (inr none) =
+      inr (
+        λ key lines runs.
+            let found = train_over other one place day back forth start near uid key lines runs in
+            none.0 key found.0 found.1,
+        none.1,
+      )
+
+  partner_over : (partner : Option ℕ) → ((start : ℕ) → partner ≡ Some start → IsStartNear day start) → (uid identity : List ℕ)
+      → IsPartnerIdentity one uid partner identity → IsPartnerIdentity other uid partner identity
+  partner_over None near uid identity is = is
+  partner_over (Some start) near uid identity is = identity_over start (near start refl) uid identity is
+
+  association_line_over : (line : DockerLine) → IsAssociationLine one place day line → IsAssociationLine other place day line
+  association_line_over line is =
+      let first = first_event_is is.base is.key.location is.key.suffix is.event is.first_there in
+      let calls = event_calls is.base is.event place first.0 (first.2 ∙ is.here) in
+      let within = started_near one other place day forth back is.start is.key.base is.base_key is.base is.event calls is.base_runs is.today in
+      record {
+        start = is.start;
+        key = is.key;
+        association = is.association;
+        chosen = association_over one other place day forth back (group_of is.key) is.here is.start is.key is.association is.chosen;
+        no_cancellation = is.no_cancellation;
+        occasion = is.occasion;
+        category = is.category;
+        date_indicator = is.date_indicator;
+        base_key = is.base_key;
+        base = is.base;
+        base_runs = calling_over one other place day forth back is.start (near_of one other place day forth back is.start within) is.key.base
+            is.base_key is.base calls is.base_runs;
+        event = is.event;
+        first_there = is.first_there;
+        identity = is.identity;
+        partner = partner_over (partner_start (column 37 is.association) is.start)
+            (partner_near day is.start within (column 37 is.association)) is.key.associated is.identity is.partner;
+        here = is.here;
+        today = is.today;
+        is = is.is;
+      }
+
+  line_over : (line : DockerLine) → IsEventLine one place day line ⊎ IsAssociationLine one place day line
+      → IsEventLine other place day line ⊎ IsAssociationLine other place day line
+  line_over line (inl event) = inl (event_line_over one other place day forth back line event)
+  line_over line (inr association) = inr (association_line_over line association)
+
+-- so is the docker list
+list_over : (one other : Table) (place : List ℕ) (day : ℕ) → Covers one other place day → Covers other one place day → (lines : List DockerLine)
+    → IsDockerList one place day lines → IsDockerList other place day lines
+list_over one other place day forth back lines is = record {
+  ascending = is.ascending;
+  members = λ line. (
+    λ among. line_over one other place day forth back line ((is.members line).0 among),
+    λ told. (is.members line).1 (line_over other one place day back forth line told),
+  );
+}
+
+-- ---- a table and one that stands for it
+
+module _ (place : List ℕ) (day : ℕ) (live part : Table) (stands : StandsFor place day live part) where
+  stands_forth : HasFewMidnights live → Covers live part place day
+  stands_forth few = record {
+    runs = λ start near uid key lines is.
+        let found = stands.schedules key lines is.is_live (runs_near_by day start (first_record lines) near is.runs_then) in (
+          found.0,
+          record { uid_is = is.uid_is; is_live = found.1; runs_then = sym (found.2.runs start (near_start day start near)) ∙ is.runs_then },
+          found.2,
+        );
+    links = λ group here start key line linked. record {
+      group_is = linked.group_is;
+      is_live = stands.associations key (ap (λ (g : Group). g.location) linked.group_is ∙ here) ∙ linked.is_live;
+      runs_then = linked.runs_then;
+    };
+    few = λ key lines is_live calls. few key lines is_live;
+  }
+
+  stands_back : HasFewMidnights part → Covers part live place day
+  stands_back few = record {
+    runs = λ start near uid key lines is.
+        let found = stands.no_others key lines is.is_live (runs_near_by day start (first_record lines) near is.runs_then) in (
+          found.0,
+          record { uid_is = is.uid_is; is_live = found.1; runs_then = found.2.runs start (near_start day start near) ∙ is.runs_then },
+          turned place day found.0 lines found.2,
+        );
+    links = λ group here start key line linked. record {
+      group_is = linked.group_is;
+      is_live = sym (stands.associations key (ap (λ (g : Group). g.location) linked.group_is ∙ here)) ∙ linked.is_live;
+      runs_then = linked.runs_then;
+    };
+    few = λ key lines is_live calls. few key lines is_live;
+  }
+
+  -- both have the same docker list there on that day
+  pub stand_in_list_iff : HasFewMidnights live → HasFewMidnights part → (lines : List DockerLine)
+      → IsDockerList live place day lines ↔ IsDockerList part place day lines
+  stand_in_list_iff few few_part lines = (
+    list_over live part place day (stands_forth few) (stands_back few_part) lines,
+    list_over part live place day (stands_back few_part) (stands_forth few) lines,
+  )
+
+  stand_in_text_same : (lines : List DockerLine) → docker_text part place day lines ≡ docker_text live place day lines
+  stand_in_text_same lines = ap (text_with place day lines) (ap description_in stands.tiploc)
+
+  -- both have the same docker text
+  pub stand_in_text_iff : HasFewMidnights live → HasFewMidnights part → (text : List ℕ)
+      → IsDockerText live place day text ↔ IsDockerText part place day text
+  stand_in_text_iff few few_part text = (
+    λ told. (told.0, (stand_in_list_iff few few_part told.0).0 told.1, told.2 ∙ sym (stand_in_text_same told.0)),
+    λ told. (told.0, (stand_in_list_iff few few_part told.0).1 told.1, told.2 ∙ stand_in_text_same told.0),
+  )
+
+-- ---- a table and its thinned table
+
+module _ (place : List ℕ) (day : ℕ) (live : Table) where
+  -- a live schedule that runs near the day is left, as far as the place needs it
+  schedule_left : (key : ScheduleKey) (lines : List (List ℕ)) → live (schedule_key key) ≡ Some (schedule_body lines)
+      → runs_near day (first_record lines) ≡ true → thinned place day live (schedule_key key) ≡ Some (schedule_body (lines_for place lines))
+  schedule_left key lines is_live runs =
+      ap (option_and_then (thin_body place day)) is_live ∙ (λ i. cond (runs i) (Some (schedule_body (lines_for place lines))) None)
+
+  -- what is left of a schedule are the lines that the place needs of a live one
+  schedule_was : (key : ScheduleKey) (lines : List (List ℕ)) → thinned place day live (schedule_key key) ≡ Some (schedule_body lines)
+      → (whole : List (List ℕ)) × (live (schedule_key key) ≡ Some (schedule_body whole)) × (lines_for place whole ≡ lines)
+  schedule_was key lines is = by (then_some (thin_body place day) (live (schedule_key key)) (schedule_body lines) is)
+    where
+      same : (whole : List (List ℕ)) (b : Bool) → cond b (Some (schedule_body (lines_for place whole))) None ≡ Some (schedule_body lines)
+          → lines_for place whole ≡ lines
+      same whole true h = cc
+      same whole false h = none_some (schedule_body lines) h
+
+      of_body : (body : Body) → live (schedule_key key) ≡ Some body → thin_body place day body ≡ Some (schedule_body lines)
+          → (whole : List (List ℕ)) × (live (schedule_key key) ≡ Some (schedule_body whole)) × (lines_for place whole ≡ lines)
+      of_body (schedule_body whole) there left = (whole, there, same whole (runs_near day (first_record whole)) left)
+      of_body (tiploc_body bytes) there left = absurd (let bad : Some (tiploc_body bytes) ≡ Some (schedule_body lines) = left in cc)
+      of_body (association_body line) there left = absurd (let bad : Some (association_body line) ≡ Some (schedule_body lines) = left in cc)
+
+      by : (body : Body) × (live (schedule_key key) ≡ Some body) × (thin_body place day body ≡ Some (schedule_body lines))
+          → (whole : List (List ℕ)) × (live (schedule_key key) ≡ Some (schedule_body whole)) × (lines_for place whole ≡ lines)
+      by found = of_body found.0 found.1 found.2
+
+  -- the thinned table of a table with good bodies stands for it
+  pub thinned_stands : HasGoodBodies live → StandsFor place day live (thinned place day live)
+  thinned_stands good = record {
+    tiploc = here (tiploc_key place) ((bytes_eq-Decides place place).1 refl)
+        (of_tiploc (live (tiploc_key place)) (λ body there. good (tiploc_key place) body there));
+    associations = λ key at_place.
+        here (association_key key) ((bytes_eq-Decides key.location place).1 at_place)
+        (of_association key (live (association_key key)) (λ body there. good (association_key key) body there));
+    schedules = λ key whole is_live runs. (lines_for place whole, schedule_left key whole is_live runs, needed_stand_in place day whole);
+    no_others = λ key lines left runs.
+        let was = schedule_was key lines left in
+        (was.0, was.1, subst (IsStandIn place day was.0) was.2 (needed_stand_in place day was.0));
+  }
+    where
+      here : (key : Key) → may_matter place key ≡ true → option_and_then (thin_body place day) (live key) ≡ live key → thinned place day live key ≡ live key
+      here key matters same = (λ i. cond (matters i) (option_and_then (thin_body place day) (live key)) None) ∙ same
+
+      of_tiploc : (found : Option Body) → ((body : Body) → found ≡ Some body → IsBodyOf (tiploc_key place) body)
+          → option_and_then (thin_body place day) found ≡ found
+      of_tiploc None is = refl
+      of_tiploc (Some (tiploc_body bytes)) is = refl
+      of_tiploc (Some (association_body line)) is = absurd (is (association_body line) refl)
+      of_tiploc (Some (schedule_body lines)) is = absurd (is (schedule_body lines) refl)
+
+      of_association : (key : AssociationKey) (found : Option Body) → ((body : Body) → found ≡ Some body → IsBodyOf (association_key key) body)
+          → option_and_then (thin_body place day) found ≡ found
+      of_association key None is = refl
+      of_association key (Some (association_body line)) is = refl
+      of_association key (Some (tiploc_body bytes)) is = absurd (is (tiploc_body bytes) refl)
+      of_association key (Some (schedule_body lines)) is = absurd (is (schedule_body lines) refl)
+
+  -- the thinned table has good bodies if the table has
+  pub thin_good : HasGoodBodies live → HasGoodBodies (thinned place day live)
+  thin_good good key body left = by (may_matter place key) left
+    where
+      of_body : (whole : Body) (b : Bool) → live key ≡ Some whole → cond b (Some (body_for place whole)) None ≡ Some body → IsBodyOf key body
+      of_body whole true there h =
+          let same : body_for place whole ≡ body = cc in
+          subst (IsBodyOf key) same (needed_is_body place key whole (good key whole there))
+      of_body whole false there h = none_some body h
+
+      by : (b : Bool) → cond b (option_and_then (thin_body place day) (live key)) None ≡ Some body → IsBodyOf key body
+      by true h =
+          let found = then_some (thin_body place day) (live key) body h in
+          of_body found.0 (may_count day (put_with found.0)) found.1 found.2
+      by false h = none_some body h
+
+  module _ (good : HasGoodBodies live) where
+    -- both have the same docker list there on that day
+    pub thin_list_iff : (lines : List DockerLine) → IsDockerList live place day lines ↔ IsDockerList (thinned place day live) place day lines
+    thin_list_iff lines =
+        stand_in_list_iff place day live (thinned place day live) (thinned_stands good) (bodies_few live good)
+        (bodies_few (thinned place day live) (thin_good good)) lines
+
+    -- both have the same docker text
+    pub thin_text_iff : (text : List ℕ) → IsDockerText live place day text ↔ IsDockerText (thinned place day live) place day text
+    thin_text_iff text =
+        stand_in_text_iff place day live (thinned place day live) (thinned_stands good) (bodies_few live good)
+        (bodies_few (thinned place day live) (thin_good good)) text
+
+    -- each excerpt of the thinned table for the place has the same docker list too
+    pub thin_excerpt_list : (part : Table) → IsExcerpt place (thinned place day live) part → (lines : List DockerLine)
+        → IsDockerList live place day lines ↔ IsDockerList part place day lines
+    thin_excerpt_list part is lines =
+        let thin = thin_list_iff lines in
+        let excerpt = excerpt_list_iff place (thinned place day live) part is day lines in
+        (λ told. excerpt.0 (thin.0 told), λ told. thin.1 (excerpt.1 told))
+
+    -- and the same docker text
+    pub thin_excerpt_text : (part : Table) → IsExcerpt place (thinned place day live) part → (text : List ℕ)
+        → IsDockerText live place day text ↔ IsDockerText part place day text
+    thin_excerpt_text part is text =
+        let thin = thin_text_iff text in
+        let excerpt = excerpt_text_iff place (thinned place day live) part is day text in
+        (λ told. excerpt.0 (thin.0 told), λ told. thin.1 (excerpt.1 told))
