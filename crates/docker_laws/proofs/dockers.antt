@@ -30,4 +30,6 @@ pub mod NearDocker
 pub mod NearState
 pub mod ThinBody
 pub mod ThinDocker
+pub mod ThinChanges
+pub mod ThinState
 pub mod NoLinesElsewhere

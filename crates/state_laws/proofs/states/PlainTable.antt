@@ -102,7 +102,8 @@ entries_of file = map (entry_of_change file) (changes file)
 abbrev pub entries_along : List (List (List ℕ)) → List Keyed
 entries_along files = flat_map entries_of files
 
-fold_entries : (file : List (List ℕ)) (table : Table) (cs : List Change) → fold after_change table cs ≡ fold step table (map (entry_of_change file) cs)
+-- the table after changes of a file is the table after their entries
+pub fold_entries : (file : List (List ℕ)) (table : Table) (cs : List Change) → fold after_change table cs ≡ fold step table (map (entry_of_change file) cs)
 fold_entries file table [] = refl
 fold_entries file table (change ∷ cs) = fold_entries file (after_change table change) cs
 
@@ -121,7 +122,8 @@ after_files_is table (file ∷ files) =
 number_below : (m n : ℕ) → m < n → nat_cmp m n ≡ Less
 number_below m n below = λ i. cond (lt-ltb m n below i) Less (cond (m == n) Equal Greater)
 
-within_file : (file : List (List ℕ)) (first second : Change) → Apart first second → Ascends (entry_of_change file first) (entry_of_change file second)
+-- of two entries of a file with one key, the later has a greater stamp
+pub within_file : (file : List (List ℕ)) (first second : Change) → Apart first second → Ascends (entry_of_change file first) (entry_of_change file second)
 within_file file first second (inl below) same =
     (λ i. ordering_then (tied_itself file_stamp_total (file_stamp_of file) i) (number_below first.number second.number below i))
 within_file file first second (inr apart) same = absurd (apart same)

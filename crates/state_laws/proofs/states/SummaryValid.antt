@@ -20,7 +20,8 @@ use Rattle.cif_laws.proofs.files.FileChanges.{file_change}
 
 -- ---- the ledger item of a file
 
-item_good : (file : List (List ℕ)) → IsFile file → IsGoodItem (ledger_item_of file)
+-- it is good
+pub item_good : (file : List (List ℕ)) → IsFile file → IsGoodItem (ledger_item_of file)
 item_good file is =
     subst (λ f. IsGoodItem (ledger_item_of f)) (sym is.whole)
     (let fields = good_fields header is.first is.header_kind is.header_fields in

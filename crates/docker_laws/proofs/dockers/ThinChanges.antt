@@ -1,0 +1,417 @@
+-- The changes that a keeper keeps for a place and a day make the thinned table of the one that all
+-- changes make.
+use Rattle.std.proofs.Common.{arith, append-nil, append_assoc, ◌≡◌, ℕ, List, [], ◌∷◌, ◌++◌, subst, inl, inr, ◌⊎◌, refl, ap, sym, ◌∙◌, Bool, true, false, cond, Some, None, Contains, map}
+use Rattle.std.specs.Prelude.{Option, option_and_then, filter, fold, not}
+use Rattle.std.specs.declared.cmp.Ordering.TheVariants.{Greater}
+use Rattle.std.specs.Ordering.{is_eq, ordering_reverse}
+use Rattle.std.specs.Cmp.{tied_itself}
+use Rattle.std.proofs.lemmas.List.Elements.{Contains-append_cases}
+use Rattle.docker_model.specs.state.Order.{IsBelow, IsAtMost}
+use Rattle.docker_model.specs.file.Journey.{calls_at}
+use Rattle.docker_model.specs.file.File.{first_record}
+use Rattle.docker_model.specs.file.Change.{schedule_body, Key, Body, Act, delete, put, Change}
+use Rattle.docker_model.specs.state.Op.{key_cmp, op_of, body_of, put_with}
+use Rattle.docker_model.specs.state.Table.{Table, empty_table, after_change}
+use Rattle.docker_model.specs.docker.NearDay.{near_starts, may_count, runs_near}
+use Rattle.docker_model.specs.docker.Choice.{runs_within}
+use Rattle.docker_model.specs.records.Field.{as_new}
+use Rattle.cif_laws.proofs.records.Columns.{new_columns}
+use Rattle.std.specs.List.{list_any}
+use Rattle.docker_model.specs.docker.Thinning.{IsThinning, thin_lines, lines_for, body_for, may_matter, thin_body, thinned, thin_act, thin_change, thin_changes, table_of, AreEnough, HasNoChangeOf, AreAtMost, without}
+use Rattle.std.proofs.lemmas.List.{map-append}
+use Rattle.docker_model.specs.docker.Excerpt.{IsSublist}
+use Rattle.cif_laws.proofs.lists.Sublists.{sublist_itself, sublist_filter, sublist_onward, sublist_append, sublist_front}
+use Rattle.cif_laws.proofs.orders.Orders.{same_key, key_total}
+use Rattle.cif_laws.proofs.orders.AtMost.{less_not_greater, at_most_trans}
+use Rattle.cif_laws.proofs.lists.Membership.{cons-Contains, cons-Contains-first, nil-Contains, Contains-single}
+
+-- the test that a change is of the key
+abbrev is_of : Key → Change → Bool
+is_of key change = is_eq (key_cmp change.key key)
+
+-- the body that a change leaves at its key
+abbrev left_by : Act → Option Body
+left_by act = body_of (op_of act)
+
+-- ---- one change
+
+-- a thin act leaves what is left of the body
+thin_left : (place : List ℕ) (day : ℕ) (act : Act) → left_by (thin_act place day act) ≡ option_and_then (thin_body place day) (left_by act)
+thin_left place day delete = refl
+thin_left place day (put body) = by (may_count day (put_with body))
+  where
+    by : (b : Bool) → left_by (cond b (put (body_for place body)) delete) ≡ cond b (Some (body_for place body)) None
+    by true = refl
+    by false = refl
+
+-- the table after a change, at its key and at the others
+after_here : (table : Table) (change : Change) (key : Key) → is_of key change ≡ true → after_change table change key ≡ left_by change.act
+after_here table change key h = λ i. cond (h i) (left_by change.act) (table key)
+
+after_there : (table : Table) (change : Change) (key : Key) → is_of key change ≡ false → after_change table change key ≡ table key
+after_there table change key h = λ i. cond (h i) (left_by change.act) (table key)
+
+-- what is left of a table whose body at the key is this
+left_at : (place : List ℕ) (day : ℕ) (one other : Table) (key : Key) → one key ≡ other key → thinned place day one key ≡ thinned place day other key
+left_at place day one other key same = λ i. cond (may_matter place key) (option_and_then (thin_body place day) (same i)) None
+
+none_or : (b : Bool) → ◌≡◌ {A = Option Body} (cond b None None) None
+none_or true = refl
+none_or false = refl
+
+module _ (place : List ℕ) (day : ℕ) where
+  -- a change of a key that may not matter changes nothing of what is left
+  step_elsewhere : (table : Table) (change : Change) (key : Key) → may_matter place change.key ≡ false
+      → thinned place day (after_change table change) key ≡ thinned place day table key
+  step_elsewhere table change key no_matter = by (is_of key change) refl
+    where
+      nothing : (one : Table) → may_matter place key ≡ false → thinned place day one key ≡ None
+      nothing one h = λ i. cond (h i) (option_and_then (thin_body place day) (one key)) None
+
+      by : (b : Bool) → is_of key change ≡ b → thinned place day (after_change table change) key ≡ thinned place day table key
+      by true h =
+          let none : may_matter place key ≡ false = subst (λ (k : Key). may_matter place k ≡ false) (same_key change.key key h) no_matter in
+          nothing (after_change table change) none ∙ sym (nothing table none)
+      by false h = left_at place day (after_change table change) table key (after_there table change key h)
+
+  -- a change of a key that may matter leaves what the kept change makes
+  step_kept : (table left : Table) (change : Change) (key : Key) → may_matter place change.key ≡ true → left key ≡ thinned place day table key
+      → after_change left (thin_change place day change) key ≡ thinned place day (after_change table change) key
+  step_kept table left change key matters same = by (is_of key change) refl
+    where
+      by : (b : Bool) → is_of key change ≡ b → after_change left (thin_change place day change) key ≡ thinned place day (after_change table change) key
+      by true h =
+          let here : may_matter place key ≡ true = subst (λ (k : Key). may_matter place k ≡ true) (same_key change.key key h) matters in
+          after_here left (thin_change place day change) key h
+          ∙ thin_left place day change.act
+          ∙ sym (λ i. cond (here i) (option_and_then (thin_body place day) (after_here table change key h i)) None)
+      by false h =
+          after_there left (thin_change place day change) key h
+          ∙ same
+          ∙ sym (left_at place day (after_change table change) table key (after_there table change key h))
+
+  -- ---- all changes
+
+  -- the changes that may matter
+  abbrev matter : List Change → List Change
+  matter changes = filter (λ (change : Change). may_matter place change.key) changes
+
+  kept_from : (changes : List Change) (table left : Table) → ((key : Key) → left key ≡ thinned place day table key) → (key : Key)
+      → fold after_change left (thin_changes place day changes) key ≡ thinned place day (fold after_change table changes) key
+  kept_from [] table left same key = same key
+  kept_from (change ∷ changes) table left same key = by (may_matter place change.key) refl (kept_from changes)
+    where
+      by : (b : Bool) → may_matter place change.key ≡ b
+          → ((one other : Table) → ((k : Key) → other k ≡ thinned place day one k) → (k : Key)
+          → fold after_change other (thin_changes place day changes) k ≡ thinned place day (fold after_change one changes) k)
+          → fold after_change left (map (thin_change place day) (cond (may_matter place change.key) (change ∷ matter changes) (matter changes))) key
+          ≡ thinned place day (fold after_change (after_change table change) changes) key
+      by true h rest =
+          (λ i. fold after_change left (map (thin_change place day) (cond (h i) (change ∷ matter changes) (matter changes))) key)
+          ∙ rest (after_change table change) (after_change left (thin_change place day change)) (λ k. step_kept table left change k h (same k)) key
+      by false h rest =
+          (λ i. fold after_change left (map (thin_change place day) (cond (h i) (change ∷ matter changes) (matter changes))) key)
+          ∙ rest (after_change table change) left (λ k. same k ∙ sym (step_elsewhere table change k h)) key
+
+  -- from a thinned table on, the kept changes make the thinned table
+  pub thin_over : (table : Table) (changes : List Change) (key : Key)
+      → fold after_change (thinned place day table) (thin_changes place day changes) key ≡ thinned place day (fold after_change table changes) key
+  thin_over table changes key = kept_from changes table (thinned place day table) (λ k. refl) key
+
+  -- so they do from the empty table on
+  thin_enough : (changes : List Change) → AreEnough place day changes (thin_changes place day changes)
+  thin_enough changes = kept_from changes empty_table empty_table (λ key. sym (none_or (may_matter place key)))
+
+-- ---- change by change
+
+-- the table after one more change
+table_more : (table : Table) (changes : List Change) (change : Change)
+    → fold after_change table (changes ++ change ∷ []) ≡ after_change (fold after_change table changes) change
+table_more table [] change = refl
+table_more table (first ∷ changes) change = table_more (after_change table first) changes change
+
+-- changes of other keys leave a key as it was
+untouched : (changes : List Change) (table : Table) (key : Key) → HasNoChangeOf key changes → fold after_change table changes key ≡ table key
+untouched [] table key none = refl
+untouched (change ∷ changes) table key none =
+    by (is_of key change) refl
+    (untouched changes (after_change table change) key (λ other among. none other (cons-Contains change changes other among)))
+  where
+    by : (b : Bool) → is_of key change ≡ b → fold after_change (after_change table change) changes key ≡ after_change table change key
+        → fold after_change (after_change table change) changes key ≡ table key
+    by true h rest = absurd (none change (cons-Contains-first change changes) (same_key change.key key h))
+    by false h rest = rest ∙ after_there table change key h
+
+-- without the changes of a key, the key is left as it was
+without_here : (key : Key) (changes : List Change) (table : Table) → fold after_change table (without key changes) key ≡ table key
+without_here key [] table = refl
+without_here key (change ∷ changes) table = by (is_of key change) refl (without_here key changes)
+  where
+    by : (b : Bool) → is_of key change ≡ b → ((one : Table) → fold after_change one (without key changes) key ≡ one key)
+        → fold after_change table (cond (not (is_of key change)) (change ∷ without key changes) (without key changes)) key ≡ table key
+    by true h rest = (λ i. fold after_change table (cond (not (h i)) (change ∷ without key changes) (without key changes)) key) ∙ rest table
+    by false h rest =
+        (λ i. fold after_change table (cond (not (h i)) (change ∷ without key changes) (without key changes)) key)
+        ∙ rest (after_change table change)
+        ∙ after_there table change key h
+
+-- and the others are left as they are with them
+without_there : (key other : Key) → is_eq (key_cmp key other) ≡ false → (changes : List Change) (one two : Table) → one other ≡ two other
+    → fold after_change one (without key changes) other ≡ fold after_change two changes other
+without_there key other apart [] one two same = same
+without_there key other apart (change ∷ changes) one two same = by (is_of key change) refl (without_there key other apart changes)
+  where
+    by : (b : Bool) → is_of key change ≡ b
+        → ((first second : Table) → first other ≡ second other → fold after_change first (without key changes) other ≡ fold after_change second changes other)
+        → fold after_change one (cond (not (is_of key change)) (change ∷ without key changes) (without key changes)) other
+        ≡ fold after_change (after_change two change) changes other
+    by true h rest =
+        let elsewhere : is_of other change ≡ false = subst (λ (k : Key). is_eq (key_cmp k other) ≡ false) (sym (same_key change.key key h)) apart in
+        (λ i. fold after_change one (cond (not (h i)) (change ∷ without key changes) (without key changes)) other)
+        ∙ rest one (after_change two change) (same ∙ sym (after_there two change other elsewhere))
+    by false h rest =
+        (λ i. fold after_change one (cond (not (h i)) (change ∷ without key changes) (without key changes)) other)
+        ∙ rest (after_change one change) (after_change two change) (λ i. cond (is_of other change) (left_by change.act) (same i))
+
+module _ (place : List ℕ) (day : ℕ) where
+  enough_at_first : AreEnough place day [] []
+  enough_at_first key = sym (none_or (may_matter place key))
+
+  module _ (changes kept : List Change) (change : Change) (so_far : AreEnough place day changes kept) where
+    all_more : (key : Key) → thinned place day (table_of (changes ++ change ∷ [])) key ≡ thinned place day (after_change (table_of changes) change) key
+    all_more key = ap (λ (table : Table). thinned place day table key) (table_more empty_table changes change)
+
+    -- a change of a key that may not matter is dropped
+    enough_elsewhere : may_matter place change.key ≡ false → AreEnough place day (changes ++ change ∷ []) kept
+    enough_elsewhere no_matter key =
+        so_far key ∙ sym (step_elsewhere place day (table_of changes) change key no_matter) ∙ sym (all_more key)
+
+    -- any other is kept, thin
+    enough_kept : may_matter place change.key ≡ true → AreEnough place day (changes ++ change ∷ []) (kept ++ thin_change place day change ∷ [])
+    enough_kept matters key =
+        (λ i. table_more empty_table kept (thin_change place day change) i key)
+        ∙ step_kept place day (table_of changes) (table_of kept) change key matters (so_far key)
+        ∙ sym (all_more key)
+
+    -- nothing is left of a key that a thin act deletes
+    none_left : thin_act place day change.act ≡ delete → (key : Key) → is_of key change ≡ true
+        → thinned place day (after_change (table_of changes) change) key ≡ None
+    none_left deletes key h =
+        (λ i. cond (may_matter place key) (option_and_then (thin_body place day) (after_here (table_of changes) change key h i)) None)
+        ∙ (λ i. cond (may_matter place key) (gone i) None)
+        ∙ none_or (may_matter place key)
+      where
+        gone : option_and_then (thin_body place day) (left_by change.act) ≡ None
+        gone = sym (thin_left place day change.act) ∙ ap left_by deletes
+
+    same_elsewhere : (key : Key) → is_of key change ≡ false
+        → thinned place day (after_change (table_of changes) change) key ≡ thinned place day (table_of changes) key
+    same_elsewhere key h = left_at place day (after_change (table_of changes) change) (table_of changes) key (after_there (table_of changes) change key h)
+
+    -- a deletion is dropped if no kept change is of its key
+    enough_dropped : thin_act place day change.act ≡ delete → HasNoChangeOf change.key kept → AreEnough place day (changes ++ change ∷ []) kept
+    enough_dropped deletes none key = by (is_of key change) refl
+      where
+        by : (b : Bool) → is_of key change ≡ b → table_of kept key ≡ thinned place day (table_of (changes ++ change ∷ [])) key
+        by true h =
+            let of_key : HasNoChangeOf key kept = subst (λ (k : Key). HasNoChangeOf k kept) (same_key change.key key h) none in
+            untouched kept empty_table key of_key ∙ sym (none_left deletes key h) ∙ sym (all_more key)
+        by false h = so_far key ∙ sym (same_elsewhere key h) ∙ sym (all_more key)
+
+    -- in place of a deletion, the kept changes of its key may go
+    enough_removed : thin_act place day change.act ≡ delete → AreEnough place day (changes ++ change ∷ []) (without change.key kept)
+    enough_removed deletes key = by (is_of key change) refl
+      where
+        by : (b : Bool) → is_of key change ≡ b → table_of (without change.key kept) key ≡ thinned place day (table_of (changes ++ change ∷ [])) key
+        by true h =
+            (λ i. table_of (without (same_key change.key key h i) kept) key)
+            ∙ without_here key kept empty_table
+            ∙ sym (none_left deletes key h)
+            ∙ sym (all_more key)
+        by false h =
+            without_there change.key key h kept empty_table empty_table refl ∙ so_far key ∙ sym (same_elsewhere key h) ∙ sym (all_more key)
+
+    -- and so they may if the change is kept
+    enough_replaced : may_matter place change.key ≡ true
+        → AreEnough place day (changes ++ change ∷ []) (without change.key kept ++ thin_change place day change ∷ [])
+    enough_replaced matters key =
+        (λ i. table_more empty_table (without change.key kept) (thin_change place day change) i key)
+        ∙ by (is_of key change) refl
+      where
+        goal : Type 0
+        goal = after_change (table_of (without change.key kept)) (thin_change place day change) key ≡ thinned place day (table_of (changes ++ change ∷ [])) key
+
+        by : (b : Bool) → is_of key change ≡ b → goal
+        by true h =
+            after_here (table_of (without change.key kept)) (thin_change place day change) key h
+            ∙ sym (after_here (table_of kept) (thin_change place day change) key h)
+            ∙ step_kept place day (table_of changes) (table_of kept) change key matters (so_far key)
+            ∙ sym (all_more key)
+        by false h =
+            after_there (table_of (without change.key kept)) (thin_change place day change) key h
+            ∙ without_there change.key key h kept empty_table empty_table refl
+            ∙ so_far key
+            ∙ sym (same_elsewhere key h)
+            ∙ sym (all_more key)
+
+-- ---- what a keeper may keep
+
+-- some elements of a list give some images
+sublist_map : {A B : Type 0} (f : A → B) (xs ys : List A) → IsSublist xs ys → IsSublist (map f xs) (map f ys)
+sublist_map f [] ys is = tt
+sublist_map f (x ∷ xs) [] is = absurd is
+sublist_map {A} f (x ∷ xs) (y ∷ ys) is = by (sublist_map f xs ys) (sublist_map f (x ∷ xs) ys) is
+  where
+    by : (IsSublist xs ys → IsSublist (map f xs) (map f ys)) → (IsSublist (x ∷ xs) ys → IsSublist (map f (x ∷ xs)) (map f ys))
+        → ((x ≡ y) × IsSublist xs ys) ⊎ IsSublist (x ∷ xs) ys → IsSublist (map f (x ∷ xs)) (map f (y ∷ ys))
+    by both_step skip (inl here) = inl (ap f here.0, both_step here.1)
+    by both_step skip (inr later) = inr (skip later)
+
+module _ (place : List ℕ) (day : ℕ) where
+  -- the kept changes of all changes
+  pub thinning_of_all : (changes : List Change) → IsThinning place day changes (thin_changes place day changes)
+  thinning_of_all changes = record {
+    some = sublist_map (thin_change place day) (filter (λ (change : Change). may_matter place change.key) changes) changes
+        (sublist_filter (λ (change : Change). may_matter place change.key) changes);
+    enough = thin_enough place day changes;
+  }
+
+  -- nothing of no change
+  pub thinning_at_first : IsThinning place day [] []
+  thinning_at_first = record { some = tt; enough = enough_at_first place day }
+
+  module _ (changes kept : List Change) (change : Change) (is : IsThinning place day changes kept) where
+    abbrev before : List Change
+    before = map (thin_change place day) changes
+
+    -- what was some of the changes is some of them with one more
+    still_some : (others : List Change) → IsSublist others kept → IsSublist others (map (thin_change place day) (changes ++ change ∷ []))
+    still_some others inside =
+        subst (IsSublist others) (sym (map-append (thin_change place day) changes (change ∷ [])))
+        (sublist_onward others kept (before ++ thin_change place day change ∷ []) inside
+        (sublist_onward kept before (before ++ thin_change place day change ∷ []) is.some (sublist_front before (thin_change place day change ∷ []))))
+
+    -- and so it is with one more kept
+    some_more : (others : List Change) → IsSublist others kept
+        → IsSublist (others ++ thin_change place day change ∷ []) (map (thin_change place day) (changes ++ change ∷ []))
+    some_more others inside =
+        subst (IsSublist (others ++ thin_change place day change ∷ [])) (sym (map-append (thin_change place day) changes (change ∷ [])))
+        (sublist_append others before (thin_change place day change ∷ []) (thin_change place day change ∷ [])
+        (sublist_onward others kept before inside is.some) (sublist_itself (thin_change place day change ∷ [])))
+
+    -- a change of a key that may not matter is dropped
+    pub thinning_elsewhere : may_matter place change.key ≡ false → IsThinning place day (changes ++ change ∷ []) kept
+    thinning_elsewhere no_matter = record {
+      some = still_some kept (sublist_itself kept);
+      enough = enough_elsewhere place day changes kept change is.enough no_matter;
+    }
+
+    -- any other is kept, thin
+    pub thinning_kept : may_matter place change.key ≡ true → IsThinning place day (changes ++ change ∷ []) (kept ++ thin_change place day change ∷ [])
+    thinning_kept matters = record {
+      some = some_more kept (sublist_itself kept);
+      enough = enough_kept place day changes kept change is.enough matters;
+    }
+
+    -- a deletion is dropped if no kept change is of its key
+    pub thinning_dropped : thin_act place day change.act ≡ delete → HasNoChangeOf change.key kept → IsThinning place day (changes ++ change ∷ []) kept
+    thinning_dropped deletes none = record {
+      some = still_some kept (sublist_itself kept);
+      enough = enough_dropped place day changes kept change is.enough deletes none;
+    }
+
+    -- in place of a deletion, the kept changes of its key may go
+    pub thinning_removed : thin_act place day change.act ≡ delete → IsThinning place day (changes ++ change ∷ []) (without change.key kept)
+    thinning_removed deletes = record {
+      some = still_some (without change.key kept) (sublist_filter (λ (other : Change). not (is_of change.key other)) kept);
+      enough = enough_removed place day changes kept change is.enough deletes;
+    }
+
+    -- and so they may if the change is kept
+    pub thinning_replaced : may_matter place change.key ≡ true
+        → IsThinning place day (changes ++ change ∷ []) (without change.key kept ++ thin_change place day change ∷ [])
+    thinning_replaced matters = record {
+      some = some_more (without change.key kept) (sublist_filter (λ (other : Change). not (is_of change.key other)) kept);
+      enough = enough_replaced place day changes kept change is.enough matters;
+    }
+
+-- all changes of a list are kept, each thin, if they may matter
+pub thinning_more : (place : List ℕ) (day : ℕ) (all kept more : List Change) → IsThinning place day all kept
+    → IsThinning place day (all ++ more) (kept ++ thin_changes place day more)
+thinning_more place day all kept [] is =
+    subst (λ (changes : List Change). IsThinning place day changes (kept ++ [])) (sym (append-nil all))
+    (subst (IsThinning place day all) (sym (append-nil kept)) is)
+thinning_more place day all kept (change ∷ more) is =
+    subst (λ (changes : List Change). IsThinning place day changes (kept ++ thin_changes place day (change ∷ more))) (append_assoc all (change ∷ []) more)
+    (by (may_matter place change.key) refl (λ others so_far. thinning_more place day (all ++ change ∷ []) others more so_far))
+  where
+    rest : List Change
+    rest = filter (λ (c : Change). may_matter place c.key) more
+
+    -- with the change, if the test passes
+    Goal : Bool → Type 0
+    Goal test = IsThinning place day (all ++ change ∷ [] ++ more) (kept ++ map (thin_change place day) (cond test (change ∷ rest) rest))
+
+    by : (b : Bool) → may_matter place change.key ≡ b
+        → ((others : List Change) → IsThinning place day (all ++ change ∷ []) others
+        → IsThinning place day (all ++ change ∷ [] ++ more) (others ++ thin_changes place day more))
+        → Goal (may_matter place change.key)
+    by true h onward =
+        subst Goal (sym h)
+        (subst (IsThinning place day (all ++ change ∷ [] ++ more)) (append_assoc kept (thin_change place day change ∷ []) (thin_changes place day more))
+        (onward (kept ++ thin_change place day change ∷ []) (thinning_kept place day all kept change is h)))
+    by false h onward = subst Goal (sym h) (onward kept (thinning_elsewhere place day all kept change is h))
+
+-- ---- a thin act, case by case
+
+module _ (place : List ℕ) (day : ℕ) (lines : List (List ℕ)) where
+  -- what may not count is deleted
+  pub act_far : runs_near day (first_record lines) ≡ false → thin_act place day (put (schedule_body lines)) ≡ delete
+  act_far far = λ i. cond (far i) (put (schedule_body (lines_for place lines))) delete
+
+  act_near : runs_near day (first_record lines) ≡ true → thin_act place day (put (schedule_body lines)) ≡ put (schedule_body (lines_for place lines))
+  act_near near = λ i. cond (near i) (put (schedule_body (lines_for place lines))) delete
+
+  -- what calls at the place is put as it is
+  pub act_calls : runs_near day (first_record lines) ≡ true → calls_at place lines ≡ true
+      → thin_act place day (put (schedule_body lines)) ≡ put (schedule_body lines)
+  act_calls near calls = act_near near ∙ (λ i. put (schedule_body (cond (calls i) lines (thin_lines lines))))
+
+  -- what doesn't is put with a thin body
+  pub act_thin : runs_near day (first_record lines) ≡ true → calls_at place lines ≡ false
+      → thin_act place day (put (schedule_body lines)) ≡ put (schedule_body (thin_lines lines))
+  act_thin near none = act_near near ∙ (λ i. put (schedule_body (cond (none i) lines (thin_lines lines))))
+
+-- a basic schedule runs near the day with its transaction set to N if it runs near it
+pub near_of_new : (day : ℕ) (line : List ℕ) → runs_near day (as_new line) ≡ runs_near day line
+near_of_new day line = λ i. list_any
+    (λ start. runs_within (new_columns line 10 15 (omega arith) i) (new_columns line 16 21 (omega arith) i) (new_columns line 22 28 (omega arith) i) start)
+    (near_starts day)
+
+-- ---- the greatest key so far
+
+-- nothing of a key above all others was kept
+pub none_above : (highest key : Key) (kept : List Change) → AreAtMost highest kept → IsBelow key_cmp highest key → HasNoChangeOf key kept
+none_above highest key kept low below change among same =
+    low change among (subst (λ (k : Key). key_cmp k highest ≡ Greater) (sym same) (key_total.antisymm key highest ∙ ap ordering_reverse below))
+
+-- no change is above any key at first
+pub none_at_first : (highest : Key) → AreAtMost highest []
+none_at_first highest change among = absurd (nil-Contains change among)
+
+-- with a change of a key that is not above it, none is
+pub still_at_most : (highest : Key) (kept : List Change) (change : Change) → AreAtMost highest kept → IsAtMost key_cmp change.key highest
+    → AreAtMost highest (kept ++ change ∷ [])
+still_at_most highest kept change low more other among = by (Contains-append_cases kept (change ∷ []) other among)
+  where
+    by : Contains kept other ⊎ Contains (change ∷ []) other → IsAtMost key_cmp other.key highest
+    by (inl before) = low other before
+    by (inr last) = subst (λ (c : Change). IsAtMost key_cmp c.key highest) (Contains-single change other last) more
+
+-- with a change of a key above it, that key is the greatest
+pub raised_at_most : (highest : Key) (kept : List Change) (change : Change) → AreAtMost highest kept → IsBelow key_cmp highest change.key
+    → AreAtMost change.key (kept ++ change ∷ [])
+raised_at_most highest kept change low below =
+    still_at_most change.key kept change
+    (λ other among. at_most_trans key_total other.key highest change.key (low other among) (less_not_greater (key_cmp highest change.key) below))
+    (λ greater. let tied = tied_itself key_total change.key in cc)

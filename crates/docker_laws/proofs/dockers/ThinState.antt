@@ -1,0 +1,223 @@
+-- The state of the changes that a keeper keeps of a file is valid, and has the docker of the place
+-- and the day that the file's summary has.
+use Rattle.std.proofs.Common.{◌≡◌, ℕ, ◌-◌, ◌^◌, ◌<◌, ◌≤◌, List, [], ◌∷◌, length, map, subst, inl, inr, ◌⊎◌, refl, ap, sym, ◌∙◌, Bool, true, false, cond, Some, None, Contains, All, arith}
+use Rattle.std.specs.Prelude.{Option, option_and_then, ◌↔◌, fold}
+use Rattle.std.specs.declared.cmp.Ordering.TheVariants.{Less, Greater}
+use Rattle.std.specs.Ordering.{ordering_then}
+use Rattle.std.specs.Cmp.{tied_itself}
+use Rattle.docker_model.specs.records.Date.{IsDay}
+use Rattle.docker_model.specs.file.File.{IsFile, most_records}
+use Rattle.docker_model.specs.file.Change.{Key, Act, delete, put, Body, Change, changes}
+use Rattle.docker_model.specs.state.Order.{IsBelow, IsAtMost}
+use Rattle.docker_model.specs.state.Stamp.{LedgerItem, ledger_item_of, file_stamp_of, stamp_cmp, file_stamp_cmp, IsKept}
+use Rattle.docker_model.specs.state.Op.{Op, deleted, lapsed, Entry, entry_cmp, op_cmp, body_of, op_of, put_with}
+use Rattle.docker_model.specs.state.Table.{Table, empty_table, after_file, IsPlainTable}
+use Rattle.docker_model.specs.state.Lapse.{HasNotToLapse}
+use Rattle.docker_model.specs.state.State.{State, IsValid, IsLedger, IsGoodItem, IsGoodKey, HasGoodBodies, IsGoodEntry, IsOpOf, live_table}
+use Rattle.docker_model.specs.state.Summary.{IsSummary}
+use Rattle.docker_model.specs.docker.DockerLine.{DockerLine}
+use Rattle.docker_model.specs.docker.DockerList.{IsDockerList}
+use Rattle.docker_model.specs.docker.DockerText.{IsDockerText}
+use Rattle.docker_model.specs.docker.NearDay.{may_count}
+use Rattle.docker_model.specs.docker.Thinning.{may_matter, thin_body, body_for, thinned, thin_act, thin_change, table_of, IsThinning, IsStateOfChanges}
+use Rattle.cif_laws.proofs.orders.Orders.{entry_total, file_stamp_total}
+use Rattle.cif_laws.proofs.lists.Membership.{Contains-single, single-Contains, Contains-map, all_members}
+use Rattle.cif_laws.proofs.lists.Later.{AllLater, later_map, later_map_weaker}
+use Rattle.cif_laws.proofs.lists.Sublists.{sublist_member, sublist_later}
+use Rattle.cif_laws.proofs.files.ChangeOrder.{Apart, changes_apart}
+use Rattle.cif_laws.proofs.files.FileChanges.{file_change}
+use Rattle.state_laws.proofs.states.PlainTable.{Keyed, Found, NotFound, find_in, one_per_key, live_at, live_none, Ascends, NoneThere, LastThere, last_there, step, entry_of_change, fold_entries, within_file}
+use Rattle.state_laws.proofs.states.PlainLive.{lapse_table_none}
+use Rattle.state_laws.proofs.states.LapsedPlainTable.{live_is_plain}
+use Rattle.state_laws.proofs.states.SummaryValid.{item_good, summary_is_valid}
+use Rattle.docker_laws.proofs.dockers.GoodBodies.{good_bodies}
+use Rattle.docker_laws.proofs.dockers.ThinBody.{needed_is_body}
+use Rattle.docker_laws.proofs.dockers.ThinDocker.{thin_list_iff, thin_text_iff}
+
+-- ---- the live table
+
+module _ (file : List (List ℕ)) (kept : List Change) (state : State) (of : IsStateOfChanges file kept state) where
+  abbrev entries : List Keyed
+  entries = map (entry_of_change file) kept
+
+  at_least : (entry other : Entry) → (other ≡ entry) ⊎ IsBelow stamp_cmp other.stamp entry.stamp → IsAtMost entry_cmp other entry
+  at_least entry other (inl same) greater =
+      let self : entry_cmp entry entry ≡ Greater = subst (λ e. entry_cmp e entry ≡ Greater) same greater in
+      let tied = tied_itself entry_total entry in cc
+  at_least entry other (inr below) greater =
+      let less : entry_cmp other entry ≡ Less = (λ i. ordering_then (below i) (op_cmp other.op entry.op)) in cc
+
+  -- the live table of the changes' state is the table that they make, if the later change of a key
+  -- has the higher number
+  live_is_made : AllLater Apart kept → (key : Key) → live_table state key ≡ table_of kept key
+  live_is_made apart key =
+      by (last_there entries empty_table key (later_map_weaker (entry_of_change file) Apart Ascends (within_file file) kept apart)) (find_in state.entries key)
+      ∙ sym (λ i. fold_entries file empty_table kept i key)
+    where
+      by : NoneThere entries empty_table key ⊎ LastThere entries empty_table key → Found state.entries key ⊎ NotFound state.entries key
+          → live_table state key ≡ fold step empty_table entries key
+      by (inl none) (inl found) = absurd (none.0 found.0.1 ((of.entries key found.0.1).0 found.2).among)
+      by (inl none) (inr gone) = live_none state key gone.0 ∙ sym none.1
+      by (inr last) (inl found) =
+          let there = (of.entries key last.0).1 (record { among = last.1; greatest = λ other among. at_least last.0 other (last.3 other among) }) in
+          let same = one_per_key state.entries of.ascending key found.0.1 last.0 found.2 there in
+          live_at state key found.0 found.1 ∙ ap (λ (entry : Entry). body_of entry.op) same ∙ sym last.2
+      by (inr last) (inr gone) =
+          absurd (gone.1 last.0 ((of.entries key last.0).1 (record {
+            among = last.1;
+            greatest = λ other among. at_least last.0 other (last.3 other among);
+          })))
+
+-- the live table of a file's summary is the table of its changes
+pub live_of_summary : (file : List (List ℕ)) (whole : State) → IsSummary (file ∷ []) 0 whole → (key : Key)
+    → live_table whole key ≡ after_file empty_table file key
+live_of_summary file whole summary key =
+    live_is_plain (file ∷ []) 0 whole (after_file empty_table file) summary plain key ∙ lapse_table_none (after_file empty_table file) key
+  where
+    plain : IsPlainTable (file ∷ []) (after_file empty_table file)
+    plain = record {
+      ordered = file ∷ [];
+      order = record { same = λ other. (λ among. among, λ among. among); ascending = (tt, tt) };
+      is = λ other. refl;
+    }
+
+-- ---- what is kept of a file
+
+module _ (place : List ℕ) (day : ℕ) (file : List (List ℕ)) (kept : List Change) (is : IsThinning place day (changes file) kept) where
+  -- of two kept changes of one key, the later has the higher number
+  kept_apart : AllLater Apart kept
+  kept_apart =
+      sublist_later Apart kept (map (thin_change place day) (changes file)) is.some
+      (later_map Apart (thin_change place day) (changes file) (changes_apart 1 file))
+
+  -- a kept change is the thin one of a change of the file
+  was_change : (change : Change) → Contains kept change → (whole : Change) × Contains (changes file) whole × (thin_change place day whole ≡ change)
+  was_change change among =
+      Contains-map (thin_change place day) (changes file) change (sublist_member kept (map (thin_change place day) (changes file)) change is.some among)
+
+  -- the live table of the state of what is kept is the thinned table of the file's
+  pub thin_live : (state : State) → IsStateOfChanges file kept state → (key : Key) → live_table state key ≡ thinned place day (after_file empty_table file) key
+  thin_live state of key = live_is_made file kept state of kept_apart key ∙ is.enough key
+
+-- what a thin act leaves is a body of the key
+thin_op : (place : List ℕ) (day : ℕ) (key : Key) (act : Act) → IsOpOf key (op_of act) → IsOpOf key (op_of (thin_act place day act))
+thin_op place day key delete good = tt
+thin_op place day key (put body) good = by (may_count day (put_with body))
+  where
+    by : (b : Bool) → IsOpOf key (op_of (cond b (put (body_for place body)) delete))
+    by true = needed_is_body place key body good
+    by false = tt
+
+-- ---- the state is valid
+
+-- the ledger of one good item is good
+ledger_of_one : (item : LedgerItem) → IsGoodItem item → IsLedger (item ∷ [])
+ledger_of_one item good = by good.indicator
+  where
+    itself : IsAtMost file_stamp_cmp item.stamp item.stamp
+    itself greater = let tied = tied_itself file_stamp_total item.stamp in cc
+
+    is_item : (P : LedgerItem → Type 0) → P item → (other : LedgerItem) → Contains (item ∷ []) other → P other
+    is_item P here other among = subst P (Contains-single item other among) here
+
+    by : (item.indicator ≡ 70) ⊎ (item.indicator ≡ 85) → IsLedger (item ∷ [])
+    by (inl full) = record {
+      each = all_members IsGoodItem (item ∷ []) (is_item IsGoodItem good);
+      ascending = (tt, tt);
+      floor = Some item.stamp;
+      is_floor = record {
+        full = item;
+        among = single-Contains item item refl;
+        is_full = full;
+        stamped = refl;
+        greatest = λ other among is_full. is_item (λ (i : LedgerItem). IsAtMost file_stamp_cmp i.stamp item.stamp) itself other among;
+      };
+      kept = all_members (λ (i : LedgerItem). IsKept (Some item.stamp) i.stamp) (item ∷ [])
+          (is_item (λ (i : LedgerItem). IsKept (Some item.stamp) i.stamp) itself);
+    }
+    by (inr update) = record {
+      each = all_members IsGoodItem (item ∷ []) (is_item IsGoodItem good);
+      ascending = (tt, tt);
+      floor = None;
+      is_floor = λ other among full.
+          let same : item.indicator ≡ 70 = ap (λ (i : LedgerItem). i.indicator) (Contains-single item other among) ∙ full in
+          omega (arith, same, update);
+      kept = all_members (λ (i : LedgerItem). IsKept None i.stamp) (item ∷ []) (is_item (λ (i : LedgerItem). IsKept None i.stamp) tt);
+    }
+
+-- without a horizon nothing has to lapse
+pub no_lapse : (op : Op) → HasNotToLapse 0 op
+no_lapse deleted = tt
+no_lapse lapsed = tt
+no_lapse (put_with body) = omega arith
+
+-- a kept change of a file is well formed, and its number is the number of a record after the header
+pub kept_good : (place : List ℕ) (day : ℕ) (file : List (List ℕ)) → IsFile file → length file ≤ most_records → (kept : List Change)
+    → IsThinning place day (changes file) kept → (change : Change) → Contains kept change
+    → (IsGoodKey change.key × IsOpOf change.key (op_of change.act)) × ((2 ≤ change.number) × (change.number < 2 ^ 32 - 1))
+kept_good place day file is_file few kept is change among =
+    let was = was_change place day file kept is change among in
+    let told = file_change file is_file few was.0 was.1 in
+    subst (λ (c : Change). (IsGoodKey c.key × IsOpOf c.key (op_of c.act)) × ((2 ≤ c.number) × (c.number < 2 ^ 32 - 1))) was.2
+    ((told.good.0, thin_op place day was.0.key was.0.act told.good.1), (told.low, told.high))
+
+module _ (place : List ℕ) (day : ℕ) (file : List (List ℕ)) (is_file : IsFile file) (few : length file ≤ most_records) (kept : List Change)
+    (is : IsThinning place day (changes file) kept) (state : State) (of : IsStateOfChanges file kept state) where
+  in_ledger : Contains (map (λ (item : LedgerItem). item.stamp) state.ledger) (file_stamp_of file)
+  in_ledger =
+      subst (λ items. Contains (map (λ (item : LedgerItem). item.stamp) items) (file_stamp_of file)) (sym of.ledger)
+      (single-Contains (file_stamp_of file) (file_stamp_of file) refl)
+
+  -- the entry of a kept change is good
+  entry_good : (change : Change) → Contains kept change → IsGoodEntry state.ledger (entry_of_change file change)
+  entry_good change among =
+      let told = kept_good place day file is_file few kept is change among in
+      record { key = told.0.0; stamp = record { in_ledger = in_ledger; low = told.1.0; high = told.1.1 }; op = told.0.1 }
+
+  -- the state of what is kept is valid
+  pub thin_valid : IsValid state
+  thin_valid = record {
+    horizon = subst IsDay (sym of.horizon) (omega arith);
+    ledger = subst IsLedger (sym of.ledger) (ledger_of_one (ledger_item_of file) (item_good file is_file));
+    entries = (
+      all_members (IsGoodEntry state.ledger) state.entries (λ entry among.
+          let told = (of.entries entry.0 entry.1).0 among in
+          let found = Contains-map (entry_of_change file) kept (entry.0, entry.1) told.among in
+          subst (IsGoodEntry state.ledger) found.2 (entry_good found.0 found.1)),
+      of.ascending,
+    );
+    have_lapsed = all_members (λ (entry : Keyed). HasNotToLapse state.horizon entry.1.op) state.entries
+        (λ entry among. subst (λ horizon. HasNotToLapse horizon entry.1.op) (sym of.horizon) (no_lapse entry.1.op));
+  }
+
+  -- ---- the summary of the file
+
+  module _ (whole : State) (summary : IsSummary (file ∷ []) 0 whole) where
+    whole_good : HasGoodBodies (live_table whole)
+    whole_good =
+        good_bodies whole
+        (summary_is_valid (file ∷ []) 0 whole (omega arith) (all_of_one IsFile is_file) (all_of_one (λ f. length f ≤ most_records) few) summary)
+      where
+        all_of_one : (P : List (List ℕ) → Type 0) → P file → All P (file ∷ [])
+        all_of_one P here = all_members P (file ∷ []) (λ other among. subst P (Contains-single file other among) here)
+
+    same_live : thinned place day (live_table whole) ≡ live_table state
+    same_live = λ i key. same key i
+      where
+        same : (key : Key) → thinned place day (live_table whole) key ≡ live_table state key
+        same key =
+            ap (λ (found : Option Body). cond (may_matter place key) (option_and_then (thin_body place day) found) None)
+            (live_of_summary file whole summary key)
+            ∙ sym (thin_live place day file kept is state of key)
+
+    -- the state of what is kept has the same docker list
+    pub thin_state_list : (lines : List DockerLine) → IsDockerList (live_table whole) place day lines ↔ IsDockerList (live_table state) place day lines
+    thin_state_list lines =
+        subst (λ (table : Table). IsDockerList (live_table whole) place day lines ↔ IsDockerList table place day lines) same_live
+        (thin_list_iff place day (live_table whole) whole_good lines)
+
+    -- and the same docker text
+    pub thin_state_text : (text : List ℕ) → IsDockerText (live_table whole) place day text ↔ IsDockerText (live_table state) place day text
+    thin_state_text text =
+        subst (λ (table : Table). IsDockerText (live_table whole) place day text ↔ IsDockerText table place day text) same_live
+        (thin_text_iff place day (live_table whole) whole_good text)
