@@ -32,4 +32,5 @@ pub mod ThinBody
 pub mod ThinDocker
 pub mod ThinChanges
 pub mod ThinState
+pub mod FileSummary
 pub mod NoLinesElsewhere

@@ -1,1 +1,2 @@
 pub mod LawTerms
+pub mod FileSummary

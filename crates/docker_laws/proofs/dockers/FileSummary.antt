@@ -1,0 +1,343 @@
+-- The summary of one file, made entry by entry: it is the summary, and the join of nothing with it.
+use Rattle.std.proofs.Common.{◌≡◌, ℕ, List, [], ◌∷◌, length, append-nil, refl, ap, sym, ◌∙◌, subst, inl, inr, ◌⊎◌, Some, None, Bool, true, false, Contains, All, ◌≤◌, arith}
+use Rattle.std.specs.Prelude.{Option, ◌↔◌, ◌==◌}
+use Rattle.std.specs.declared.cmp.Ordering.{Ordering}
+use Rattle.std.specs.declared.cmp.Ordering.TheVariants.{Less, Equal, Greater}
+use Rattle.std.specs.Ordering.{ordering_reverse, ordering_then}
+use Rattle.std.specs.Cmp.{tied_itself}
+use Rattle.std.specs.List.{AllByRecursion}
+use Rattle.std.proofs.Math.Nat.{max-eq_right}
+use Rattle.std.proofs.lemmas.Bool.{eqb-true, eq-eqb}
+use Rattle.docker_model.specs.file.File.{IsFile, most_records}
+use Rattle.docker_model.specs.file.Change.{Key, changes}
+use Rattle.docker_model.specs.state.Order.{IsBelow, IsAtMost}
+use Rattle.docker_model.specs.state.Stamp.{FileStamp, LedgerItem, ledger_item_of, file_stamp_of, file_stamp_cmp, stamp_cmp, IsFloor, IsKept}
+use Rattle.docker_model.specs.state.Op.{Entry, key_cmp, entry_cmp, op_cmp}
+use Rattle.docker_model.specs.state.Lapse.{lapse_entry, HasNotToLapse}
+use Rattle.docker_model.specs.state.State.{State, AreAscending, IsGreatestAmong, IsGoodEntry, IsValid, IsJoin}
+use Rattle.docker_model.specs.state.Summary.{IsSummary}
+use Rattle.docker_laws.specs.FileSummary.{placed, with_earlier, latest_entries, summary_of}
+use Rattle.cif_laws.proofs.orders.Orders.{key_total, exact_key, entry_total, file_stamp_total}
+use Rattle.cif_laws.proofs.orders.AtMost.{at_most_itself, at_most_below}
+use Rattle.cif_laws.proofs.lists.Membership.{Contains-cons, cons-Contains, cons-Contains-first, nil-Contains, Contains-single, single-Contains, Contains-map, below_by_recursion, each_member, all_members, member_of}
+use Rattle.cif_laws.proofs.lists.Later.{AllLater, later_map_weaker}
+use Rattle.cif_laws.proofs.files.ChangeOrder.{Apart, changes_apart}
+use Rattle.state_laws.proofs.states.PlainTable.{Keyed, Ascends, one_per_key, entry_of_change, entries_of, within_file}
+use Rattle.state_laws.proofs.states.GreatestEntry.{NoEntry, GreatestEntry, greatest_in}
+use Rattle.state_laws.proofs.states.ReducedEntries.{IsReduced}
+use Rattle.state_laws.proofs.states.SummaryReduced.{reduced_summary}
+use Rattle.state_laws.proofs.states.SummaryValid.{summary_is_valid}
+use Rattle.state_laws.proofs.states.Lapse.{entry_stays}
+use Rattle.docker_laws.proofs.dockers.ThinState.{no_lapse}
+
+-- ---- keys
+
+not_both : (a b : Key) → key_cmp a b ≡ Less → ¬ (key_cmp b a ≡ Less)
+not_both a b less back =
+    let greater : key_cmp a b ≡ Greater = key_total.antisymm a b ∙ ap ordering_reverse back in
+    cc
+
+not_itself : (a : Key) → ¬ (key_cmp a a ≡ Less)
+not_itself a less = let tied = tied_itself key_total a in cc
+
+-- ---- one more entry
+
+-- a member is one of the entries, or it is the new one, and they have none of its key
+member_forth : (entry : Keyed) (entries : List Keyed) → AreAscending entries → (z : Keyed) → Contains (with_earlier entry entries) z
+    → Contains entries z ⊎ ((entry ≡ z) × NoEntry entries entry.0)
+member_forth entry [] up z among = inr (Contains-single entry z among, λ other inside. nil-Contains (entry.0, other) inside)
+member_forth entry (first ∷ entries) up z among = by (key_cmp entry.0 first.0) refl (member_forth entry entries up.1 z) among
+  where
+    key_below : key_cmp entry.0 first.0 ≡ Less → (other : Entry) → (first ≡ (entry.0, other)) ⊎ Contains entries (entry.0, other) → ⊥
+    key_below less other (inl same) = not_itself entry.0 (subst (λ (k : Key). key_cmp entry.0 k ≡ Less) (ap (λ (pair : Keyed). pair.0) same) less)
+    key_below less other (inr inside) =
+        not_both entry.0 first.0 less (below_by_recursion (λ (later : Keyed). key_cmp first.0 later.0 ≡ Less) entries (entry.0, other) up.0 inside)
+
+    key_above : key_cmp entry.0 first.0 ≡ Greater → NoEntry entries entry.0 → (other : Entry)
+        → (first ≡ (entry.0, other)) ⊎ Contains entries (entry.0, other) → ⊥
+    key_above greater none other (inl same) =
+        let self : key_cmp entry.0 entry.0 ≡ Greater = subst (λ (k : Key). key_cmp entry.0 k ≡ Greater) (ap (λ (pair : Keyed). pair.0) same) greater in
+        let tied = tied_itself key_total entry.0 in
+        cc
+    key_above greater none other (inr inside) = none other inside
+
+    before : key_cmp entry.0 first.0 ≡ Less → (entry ≡ z) ⊎ Contains (first ∷ entries) z
+        → Contains (first ∷ entries) z ⊎ ((entry ≡ z) × NoEntry (first ∷ entries) entry.0)
+    before less (inl same) = inr (same, λ other inside. key_below less other (Contains-cons first entries (entry.0, other) inside))
+    before less (inr later) = inl later
+
+    onward : key_cmp entry.0 first.0 ≡ Greater → Contains entries z ⊎ ((entry ≡ z) × NoEntry entries entry.0)
+        → Contains (first ∷ entries) z ⊎ ((entry ≡ z) × NoEntry (first ∷ entries) entry.0)
+    onward greater (inl inside) = inl (cons-Contains first entries z inside)
+    onward greater (inr new) = inr (new.0, λ other inside. key_above greater new.1 other (Contains-cons first entries (entry.0, other) inside))
+
+    after : key_cmp entry.0 first.0 ≡ Greater → (Contains (with_earlier entry entries) z → Contains entries z ⊎ ((entry ≡ z) × NoEntry entries entry.0))
+        → (first ≡ z) ⊎ Contains (with_earlier entry entries) z → Contains (first ∷ entries) z ⊎ ((entry ≡ z) × NoEntry (first ∷ entries) entry.0)
+    after greater rest (inl same) = inl (subst (Contains (first ∷ entries)) same (cons-Contains-first first entries))
+    after greater rest (inr later) = onward greater (rest later)
+
+    by : (o : Ordering) → key_cmp entry.0 first.0 ≡ o
+        → (Contains (with_earlier entry entries) z → Contains entries z ⊎ ((entry ≡ z) × NoEntry entries entry.0))
+        → Contains (placed o entry first entries (with_earlier entry entries)) z
+        → Contains (first ∷ entries) z ⊎ ((entry ≡ z) × NoEntry (first ∷ entries) entry.0)
+    by Less h rest inside = before h (Contains-cons entry (first ∷ entries) z inside)
+    by Equal h rest inside = inl inside
+    by Greater h rest inside = after h rest (Contains-cons first (with_earlier entry entries) z inside)
+
+-- the entries stay members
+member_still : (entry : Keyed) (entries : List Keyed) (z : Keyed) → Contains entries z → Contains (with_earlier entry entries) z
+member_still entry [] z among = absurd (nil-Contains z among)
+member_still entry (first ∷ entries) z among =
+    by (key_cmp entry.0 first.0) (λ inside. member_still entry entries z inside) (Contains-cons first entries z among)
+  where
+    by : (o : Ordering) → (Contains entries z → Contains (with_earlier entry entries) z) → (first ≡ z) ⊎ Contains entries z
+        → Contains (placed o entry first entries (with_earlier entry entries)) z
+    by Less rest either = cons-Contains entry (first ∷ entries) z among
+    by Equal rest either = among
+    by Greater rest (inl same) = subst (Contains (first ∷ with_earlier entry entries)) same (cons-Contains-first first (with_earlier entry entries))
+    by Greater rest (inr inside) = cons-Contains first (with_earlier entry entries) z (rest inside)
+
+-- the new one is a member if they have none of its key
+member_new : (entry : Keyed) (entries : List Keyed) → NoEntry entries entry.0 → Contains (with_earlier entry entries) entry
+member_new entry [] none = cons-Contains-first entry []
+member_new entry (first ∷ entries) none =
+    by (key_cmp entry.0 first.0) refl (member_new entry entries (λ other inside. none other (cons-Contains first entries (entry.0, other) inside)))
+  where
+    by : (o : Ordering) → key_cmp entry.0 first.0 ≡ o → Contains (with_earlier entry entries) entry
+        → Contains (placed o entry first entries (with_earlier entry entries)) entry
+    by Less h rest = cons-Contains-first entry (first ∷ entries)
+    by Equal h rest =
+        let same : entry.0 ≡ first.0 = exact_key entry.0 first.0 h in
+        absurd (none first.1 (subst (Contains (first ∷ entries)) (λ i. (sym same i, first.1)) (cons-Contains-first first entries)))
+    by Greater h rest = cons-Contains first (with_earlier entry entries) entry rest
+
+-- the entries stay in key order
+still_ascends : (entry : Keyed) (entries : List Keyed) → AreAscending entries → AreAscending (with_earlier entry entries)
+still_ascends entry [] up = (tt, tt)
+still_ascends entry (first ∷ entries) up = by (key_cmp entry.0 first.0) refl (still_ascends entry entries up.1)
+  where
+    -- the new one is below all
+    below_all : key_cmp entry.0 first.0 ≡ Less → (z : Keyed) → (first ≡ z) ⊎ Contains entries z → key_cmp entry.0 z.0 ≡ Less
+    below_all less z (inl same) = subst (λ (later : Keyed). key_cmp entry.0 later.0 ≡ Less) same less
+    below_all less z (inr inside) =
+        key_total.trans entry.0 first.0 z.0 less (below_by_recursion (λ (later : Keyed). key_cmp first.0 later.0 ≡ Less) entries z up.0 inside)
+
+    -- the first one is below the rest
+    above_first : key_cmp entry.0 first.0 ≡ Greater → (z : Keyed) → Contains entries z ⊎ ((entry ≡ z) × NoEntry entries entry.0) → key_cmp first.0 z.0 ≡ Less
+    above_first greater z (inl inside) = below_by_recursion (λ (later : Keyed). key_cmp first.0 later.0 ≡ Less) entries z up.0 inside
+    above_first greater z (inr new) =
+        subst (λ (later : Keyed). key_cmp first.0 later.0 ≡ Less) new.0 (key_total.antisymm first.0 entry.0 ∙ ap ordering_reverse greater)
+
+    by : (o : Ordering) → key_cmp entry.0 first.0 ≡ o → AreAscending (with_earlier entry entries)
+        → AreAscending (placed o entry first entries (with_earlier entry entries))
+    by Less h rest = (
+      each_member (λ (later : Keyed). key_cmp entry.0 later.0 ≡ Less) (first ∷ entries)
+          (λ z inside. below_all h z (Contains-cons first entries z inside)),
+      up,
+    )
+    by Equal h rest = up
+    by Greater h rest = (
+      each_member (λ (later : Keyed). key_cmp first.0 later.0 ≡ Less) (with_earlier entry entries)
+          (λ z inside. above_first h z (member_forth entry entries up.1 z inside)),
+      rest,
+    )
+
+-- ---- the last entries
+
+latest_ascend : (entries : List Keyed) → AreAscending (latest_entries entries)
+latest_ascend [] = tt
+latest_ascend (entry ∷ entries) = still_ascends entry (latest_entries entries) (latest_ascend entries)
+
+-- an earlier entry of the same key is not above a later one
+not_above : (entry : Keyed) (entries : List Keyed) (key : Key) (last : Entry) → AllByRecursion (Ascends entry) entries → Contains entries (key, last)
+    → (other : Entry) → entry ≡ (key, other) → entry_cmp other last ≡ Less
+not_above entry entries key last up inside other same =
+    let of_key : entry.0 ≡ key = ap (λ (pair : Keyed). pair.0) same in
+    let below : IsBelow stamp_cmp entry.1.stamp last.stamp = below_by_recursion (Ascends entry) entries (key, last) up inside of_key in
+    let other_below : IsBelow stamp_cmp other.stamp last.stamp = subst (λ (pair : Keyed). IsBelow stamp_cmp pair.1.stamp last.stamp) same below in
+    (λ i. ordering_then (other_below i) (op_cmp other.op last.op))
+
+-- they are the greatest of each key, if a later entry of a key has a greater stamp
+latest_is : (entries : List Keyed) → AllLater Ascends entries → (key : Key) (entry : Entry)
+    → Contains (latest_entries entries) (key, entry) ↔ IsGreatestAmong entries key entry
+latest_is [] up key entry = (λ among. absurd (nil-Contains (key, entry) among), λ is. absurd (nil-Contains (key, entry) is.among))
+latest_is (first ∷ entries) up key entry = (forth (latest_is entries up.1 key), back (latest_is entries up.1 key))
+  where
+    Latest : Type 0
+    Latest = (other : Entry) → Contains (latest_entries entries) (key, other) ↔ IsGreatestAmong entries key other
+
+    -- no entry of the key among the last ones is none at all
+    none_of : Latest → NoEntry (latest_entries entries) key → NoEntry entries key ⊎ GreatestEntry entries key → NoEntry entries key
+    none_of later none (inl never) = never
+    none_of later none (inr best) = absurd (none best.0 ((later best.0).1 (record { among = best.1; greatest = best.2 })))
+
+    as_later : IsGreatestAmong entries key entry → IsGreatestAmong (first ∷ entries) key entry
+    as_later is = record {
+      among = cons-Contains first entries (key, entry) is.among;
+      greatest = λ other among. by other (Contains-cons first entries (key, other) among);
+    }
+      where
+        by : (other : Entry) → (first ≡ (key, other)) ⊎ Contains entries (key, other) → IsAtMost entry_cmp other entry
+        by other (inl same) = at_most_below entry_cmp other entry (not_above first entries key entry up.0 is.among other same)
+        by other (inr inside) = is.greatest other inside
+
+    as_first : first ≡ (key, entry) → NoEntry entries key → IsGreatestAmong (first ∷ entries) key entry
+    as_first same none = record {
+      among = subst (Contains (first ∷ entries)) same (cons-Contains-first first entries);
+      greatest = λ other among. by other (Contains-cons first entries (key, other) among);
+    }
+      where
+        by : (other : Entry) → (first ≡ (key, other)) ⊎ Contains entries (key, other) → IsAtMost entry_cmp other entry
+        by other (inl too) =
+            subst (λ (e : Entry). IsAtMost entry_cmp e entry) (ap (λ (pair : Keyed). pair.1) (sym same ∙ too)) (at_most_itself entry_total entry)
+        by other (inr inside) = absurd (none other inside)
+
+    of_key : first ≡ (key, entry) → NoEntry (latest_entries entries) first.0 → NoEntry (latest_entries entries) key
+    of_key same none = subst (NoEntry (latest_entries entries)) (ap (λ (pair : Keyed). pair.0) same) none
+
+    forth : Latest → Contains (with_earlier first (latest_entries entries)) (key, entry) → IsGreatestAmong (first ∷ entries) key entry
+    forth later among = by (member_forth first (latest_entries entries) (latest_ascend entries) (key, entry) among)
+      where
+        by : Contains (latest_entries entries) (key, entry) ⊎ ((first ≡ (key, entry)) × NoEntry (latest_entries entries) first.0)
+            → IsGreatestAmong (first ∷ entries) key entry
+        by (inl inside) = as_later ((later entry).0 inside)
+        by (inr new) = as_first new.0 (none_of later (of_key new.0 new.1) (greatest_in entries key))
+
+    back : Latest → IsGreatestAmong (first ∷ entries) key entry → Contains (with_earlier first (latest_entries entries)) (key, entry)
+    back later is = by (Contains-cons first entries (key, entry) is.among)
+      where
+        alone : first ≡ (key, entry) → NoEntry entries key ⊎ GreatestEntry entries key → Contains (with_earlier first (latest_entries entries)) (key, entry)
+        alone same (inl none) =
+            subst (Contains (with_earlier first (latest_entries entries))) same
+            (member_new first (latest_entries entries) (λ other inside. none_here other (subst (λ (k : Key). Contains (latest_entries entries) (k, other))
+            (ap (λ (pair : Keyed). pair.0) same) inside)))
+          where
+            none_here : (other : Entry) → ¬ Contains (latest_entries entries) (key, other)
+            none_here other inside = none other ((later other).0 inside).among
+        alone same (inr best) =
+            let less = not_above first entries key best.0 up.0 best.1 entry same in
+            let greater : entry_cmp best.0 entry ≡ Greater = entry_total.antisymm best.0 entry ∙ ap ordering_reverse less in
+            absurd (is.greatest best.0 (cons-Contains first entries (key, best.0) best.1) greater)
+
+        by : (first ≡ (key, entry)) ⊎ Contains entries (key, entry) → Contains (with_earlier first (latest_entries entries)) (key, entry)
+        by (inl same) = alone same (greatest_in entries key)
+        by (inr inside) =
+            member_still first (latest_entries entries) (key, entry)
+            ((later entry).1 (record { among = inside; greatest = λ other among. is.greatest other (cons-Contains first entries (key, other) among) }))
+
+-- ---- the summary
+
+module _ (file : List (List ℕ)) where
+  -- a file's own stamp is kept under its floor
+  floor_of : (b : Bool) → ((ledger_item_of file).indicator == 70) ≡ b
+      → (floor : Option FileStamp) × IsFloor (ledger_item_of file ∷ []) floor × IsKept floor (file_stamp_of file)
+  floor_of true h = (
+    Some (file_stamp_of file),
+    record {
+      full = ledger_item_of file;
+      among = single-Contains (ledger_item_of file) (ledger_item_of file) refl;
+      is_full = eqb-true (ledger_item_of file).indicator 70 h;
+      stamped = refl;
+      greatest = λ other among full.
+          subst (λ (item : LedgerItem). IsAtMost file_stamp_cmp item.stamp (file_stamp_of file)) (Contains-single (ledger_item_of file) other among)
+          (at_most_itself file_stamp_total (file_stamp_of file));
+    },
+    at_most_itself file_stamp_total (file_stamp_of file),
+  )
+  floor_of false h = (
+    None,
+    λ other among full.
+        let is : ledger_item_of file ≡ other = Contains-single (ledger_item_of file) other among in
+        let same : (ledger_item_of file).indicator ≡ 70 = ap (λ (item : LedgerItem). item.indicator) is ∙ full in
+        let bad : false ≡ true = sym h ∙ eq-eqb (ledger_item_of file).indicator 70 same in
+        (let worse : false ≡ true = bad in cc),
+    tt,
+  )
+
+  abbrev at : (floor : Option FileStamp) × IsFloor (ledger_item_of file ∷ []) floor × IsKept floor (file_stamp_of file)
+  at = floor_of ((ledger_item_of file).indicator == 70) refl
+
+  ascends : AllLater Ascends (entries_of file)
+  ascends = later_map_weaker (entry_of_change file) Apart Ascends (within_file file) (changes file) (changes_apart 1 file)
+
+  stays : (entry : Entry) → lapse_entry 0 entry ≡ entry
+  stays entry = entry_stays 0 entry (no_lapse entry.op)
+
+  kept : (key : Key) (entry : Entry) → Contains (entries_of file) (key, entry) → IsKept at.0 entry.stamp.file
+  kept key entry among =
+      let found = Contains-map (entry_of_change file) (changes file) (key, entry) among in
+      subst (λ (pair : Keyed). IsKept at.0 pair.1.stamp.file) found.2 at.2
+
+  reduced : IsReduced (ledger_item_of file ∷ []) (entries_of file) (summary_of file)
+  reduced = record {
+    floor = at.0;
+    is_floor = at.1;
+    ledger_ascends = (tt, tt);
+    ledger = λ item. (
+      λ among. (among, subst (λ (i : LedgerItem). IsKept at.0 i.stamp) (Contains-single (ledger_item_of file) item among) at.2),
+      λ told. told.0,
+    );
+    entries_ascend = latest_ascend (entries_of file);
+    of_keys = λ key entry. (
+      λ among.
+          let greatest = (latest_is (entries_of file) ascends key entry).0 among in
+          (entry, greatest, kept key entry greatest.among, stays entry),
+      λ told.
+          subst (λ (e : Entry). Contains (latest_entries (entries_of file)) (key, e)) (sym (stays told.0) ∙ told.3)
+          ((latest_is (entries_of file) ascends key told.0).1 told.1),
+    );
+  }
+
+  -- it is the summary of the file
+  pub summary_is : IsSummary (file ∷ []) 0 (summary_of file)
+  summary_is =
+      reduced_summary (file ∷ []) 0 (summary_of file) refl
+      (subst (λ (entries : List Keyed). IsReduced (ledger_item_of file ∷ []) entries (summary_of file)) (sym (append-nil (entries_of file))) reduced)
+
+  -- so it is valid
+  pub summary_valid : IsFile file → length file ≤ most_records → IsValid (summary_of file)
+  summary_valid is_file few =
+      summary_is_valid (file ∷ []) 0 (summary_of file) (omega arith) (all_of_one IsFile is_file) (all_of_one (λ f. length f ≤ most_records) few) summary_is
+    where
+      all_of_one : (P : List (List ℕ) → Type 0) → P file → All P (file ∷ [])
+      all_of_one P here = all_members P (file ∷ []) (λ other among. subst P (Contains-single file other among) here)
+
+-- the join of nothing with a valid state is that state
+pub join_of_nothing : (state : State) → IsValid state → IsJoin (record { horizon = 0; ledger = []; entries = [] }) state state
+join_of_nothing state valid = record {
+  horizon = sym (max-eq_right {n = 0} {m = state.horizon} (omega arith));
+  floor = valid.ledger.floor;
+  is_floor = valid.ledger.is_floor;
+  ledger_ascends = valid.ledger.ascending;
+  ledger = λ item. (
+    λ among. (among, member_of (λ (i : LedgerItem). IsKept valid.ledger.floor i.stamp) state.ledger item valid.ledger.kept among),
+    λ told. told.0,
+  );
+  entries_ascend = valid.entries.1;
+  entries = λ key entry. (
+    λ among. (
+      entry,
+      record {
+        among = among;
+        greatest = λ other inside.
+            subst (λ (e : Entry). IsAtMost entry_cmp other e) (one_per_key state.entries valid.entries.1 key other entry inside among)
+            (at_most_itself entry_total other);
+      },
+      kept_there key entry among,
+      stays_there key entry among,
+    ),
+    λ told. subst (λ (e : Entry). Contains state.entries (key, e)) (sym (stays_there key told.0 told.1.among) ∙ told.3) told.1.among,
+  );
+}
+  where
+    stays_there : (key : Key) (entry : Entry) → Contains state.entries (key, entry) → lapse_entry state.horizon entry ≡ entry
+    stays_there key entry among =
+        entry_stays state.horizon entry
+        (member_of (λ (pair : Keyed). HasNotToLapse state.horizon pair.1.op) state.entries (key, entry) valid.have_lapsed among)
+
+    kept_there : (key : Key) (entry : Entry) → Contains state.entries (key, entry) → IsKept valid.ledger.floor entry.stamp.file
+    kept_there key entry among =
+        let good = member_of (IsGoodEntry state.ledger) state.entries (key, entry) valid.entries.0 among in
+        let item = Contains-map (λ (i : LedgerItem). i.stamp) state.ledger entry.stamp.file good.stamp.in_ledger in
+        subst (IsKept valid.ledger.floor) item.2
+        (member_of (λ (i : LedgerItem). IsKept valid.ledger.floor i.stamp) state.ledger item.0 valid.ledger.kept item.1)

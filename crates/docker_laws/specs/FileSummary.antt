@@ -1,0 +1,33 @@
+-- The summary of one file, as a value.
+use Rattle.std.specs.Prelude.{List, [], ◌∷◌, map, ℕ}
+use Rattle.std.specs.declared.cmp.Ordering.{Ordering}
+use Rattle.std.specs.declared.cmp.Ordering.TheVariants.{Less, Equal, Greater}
+use Rattle.docker_model.specs.file.Change.{Key, Change, changes}
+use Rattle.docker_model.specs.state.Stamp.{ledger_item_of}
+use Rattle.docker_model.specs.state.Op.{Entry, key_cmp}
+use Rattle.docker_model.specs.state.State.{State}
+use Rattle.docker_model.specs.state.Summary.{entry_of}
+
+-- an entry before the first one of the rest, or in its place, or after it
+abbrev pub placed : Ordering → Key × Entry → Key × Entry → List (Key × Entry) → List (Key × Entry) → List (Key × Entry)
+placed Less entry first entries rest = entry ∷ first ∷ entries
+placed Equal entry first entries rest = first ∷ entries
+placed Greater entry first entries rest = first ∷ rest
+
+-- entries in key order with an earlier one, unless they have one of its key
+abbrev pub with_earlier : Key × Entry → List (Key × Entry) → List (Key × Entry)
+with_earlier entry [] = entry ∷ []
+with_earlier entry (first ∷ entries) = placed (key_cmp entry.0 first.0) entry first entries (with_earlier entry entries)
+
+-- the last entry of each key, in key order
+abbrev pub latest_entries : List (Key × Entry) → List (Key × Entry)
+latest_entries [] = []
+latest_entries (entry ∷ entries) = with_earlier entry (latest_entries entries)
+
+-- the summary of one file
+abbrev pub summary_of : List (List ℕ) → State
+summary_of file = record {
+  horizon = 0;
+  ledger = ledger_item_of file ∷ [];
+  entries = latest_entries (map (λ (change : Change). (change.key, entry_of file change)) (changes file));
+}
