@@ -1,0 +1,223 @@
+//! Laws of thinning: what of a file's changes may be dropped for the docker of one place on one
+//! day, by looking at each change by itself. Each is the contract of a function with an empty body,
+//! so it holds for all values of its variables.
+ghost use Rattle.std.specs.Prelude.{◌≡◌, ℕ, ◌-◌, ◌^◌, ◌<◌, ◌≤◌, Contains, List, [], ◌∷◌, ◌++◌, ◌↔◌, ◌||◌, ◌&&◌, length, fold, true, false};
+ghost use Rattle.std.specs.Str.{bytes_eq};
+ghost use Rattle.docker_model.specs.records.Record.{IsRecord, columns, is_location, kind_of, HasKind, origin_location, terminating_location};
+ghost use Rattle.docker_model.specs.records.Field.{HasGoodFields, as_new};
+ghost use Rattle.docker_model.specs.file.Journey.{calls_at};
+ghost use Rattle.docker_model.specs.file.File.{IsFile, IsSchedule, first_record, most_records};
+ghost use Rattle.docker_model.specs.file.Change.{Key, ScheduleKey, delete, put, Body, tiploc_body, association_body, schedule_body, Change, changes};
+ghost use Rattle.docker_model.specs.state.Order.{IsBelow, IsAtMost};
+ghost use Rattle.docker_model.specs.state.Op.{key_cmp, op_of};
+ghost use Rattle.docker_model.specs.state.Table.{Table, empty_table, after_change, after_file};
+ghost use Rattle.docker_model.specs.state.State.{State, IsValid, IsGoodKey, IsOpOf, IsJoin, IsScheduleOf, IsBodyOf, live_table, HasGoodBodies};
+ghost use Rattle.docker_model.specs.state.Summary.{IsSummary};
+ghost use Rattle.docker_model.specs.docker.DockerLine.{DockerLine};
+ghost use Rattle.docker_model.specs.docker.DockerList.{IsDockerList};
+ghost use Rattle.docker_model.specs.docker.DockerText.{IsDockerText};
+ghost use Rattle.docker_model.specs.docker.NearDay.{runs_near};
+ghost use Rattle.docker_model.specs.docker.Excerpt.{IsExcerpt};
+ghost use Rattle.docker_model.specs.docker.StandIn.{IsStandIn, StandsFor};
+ghost use Rattle.docker_model.specs.docker.Thinning.{is_end, thin_lines, lines_for, body_for, may_matter, thinned, thin_act, thin_change, thin_changes, table_of, IsThinning, HasNoChangeOf, AreAtMost, without, IsStateOfChanges};
+ghost use Rattle.docker_laws.specs.FileSummary.{summary_of};
+
+/// A table with good bodies and its thinned table for a place and a day have the same docker there
+/// on that day. The bodies that are left are good.
+pub fn thinned_table_has_one_docker()
+    ensures list { (place : List ℕ) (day : ℕ) (live : Table) (lines : List DockerLine)
+        → HasGoodBodies live → IsDockerList live place day lines
+        ↔ IsDockerList (thinned place day live) place day lines }
+    ensures text { (place : List ℕ) (day : ℕ) (live : Table) (text : List ℕ)
+        → HasGoodBodies live → IsDockerText live place day text
+        ↔ IsDockerText (thinned place day live) place day text }
+    ensures good { (place : List ℕ) (day : ℕ) (live : Table)
+        → HasGoodBodies live → HasGoodBodies (thinned place day live) }
+{}
+
+/// An excerpt of a thinned table for the place has the same docker too.
+pub fn excerpt_of_thinned_has_one_docker()
+    ensures list { (place : List ℕ) (day : ℕ) (live part : Table) (lines : List DockerLine)
+        → HasGoodBodies live → IsExcerpt place (thinned place day live) part
+        → IsDockerList live place day lines ↔ IsDockerList part place day lines }
+    ensures text { (place : List ℕ) (day : ℕ) (live part : Table) (text : List ℕ)
+        → HasGoodBodies live → IsExcerpt place (thinned place day live) part
+        → IsDockerText live place day text ↔ IsDockerText part place day text }
+{}
+
+/// A table that stands for another one in the docker of a place and a day has the same docker there
+/// on that day, if both have good bodies. The thinned table is one that stands for it.
+pub fn stand_in_has_one_docker()
+    ensures list { (place : List ℕ) (day : ℕ) (live part : Table) (lines : List DockerLine)
+        → HasGoodBodies live → HasGoodBodies part → StandsFor place day live part
+        → IsDockerList live place day lines ↔ IsDockerList part place day lines }
+    ensures text { (place : List ℕ) (day : ℕ) (live part : Table) (text : List ℕ)
+        → HasGoodBodies live → HasGoodBodies part → StandsFor place day live part
+        → IsDockerText live place day text ↔ IsDockerText part place day text }
+    ensures thinned { (place : List ℕ) (day : ℕ) (live : Table)
+        → HasGoodBodies live → StandsFor place day live (thinned place day live) }
+{}
+
+/// Which lines stand for a schedule's: the ones that the place needs, and, if it doesn't call
+/// there, any with the same first line that don't either. That line with any two good ends after it
+/// is of the same key.
+pub fn stand_in_of_a_schedule()
+    ensures needed { (place : List ℕ) (day : ℕ) (lines : List (List ℕ))
+        → IsStandIn place day lines (lines_for place lines) }
+    ensures first { (place : List ℕ) (day : ℕ) (whole lines : List (List ℕ))
+        → first_record lines ≡ first_record whole → calls_at place whole ≡ false
+        → calls_at place lines ≡ false → IsStandIn place day whole lines }
+    ensures ends { (key : ScheduleKey) (lines : List (List ℕ)) → IsScheduleOf key lines
+        → (first last : List ℕ) → IsRecord first → IsRecord last
+        → HasKind origin_location first → HasKind terminating_location last
+        → HasGoodFields first → HasGoodFields last
+        → IsScheduleOf key (first_record lines ∷ first ∷ last ∷ []) }
+{}
+
+/// A thin body is of the same key, and has at most three lines. The first line stays, and it calls
+/// nowhere else.
+pub fn thin_body_is_of_its_key()
+    ensures schedule { (lines : List (List ℕ)) → IsSchedule lines → IsSchedule (thin_lines lines) }
+    ensures of_key { (key : ScheduleKey) (lines : List (List ℕ))
+        → IsScheduleOf key lines → IsScheduleOf key (thin_lines lines) }
+    ensures body { (place : List ℕ) (key : Key) (body : Body)
+        → IsBodyOf key body → IsBodyOf key (body_for place body) }
+    ensures few { (lines : List (List ℕ)) → IsSchedule lines → length (thin_lines lines) ≤ 3 }
+    ensures first { (lines : List (List ℕ)) → first_record (thin_lines lines) ≡ first_record lines }
+    ensures elsewhere { (place : List ℕ) (lines : List (List ℕ))
+        → calls_at place lines ≡ false → calls_at place (thin_lines lines) ≡ false }
+{}
+
+/// Thin lines, and whether a schedule calls at a place, line by line.
+pub fn thin_lines_in_a_walk()
+    ensures first { (basic : List ℕ) → thin_lines (basic ∷ []) ≡ basic ∷ [] }
+    ensures end { (basic : List ℕ) (others : List (List ℕ)) (line : List ℕ)
+        → is_end (kind_of line) ≡ true
+        → thin_lines (basic ∷ others ++ line ∷ []) ≡ thin_lines (basic ∷ others) ++ line ∷ [] }
+    ensures between { (basic : List ℕ) (others : List (List ℕ)) (line : List ℕ)
+        → is_end (kind_of line) ≡ false
+        → thin_lines (basic ∷ others ++ line ∷ []) ≡ thin_lines (basic ∷ others) }
+    ensures calls { (place : List ℕ) (lines : List (List ℕ)) (line : List ℕ)
+        → calls_at place (lines ++ line ∷ []) ≡ (calls_at place lines
+        || (is_location (kind_of line) && bytes_eq (columns 3 9 line) place)) }
+{}
+
+/// A thin act, case by case. A put of a schedule that runs on no start day near the day deletes,
+/// and one that doesn't call at the place puts a thin body. Any other act stays. Whether a schedule
+/// runs near the day doesn't depend on its transaction.
+pub fn thin_act_by_case()
+    ensures deletes { (place : List ℕ) (day : ℕ) → thin_act place day delete ≡ delete }
+    ensures tiploc { (place : List ℕ) (day : ℕ) (bytes : List ℕ)
+        → thin_act place day (put (tiploc_body bytes)) ≡ put (tiploc_body bytes) }
+    ensures association { (place : List ℕ) (day : ℕ) (line : List ℕ)
+        → thin_act place day (put (association_body line)) ≡ put (association_body line) }
+    ensures far { (place : List ℕ) (day : ℕ) (lines : List (List ℕ))
+        → runs_near day (first_record lines) ≡ false
+        → thin_act place day (put (schedule_body lines)) ≡ delete }
+    ensures calls { (place : List ℕ) (day : ℕ) (lines : List (List ℕ))
+        → runs_near day (first_record lines) ≡ true → calls_at place lines ≡ true
+        → thin_act place day (put (schedule_body lines)) ≡ put (schedule_body lines) }
+    ensures thin { (place : List ℕ) (day : ℕ) (lines : List (List ℕ))
+        → runs_near day (first_record lines) ≡ true → calls_at place lines ≡ false
+        → thin_act place day (put (schedule_body lines)) ≡ put (schedule_body (thin_lines lines)) }
+    ensures renewed { (day : ℕ) (line : List ℕ)
+        → runs_near day (as_new line) ≡ runs_near day line }
+{}
+
+/// What a keeper may keep, change by change. A change elsewhere is dropped, and any other is kept
+/// thin. A deletion is dropped if nothing of its key was kept. What was kept of a key may be
+/// dropped when it is deleted or put again.
+pub fn thinning_change_by_change()
+    ensures first { (place : List ℕ) (day : ℕ) → IsThinning place day [] [] }
+    ensures elsewhere { (place : List ℕ) (day : ℕ) (all kept : List Change) (change : Change)
+        → IsThinning place day all kept → may_matter place change.key ≡ false
+        → IsThinning place day (all ++ change ∷ []) kept }
+    ensures keeps { (place : List ℕ) (day : ℕ) (all kept : List Change) (change : Change)
+        → IsThinning place day all kept → may_matter place change.key ≡ true
+        → IsThinning place day (all ++ change ∷ []) (kept ++ thin_change place day change ∷ []) }
+    ensures drops { (place : List ℕ) (day : ℕ) (all kept : List Change) (change : Change)
+        → IsThinning place day all kept → thin_act place day change.act ≡ delete
+        → HasNoChangeOf change.key kept → IsThinning place day (all ++ change ∷ []) kept }
+    ensures removes { (place : List ℕ) (day : ℕ) (all kept : List Change) (change : Change)
+        → IsThinning place day all kept → thin_act place day change.act ≡ delete
+        → IsThinning place day (all ++ change ∷ []) (without change.key kept) }
+    ensures replaces { (place : List ℕ) (day : ℕ) (all kept : List Change) (change : Change)
+        → IsThinning place day all kept → may_matter place change.key ≡ true
+        → IsThinning place day (all ++ change ∷ [])
+        (without change.key kept ++ thin_change place day change ∷ []) }
+    ensures more { (place : List ℕ) (day : ℕ) (all kept more : List Change)
+        → IsThinning place day all kept
+        → IsThinning place day (all ++ more) (kept ++ thin_changes place day more) }
+    ensures whole { (place : List ℕ) (day : ℕ) (all : List Change)
+        → IsThinning place day all (thin_changes place day all) }
+{}
+
+/// Nothing of a key was kept if the key is above all keys of kept changes. So a keeper that knows
+/// the greatest of these may drop a deletion at once.
+pub fn nothing_kept_of_a_key_above()
+    ensures none { (highest key : Key) (kept : List Change)
+        → AreAtMost highest kept → IsBelow key_cmp highest key → HasNoChangeOf key kept }
+    ensures first { (highest : Key) → AreAtMost highest [] }
+    ensures more { (highest : Key) (kept : List Change) (change : Change)
+        → AreAtMost highest kept → IsAtMost key_cmp change.key highest
+        → AreAtMost highest (kept ++ change ∷ []) }
+    ensures raised { (highest : Key) (kept : List Change) (change : Change)
+        → AreAtMost highest kept → IsBelow key_cmp highest change.key
+        → AreAtMost change.key (kept ++ change ∷ []) }
+{}
+
+/// The kept changes make the thinned table of the one that all changes make: from the empty table
+/// on, and from any thinned table on. Those of a file are well formed.
+pub fn kept_changes_make_the_thinned_table()
+    ensures table { (place : List ℕ) (day : ℕ) (all kept : List Change) (key : Key)
+        → IsThinning place day all kept
+        → table_of kept key ≡ thinned place day (table_of all) key }
+    ensures over { (place : List ℕ) (day : ℕ) (table : Table) (all : List Change) (key : Key)
+        → fold after_change (thinned place day table) (thin_changes place day all) key
+        ≡ thinned place day (fold after_change table all) key }
+    ensures file { (file : List (List ℕ)) → table_of (changes file) ≡ after_file empty_table file }
+    ensures good { (place : List ℕ) (day : ℕ) (file : List (List ℕ)) (kept : List Change)
+        (change : Change) → IsFile file → length file ≤ most_records
+        → IsThinning place day (changes file) kept → Contains kept change
+        → IsGoodKey change.key × IsOpOf change.key (op_of change.act) }
+    ensures numbers { (place : List ℕ) (day : ℕ) (file : List (List ℕ)) (kept : List Change)
+        (change : Change) → IsFile file → length file ≤ most_records
+        → IsThinning place day (changes file) kept → Contains kept change
+        → (2 ≤ change.number) × (change.number < 2 ^ 32 - 1) }
+{}
+
+/// The state of what is kept of a file for a place and a day is valid. Its live table is the
+/// thinned table of the file, and it has the docker there on that day that the file's summary has.
+pub fn state_of_thinning_has_one_docker()
+    ensures valid { (place : List ℕ) (day : ℕ) (file : List (List ℕ)) (kept : List Change)
+        (part : State) → IsFile file → length file ≤ most_records
+        → IsThinning place day (changes file) kept → IsStateOfChanges file kept part
+        → IsValid part }
+    ensures live { (place : List ℕ) (day : ℕ) (file : List (List ℕ)) (kept : List Change)
+        (part : State) → IsThinning place day (changes file) kept → IsStateOfChanges file kept part
+        → live_table part ≡ thinned place day (after_file empty_table file) }
+    ensures list { (place : List ℕ) (day : ℕ) (file : List (List ℕ)) (kept : List Change)
+        (part whole : State) → IsFile file → length file ≤ most_records
+        → IsThinning place day (changes file) kept → IsStateOfChanges file kept part
+        → IsSummary (file ∷ []) 0 whole → (lines : List DockerLine)
+        → IsDockerList (live_table whole) place day lines
+        ↔ IsDockerList (live_table part) place day lines }
+    ensures text { (place : List ℕ) (day : ℕ) (file : List (List ℕ)) (kept : List Change)
+        (part whole : State) → IsFile file → length file ≤ most_records
+        → IsThinning place day (changes file) kept → IsStateOfChanges file kept part
+        → IsSummary (file ∷ []) 0 whole → (text : List ℕ)
+        → IsDockerText (live_table whole) place day text
+        ↔ IsDockerText (live_table part) place day text }
+{}
+
+/// The summary of one file, as a value: it is the summary, and valid. The join of nothing with a
+/// valid state is that state. The live table of a file's summary is the table of its changes.
+pub fn summary_of_one_file()
+    ensures is { (file : List (List ℕ)) → IsSummary (file ∷ []) 0 (summary_of file) }
+    ensures valid { (file : List (List ℕ)) → IsFile file → length file ≤ most_records
+        → IsValid (summary_of file) }
+    ensures joined { (state : State) → IsValid state
+        → IsJoin (record { horizon = 0; ledger = []; entries = [] }) state state }
+    ensures live { (file : List (List ℕ)) (state : State) → IsSummary (file ∷ []) 0 state
+        → live_table state ≡ after_file empty_table file }
+{}
