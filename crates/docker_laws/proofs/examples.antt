@@ -6,3 +6,4 @@ pub mod RunExamples
 pub mod GatherExamples
 pub mod ExcerptExamples
 pub mod NearExamples
+pub mod ThinExamples

@@ -46,21 +46,26 @@ one_day uid identity origin terminus =
     ∷ lo origin no_text (codes "2300") no_text (codes "1") no_text
     ∷ lt terminus no_text (codes "2350") no_text (codes "1") no_text ∷ []
 
-abbrev key_of : List ℕ → ℕ → ℕ → ScheduleKey
+-- the key of a schedule
+abbrev pub key_of : List ℕ → ℕ → ℕ → ScheduleKey
 key_of uid day letter = record { uid = uid; runs_from = day; indicator = letter }
 
 -- ---- an overlay that does not call there, of a UID that calls there on other days
 
-abbrev stops : List (List ℕ)
+-- a train that ends at the place
+abbrev pub stops : List (List ℕ)
 stops = week (codes "C40001") (codes "4D40") (codes "ASHFELD") (codes "COLWELL")
 
-abbrev short : List (List ℕ)
+-- its overlay of 11 June
+abbrev pub short : List (List ℕ)
 short = one_day (codes "C40001") (codes "4D40") (codes "ASHFELD") (codes "BRAYTON")
 
-abbrev stops_key : ScheduleKey
+-- the train's key
+abbrev pub stops_key : ScheduleKey
 stops_key = key_of (codes "C40001") 23537 80
 
-abbrev short_key : ScheduleKey
+-- the overlay's key
+abbrev pub short_key : ScheduleKey
 short_key = key_of (codes "C40001") 23538 79
 
 abbrev overlaid : State
@@ -126,12 +131,14 @@ partner = week (codes "C40002") (codes "4D42") (codes "BRAYTON") (codes "ASHFELD
 abbrev partner_key : ScheduleKey
 partner_key = key_of (codes "C40002") 23537 80
 
-abbrev link : List ℕ
+-- an association at the place
+abbrev pub link : List ℕ
 link =
     aa (codes "N") (codes "C40001") (codes "C40002") (codes "240610") (codes "240616") (codes "1111111") (codes "NP") (codes "S")
     (codes "COLWELL") no_text no_text (codes "P")
 
-abbrev link_key : AssociationKey
+-- its key
+abbrev pub link_key : AssociationKey
 link_key = record { base = codes "C40001"; associated = codes "C40002"; start = 23537; location = codes "COLWELL"; suffix = 32; indicator = 80 }
 
 abbrev joined : State
@@ -253,11 +260,12 @@ late = week (codes "C40005") (codes "4D45") (codes "COLWELL") (codes "ASHFELD")
 abbrev gone_key : AssociationKey
 gone_key = record { base = codes "C40001"; associated = codes "C40003"; start = 23537; location = codes "COLWELL"; suffix = 32; indicator = 80 }
 
--- elsewhere
-abbrev far_link_key : AssociationKey
+-- the key of an association elsewhere
+abbrev pub far_link_key : AssociationKey
 far_link_key = record { base = codes "C40003"; associated = codes "C40004"; start = 23537; location = codes "ASHFELD"; suffix = 32; indicator = 80 }
 
-abbrev far_link : List ℕ
+-- its line
+abbrev pub far_link : List ℕ
 far_link =
     aa (codes "N") (codes "C40003") (codes "C40004") (codes "240610") (codes "240616") (codes "1111111") (codes "NP") (codes "S")
     (codes "ASHFELD") no_text no_text (codes "P")

@@ -1,0 +1,374 @@
+-- What is kept for COLWELL on a day of a list of changes, and four ways to keep too little.
+use Rattle.std.proofs.Common.{length, length-append, ◌≡◌, ℕ, ◌≤◌, List, [], ◌∷◌, refl, inl, inr, ◌⊎◌, Some, None, arith, lit<, ap, sym, ◌∙◌, subst, Bool, true, false, cond}
+use Rattle.std.specs.Prelude.{codes, slice_index, ◌↔◌, ◌&&◌, nat_le}
+use Rattle.std.specs.declared.cmp.Ordering.TheVariants.{Greater}
+use Rattle.std.specs.Ordering.{is_eq}
+use Rattle.std.proofs.lemmas.Bool.{leb-true}
+use Rattle.jiff_core.specs.Calendar.{days_from_civil, day_count, days_of_years, days_of_months}
+use Rattle.docker_model.specs.records.PrintedTime.{spaces}
+use Rattle.docker_model.specs.file.Journey.{arrival, CallsAt, calls_at, midnights}
+use Rattle.docker_model.specs.file.File.{IsSchedule, IsJourney, MayLackJourney, first_record}
+use Rattle.docker_model.specs.file.Change.{Key, tiploc_key, association_key, schedule_key, ScheduleKey, tiploc_body, association_body, schedule_body, Act, delete, put, Change}
+use Rattle.docker_model.specs.state.Op.{schedule_key_cmp}
+use Rattle.docker_model.specs.state.Order.{IsAtMost}
+use Rattle.docker_model.specs.state.Table.{Table, empty_table}
+use Rattle.docker_model.specs.docker.Event.{Event, event_day}
+use Rattle.docker_model.specs.docker.Choice.{IsRunning, TrainRuns, schedule_runs, schedule_choice_cmp}
+use Rattle.docker_model.specs.docker.DockerLine.{DockerLine, line_of_event}
+use Rattle.docker_model.specs.docker.Association.{IsAssociationLine, IsPartnerIdentity, partner_start}
+use Rattle.docker_model.specs.docker.DockerList.{IsEventLine, IsDockerList}
+use Rattle.docker_model.specs.docker.StandIn.{IsStandIn}
+use Rattle.docker_model.specs.docker.Thinning.{lines_for, thin_changes, table_of, IsThinning}
+use Rattle.cif_laws.proofs.records.Builders.{f2, no_text, bs, lo, li, lt, night_schedule}
+use Rattle.cif_laws.proofs.lists.Membership.{nil-Contains}
+use Rattle.cif_laws.proofs.lists.BoolsAndOptions.{both, none_some}
+use Rattle.cif_laws.proofs.orders.Orders.{same_key}
+use Rattle.state_laws.proofs.indexes.CallsTest.{calls_test}
+use Rattle.state_laws.proofs.examples.StateExamples.{f2_state}
+use Rattle.docker_laws.specs.FileSummary.{summary_of}
+use Rattle.docker_laws.proofs.dockers.Events.{event_calls}
+use Rattle.docker_laws.proofs.dockers.FewMidnights.{falls_below}
+use Rattle.docker_laws.proofs.dockers.ThinDocker.{stand_in_by_first}
+use Rattle.docker_laws.proofs.dockers.ThinChanges.{thinning_of_all, thinning_removed}
+use Rattle.docker_laws.proofs.examples.ExcerptExamples.{place, key_of, stops, short, stops_key, short_key, link, link_key, far_link, far_link_key}
+
+-- ---- thin lines
+
+-- a train that doesn't call at the place keeps its ends
+night_elsewhere : lines_for (codes "EASTRIG") night_schedule
+    ≡ bs (codes "N") (codes "C20001") (codes "240610") (codes "240610") (codes "1000000") (codes "2B20") (codes "P")
+    ∷ lo (codes "ASHFELD") no_text (codes "2355") (codes "2355") (codes "1") (codes "SL")
+    ∷ lt (codes "BRAYTON") no_text (codes "0020") (codes "0021") (codes "2") (codes "FL") ∷ []
+night_elsewhere = refl
+
+-- one that calls there keeps all its lines
+night_here : lines_for place night_schedule ≡ night_schedule
+night_here = refl
+
+-- ---- a list of changes
+
+abbrev change_of : ℕ → Key → Act → Change
+change_of number key act = record { number = number; key = key; act = act }
+
+-- an overlay of one day, by another way: it doesn't call at COLWELL
+abbrev way_round : List (List ℕ)
+way_round =
+    bs (codes "N") (codes "C40001") (codes "240611") (codes "240611") (codes "0100000") (codes "4D40") (codes "O")
+    ∷ lo (codes "ASHFELD") no_text (codes "2300") no_text (codes "1") no_text
+    ∷ li (codes "DUNMERE") no_text no_text no_text (codes "2320") no_text no_text no_text no_text no_text
+    ∷ lt (codes "BRAYTON") no_text (codes "2350") no_text (codes "1") no_text ∷ []
+
+-- a schedule of 1 to 3 June
+abbrev long_ago : List (List ℕ)
+long_ago =
+    bs (codes "N") (codes "C40003") (codes "240601") (codes "240603") (codes "1111111") (codes "4D43") (codes "P")
+    ∷ lo (codes "ASHFELD") no_text (codes "2300") no_text (codes "1") no_text
+    ∷ lt (codes "COLWELL") no_text (codes "2350") no_text (codes "1") no_text ∷ []
+
+abbrev all_changes : List Change
+all_changes =
+    change_of 2 (tiploc_key (codes "ASHFELD")) (put (tiploc_body (spaces 63))) ∷ change_of 3 (tiploc_key (codes "COLWELL")) (put (tiploc_body (spaces 63)))
+    ∷ change_of 4 (association_key link_key) (put (association_body link)) ∷ change_of 5 (association_key far_link_key) (put (association_body far_link))
+    ∷ change_of 6 (schedule_key stops_key) (put (schedule_body stops)) ∷ change_of 9 (schedule_key short_key) (put (schedule_body way_round))
+    ∷ change_of 13 (schedule_key (key_of (codes "C40003") 23528 80)) (put (schedule_body long_ago)) ∷ []
+
+-- for COLWELL on 11 June: its TIPLOC, the association there, the train that calls there, the
+-- overlay with its ends, and a deletion
+kept_of_all : thin_changes place 23538 all_changes
+    ≡ change_of 3 (tiploc_key (codes "COLWELL")) (put (tiploc_body (spaces 63))) ∷ change_of 4 (association_key link_key) (put (association_body link))
+    ∷ change_of 6 (schedule_key stops_key) (put (schedule_body stops)) ∷ change_of 9 (schedule_key short_key) (put (schedule_body short))
+    ∷ change_of 13 (schedule_key (key_of (codes "C40003") 23528 80)) delete ∷ []
+unfolding days_from_civil day_count days_of_years days_of_months
+kept_of_all = refl
+
+-- ---- two tables with different dockers
+
+-- if one table has a line and the other has none, their dockers differ
+differ : (whole wrong : Table) (day : ℕ) (line : DockerLine) → IsEventLine wrong place day line
+    → ((other : DockerLine) → ¬ IsEventLine whole place day other) → ((other : DockerLine) → ¬ IsAssociationLine whole place day other)
+    → ¬ ((lines : List DockerLine) → IsDockerList whole place day lines ↔ IsDockerList wrong place day lines)
+differ whole wrong day line has no_event no_association same = nil-Contains line (((((same []).0 nothing).members line).1 (inl has)))
+  where
+    none : (other : DockerLine) → IsEventLine whole place day other ⊎ IsAssociationLine whole place day other → ⊥
+    none other (inl event) = no_event other event
+    none other (inr association) = no_association other association
+
+    nothing : IsDockerList whole place day []
+    nothing = record { ascending = tt; members = λ other. (λ among. absurd (nil-Contains other among), λ told. absurd (none other told)) }
+
+-- the change of a schedule
+abbrev put_schedule : ℕ → ScheduleKey → List (List ℕ) → Change
+put_schedule number key lines = change_of number (schedule_key key) (put (schedule_body lines))
+
+-- only the first of its changes
+abbrev stops_alone : List Change
+stops_alone = put_schedule 2 stops_key stops ∷ []
+
+-- the train arrives at COLWELL at 23:50
+abbrev arrives : Event
+arrives = record { number = 2; place = 2; occasion = arrival; time = 2860 }
+
+schedule_in : Key → ScheduleKey
+schedule_in (schedule_key key) = key
+schedule_in _ = stops_key
+
+-- keys that tie are the same
+same_schedule : (key other : ScheduleKey) → is_eq (schedule_key_cmp key other) ≡ true → key ≡ other
+unfolding schedule_in
+same_schedule key other h = ap schedule_in (same_key (schedule_key key) (schedule_key other) h)
+
+-- the key of the change is the only one
+only_stops : (other : ScheduleKey) (others : List (List ℕ)) → table_of stops_alone (schedule_key other) ≡ Some (schedule_body others) → stops_key ≡ other
+only_stops other others h = by (is_eq (schedule_key_cmp stops_key other)) refl h
+  where
+    by : (b : Bool) → is_eq (schedule_key_cmp stops_key other) ≡ b → cond b (Some (schedule_body stops)) None ≡ Some (schedule_body others) → stops_key ≡ other
+    by true same is = same_schedule stops_key other same
+    by false same is = none_some (schedule_body others) is
+
+-- by only that change, its train runs and has its line
+stops_line : (start : ℕ) → schedule_runs (first_record stops) start ≡ true → event_day start stops arrives ≡ start
+    → IsEventLine (table_of stops_alone) place start (line_of_event stops_key start stops arrives)
+stops_line start runs today = record {
+  start = start;
+  key = stops_key;
+  schedule = stops;
+  train_runs = record {
+    chosen = record {
+      running = record { uid_is = refl; is_live = refl; runs_then = runs };
+      first = λ other others running.
+          subst (λ (k : ScheduleKey). IsAtMost schedule_choice_cmp stops_key k) (only_stops other others running.is_live) (λ greater. cc);
+    };
+    no_cancellation = λ cancelled. omega arith;
+  };
+  event = arrives;
+  among = (1, lit< tt, refl);
+  here = refl;
+  today = today;
+  is = refl;
+}
+
+-- ---- wrong: a schedule that may not count is dropped, and what was kept of its key stays
+
+-- the schedule is revised: it ends on 10 June
+abbrev ended : List (List ℕ)
+ended =
+    bs (codes "N") (codes "C40001") (codes "240610") (codes "240610") (codes "1000000") (codes "4D40") (codes "P")
+    ∷ lo (codes "ASHFELD") no_text (codes "2300") no_text (codes "1") no_text
+    ∷ lt (codes "COLWELL") no_text (codes "2350") no_text (codes "1") no_text ∷ []
+
+abbrev revised : List Change
+revised = put_schedule 2 stops_key stops ∷ put_schedule 5 stops_key ended ∷ []
+
+-- for 16 June the revision is kept as a deletion
+revision_deletes : thin_changes place 23543 revised ≡ put_schedule 2 stops_key stops ∷ change_of 5 (schedule_key stops_key) delete ∷ []
+unfolding days_from_civil day_count days_of_years days_of_months
+revision_deletes = refl
+
+-- or the earlier put is dropped, and nothing is kept
+revision_removes : IsThinning place 23543 revised []
+unfolding days_from_civil day_count days_of_years days_of_months
+revision_removes =
+    thinning_removed place 23543 stops_alone stops_alone (put_schedule 5 stops_key ended)
+    (subst (IsThinning place 23543 stops_alone) kept (thinning_of_all place 23543 stops_alone)) refl
+  where
+    kept : thin_changes place 23543 stops_alone ≡ stops_alone
+    kept = refl
+
+-- what the revised schedule's key holds
+revised_is : (other : ScheduleKey) (others : List (List ℕ)) → table_of revised (schedule_key other) ≡ Some (schedule_body others) → ended ≡ others
+revised_is other others h = by (is_eq (schedule_key_cmp stops_key other)) h
+  where
+    by : (b : Bool) → cond b (Some (schedule_body ended)) (cond b (Some (schedule_body stops)) None) ≡ Some (schedule_body others) → ended ≡ others
+    by true is = cc
+    by false is = none_some (schedule_body others) is
+
+ends_by : (start : ℕ) → schedule_runs (first_record ended) start ≡ true → start ≤ 23537
+unfolding days_from_civil day_count days_of_years days_of_months
+ends_by start runs = leb-true start 23537 (both (nat_le 23537 start) (nat_le start 23537) (both (nat_le 23537 start && nat_le start 23537) _ runs).0).1
+
+no_falls : midnights ended ≡ 0
+no_falls = refl
+
+-- on 16 June no train arrives
+no_arrival : (line : DockerLine) → ¬ IsEventLine (table_of revised) place 23543 line
+no_arrival line is =
+    let same = revised_is is.key is.schedule is.train_runs.chosen.running.is_live in
+    let runs = is.train_runs.chosen.running.runs_then in
+    let low = ends_by is.start (subst (λ (ls : List (List ℕ)). schedule_runs (first_record ls) is.start ≡ true) (sym same) runs) in
+    let front = falls_below is.schedule is.event.number in
+    let few : midnights is.schedule ≡ 0 = ap midnights (sym same) ∙ no_falls in
+    let today = is.today in
+    omega arith
+
+no_link : (line : DockerLine) → ¬ IsAssociationLine (table_of revised) place 23543 line
+no_link line is = none_some (association_body is.association) is.chosen.associated.is_live
+
+-- with the revision dropped, one does
+dropped_revision_is_wrong : ¬ ((lines : List DockerLine) → IsDockerList (table_of revised) place 23543 lines
+    ↔ IsDockerList (table_of stops_alone) place 23543 lines)
+unfolding days_from_civil day_count days_of_years days_of_months
+dropped_revision_is_wrong =
+    differ (table_of revised) (table_of stops_alone) 23543 (line_of_event stops_key 23543 stops arrives) (stops_line 23543 refl refl) no_arrival no_link
+
+-- ---- wrong: a schedule that doesn't call at the place is dropped
+
+abbrev overlaid : List Change
+overlaid = put_schedule 2 stops_key stops ∷ put_schedule 5 short_key way_round ∷ []
+
+-- for 11 June the overlay is kept with its ends
+overlay_is_kept : thin_changes place 23538 overlaid ≡ put_schedule 2 stops_key stops ∷ put_schedule 5 short_key short ∷ []
+unfolding days_from_civil day_count days_of_years days_of_months
+overlay_is_kept = refl
+
+-- on 11 June the overlay runs
+overlay_runs : IsRunning (table_of overlaid) (codes "C40001") 23538 short_key way_round
+unfolding days_from_civil day_count days_of_years days_of_months
+overlay_runs = record { uid_is = refl; is_live = refl; runs_then = refl }
+
+not_there : (lines : List (List ℕ)) → way_round ≡ lines → ¬ CallsAt place lines
+not_there lines same calls =
+    let test : calls_at place way_round ≡ true = (calls_test place way_round).1 (subst (CallsAt place) (sym same) calls) in
+    let bad : false ≡ true = test in
+    cc
+
+-- so the train that calls does not run
+not_by_stops : (uid : List ℕ) (start : ℕ) (key : ScheduleKey) (lines : List (List ℕ)) → stops_key ≡ key → start ≡ 23538
+    → ¬ TrainRuns (table_of overlaid) uid start key lines
+not_by_stops uid start key lines same day runs =
+    let uid_is : codes "C40001" ≡ uid = ap (λ (k : ScheduleKey). k.uid) same ∙ runs.chosen.running.uid_is in
+    let running : IsRunning (table_of overlaid) uid start short_key way_round = subst (λ u. IsRunning (table_of overlaid) u start short_key way_round) uid_is
+    (subst (λ d. IsRunning (table_of overlaid) (codes "C40001") d short_key way_round) (sym day) overlay_runs) in
+    runs.chosen.first short_key way_round running (subst (λ (k : ScheduleKey). schedule_choice_cmp k short_key ≡ Greater) same refl)
+
+no_falls_of_stops : midnights stops ≡ 0
+no_falls_of_stops = refl
+
+-- and no train arrives
+no_arrival_then : (line : DockerLine) → ¬ IsEventLine (table_of overlaid) place 23538 line
+no_arrival_then line is = by (is_eq (schedule_key_cmp short_key is.key)) (is_eq (schedule_key_cmp stops_key is.key)) refl is.train_runs.chosen.running.is_live
+  where
+    started : stops ≡ is.schedule → is.start ≡ 23538
+    started same =
+        let front = falls_below is.schedule is.event.number in
+        let few : midnights is.schedule ≡ 0 = ap midnights (sym same) ∙ no_falls_of_stops in
+        let today = is.today in
+        omega arith
+
+    by : (b c : Bool) → is_eq (schedule_key_cmp stops_key is.key) ≡ c
+        → cond b (Some (schedule_body way_round)) (cond c (Some (schedule_body stops)) None) ≡ Some (schedule_body is.schedule) → ⊥
+    by true c h there = not_there is.schedule (let same : way_round ≡ is.schedule = cc in same) (event_calls is.schedule is.event place is.among is.here)
+    by false true h there =
+        not_by_stops is.key.uid is.start is.key is.schedule (same_schedule stops_key is.key h)
+        (started (let same : stops ≡ is.schedule = cc in same)) is.train_runs
+    by false false h there = none_some (schedule_body is.schedule) there
+
+no_link_then : (line : DockerLine) → ¬ IsAssociationLine (table_of overlaid) place 23538 line
+no_link_then line is = none_some (association_body is.association) is.chosen.associated.is_live
+
+-- with the overlay dropped, one does
+dropped_overlay_is_wrong : ¬ ((lines : List DockerLine) → IsDockerList (table_of overlaid) place 23538 lines
+    ↔ IsDockerList (table_of stops_alone) place 23538 lines)
+unfolding days_from_civil day_count days_of_years days_of_months
+dropped_overlay_is_wrong =
+    differ (table_of overlaid) (table_of stops_alone) 23538 (line_of_event stops_key 23538 stops arrives) (stops_line 23538 refl refl)
+    no_arrival_then no_link_then
+
+-- with any other ends that aren't at COLWELL, it serves as well
+abbrev other_ends : List (List ℕ)
+other_ends =
+    first_record way_round ∷ lo (codes "EASTRIG") no_text (codes "0000") no_text no_text no_text
+    ∷ lt (codes "EASTRIG") no_text (codes "0000") no_text no_text no_text ∷ []
+
+other_ends_serve : IsStandIn place 23538 way_round other_ends
+other_ends_serve = stand_in_by_first place 23538 way_round other_ends refl refl refl
+
+-- ---- wrong: of a schedule only the basic schedule is kept
+
+basic_alone_is_wrong : ¬ IsSchedule (first_record stops ∷ [])
+basic_alone_is_wrong is = by is.journey_or_none
+  where
+    same : first_record stops ≡ is.basic
+    same = ap first_record is.whole
+
+    not_cancelled : MayLackJourney (first_record stops) → ⊥
+    not_cancelled (inl deletion) = let bad : false ≡ true = deletion in cc
+    not_cancelled (inr letter) = let bad : ◌≡◌ {A = ℕ} 80 67 = letter in omega arith
+
+    by : IsJourney is.journey ⊎ ((is.journey ≡ []) × MayLackJourney is.basic) → ⊥
+    by (inl journey) =
+        let size = ap length is.whole in
+        let sum = length-append is.extra is.journey in
+        let more = ap length journey.whole in
+        omega arith
+    by (inr none) = not_cancelled (subst MayLackJourney (sym same) none.1)
+
+-- ---- wrong: a partner that starts on the day after is dropped
+
+-- a train of 12 June that doesn't call at COLWELL
+abbrev follows_on : List (List ℕ)
+follows_on =
+    bs (codes "N") (codes "C40002") (codes "240612") (codes "240612") (codes "0010000") (codes "4D42") (codes "P")
+    ∷ lo (codes "BRAYTON") no_text (codes "0010") no_text (codes "1") no_text
+    ∷ lt (codes "ASHFELD") no_text (codes "0050") no_text (codes "1") no_text ∷ []
+
+abbrev follows_on_key : ScheduleKey
+follows_on_key = key_of (codes "C40002") 23539 80
+
+abbrev partner_alone : List Change
+partner_alone = put_schedule 2 follows_on_key follows_on ∷ []
+
+-- for 11 June it is kept, since a train of that day may have it as its partner one day later
+partner_is_kept : thin_changes place 23538 partner_alone ≡ partner_alone
+unfolding days_from_civil day_count days_of_years days_of_months
+partner_is_kept = refl
+
+-- for 15 June too, since a train that starts on 13 June and passes midnight twice may have it as
+-- its partner one day earlier
+partner_is_still_kept : thin_changes place 23542 partner_alone ≡ partner_alone
+unfolding days_from_civil day_count days_of_years days_of_months
+partner_is_still_kept = refl
+
+-- for 10 and 16 June it is not
+partner_is_far : (thin_changes place 23537 partner_alone ≡ change_of 2 (schedule_key follows_on_key) delete ∷ [])
+    × (thin_changes place 23543 partner_alone ≡ change_of 2 (schedule_key follows_on_key) delete ∷ [])
+unfolding days_from_civil day_count days_of_years days_of_months
+partner_is_far = (refl, refl)
+
+only_follows_on : (other : ScheduleKey) (others : List (List ℕ)) → table_of partner_alone (schedule_key other) ≡ Some (schedule_body others)
+    → follows_on_key ≡ other
+only_follows_on other others h = by (is_eq (schedule_key_cmp follows_on_key other)) refl h
+  where
+    by : (b : Bool) → is_eq (schedule_key_cmp follows_on_key other) ≡ b → cond b (Some (schedule_body follows_on)) None ≡ Some (schedule_body others)
+        → follows_on_key ≡ other
+    by true same is = same_schedule follows_on_key other same
+    by false same is = none_some (schedule_body others) is
+
+-- the docker of 11 June has its identity, at a train of that day whose association says `N`
+identity_there : IsPartnerIdentity (table_of partner_alone) (codes "C40002") (partner_start 78 23538) (codes "4D42")
+unfolding days_from_civil day_count days_of_years days_of_months
+identity_there =
+    inl (
+      follows_on_key,
+      follows_on,
+      record {
+        chosen = record {
+          running = record { uid_is = refl; is_live = refl; runs_then = refl };
+          first = λ other others running.
+              subst (λ (k : ScheduleKey). IsAtMost schedule_choice_cmp follows_on_key k) (only_follows_on other others running.is_live) (λ greater. cc);
+        };
+        no_cancellation = λ cancelled. omega arith;
+      },
+      refl,
+    )
+
+-- and loses it with the partner
+dropped_partner_is_wrong : ¬ IsPartnerIdentity empty_table (codes "C40002") (partner_start 78 23538) (codes "4D42")
+dropped_partner_is_wrong (inl runs) = none_some (schedule_body runs.1) runs.2.chosen.running.is_live
+dropped_partner_is_wrong (inr none) = let first : ◌≡◌ {A = ℕ} 52 63 = ap (λ bytes. slice_index bytes 0) none.1 in omega arith
+
+-- ---- the summary of a file
+
+-- the worked file's is its state
+summary_of_f2 : summary_of f2 ≡ f2_state
+unfolding days_from_civil day_count days_of_years days_of_months
+summary_of_f2 = refl
