@@ -202,7 +202,7 @@ fn many_places(out: &mut Out, rows: usize, _: bool) -> Result<()> {
     calls(out, rows, letters::<7>)
 }
 
-/// Places that share one slot of the memo in which `cif_places` keeps where it last found a place.
+/// Places that share one slot of the memo in which `cif_change` keeps where it last found a place.
 /// The slot is the highest sixteen bits of a product.
 fn one_slot(out: &mut Out, rows: usize, _: bool) -> Result<()> {
     let slot = |code: &[u8; 7]| {

@@ -1,2 +1,5 @@
 pub mod SameLines
 pub mod JoinedLines
+pub mod JourneyLemmas
+pub mod PackedPlaces
+pub mod Noted

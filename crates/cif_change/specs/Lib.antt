@@ -1,3 +1,9 @@
 pub mod Meaning
 pub mod Joined
 pub mod Acts
+pub mod Cause
+pub mod JourneyRead
+pub mod NamedPlaces
+pub mod Noted
+pub use Rattle.cif_line.specs.Letter
+pub use Rattle.cif_line.specs.declared.letter.Stp

@@ -1,12 +1,33 @@
-//! What a file changes: keys, what is put at them, and the orders of both.
+//! What a file changes: keys, what is put at them, and the orders of both. The reader of a
+//! schedule's lines, and the causes for refusing a record. The places that changes and rows name.
 #![tactic(auto)]
 
+mod cause;
 mod change;
 mod joined;
+mod journey;
+mod journey_times;
 mod key;
 mod lines;
+mod memo;
+mod names;
+mod notes;
+mod noting;
+mod piece;
+mod places;
+mod progress;
 mod same;
+mod stage;
+mod steps;
 
+pub use cause::FileCause;
 pub use change::{Act, Body, Change};
+pub use cif_line::{Day, Memory, Tiploc};
+pub use journey::Journey;
 pub use key::{AssocKey, Key, ScheduleKey};
 pub use lines::Lines;
+pub use names::PlaceNames;
+pub use notes::Notes;
+pub use piece::Piece;
+pub use progress::Progress;
+pub use steps::progress_after_basic;

@@ -10,7 +10,7 @@ use Rattle.cif_file.specs.declared.kept.FileSoFar.{FileSoFar}
 use Rattle.cif_file.specs.declared.tally.Tally.{Tally}
 use Rattle.cif_file.specs.KeeperRead.{KeepsAll, CountsChanges}
 use Rattle.cif_file.specs.EndedRead.{file_ended, parts_ended, count_ended}
-use Rattle.cif_places.specs.Noted.{HasNoted, items_put}
+use Rattle.cif_change.specs.Noted.{HasNoted, items_put}
 use Rattle.cif_file.specs.MadeChanges.{ArePartsOfFile}
 use Rattle.cif_file.specs.FileRead.{IsRead, IsCounted}
 use Rattle.cif_file.specs.ParserRead.{IsOfFileText, IsCountOfFileText, IsEndedText, ParserState, WasFed, IsReading, EndsBy}

@@ -31,7 +31,7 @@ use Rattle.cif_change.specs.Meaning.{key_meant}
 use Rattle.cif_file.specs.declared.ended.Ended.{Ended}
 use Rattle.cif_file.specs.KeeperRead.{Keeps, change_opened, AddsLine, AddsSingle, Closes}
 use Rattle.cif_file.specs.EndedRead.{IsEnded}
-use Rattle.cif_journey.specs.JourneyRead.{progress_meant, HasLines, Advances, IsScheduleCause, is_over_by}
+use Rattle.cif_change.specs.JourneyRead.{progress_meant, HasLines, Advances, IsScheduleCause, is_over_by}
 use Rattle.cif_file.specs.RecordsRead.{with_new_first, header_of, IsOpen, IsKept, HasRecords, IsOver, GoesOnWith, IsNoNext, IsNoNextCause, IsWholeBy, GoesOnTo, StandsBefore}
 
 abbrev Lines : Type 0

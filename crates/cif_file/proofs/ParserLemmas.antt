@@ -1,16 +1,13 @@
 -- The lines that a parser has taken, and the faults that it returns.
 use Rattle.std.proofs.Common.{◌≡◌, ℕ, ◌+◌, ◌-◌, ◌≤◌, ◌<◌, inl, inr, Bool, true, false, cond, List, [], ◌∷◌, ◌++◌, length, subst, refl, ap, sym, ◌∙◌, Some, None, arith, append_assoc, append-nil, length-append, eqb-true, take, drop, get_or, suc, drop-cons}
-use Rattle.std.specs.Prelude.{⊤, Option, ◌↔◌, ◌==◌, ◌&&◌, nat_le}
+use Rattle.std.specs.Prelude.{⊤, Option, ◌↔◌, ◌==◌, ◌&&◌, nat_le, position, nat_lt}
 use Rattle.std.specs.Str.Lines.{strip_carriage_return}
-use Rattle.std.specs.Prelude.{position}
 use Rattle.std.proofs.Math.Seq.{take-append_seam}
-use Rattle.std.specs.Prelude.{nat_lt}
 use Rattle.std.specs.List.{position_or_len}
-use Rattle.std.proofs.lemmas.Bool.{ltb-false}
+use Rattle.std.proofs.lemmas.Bool.{ltb-false, leb-true, leb-false, lt-leb, le-leb, eqb-false}
 use Rattle.std.proofs.lemmas.List.Sums.{position_or_len_is, fails_before_first}
 use Rattle.std.proofs.lemmas.List.{take-append-drop, take-append-le, take_all, get_or-take, length-take-le}
 use Rattle.std.proofs.lemmas.List.Quantifiers.{position-Some}
-use Rattle.std.proofs.lemmas.Bool.{leb-true, leb-false, lt-leb, le-leb, eqb-false}
 use Rattle.docker_model.specs.records.Record.{IsRecord}
 use Rattle.docker_model.specs.file.Text.{lines_of}
 use Rattle.docker_model.specs.file.File.{IsFile, BeginsFile}
@@ -24,8 +21,8 @@ use Rattle.cif_laws.specs.RecordCause.{end_cause, length_cause, is_after_end, ca
 use Rattle.cif_laws.specs.LinesTold.{HasNoFeed, told_lines, open_line, line_left}
 use Rattle.cif_laws.proofs.files.ToldLines.{lines_of_told, lines_of_ended, lines_of_open, told_lines_plain, open_line_plain, told_lines_ended, open_line_ended, told_lines_stay, lines_told_grow}
 use Rattle.cif_laws.proofs.files.ToldFaults.{cause_of_length, not_80, no_next_place, lines_told_short, length_at_end, fault_at_feed, fault_at_long, fault_at_end, fault_stays, no_fault_told}
-use Rattle.cif_journey.specs.declared.cause.FileCause.{FileCause}
-use Rattle.cif_journey.specs.declared.cause.FileCause.TheVariants.{Memory}
+use Rattle.cif_change.specs.declared.cause.FileCause.{FileCause}
+use Rattle.cif_change.specs.declared.cause.FileCause.TheVariants.{Memory}
 use Rattle.cif_file.specs.declared.fault.FileFault.{FileFault}
 use Rattle.cif_file.specs.declared.front.Front.{Front}
 use Rattle.cif_file.specs.declared.ended.Ended.{Ended}
@@ -34,7 +31,7 @@ use Rattle.cif_file.specs.declared.records.Records.{Records}
 use Rattle.cif_file.specs.declared.parser.FileReading.{FileReading}
 use Rattle.cif_file.specs.Cut.{IsCut, BeginsWithEighty, before_rest}
 use Rattle.cif_file.proofs.TextLemmas.{record_cut}
-use Rattle.cif_journey.specs.Cause.{cause_meant}
+use Rattle.cif_change.specs.Cause.{cause_meant}
 use Rattle.cif_file.specs.KeeperRead.{Keeps, KeepsAll}
 use Rattle.cif_file.specs.RecordsRead.{HasRecords, GoesOnWith, IsNoNextCause}
 use Rattle.cif_file.specs.ParserRead.{IsEndedText, ParserState, HasRead, IsReadingOrFault, HasCounted, IsCauseNext, IsCauseBehind, IsFaultNext, IsNoEndOf, FaultsNext, EndsCounted, EndsUnended, IsLongNext, IsReading, WantsMemoryAt, IsToldSoFar, IsFaultTold, IsCauseOf, IsRefused, HasNotFailed, IsLater, NamesLater, IsLast, NamesLast, GoesOn, TakesUpTo, TellsFault, refusal, IsRefusedNext, CountsNext}

@@ -7,12 +7,12 @@ use Rattle.docker_model.specs.file.FileFault as model
 use Rattle.cif_laws.proofs.files.ToldFaults.{fault_in_the_end}
 use Rattle.cif_line.specs.Device.{Reads, IsEnd}
 use Rattle.cif_line.specs.Taken.{BehindEach, HasFed, HasRefused, LosesOnePieceMore}
-use Rattle.cif_journey.specs.declared.cause.FileCause.{FileCause}
-use Rattle.cif_journey.specs.declared.cause.FileCause.TheVariants.{Length, Byte, Kind, Place, Field, Midnights, NoEnd, After, TooMany, Memory}
+use Rattle.cif_change.specs.declared.cause.FileCause.{FileCause}
+use Rattle.cif_change.specs.declared.cause.FileCause.TheVariants.{Length, Byte, Kind, Place, Field, Midnights, NoEnd, After, TooMany, Memory}
 use Rattle.cif_file.specs.declared.fault.FileFault.{FileFault}
 use Rattle.cif_file.specs.declared.fault.ReadFault.{ReadFault}
 use Rattle.cif_file.specs.declared.fault.ReadFault.TheVariants as read
-use Rattle.cif_journey.specs.Cause.{cause_meant}
+use Rattle.cif_change.specs.Cause.{cause_meant}
 use Rattle.cif_file.specs.declared.ended.Ended.{Ended}
 use Rattle.cif_file.specs.declared.parser.FileReading.{FileReading}
 use Rattle.cif_file.specs.KeeperRead.{Keeps}

@@ -9,7 +9,7 @@ use Rattle.cif_file.specs.declared.single.Single.TheVariants.{TiplocInsert, Tipl
 use Rattle.cif_file.specs.declared.unit.Unit.{Unit}
 use Rattle.cif_file.specs.declared.unit.Unit.TheVariants as unit
 use Rattle.cif_file.specs.UnitRead.{kind_of_single, line_of_single, IsUnitByKind, IsUnitOf, IsOfSome}
-use Rattle.cif_journey.proofs.JourneyLemmas.{first_line_is}
+use Rattle.cif_change.proofs.JourneyLemmas.{first_line_is}
 
 -- a record that is a unit by itself leads to whole units
 pub single_leads : (line : List ℕ) (single : Single) → HasKind (kind_of_single single) line → unit_by_kind (kind_of line) line ≡ Some between_units

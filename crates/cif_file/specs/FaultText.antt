@@ -1,6 +1,6 @@
 -- The texts of faults.
 use Rattle.std.specs.Prelude.{ℕ, List, ◌++◌, codes, decimal}
-use Rattle.cif_journey.specs.Cause.{cause_text}
+use Rattle.cif_change.specs.Cause.{cause_text}
 use Rattle.cif_file.specs.declared.fault.FileFault.{FileFault}
 use Rattle.cif_file.specs.declared.fault.ReadFault.{ReadFault}
 use Rattle.cif_file.specs.declared.fault.ReadFault.TheVariants.{Source, File}

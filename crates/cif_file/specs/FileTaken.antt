@@ -5,7 +5,7 @@ use Rattle.docker_model.specs.file.File.{most_records}
 use Rattle.docker_model.specs.file.FaultSoFar.{IsFaultSoFar, lines_told}
 use Rattle.docker_model.specs.file.FileFault as model
 use Rattle.cif_laws.proofs.files.ToldBound.{text_without_fault_is_bounded}
-use Rattle.cif_journey.specs.declared.cause.FileCause.TheVariants.{Memory}
+use Rattle.cif_change.specs.declared.cause.FileCause.TheVariants.{Memory}
 use Rattle.cif_file.specs.declared.fault.FileFault.{FileFault}
 use Rattle.cif_file.specs.declared.parser.FileReading.{FileReading}
 use Rattle.cif_file.specs.KeeperRead.{Keeps}

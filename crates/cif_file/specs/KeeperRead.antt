@@ -2,7 +2,7 @@
 use Rattle.std.specs.Prelude.{◌≡◌, ℕ, ◌<◌, List, [], ◌∷◌, ◌++◌, length, if◌then◌else◌}
 use Rattle.docker_model.specs.file.Change.{Change, changes_of_record, schedule_body, delete, put}
 use Rattle.cif_change.specs.declared.key.Key.TheVariants as key
-use Rattle.cif_journey.specs.JourneyRead.{progress_meant}
+use Rattle.cif_change.specs.JourneyRead.{progress_meant}
 use Rattle.cif_file.specs.declared.opened.Opened.{Opened}
 use Rattle.cif_file.specs.declared.kept.FileSoFar.{FileSoFar}
 use Rattle.cif_file.specs.MadeChanges.{HasMade}

@@ -12,5 +12,7 @@ pub mod FileTaken
 pub use Rattle.cif_change.specs.Meaning
 pub use Rattle.cif_change.specs.Joined
 pub use Rattle.cif_change.specs.Acts
-pub use Rattle.cif_journey.specs.Cause
-pub use Rattle.cif_journey.specs.JourneyRead
+pub use Rattle.cif_change.specs.Cause
+pub use Rattle.cif_change.specs.JourneyRead
+pub use Rattle.cif_change.specs.declared.key.Key
+pub use Rattle.cif_change.specs.declared.change.Change

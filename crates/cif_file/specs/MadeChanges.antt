@@ -2,7 +2,7 @@
 use Rattle.std.specs.Prelude.{◌≡◌, List, ◌++◌, map}
 use Rattle.docker_model.specs.file.Change.{Change}
 use Rattle.cif_change.specs.Meaning.{change_meant}
-use Rattle.cif_places.specs.Noted.{HasNoted, items_put}
+use Rattle.cif_change.specs.Noted.{HasNoted, items_put}
 use Rattle.cif_file.specs.declared.made.Made.{Made}
 use Rattle.cif_file.specs.declared.parts.FileParts.{FileParts}
 use Rattle.cif_file.specs.FileRead.{FileRead, IsRead}

@@ -14,10 +14,10 @@ use Rattle.cif_file.specs.declared.opened.Opened.{Opened}
 use Rattle.cif_file.specs.declared.front.FileStage.{FileStage}
 use Rattle.cif_file.specs.declared.front.FileStage.TheVariants.{BeforeHeader, BetweenUnits, InSchedule, AfterEnd}
 use Rattle.cif_file.specs.declared.front.Front.{Front}
-use Rattle.cif_journey.specs.declared.cause.FileCause.{FileCause}
+use Rattle.cif_change.specs.declared.cause.FileCause.{FileCause}
 use Rattle.cif_change.specs.Meaning.{key_meant}
-use Rattle.cif_journey.specs.Cause.{cause_meant}
-use Rattle.cif_journey.specs.JourneyRead.{progress_meant, HasLines, Advances}
+use Rattle.cif_change.specs.Cause.{cause_meant}
+use Rattle.cif_change.specs.JourneyRead.{progress_meant, HasLines, Advances}
 use Rattle.cif_file.specs.KeeperRead.{Keeps}
 
 abbrev Lines : Type 0

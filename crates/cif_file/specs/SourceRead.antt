@@ -8,7 +8,7 @@ use Rattle.cif_laws.specs.LinesTold.{told_lines}
 use Rattle.cif_line.specs.Device.{Reads}
 use Rattle.cif_file.specs.declared.ended.Ended.{Ended}
 use Rattle.cif_file.specs.declared.fault.FileFault.{FileFault}
-use Rattle.cif_journey.specs.Cause.{cause_meant}
+use Rattle.cif_change.specs.Cause.{cause_meant}
 use Rattle.cif_file.specs.FileRead.{FileRead, FileCounted}
 use Rattle.cif_file.specs.KeeperRead.{Keeps}
 use Rattle.cif_file.specs.ParserRead.{IsOfFileText, IsCountOfFileText, IsEndedText, WantsMemoryAt}

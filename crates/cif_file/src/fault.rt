@@ -2,7 +2,7 @@
 ghost use Rattle.std.specs.Prelude.{Some};
 ghost use Rattle.cif_file.specs.FaultText.{fault_text, read_fault_text};
 
-use cif_journey::FileCause;
+use cif_change::FileCause;
 use std::error::Error;
 use std::fmt;
 

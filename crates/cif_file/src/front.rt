@@ -3,7 +3,7 @@ ghost use Rattle.std.specs.Prelude.{◌≡◌, ℕ, ◌+◌, ◌↔◌, List, []
 ghost use Rattle.docker_model.specs.records.Record.{HasKind, IsRecord};
 ghost use Rattle.docker_model.specs.file.File.{follows_basic, IsFile};
 ghost use Rattle.cif_line.specs.Kind.{meaning};
-ghost use Rattle.cif_journey.specs.JourneyRead.{FaultsLine, JudgesLine, is_over_by, progress_meant};
+ghost use Rattle.cif_change.specs.JourneyRead.{FaultsLine, JudgesLine, is_over_by, progress_meant};
 ghost use Rattle.cif_file.specs.KeeperRead.{Closes};
 ghost use Rattle.cif_file.specs.UnitRead.{IsUnitOf, IsOfSome};
 ghost use Rattle.cif_file.specs.EndedRead.{IsEnded};
@@ -14,7 +14,7 @@ use crate::header_line::HeaderLine;
 use crate::keeper::Keeper;
 use crate::opened::{Opened, opened_schedule};
 use crate::unit::{Unit, unit_of};
-use cif_journey::FileCause;
+use cif_change::FileCause;
 use cif_line::{Basic, Kind, Line, header, kind};
 use std::alloc::AllocError;
 

@@ -24,8 +24,7 @@ mod tally;
 mod text;
 mod unit;
 
-pub use cif_change::{Act, AssocKey, Body, Change, Key, Lines, ScheduleKey};
-pub use cif_journey::{FileCause, Journey};
+pub use cif_change::{Act, AssocKey, Body, Change, FileCause, Journey, Key, Lines, ScheduleKey};
 pub use count::FileCount;
 pub use fault::{FileFault, ReadFault};
 pub use file::CifFile;

@@ -3,8 +3,7 @@ ghost use Rattle.std.specs.Prelude.{[], ◌∷◌, OnOk};
 ghost use Rattle.cif_change.specs.Meaning.{change_meant};
 ghost use Rattle.cif_file.specs.MadeChanges.{HasMade, Makes};
 
-use cif_change::Change;
-use cif_places::Notes;
+use cif_change::{Change, Notes};
 use std::alloc::{AllocError, Global};
 
 /// The changes that were made, and the notes of the places that they name.

@@ -3,13 +3,13 @@ ghost use Rattle.std.specs.Prelude.{◌≡◌, ◌<◌, IsErr, IfOk, IfErr, OnOk
 ghost use Rattle.docker_model.specs.records.Record.{IsRecord};
 ghost use Rattle.cif_laws.specs.FileStage.{Place};
 ghost use Rattle.cif_laws.specs.RecordCause.{length_cause};
-ghost use Rattle.cif_journey.specs.Cause.{cause_meant};
+ghost use Rattle.cif_change.specs.Cause.{cause_meant};
 ghost use Rattle.cif_file.specs.RecordsRead.{TakesNext};
 ghost use Rattle.cif_file.specs.ParserRead.{RefusesWithin};
 
 use crate::front::Front;
 use crate::keeper::Keeper;
-use cif_journey::FileCause;
+use cif_change::FileCause;
 use cif_line::{Line, LineFault};
 
 /// The bytes as a line.

@@ -3,12 +3,13 @@ ghost use Rattle.std.specs.Prelude.{◌≡◌, [], ◌∷◌, true, false, IsOk,
 ghost use Rattle.docker_model.specs.records.Record.{HasKind, IsRecord};
 ghost use Rattle.cif_laws.specs.ScheduleStage.{is_first_line};
 ghost use Rattle.docker_model.specs.file.Change.{schedule_named, schedule_body, delete, put};
-ghost use Rattle.cif_journey.specs.JourneyRead.{progress_meant, HasLines, Advances, FaultsLine, JudgesLine, is_over_by};
+ghost use Rattle.cif_change.specs.JourneyRead.{progress_meant, HasLines, Advances, FaultsLine, JudgesLine, is_over_by};
 ghost use Rattle.cif_line.specs.Kind.{meaning};
 ghost use Rattle.cif_change.specs.Meaning.{change_meant, key_meant};
 
-use cif_change::{Act, Body, Change, Key, Lines, ScheduleKey};
-use cif_journey::{FileCause, Progress, progress_after_basic};
+use cif_change::{
+    Act, Body, Change, FileCause, Key, Lines, Progress, ScheduleKey, progress_after_basic,
+};
 use cif_line::{Basic, Kind, Line};
 use std::alloc::{AllocError, Global};
 

@@ -1,7 +1,6 @@
 //! The parts of a file that was read.
 use crate::header_line::HeaderLine;
-use cif_change::Change;
-use cif_places::Notes;
+use cif_change::{Change, Notes};
 
 /// A CIF file, taken apart.
 #[derive(Debug, Drop)]

@@ -12,7 +12,7 @@ use crate::keeper::Keeper;
 use crate::kept::FileSoFar;
 use crate::parser::FileReading;
 use crate::records::MOST_RECORDS;
-use cif_journey::FileCause;
+use cif_change::FileCause;
 use cif_line::{FeedFault, PIECE, Source, Taker, feed_all};
 use std::alloc::Global;
 

@@ -6,7 +6,7 @@ use crate::fault::FileFault;
 use crate::front::Front;
 use crate::keeper::Keeper;
 use crate::next_record::{line_of, take_within};
-use cif_journey::FileCause;
+use cif_change::FileCause;
 use cif_line::Line;
 
 /// The most records that a file may have.
@@ -24,7 +24,7 @@ pub(crate) struct Records<K> {
 
 impl<K: Keeper> Records<K> {
     ghost use Rattle.std.specs.Prelude.{ℕ, ◌+◌, ◌≤◌, ◌<◌, List, [], IfOk, IfErr, OnOk, Some};
-    ghost use Rattle.cif_journey.specs.Cause.{cause_meant};
+    ghost use Rattle.cif_change.specs.Cause.{cause_meant};
     ghost use Rattle.cif_file.specs.ParserRead.{HasCounted, CountsNext, FaultsNext, IsLongNext, IsRefusedNext, EndsCounted, EndsUnended};
 
     /// Before the first record. There may be at most `limit` records.

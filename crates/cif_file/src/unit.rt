@@ -5,11 +5,11 @@ ghost use Rattle.docker_model.specs.records.Field.{HasGoodFields};
 ghost use Rattle.cif_laws.specs.FileStage.{unit_by_kind, between_units};
 ghost use Rattle.cif_laws.specs.RecordCause.{place_cause};
 ghost use Rattle.cif_line.specs.Kind.{meaning};
-ghost use Rattle.cif_journey.specs.Cause.{cause_meant};
+ghost use Rattle.cif_change.specs.Cause.{cause_meant};
 ghost use Rattle.cif_file.specs.UnitRead.{IsUnitOf};
 
 use crate::single::Single;
-use cif_journey::FileCause;
+use cif_change::FileCause;
 use cif_line::{Basic, Kind, Line, assoc, basic, tiploc};
 
 /// A record that begins a unit, or the trailer. Its checked fields are good.

@@ -6,5 +6,4 @@ pub mod Later
 pub mod Sorted
 pub mod ZipSteps
 pub mod Decisions
-pub mod Sublists
 pub mod Fronts

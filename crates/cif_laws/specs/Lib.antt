@@ -5,3 +5,4 @@ pub mod FileStage
 pub mod RecordCause
 pub mod LinesTold
 pub mod LawTerms
+pub mod UnitChange

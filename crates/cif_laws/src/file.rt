@@ -8,7 +8,7 @@ ghost use Rattle.docker_model.specs.file.FileFault.{FileCause, FileFault, IsFile
 ghost use Rattle.docker_model.specs.file.ScheduleFault.{IsScheduleFault};
 ghost use Rattle.docker_model.specs.file.FaultSoFar.{IsFaultSoFar};
 ghost use Rattle.docker_model.specs.file.Change.{Change, Body, put, schedule_body, changes, changes_of_record};
-ghost use Rattle.docker_model.specs.file.UnitChange.{changes_of_unit, changes_of_units, change_of_schedule};
+ghost use Rattle.cif_laws.specs.UnitChange.{changes_of_unit, changes_of_units, change_of_schedule};
 ghost use Rattle.docker_model.specs.state.State.{IsBodyOf};
 ghost use Rattle.docker_model.specs.file.File.{IsFile, IsSchedule, BeginsFile, BeginsSchedule, most_records};
 ghost use Rattle.cif_laws.specs.LawTerms.{BeginsWithin};

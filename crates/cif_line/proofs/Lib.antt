@@ -1,2 +1,6 @@
+pub mod CivilDays
+pub mod DateFields
+pub mod Lanes
+pub mod Times
 pub mod GoodFields
 pub mod Leftmost

@@ -1,9 +1,9 @@
+pub mod FieldRead
+pub mod Letter
+pub mod Tiploc
 pub mod Kind
 pub mod RecordRead
 pub mod View
 pub mod CallRead
 pub use Rattle.cif_device.specs.Device
 pub use Rattle.cif_device.specs.Taken
-pub use Rattle.cif_field.specs.FieldRead
-pub use Rattle.cif_field.specs.Letter
-pub use Rattle.cif_field.specs.Tiploc

@@ -3,10 +3,16 @@ ghost use Rattle.std.specs.Prelude.{◌≡◌};
 ghost use Rattle.docker_model.specs.records.Record.{association, columns, column, IsTextOfLength};
 ghost use Rattle.docker_model.specs.records.Date.{date_number, end_number};
 ghost use Rattle.cif_line.specs.View.{IsGood};
-ghost use Rattle.cif_field.specs.FieldRead.{unless_deleted};
-ghost use Rattle.cif_field.specs.Letter.{transaction_letter, stp_letter};
+ghost use Rattle.cif_line.specs.FieldRead.{unless_deleted};
+ghost use Rattle.cif_line.specs.Letter.{transaction_letter, stp_letter};
 
-use cif_field::{Day, Days, Line, Stp, Tiploc, Transaction, Uid, Until};
+use crate::day::Day;
+use crate::days::Days;
+use crate::letter::{Stp, Transaction};
+use crate::line::Line;
+use crate::tiploc_code::Tiploc;
+use crate::uid::Uid;
+use crate::until::Until;
 use std::marker::Model;
 
 /// A view of an association (AA) whose checked fields are good. A deletion's end date and days are

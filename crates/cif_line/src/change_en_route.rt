@@ -3,7 +3,7 @@ ghost use Rattle.std.specs.Prelude.{◌≡◌};
 ghost use Rattle.docker_model.specs.records.Record.{change_en_route, columns, IsTextOfLength};
 ghost use Rattle.cif_line.specs.View.{IsGood};
 
-use cif_field::Line;
+use crate::line::Line;
 use std::marker::Model;
 
 /// A view of a change en route (CR), which has no checked field.

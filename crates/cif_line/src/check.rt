@@ -5,7 +5,10 @@ ghost use Rattle.docker_model.specs.records.Date.{is_date, is_date_day_first, is
 ghost use Rattle.docker_model.specs.records.Clock.{is_blank};
 ghost use Rattle.docker_model.specs.records.Field.{is_tiploc, is_new_tiploc, is_update_indicator, is_transaction, is_stp_indicator};
 
-use cif_field::{Day, Days, Extract, Stp, Transaction, Until};
+use crate::day::Day;
+use crate::days::Days;
+use crate::letter::{Extract, Stp, Transaction};
+use crate::until::Until;
 use thiserror::Error;
 
 /// A record has a checked field that is not good: the first column of the leftmost such field, from

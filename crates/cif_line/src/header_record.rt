@@ -4,9 +4,12 @@ ghost use Rattle.docker_model.specs.records.Record.{header, columns, column, IsT
 ghost use Rattle.docker_model.specs.records.Date.{date_number_day_first};
 ghost use Rattle.docker_model.specs.records.Clock.{minute_of};
 ghost use Rattle.cif_line.specs.View.{IsGood};
-ghost use Rattle.cif_field.specs.Letter.{extract_letter};
+ghost use Rattle.cif_line.specs.Letter.{extract_letter};
 
-use cif_field::{Day, Extract, Line, clock};
+use crate::day::Day;
+use crate::letter::Extract;
+use crate::line::Line;
+use crate::time::clock;
 use std::marker::Model;
 
 /// A view of a header (HD) whose checked fields are good.

@@ -4,7 +4,7 @@ ghost use Rattle.docker_model.specs.records.Record.{tiploc_amend, HasKind, kind_
 ghost use Rattle.cif_line.specs.Kind.{meaning};
 
 use crate::kind_of_record::Kind;
-use cif_field::Line;
+use crate::line::Line;
 
 /// The kind of a record, by its identity in columns 1 and 2. None if no kind has this identity, for
 /// example `LN`.

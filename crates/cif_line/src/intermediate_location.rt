@@ -3,10 +3,12 @@ ghost use Rattle.std.specs.Prelude.{◌≡◌};
 ghost use Rattle.docker_model.specs.records.Record.{intermediate_location, columns, column, IsTextOfLength};
 ghost use Rattle.docker_model.specs.records.Clock.{scheduled_time};
 ghost use Rattle.docker_model.specs.records.PrintedTime.{shown_public};
-ghost use Rattle.cif_field.specs.FieldRead.{public_half_minutes, public_text};
+ghost use Rattle.cif_line.specs.FieldRead.{public_half_minutes, public_text};
 ghost use Rattle.cif_line.specs.View.{IsGood};
 
-use cif_field::{Line, Time, Tiploc};
+use crate::line::Line;
+use crate::time::Time;
+use crate::tiploc_code::Tiploc;
 use std::marker::Model;
 
 /// The scheduled times of an intermediate location. A time is none if its field is blank.

@@ -1,20 +1,31 @@
-//! Views of the records of a CIF extract, as the CIF End User Specification lays them out. The
-//! crate re-exports the line and its fields, and the devices that bytes come from and go to, from
-//! the crates below.
+//! The line of a CIF extract, the fields in its columns, and views of its records, as the CIF End
+//! User Specification lays them out. The crate re-exports the devices that bytes come from and
+//! go to.
 #![tactic(auto)]
 
 mod association;
 mod basic_schedule;
 mod change_en_route;
 mod check;
+mod day;
+mod days;
+mod digits;
+mod field;
 mod header_record;
 mod identity;
 mod intermediate_location;
 mod kind_of_record;
+mod letter;
+mod line;
 mod origin_location;
+mod printable;
 mod read;
 mod terminating_location;
+mod time;
+mod tiploc_code;
 mod tiploc_record;
+mod uid;
+mod until;
 
 pub use association::Assoc;
 pub use basic_schedule::Basic;
@@ -24,15 +35,19 @@ pub use cif_device::{
     Bytes, Endless, Failed, FeedFault, Fuse, Kept, Memory, PIECE, Sink, Source, Taker, feed_all,
     write_all,
 };
-pub use cif_field::{
-    Day, Days, Extract, Line, LineFault, NO_END, Stp, Time, Tiploc, Transaction, Uid, Until,
-    is_printable,
-};
+pub use day::Day;
+pub use days::Days;
 pub use header_record::Header;
 pub use identity::kind;
 pub use intermediate_location::Call;
 pub use kind_of_record::Kind;
+pub use letter::{Extract, Stp, Transaction};
+pub use line::{Line, LineFault, is_printable};
 pub use origin_location::Origin;
 pub use read::{assoc, basic, call, change, header, origin, terminus, tiploc};
 pub use terminating_location::Terminus;
+pub use time::{Time, clock, is_clock, is_public_time};
+pub use tiploc_code::Tiploc;
 pub use tiploc_record::TiplocRecord;
+pub use uid::Uid;
+pub use until::{NO_END, Until};

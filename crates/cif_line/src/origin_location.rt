@@ -3,10 +3,12 @@ ghost use Rattle.std.specs.Prelude.{◌≡◌};
 ghost use Rattle.docker_model.specs.records.Record.{origin_location, columns, column, IsTextOfLength};
 ghost use Rattle.docker_model.specs.records.Clock.{half_minutes};
 ghost use Rattle.docker_model.specs.records.PrintedTime.{shown_public};
-ghost use Rattle.cif_field.specs.FieldRead.{public_half_minutes, public_text};
+ghost use Rattle.cif_line.specs.FieldRead.{public_half_minutes, public_text};
 ghost use Rattle.cif_line.specs.View.{IsGood};
 
-use cif_field::{Line, Time, Tiploc};
+use crate::line::Line;
+use crate::time::Time;
+use crate::tiploc_code::Tiploc;
 use std::marker::Model;
 
 /// A view of an origin location (LO) whose checked fields are good. Its scheduled time is read when
@@ -18,8 +20,7 @@ pub struct Origin<'a> {
 }
 
 impl<'a> Model for Origin<'a> {
-    ghost use Rattle.std.specs.Prelude.{List, ℕ};
-    ghost use Rattle.std.specs.Prelude.{◌≡◌};
+    ghost use Rattle.std.specs.Prelude.{List, ℕ, ◌≡◌};
     ghost use Rattle.docker_model.specs.records.Record.{origin_location, columns};
     ghost use Rattle.docker_model.specs.records.Clock.{half_minutes};
     ghost use Rattle.cif_line.specs.View.{IsGood};

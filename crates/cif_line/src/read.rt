@@ -18,10 +18,11 @@ use crate::check::{
 use crate::header_record::Header;
 use crate::identity::is_amendment;
 use crate::intermediate_location::{Call, CallTimes};
+use crate::line::Line;
 use crate::origin_location::Origin;
 use crate::terminating_location::Terminus;
+use crate::time::{Time, is_clock, is_public_time};
 use crate::tiploc_record::TiplocRecord;
-use cif_field::{Line, Time, is_clock, is_public_time};
 
 /// A view of a header (HD), or the first column of its leftmost bad field: 23 for the date of
 /// extract, 29 for its time, and 47 for the update indicator.

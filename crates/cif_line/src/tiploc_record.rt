@@ -4,7 +4,8 @@ ghost use Rattle.docker_model.specs.records.Record.{kind_of, columns, IsTextOfLe
 ghost use Rattle.cif_line.specs.View.{IsGoodTiploc, new_code_of};
 
 use crate::identity::is_amendment;
-use cif_field::{Line, Tiploc};
+use crate::line::Line;
+use crate::tiploc_code::Tiploc;
 use std::marker::Model;
 
 /// A view of a TIPLOC insert (TI), amend (TA) or delete (TD) whose checked fields are good.

@@ -1,7 +1,8 @@
 //! A session on the real devices.
-use docker_cmd::{Fault, JobFault};
-use docker_program::{Folder, InputDevice, OutputDevice, hold_standard, own_words, tell};
-use docker_serve::serve;
+use docker_desk::serve;
+use docker_program::{
+    Fault, Folder, InputDevice, JobFault, OutputDevice, hold_standard, own_words, tell,
+};
 use std::process::ExitCode;
 
 /// Serves a desk with the program's words, standard input, output and error, and returns its exit

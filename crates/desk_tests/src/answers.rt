@@ -6,9 +6,8 @@ use crate::expected::USAGE;
 use cif_file::{FileCause, FileFault};
 use cif_line::{Failed, Fuse, Kept, Sink, write_all};
 use docker_cmd::OfficeFault;
-use docker_desk::write_answer;
+use docker_desk::{Answer, Page, write_answer, write_reply};
 use docker_office::{StateCause, StateFault};
-use docker_session::{Answer, Page, write_reply};
 use std::alloc::Global;
 use std::process::Abort;
 

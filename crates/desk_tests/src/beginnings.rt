@@ -6,7 +6,7 @@ use crate::files::{Named, Shelf};
 use crate::records::*;
 use crate::session_parts::{READING, Texts, WRITING, room, store_of_morning};
 use cif_line::Bytes;
-use docker_serve::serve;
+use docker_desk::serve;
 use std::alloc::Global;
 use std::process::Abort;
 

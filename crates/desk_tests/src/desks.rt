@@ -6,9 +6,9 @@ use crate::expected::{ANSWER_18_JUNE, ANSWER_0900, DAY_REFUSED};
 use crate::records::*;
 use crate::store::Drawer;
 use cif_line::{Bytes, Day, Tiploc};
+use docker_desk::Desk;
 use docker_office::Office;
 use docker_program::Stores;
-use docker_session::Desk;
 use std::alloc::Global;
 use std::process::Abort;
 

@@ -8,7 +8,7 @@ use crate::records::*;
 use crate::session_parts::{READING, Texts, WRITING, joined, room, store_of_morning};
 use crate::store::Fails;
 use cif_line::{Bytes, Fuse, Source};
-use docker_serve::serve;
+use docker_desk::serve;
 use std::alloc::Global;
 use std::process::Abort;
 

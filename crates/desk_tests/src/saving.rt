@@ -8,9 +8,9 @@ use crate::records::*;
 use crate::store::{Drawer, Fails};
 use crate::taking::taken;
 use docker_cmd::OfficeFault;
+use docker_desk::Desk;
 use docker_office::{StateCause, StateFault};
 use docker_program::Stores;
-use docker_session::Desk;
 use std::alloc::Global;
 use std::process::Abort;
 

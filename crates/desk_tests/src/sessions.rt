@@ -7,7 +7,7 @@ use crate::files::Shelf;
 use crate::records::*;
 use crate::session_parts::{READING, Texts, WRITING, joined, room, store_of_morning};
 use cif_line::Bytes;
-use docker_serve::serve;
+use docker_desk::serve;
 use std::alloc::Global;
 use std::process::Abort;
 

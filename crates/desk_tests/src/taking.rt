@@ -7,8 +7,8 @@ use crate::files::{Named, Shelf};
 use crate::records::*;
 use cif_file::{FileCause, FileFault};
 use docker_cmd::OfficeFault;
+use docker_desk::Desk;
 use docker_office::{StateCause, StateFault};
-use docker_session::Desk;
 use std::alloc::Global;
 use std::process::Abort;
 

@@ -5,7 +5,7 @@ use crate::desks::{day_of, desk_of};
 use crate::expected::DAY_REFUSED;
 use crate::records::*;
 use cif_line::Uid;
-use docker_session::Desk;
+use docker_desk::Desk;
 use std::alloc::Global;
 use std::process::Abort;
 

@@ -11,14 +11,14 @@ use Rattle.docker_model.specs.state.StateFault.{bad_mark, bad_item, bad_order, b
 use Rattle.docker_model.specs.state.StateFault as model
 use Rattle.state_laws.specs.TextStage.{advance}
 use Rattle.state_laws.proofs.texts.TextsBefore.{more_lines}
-use Rattle.state_parts.specs.ScheduleKey as code
-use Rattle.state_parts.specs.Meaning.{stamp_meant}
-use Rattle.state_parts.specs.Stamp as stamps
-use Rattle.state_parts.specs.declared.stage.Stage.{Stage}
-use Rattle.state_parts.specs.declared.stage.Stage.TheVariants as stage
-use Rattle.state_parts.specs.FaultMeaning.{IsBadHere}
-use Rattle.state_parts.specs.Lines.{AreLinesUpToIn, IsUpToRefusal}
-use Rattle.state_parts.specs.Stage.{schedule_meant, stage_meant, begins_item, LeadsTo}
+use Rattle.state_text.specs.ScheduleKey as code
+use Rattle.state_text.specs.Meaning.{stamp_meant}
+use Rattle.state_text.specs.Stamp as stamps
+use Rattle.state_text.specs.declared.stage.Stage.{Stage}
+use Rattle.state_text.specs.declared.stage.Stage.TheVariants as stage
+use Rattle.state_text.specs.FaultMeaning.{IsBadHere}
+use Rattle.state_text.specs.Lines.{AreLinesUpToIn, IsUpToRefusal}
+use Rattle.state_text.specs.Stage.{schedule_meant, stage_meant, begins_item, LeadsTo}
 use Rattle.docker_bytes.specs.StateReading.{IsLineOf}
 
 -- after a line with more to come, the next part is a line again

@@ -10,14 +10,14 @@ use Rattle.docker_model.specs.state.StateText.{Format}
 use Rattle.docker_model.specs.state.StateFault.{has_tail, IsStateText, HasTail}
 use Rattle.docker_model.specs.state.StateFault as model
 use Rattle.state_laws.proofs.texts.StateFaultStays.{bad_part_stays, long_stays}
-use Rattle.state_parts.specs.declared.cause.StateCause.{StateCause}
-use Rattle.state_parts.specs.declared.cause.StateCause.TheVariants as cause
+use Rattle.state_text.specs.declared.cause.StateCause.{StateCause}
+use Rattle.state_text.specs.declared.cause.StateCause.TheVariants as cause
 use Rattle.docker_bytes.specs.declared.fault.StateFault.{StateFault}
 use Rattle.docker_bytes.specs.declared.fault.Step.{Step}
 use Rattle.docker_bytes.specs.declared.fault.Step.TheVariants.{Done, More}
 use Rattle.docker_bytes.specs.declared.read.ReadFault.{ReadFault}
 use Rattle.docker_bytes.specs.declared.read.ReadFault.TheVariants as fault
-use Rattle.state_parts.specs.FaultMeaning.{cause_meant}
+use Rattle.state_text.specs.FaultMeaning.{cause_meant}
 use Rattle.docker_bytes.specs.StateReading.{format_of, IsToldSoFar, IsFaultTold, IsToldAtEnd, IsUnended, IsWhole, IsWanting, IsMadeOf, IsStep, JoinsText}
 use Rattle.docker_bytes.specs.ParserRead.{ParserState, HasRead, IsUnread}
 use Rattle.docker_bytes.specs.StateTaken.{RefusesPart, StateTerms, TakesState}

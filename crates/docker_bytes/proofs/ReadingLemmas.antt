@@ -15,8 +15,8 @@ use Rattle.std.proofs.Math.Seq.{take-append_seam}
 use Rattle.state_laws.specs.TextStage.{advance, after_mark, after_items, after_entries, after_lines, after_op, with_entry}
 use Rattle.state_laws.proofs.texts.PartJudged.{Judged, Good, judge}
 use Rattle.docker_bytes.specs.declared.reading.StateReading.{StateReading}
-use Rattle.state_parts.specs.FaultMeaning.{IsBadHere}
-use Rattle.state_parts.specs.Stage.{begins_item, LeadsTo}
+use Rattle.state_text.specs.FaultMeaning.{IsBadHere}
+use Rattle.state_text.specs.Stage.{begins_item, LeadsTo}
 use Rattle.docker_bytes.specs.StateReading.{format_of, before_of, text_of, IsReading, ReadsOn, IsToldSoFar, IsOpen}
 
 -- what of a piece comes before a rest of it

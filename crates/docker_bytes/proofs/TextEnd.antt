@@ -6,10 +6,10 @@ use Rattle.docker_model.specs.state.StatePart.{at_end, items_before, text_before
 use Rattle.docker_model.specs.state.StateFault.{too_short, IsShort, IsStateText}
 use Rattle.state_laws.proofs.texts.TextOrFault.{end_or_part}
 use Rattle.state_laws.proofs.texts.OneStateFault.{no_fault_of_state}
-use Rattle.state_parts.specs.declared.stage.Stage.{Stage}
-use Rattle.state_parts.specs.declared.stage.Stage.TheVariants as stage
+use Rattle.state_text.specs.declared.stage.Stage.{Stage}
+use Rattle.state_text.specs.declared.stage.Stage.TheVariants as stage
 use Rattle.docker_bytes.specs.declared.reading.StateReading.{StateReading}
-use Rattle.state_parts.specs.Stage.{stage_meant}
+use Rattle.state_text.specs.Stage.{stage_meant}
 use Rattle.docker_bytes.specs.StateReading.{format_of, before_of, text_of, IsReading, IsWhole, IsOpen, IsToldAtEnd}
 use Rattle.docker_bytes.specs.ParserRead.{ParserState, HasRead}
 use Rattle.std.proofs.lemmas.Bool.{cases_lt}

@@ -1,7 +1,7 @@
 -- The texts of faults.
 use Rattle.std.specs.Prelude.{ℕ, List, ◌++◌, codes, decimal}
 use Rattle.docker_bytes.specs.declared.fault.StateFault.{StateFault}
-pub use Rattle.state_parts.specs.CauseText.{cause_text}
+pub use Rattle.state_text.specs.CauseText.{cause_text}
 
 -- a fault by its offset and its cause
 abbrev pub fault_text : StateFault → List ℕ

@@ -5,5 +5,5 @@ pub mod ParserRead
 pub mod SourceRead
 pub mod StateTaken
 pub mod Excerpts
-pub use Rattle.state_parts.specs.FaultMeaning
+pub use Rattle.state_text.specs.FaultMeaning
 pub use Rattle.docker_excerpt.specs.Values

@@ -6,7 +6,7 @@ use Rattle.docker_model.specs.state.StateText.{Format}
 use Rattle.docker_model.specs.state.StateFault.{IsStateFault, IsStateText}
 use Rattle.docker_model.specs.state.StateFault as model
 use Rattle.docker_bytes.specs.declared.fault.StateFault.{StateFault}
-use Rattle.state_parts.specs.FaultMeaning.{cause_meant}
+use Rattle.state_text.specs.FaultMeaning.{cause_meant}
 use Rattle.docker_bytes.specs.StateReading.{IsMadeOf, IsWhole, IsOpen, IsWanting}
 use Rattle.docker_bytes.specs.ParserRead.{ParserState, HasRead}
 

@@ -9,13 +9,13 @@ use Rattle.docker_bytes.specs.declared.fault.StateFault.{StateFault}
 use Rattle.docker_bytes.specs.declared.fault.Step.{Step}
 use Rattle.docker_bytes.specs.declared.fault.Step.TheVariants.{Done, More}
 use Rattle.docker_bytes.specs.declared.reading.StateReading.{StateReading}
-use Rattle.state_parts.specs.FaultMeaning.{cause_meant, IsWantingHere, IsBadHere}
-use Rattle.state_parts.specs.FormatMeaning.{format_meant}
-use Rattle.state_parts.specs.Stage.{stage_meant, IsReady}
-use Rattle.state_parts.specs.ScheduleKey.{ScheduleKey}
-use Rattle.state_parts.specs.Stamp.{Stamp}
-use Rattle.state_parts.specs.declared.stage.Stage.{Stage}
-use Rattle.state_parts.specs.declared.stage.Stage.TheVariants.{Line}
+use Rattle.state_text.specs.FaultMeaning.{cause_meant, IsWantingHere, IsBadHere}
+use Rattle.state_text.specs.FormatMeaning.{format_meant}
+use Rattle.state_text.specs.Stage.{stage_meant, IsReady}
+use Rattle.state_text.specs.ScheduleKey.{ScheduleKey}
+use Rattle.state_text.specs.Stamp.{Stamp}
+use Rattle.state_text.specs.declared.stage.Stage.{Stage}
+use Rattle.state_text.specs.declared.stage.Stage.TheVariants.{Line}
 
 -- the format of the text
 abbrev pub format_of : {K : Type 0} → StateReading K → Format

@@ -9,7 +9,7 @@ ghost use Rattle.docker_bytes.specs.SourceRead.{ReadsMade, ReadsState, RefusesSt
 use crate::read::{ReadFault, read_format};
 use cif_line::{Day, PIECE, Source, Tiploc};
 use docker_excerpt::{Excerpt, ExcerptingAt, KeptLedger, Ledger, PlaceDay};
-use state_parts::format::Format;
+use state_text::format::Format;
 use std::alloc::Global;
 use std::marker::Brand;
 

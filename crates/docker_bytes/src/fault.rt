@@ -2,7 +2,7 @@
 ghost use Rattle.std.specs.Prelude.{Some};
 ghost use Rattle.docker_bytes.specs.FaultText.{fault_text};
 
-use state_parts::StateCause;
+use state_text::StateCause;
 use std::error::Error;
 use std::fmt;
 

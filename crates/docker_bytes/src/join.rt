@@ -11,8 +11,8 @@ ghost use Rattle.docker_bytes.specs.SourceRead.{RefusesState, IsFaultOf, ReadsOn
 use crate::parser::Parser;
 use crate::read::{ReadFault, fault_of, read_pieces};
 use cif_line::{PIECE, Source};
-use state_parts::format::Format;
-use state_parts::{Received, Receiver, State};
+use state_text::format::Format;
+use state_text::{Received, Receiver, State};
 use std::alloc::Global;
 use std::marker::Brand;
 use std::mem;

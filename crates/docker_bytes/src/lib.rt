@@ -19,4 +19,4 @@ pub use join::join_state;
 pub use migration::migrate;
 pub use read::{ReadFault, read_state};
 pub use state_parser::StateParser;
-pub use state_parts::{StateCause, encoded_len, write_state};
+pub use state_text::{StateCause, encoded_len, write_state};

@@ -6,8 +6,8 @@ ghost use Rattle.docker_bytes.specs.SourceRead.{ReadsState, RefusesState, ReadsO
 
 use crate::read::{ReadFault, read_format};
 use cif_line::{PIECE, Source};
-use state_parts::format::Format;
-use state_parts::{State, Whole};
+use state_text::format::Format;
+use state_text::{State, Whole};
 use std::alloc::Global;
 
 /// Reads a source as `read_state` does, for a text with the mark `DKS1`. The text has no horizon,

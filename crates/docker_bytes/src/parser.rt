@@ -1,14 +1,14 @@
 //! A parser that is fed the text of a state piece by piece, and gives its parts to a keeper.
 ghost use Rattle.std.specs.Prelude.{◌≡◌, ℕ, ◌+◌, ◌≤◌, List, [], ◌++◌, length, take, IsOk, IsErr, IfOk, IfErr, Ok, Err, None};
 ghost use Rattle.docker_model.specs.state.StateText as formats;
-ghost use Rattle.state_parts.specs.FormatMeaning.{format_meant};
+ghost use Rattle.state_text.specs.FormatMeaning.{format_meant};
 ghost use Rattle.docker_bytes.specs.StateReading.{IsFaultTold, IsUnended, IsStep, IsMadeOf, IsWhole, JoinsText};
 ghost use Rattle.docker_bytes.specs.ParserRead.{HasRead, HasFailed};
 
 use crate::fault::{StateFault, Step};
 use crate::reading::StateReading;
-use state_parts::format::Format;
-use state_parts::{Keeper, Maker, Received, Receiver, State, Told};
+use state_text::format::Format;
+use state_text::{Keeper, Maker, Received, Receiver, State, Told};
 use std::alloc::Global;
 use std::marker::Model;
 

@@ -3,7 +3,7 @@ ghost use Rattle.std.specs.Prelude.{◌≡◌, ◌≢◌, ℕ, ◌-◌, ◌^◌,
 ghost use Rattle.cif_line.specs.Device.{CountsFailure};
 ghost use Rattle.docker_model.specs.state.StateText.{dks_2};
 ghost use Rattle.docker_model.specs.state.StateText as formats;
-ghost use Rattle.state_parts.specs.FormatMeaning.{format_meant};
+ghost use Rattle.state_text.specs.FormatMeaning.{format_meant};
 ghost use Rattle.docker_bytes.specs.ParserRead.{HasRead, IsUnread};
 ghost use Rattle.docker_bytes.specs.ReadFaultText.{read_fault_text};
 ghost use Rattle.docker_bytes.specs.SourceRead.{ReadsState, ReadsMade, RefusesState, IsFaultOf, ReadsOnePieceMore, ReadsAll, WantsSoFar, WantsMemory};
@@ -12,8 +12,8 @@ ghost use Rattle.docker_bytes.specs.StateReading.{format_of, IsMadeOf, IsWhole, 
 use crate::fault::StateFault;
 use crate::parser::Parser;
 use cif_line::{FeedFault, PIECE, Source, Taker, feed_all};
-use state_parts::format::Format;
-use state_parts::{Keeper, Maker, State, StateCause, Whole};
+use state_text::format::Format;
+use state_text::{Keeper, Maker, State, StateCause, Whole};
 use std::alloc::Global;
 use std::error::Error;
 use std::fmt;

@@ -1,14 +1,14 @@
 //! Reads a text in pieces, part by part.
 ghost use Rattle.std.specs.Prelude.{◌≡◌, ◌+◌, ◌-◌, ◌/◌, ◌<◌, ◌≤◌, ◌↔◌, [], ◌++◌, length, min, take, IsTrue, IsOk, IsErr, IfOk, IfErr};
 ghost use Rattle.docker_model.specs.state.StatePart.{width};
-ghost use Rattle.state_parts.specs.FormatMeaning.{format_meant};
+ghost use Rattle.state_text.specs.FormatMeaning.{format_meant};
 ghost use Rattle.docker_bytes.specs.StateReading.{format_of, before_of, text_of, IsReading, ReadsOn, IsPartRefused, IsFaultTold, IsUnended, IsStep, IsMadeOf, JoinsText, IsLineOf, HasOneLineMore};
 
 use crate::fault::{StateFault, Step};
 use arrayvec::ArrayVec;
 use fixed_text::put;
-use state_parts::format::{Format, LINE};
-use state_parts::{
+use state_text::format::{Format, LINE};
+use state_text::{
     Gathered, Keeper, Maker, Received, Receiver, ScheduleKey, Stage, State, StateCause, Told,
     judged_inner_line, step,
 };

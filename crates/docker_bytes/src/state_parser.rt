@@ -8,8 +8,8 @@ ghost use Rattle.docker_bytes.specs.ParserRead.{HasRead, HasFailed};
 
 use crate::fault::{StateFault, Step};
 use crate::parser::Parser;
-use state_parts::format::Format;
-use state_parts::{State, Whole};
+use state_text::format::Format;
+use state_text::{State, Whole};
 use std::alloc::Global;
 use std::marker::Model;
 

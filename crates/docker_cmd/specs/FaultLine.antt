@@ -1,7 +1,7 @@
 -- How a fault is reported: the exit status, and one line on standard error.
 use Rattle.std.specs.Prelude.{ℕ, List, ◌++◌, codes, decimal}
 use Rattle.cif_file.specs.declared.fault.FileFault.{FileFault}
-use Rattle.cif_journey.specs.Cause.{cause_text}
+use Rattle.cif_file.specs.Cause.{cause_text}
 use Rattle.docker_office.specs.StateFault.{StateFault}
 use Rattle.docker_office.specs.FaultText as state_text
 use Rattle.docker_cmd.specs.declared.job_fault.JobFault.TheVariants as job

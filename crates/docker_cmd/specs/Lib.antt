@@ -13,3 +13,6 @@ pub mod Prepared
 pub use Rattle.docker_office.specs.Faults
 pub use Rattle.docker_office.specs.StateFault
 pub use Rattle.docker_office.specs.declared.fault.OfficeFault
+pub use Rattle.docker_office.specs.Office
+pub use Rattle.docker_office.specs.RunEnds
+pub use Rattle.docker_office.specs.SourceRead

@@ -19,7 +19,7 @@ mod tasks;
 mod words;
 mod writes;
 
-pub use docker_office::OfficeFault;
+pub use docker_office::{Office, OfficeFault};
 pub use fault::Fault;
 pub use fault_line::{FaultText, fault_text, status};
 pub use job_fault::JobFault;

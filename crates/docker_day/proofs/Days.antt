@@ -3,7 +3,7 @@ use Rattle.std.proofs.Common.{◌≡◌, ℕ, ◌+◌, ◌-◌, ◌≤◌, ◌==
 use Rattle.std.specs.Prelude.{nat_le, filter}
 use Rattle.std.specs.List.{flat_map}
 use Rattle.docker_laws.proofs.dockers.ScheduleLines.{number_itself}
-use Rattle.docker_model.specs.docker.Gathering.{start_days}
+use Rattle.docker_laws.specs.Gathering.{start_days}
 
 -- two tests of numbers that imply each other are equal
 same_test : (a b c d : ℕ) → (a ≡ b → c ≡ d) → (c ≡ d → a ≡ b) → (a == b) ≡ (c == d)

@@ -1,7 +1,6 @@
 -- The first calls of base trains at a place, as they are kept.
 use Rattle.std.proofs.Common.{◌≡◌, ℕ, ◌==◌, Bool, true, false, cond, List, refl, ap, sym, ◌∙◌, subst, Some, None, eqb-true}
-use Rattle.std.specs.Prelude.{Option, ◌&&◌, IfSome, IfOk, option_map}
-use Rattle.std.specs.Prelude.{Result, Ok, Err}
+use Rattle.std.specs.Prelude.{Option, ◌&&◌, IfSome, IfOk, option_map, Result, Ok, Err}
 use Rattle.std.specs.BTreeMap.{BTreeMap, get, Updates}
 use Rattle.std.specs.Cmp.{unsigned_tied}
 use Rattle.std.specs.Option.{is_some}

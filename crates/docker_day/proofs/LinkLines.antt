@@ -11,7 +11,7 @@ use Rattle.docker_model.specs.docker.Association.{category_occasion}
 use Rattle.docker_model.specs.state.Table.{Table}
 use Rattle.docker_model.specs.docker.LiveRows as live_rows
 use Rattle.docker_model.specs.docker.LiveRows.{train_in, link_in}
-use Rattle.docker_model.specs.docker.Gathering.{start_days, is_in_force, line_at, line_with}
+use Rattle.docker_laws.specs.Gathering.{start_days, is_in_force, line_at, line_with}
 use Rattle.docker_model.specs.docker.DockerLine.{DockerLine}
 use Rattle.train_choice.specs.Occurrences.{occurrence_of, occurrences}
 use Rattle.docker_day.specs.Lines.{Adds, is_call, link_line_by, link_line_with, link_piece}

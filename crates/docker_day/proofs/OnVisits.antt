@@ -3,7 +3,7 @@ use Rattle.std.proofs.Common.{◌≡◌, ℕ, ◌-◌, Bool, true, false, cond, 
 use Rattle.std.specs.Prelude.{Option, nat_le}
 use Rattle.std.proofs.Math.Dec.{leb-zero}
 use Rattle.docker_model.specs.docker.DockerLine.{DockerLine}
-use Rattle.docker_model.specs.docker.Gathering.{gathered}
+use Rattle.docker_laws.specs.Gathering.{gathered}
 use Rattle.docker_model.specs.docker.LiveRows.{train_in, link_in}
 use Rattle.docker_model.specs.state.State.{live_table}
 use Rattle.train_choice.specs.Known.{PlaceDay}

@@ -15,7 +15,7 @@ use Rattle.docker_model.specs.docker.Choice.{schedule_runs, association_runs, gr
 use Rattle.docker_model.specs.docker.DockerLine.{DockerLine, Detail, ends, tiploc_of_first}
 use Rattle.docker_model.specs.docker.LiveRows as live_rows
 use Rattle.docker_model.specs.docker.LiveRows.{train_in, link_in, IsTrainOn, IsLinkOn}
-use Rattle.docker_model.specs.docker.Gathering.{event_lines, runs_by, counts_as, is_in_force}
+use Rattle.docker_laws.specs.Gathering.{event_lines, runs_by, counts_as, is_in_force}
 use Rattle.cif_laws.proofs.orders.AtMost.{eq_is}
 use Rattle.cif_laws.proofs.orders.Orders.{exact_schedule_key, exact_association_key}
 use Rattle.docker_laws.proofs.dockers.OneChoice.{one_schedule, one_association}

@@ -8,7 +8,7 @@ use Rattle.docker_model.specs.state.Row.{Row, AreRowsOf}
 use Rattle.docker_model.specs.state.State.{IsBodyOf, live_table}
 use Rattle.docker_model.specs.state.Table.{Table}
 use Rattle.docker_model.specs.docker.LiveRows.{train_in, link_in}
-use Rattle.docker_model.specs.docker.Gathering.{gathered, row_lines}
+use Rattle.docker_laws.specs.Gathering.{gathered, row_lines}
 use Rattle.docker_model.specs.docker.DockerLine.{DockerLine}
 use Rattle.train_choice.specs.Along.{AreGoodRows, AreLive}
 use Rattle.train_choice.specs.Known.{PlaceDay}

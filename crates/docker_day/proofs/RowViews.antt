@@ -3,7 +3,7 @@ use Rattle.std.proofs.Common.{◌≡◌, ℕ, List, [], ◌∷◌, ◌++◌, ref
 use Rattle.std.specs.Prelude.{Option}
 use Rattle.docker_model.specs.file.Change.{Key, tiploc_key, association_key, schedule_key, Body, tiploc_body, association_body, schedule_body}
 use Rattle.docker_model.specs.docker.Choice.{Group}
-use Rattle.docker_model.specs.docker.Gathering.{gathered, row_lines}
+use Rattle.docker_laws.specs.Gathering.{gathered, row_lines}
 use Rattle.docker_model.specs.docker.LiveRows as live_rows
 use Rattle.docker_model.specs.docker.LiveRows.{schedule_of, association_of}
 use Rattle.docker_model.specs.state.Row.{Row}

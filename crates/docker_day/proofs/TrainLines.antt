@@ -6,7 +6,7 @@ use Rattle.docker_model.specs.records.Record.{columns}
 use Rattle.docker_model.specs.docker.Event.{Event, events_of, event_day, event_line}
 use Rattle.docker_model.specs.file.Change.{ScheduleKey}
 use Rattle.docker_model.specs.docker.DockerLine.{DockerLine, Detail, ends, tiploc_of_first, line_of_event}
-use Rattle.docker_model.specs.docker.Gathering.{event_lines}
+use Rattle.docker_laws.specs.Gathering.{event_lines}
 use Rattle.train_choice.specs.Occurrences.{occurrence_of, occurrences}
 use Rattle.docker_day.specs.Lines.{lines_there}
 

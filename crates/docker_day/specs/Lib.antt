@@ -7,3 +7,5 @@ pub mod Dockers
 pub mod Bases
 pub mod Visits
 pub mod Portions
+pub use Rattle.docker_state.specs.Meaning
+pub use Rattle.docker_state.specs.declared.item.LedgerItem

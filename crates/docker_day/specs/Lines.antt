@@ -15,7 +15,7 @@ use Rattle.docker_model.specs.records.PrintedTime.{spaces}
 use Rattle.docker_model.specs.state.Row.{Row, AreRowsOf}
 use Rattle.docker_model.specs.docker.LiveRows.{Train, Link, train_in, link_in}
 use Rattle.docker_model.specs.docker.Association.{category_occasion, partner_start}
-use Rattle.docker_model.specs.docker.Gathering.{event_lines, runs_by, partner_identity, is_in_force}
+use Rattle.docker_laws.specs.Gathering.{event_lines, runs_by, partner_identity, is_in_force}
 use Rattle.train_choice.specs.Occurrences.{Occurrence, occurrences}
 use Rattle.train_choice.specs.Midnights.{some_late}
 use Rattle.train_choice.specs.UpTo.{occurrences_to}

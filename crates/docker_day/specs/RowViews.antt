@@ -7,7 +7,7 @@ use Rattle.docker_model.specs.state.Table.{Table}
 use Rattle.docker_model.specs.docker.Choice.{Group}
 use Rattle.docker_model.specs.docker.DockerLine.{DockerLine}
 use Rattle.docker_model.specs.docker.LiveRows as live_rows
-use Rattle.docker_model.specs.docker.Gathering.{association_lines, schedule_lines}
+use Rattle.docker_laws.specs.Gathering.{association_lines, schedule_lines}
 use Rattle.train_choice.specs.Along.{IsLiveLink, IsLiveTrain}
 use Rattle.train_choice.specs.Lately.{may_run_lately}
 use Rattle.docker_day.specs.Lines.{is_lately, is_under_way, link_here, schedule_piece}

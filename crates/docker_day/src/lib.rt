@@ -20,9 +20,11 @@ mod train_lines;
 mod visit;
 mod visits;
 
+pub use cif_change::{Key, ScheduleKey};
 pub use detail::Detail;
 pub use docker_line::DockerLine;
 pub use docker_list::Docker;
+pub use docker_state::{LedgerItem, Merge, State};
 pub use fault::DockerFault;
 pub use making::docker;
 pub use print::write_docker;

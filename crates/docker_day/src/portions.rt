@@ -2,7 +2,7 @@
 ghost use Rattle.std.specs.Prelude.{◌≡◌, ◌<◌, ◌⊎◌, [], true, false, length, IsNone, IsSome, OnOk, Some};
 ghost use Rattle.arrayvec.specs.ArrayVec.{array_vec_len};
 ghost use Rattle.docker_model.specs.state.State.{live_table};
-ghost use Rattle.docker_model.specs.docker.Gathering.{gathered};
+ghost use Rattle.docker_laws.specs.Gathering.{gathered};
 ghost use Rattle.train_choice.specs.Along.{AreGoodRows, AreLive};
 ghost use Rattle.docker_day.specs.Lines.{Adds};
 ghost use Rattle.docker_day.specs.RowViews.{AreLiveViews, lines_of, row_may_run, views_in};
@@ -14,8 +14,7 @@ use crate::row_view::RowView;
 use crate::visits::Visits;
 use arrayvec::ArrayVec;
 use cif_line::{Day, Memory};
-use docker_state::Standing;
-use state_index::Numbered;
+use docker_state::{Numbered, Standing};
 
 /// How many rows are read before the lines of one are added, so that their cache misses overlap.
 const PORTION: usize = 16;

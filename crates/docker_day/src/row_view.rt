@@ -1,11 +1,11 @@
 //! A row as a docker reads it.
 ghost use Rattle.std.specs.Prelude.{◌≡◌};
-ghost use Rattle.cif_file.specs.Meaning.{key_meant, body_meant};
+ghost use Rattle.cif_change.specs.Meaning.{key_meant, body_meant};
 ghost use Rattle.docker_model.specs.state.State.{IsBodyOf};
 ghost use Rattle.docker_model.specs.docker.LiveRows.{schedule_of};
 ghost use Rattle.docker_day.specs.RowViews.{view_of};
 
-use cif_file::{Body, Key};
+use cif_change::{Body, Key};
 use train_choice::{LinkView, ScheduleView, association_of, schedule_of};
 
 /// A row, opened: its schedule, its association, or neither.

@@ -2,7 +2,7 @@
 ghost use Rattle.std.specs.Prelude.{◌≡◌, ◌≤◌, ◌&&◌, ◌++◌, [], OnOk, IfSome, IsNone, codes};
 ghost use Rattle.docker_model.specs.state.State.{live_table};
 ghost use Rattle.docker_model.specs.docker.DockerLine.{ends, tiploc_of_first};
-ghost use Rattle.docker_model.specs.docker.Gathering.{event_lines};
+ghost use Rattle.docker_laws.specs.Gathering.{event_lines};
 ghost use Rattle.docker_day.specs.Details.{detail_meant};
 ghost use Rattle.train_choice.specs.Occurrences.{occurrences};
 ghost use Rattle.train_choice.specs.EventWalk.{occurrence_meant};

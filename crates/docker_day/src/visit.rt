@@ -4,14 +4,14 @@ ghost use Rattle.docker_model.specs.file.File.{first_record};
 ghost use Rattle.docker_model.specs.state.State.{live_table};
 ghost use Rattle.docker_model.specs.state.Row.{Row, AreRowsOf};
 ghost use Rattle.docker_model.specs.docker.Choice.{group_of, schedule_runs};
-ghost use Rattle.docker_model.specs.docker.Gathering.{counts_as, identity_of, runs_by};
+ghost use Rattle.docker_laws.specs.Gathering.{counts_as, identity_of, runs_by};
 ghost use Rattle.docker_model.specs.docker.LiveRows.{train_in, link_in};
 ghost use Rattle.train_choice.specs.Along.{IsLiveTrain};
 ghost use Rattle.train_choice.specs.Keys.{association_key_meant};
 ghost use Rattle.docker_day.specs.Bases.{first_call, meant_if};
 
 use crate::bases::Bases;
-use cif_file::AssocKey;
+use cif_change::AssocKey;
 use cif_line::{Day, Memory, Tiploc, Uid};
 use docker_state::State;
 use std::alloc::Global;

@@ -1,3 +1,10 @@
 pub mod Lines
 pub mod Requests
 pub mod Answers
+pub mod Replies
+pub mod Desk
+pub mod Moments
+pub mod Doing
+pub mod Answering
+pub mod Serving
+pub mod Learning

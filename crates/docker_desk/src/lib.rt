@@ -1,17 +1,37 @@
-//! The desk: what an office can ask, line by line, of a state that is kept in memory, and how it is
-//! answered.
+//! The desk: the lines that it reads, what they ask of its state, how they are answered, and a
+//! whole session.
 #![tactic(auto)]
 
 mod ahead;
+mod answering;
 mod answers;
+mod desk;
+mod ending;
+pub mod laws;
 mod lines;
+mod opening;
 mod page;
+mod program;
+mod reply;
 mod requests;
+mod saving;
+mod serving;
+mod session;
+mod terms;
 mod verbs;
 mod words;
 
 pub use ahead::Ahead;
+pub use answering::answer_line;
 pub use answers::write_answer;
+pub use desk::{Desk, MOST_BYTES};
+pub use ending::Ending;
 pub use lines::{Asked, InputFault, next_line};
+pub use opening::open_session;
 pub use page::Page;
+pub use program::serve;
+pub use reply::{Answer, USAGE, write_reply};
 pub use requests::{Request, file_named, request_in};
+pub use serving::{serve_lines, serve_next};
+pub use session::Session;
+pub use terms::{Terms, terms_in};

@@ -5,7 +5,7 @@ use Rattle.docker_model.specs.file.Change.{Key, tiploc_key}
 use Rattle.docker_model.specs.state.Op.{Entry}
 use Rattle.docker_model.specs.state.State.{State, IsValid, AreEntries, live_table, raise_horizon}
 use Rattle.docker_model.specs.docker.DockerText.{description_in}
-use Rattle.docker_model.specs.docker.NearDay.{near_state, excerpt_on}
+use Rattle.docker_laws.specs.NearDay.{near_state, excerpt_on}
 use Rattle.state_laws.proofs.joins.RaisedHorizon.{set_last}
 use Rattle.docker_laws.proofs.dockers.ExcerptWalk.{walk_is_excerpt}
 use Rattle.docker_laws.proofs.dockers.ExcerptDocker.{same_where_needed, excerpt_list_iff}
@@ -13,7 +13,7 @@ use Rattle.docker_laws.proofs.dockers.NearDocker.{near_description}
 use Rattle.docker_laws.proofs.dockers.NearState.{near_part, near_valid, near_state_list, excerpt_on_valid}
 use Rattle.docker_day.specs.DockerValue.{Docker}
 use Rattle.docker_day.specs.Dockers.{IsDockerOf}
-use Rattle.state_parts.specs.Told.{horizon_meant, under}
+use Rattle.state_text.specs.Told.{horizon_meant, under}
 use Rattle.docker_excerpt.specs.Values.{Excerpt, with_entries, IsExcerptOf}
 
 -- a state without a horizon is itself under the horizon 0

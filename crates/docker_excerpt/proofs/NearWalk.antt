@@ -4,9 +4,9 @@ use Rattle.docker_model.specs.file.Change.{Key}
 use Rattle.docker_model.specs.state.Order.{IsBelow}
 use Rattle.docker_model.specs.state.Op.{Entry, key_cmp}
 use Rattle.docker_model.specs.state.StatePart.{IsAboveEntries}
-use Rattle.docker_model.specs.docker.Excerpt.{IsSublist}
-use Rattle.docker_model.specs.docker.NearDay.{may_count, near_entries}
-use Rattle.cif_laws.proofs.lists.Sublists.{sublist_all, sublist_filter}
+use Rattle.docker_laws.specs.Excerpt.{IsSublist}
+use Rattle.docker_laws.specs.NearDay.{may_count, near_entries}
+use Rattle.docker_laws.proofs.dockers.Sublists.{sublist_all, sublist_filter}
 use Rattle.docker_excerpt.specs.Walked.{state_of_entries}
 
 abbrev Keyed : Type 0

@@ -6,9 +6,9 @@ use Rattle.std.proofs.lemmas.List.{append-nil, map-append}
 use Rattle.docker_model.specs.file.Change as model
 use Rattle.docker_model.specs.state.Op as ops
 use Rattle.cif_change.specs.declared.key.Key.{Key}
-use Rattle.cif_file.specs.Meaning.{key_meant}
-use Rattle.docker_join.specs.declared.entry.Entry.{Entry}
-use Rattle.docker_join.specs.Meaning.{entry_meant, row_meant}
+use Rattle.cif_change.specs.Meaning.{key_meant}
+use Rattle.state_text.specs.Entry.{Entry}
+use Rattle.state_text.specs.Meaning.{entry_meant, row_meant}
 use Rattle.docker_excerpt.specs.Walked.{IsWalk}
 
 -- rows with one more

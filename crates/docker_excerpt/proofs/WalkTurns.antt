@@ -11,7 +11,7 @@ use Rattle.docker_model.specs.state.Op.{Entry}
 use Rattle.docker_model.specs.state.Order.{bytes_cmp}
 use Rattle.docker_model.specs.state.State.{State}
 use Rattle.docker_model.specs.state.StatePart.{IsAboveEntries}
-use Rattle.docker_model.specs.docker.ExcerptWalk.{ExcerptSoFar, is_here, has_uid, name_in, names_in, is_call, is_run_needed, goes_on, excerpt_for, HasKept}
+use Rattle.docker_laws.specs.ExcerptWalk.{ExcerptSoFar, is_here, has_uid, name_in, names_in, is_call, is_run_needed, goes_on, excerpt_for, HasKept}
 use Rattle.docker_laws.proofs.dockers.ExcerptTurns.{kept_first, kept_alone, kept_here, kept_elsewhere, kept_joins, kept_begins, kept_last}
 use Rattle.docker_laws.proofs.dockers.ExcerptSteps.{names_stay, names_with}
 use Rattle.docker_excerpt.specs.Walked.{AreNames, IsWalk}

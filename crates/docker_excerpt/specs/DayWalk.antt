@@ -2,7 +2,7 @@
 use Rattle.std.specs.Prelude.{◌≡◌, List}
 use Rattle.docker_model.specs.file.Change.{Key}
 use Rattle.docker_model.specs.state.Op.{Entry}
-use Rattle.docker_model.specs.docker.NearDay.{near_entries}
+use Rattle.docker_laws.specs.NearDay.{near_entries}
 use Rattle.docker_excerpt.specs.declared.day_walk.DayWalk.{DayWalk}
 use Rattle.docker_excerpt.specs.ExcerptWalk.{HasWalked}
 

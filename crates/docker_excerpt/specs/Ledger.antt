@@ -5,8 +5,8 @@ use Rattle.docker_model.specs.file.Change as model
 use Rattle.docker_model.specs.state.Op.{Entry}
 use Rattle.docker_model.specs.state.State.{State, IsValid}
 use Rattle.cif_change.specs.declared.key.Key.{Key}
-use Rattle.cif_file.specs.Meaning.{key_meant}
-use Rattle.docker_state.specs.Parts.{last_key}
+use Rattle.cif_change.specs.Meaning.{key_meant}
+use Rattle.state_text.specs.Parts.{last_key}
 use Rattle.docker_excerpt.specs.Values.{with_entries}
 
 -- parts without entries, with the last key and the number of entries of a valid state without a

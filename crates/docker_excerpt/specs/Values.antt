@@ -4,8 +4,8 @@ use Rattle.std.specs.Prelude.{ℕ, List}
 use Rattle.docker_model.specs.file.Change.{Key}
 use Rattle.docker_model.specs.state.Op.{Entry}
 use Rattle.docker_model.specs.state.State.{State, IsValid}
-use Rattle.docker_model.specs.docker.Excerpt.{IsExcerptState}
-use Rattle.docker_model.specs.docker.NearDay.{near_state}
+use Rattle.docker_laws.specs.Excerpt.{IsExcerptState}
+use Rattle.docker_laws.specs.NearDay.{near_state}
 
 -- a place and a day, and what was given so far of a state, without its horizon
 pub record Excerpting : Type 0 where

@@ -5,7 +5,7 @@ use Rattle.docker_model.specs.file.Change.{Key}
 use Rattle.docker_model.specs.state.Op.{Entry}
 use Rattle.docker_model.specs.state.Order.{bytes_cmp}
 use Rattle.docker_model.specs.state.State.{State}
-use Rattle.docker_model.specs.docker.ExcerptWalk.{names_in, HasKept}
+use Rattle.docker_laws.specs.ExcerptWalk.{names_in, HasKept}
 
 -- the names are the partners in live associations among the entries, in any order and any number of
 -- times

@@ -4,18 +4,17 @@ ghost use Rattle.std.specs.Prelude.{◌≡◌, [], ◌∷◌, ◌++◌, map, IsO
 ghost use Rattle.docker_model.specs.state.State as states;
 ghost use Rattle.docker_model.specs.state.State.{IsOpOf};
 ghost use Rattle.docker_model.specs.state.StatePart.{IsAboveEntries};
-ghost use Rattle.docker_model.specs.docker.NearDay.{excerpt_on};
-ghost use Rattle.cif_file.specs.Meaning.{key_meant};
-ghost use Rattle.docker_join.specs.Meaning.{entry_meant, row_meant};
+ghost use Rattle.docker_laws.specs.NearDay.{excerpt_on};
+ghost use Rattle.cif_change.specs.Meaning.{key_meant};
+ghost use Rattle.state_text.specs.Meaning.{entry_meant, row_meant};
 ghost use Rattle.docker_excerpt.specs.Walked.{state_of_entries};
 ghost use Rattle.docker_excerpt.specs.DayWalk.{HasPassed};
 
 use crate::near::may_count;
 use crate::walk::ExcerptWalk;
-use cif_file::Key;
+use cif_change::Key;
 use cif_line::{Day, Memory, Tiploc};
-use docker_join::Entry;
-use state_parts::Given;
+use state_text::{Entry, Given};
 use std::alloc::Global;
 
 /// A walk over the entries that may count near a day.

@@ -7,8 +7,7 @@ ghost use Rattle.docker_excerpt.specs.Values.{with_entries, IsExcerptOf};
 
 use cif_line::{Day, Tiploc};
 use docker_day::{Docker, DockerFault, docker};
-use docker_state::State;
-use state_parts::Given;
+use state_text::{Given, State};
 use std::alloc::Global;
 use std::fmt;
 use std::marker::Model;

@@ -3,20 +3,19 @@ ghost use Rattle.std.specs.Prelude.{◌≡◌, ◌-◌, ◌^◌, ◌<◌, [], �
 ghost use Rattle.std.specs.Option.{option_copied, option_map};
 ghost use Rattle.docker_model.specs.state.State.{IsLedger, IsOpOf, IsValid, AreEntries};
 ghost use Rattle.docker_model.specs.state.StatePart.{IsStampHere};
-ghost use Rattle.cif_file.specs.Meaning.{key_meant};
-ghost use Rattle.docker_join.specs.Meaning.{entry_meant, row_meant};
-ghost use Rattle.docker_state.specs.Meaning.{item_meant};
-ghost use Rattle.docker_state.specs.Parts.{last_key};
-ghost use Rattle.state_parts.specs.Told.{horizon_meant, under, with_item, with_row};
+ghost use Rattle.cif_change.specs.Meaning.{key_meant};
+ghost use Rattle.state_text.specs.Meaning.{entry_meant, row_meant};
+ghost use Rattle.docker_day.specs.Meaning.{item_meant};
+ghost use Rattle.state_text.specs.Parts.{last_key};
+ghost use Rattle.state_text.specs.Told.{horizon_meant, under, with_item, with_row};
 ghost use Rattle.docker_excerpt.specs.Values.{with_entries};
 
 use crate::day_walk::DayWalk;
 use crate::excerpt::Excerpt;
 use crate::ledger::Ledger;
-use cif_file::Key;
+use cif_change::Key;
 use cif_line::{Day, Memory, Tiploc};
-use docker_join::Entry;
-use docker_state::{LedgerItem, Parts, State};
+use state_text::{Entry, LedgerItem, Parts, State};
 use std::alloc::Global;
 use std::fmt;
 use std::marker::Model;

@@ -1,13 +1,12 @@
 //! What is kept of a state for the list of its files.
 ghost use Rattle.std.specs.Prelude.{◌≡◌, map};
 ghost use Rattle.docker_model.specs.state.State.{IsValid};
-ghost use Rattle.docker_state.specs.Meaning.{item_meant};
-ghost use Rattle.state_parts.specs.Told.{horizon_meant, under};
+ghost use Rattle.docker_day.specs.Meaning.{item_meant};
+ghost use Rattle.state_text.specs.Told.{horizon_meant, under};
 
 use crate::ledger::Ledger;
 use cif_line::{Day, Memory};
-use docker_state::LedgerItem;
-use state_parts::Maker;
+use state_text::{LedgerItem, Maker};
 use std::marker::Model;
 
 /// The ledger of a state, and its horizon, without the entries. Its value is the whole state, as an
@@ -22,7 +21,7 @@ pub struct KeptLedger {
 impl Model for KeptLedger {
     ghost use Rattle.docker_model.specs.state.State as states;
     ghost use Rattle.docker_model.specs.state.State.{IsValid};
-    ghost use Rattle.state_parts.specs.Told.{horizon_meant, under};
+    ghost use Rattle.state_text.specs.Told.{horizon_meant, under};
 
     ghost Value = { states.State };
 

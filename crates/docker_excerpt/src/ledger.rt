@@ -3,18 +3,16 @@ ghost use Rattle.std.specs.Prelude.{◌≡◌, ◌+◌, ◌-◌, ◌^◌, ◌<�
 ghost use Rattle.std.specs.Option.{option_copied, option_map};
 ghost use Rattle.docker_model.specs.state.State.{IsLedger, IsOpOf, IsValid};
 ghost use Rattle.docker_model.specs.state.StatePart.{IsStampHere};
-ghost use Rattle.cif_file.specs.Meaning.{key_meant};
-ghost use Rattle.docker_join.specs.Meaning.{entry_meant};
-ghost use Rattle.docker_state.specs.Meaning.{item_meant};
-ghost use Rattle.docker_state.specs.Parts.{last_key};
-ghost use Rattle.state_parts.specs.Told.{with_item};
+ghost use Rattle.cif_change.specs.Meaning.{key_meant};
+ghost use Rattle.state_text.specs.Meaning.{entry_meant};
+ghost use Rattle.docker_day.specs.Meaning.{item_meant};
+ghost use Rattle.state_text.specs.Parts.{last_key};
+ghost use Rattle.state_text.specs.Told.{with_item};
 ghost use Rattle.docker_excerpt.specs.Values.{with_entries};
 
-use cif_file::Key;
+use cif_change::Key;
 use cif_line::Memory;
-use docker_join::Entry;
-use docker_state::{LedgerItem, Parts};
-use state_parts::{Given, Keeper};
+use state_text::{Entry, Given, Keeper, LedgerItem, Parts};
 use std::alloc::Global;
 use std::fmt;
 use std::marker::Model;

@@ -4,13 +4,13 @@ ghost use Rattle.docker_model.specs.records.Record.{HasKind, basic_schedule};
 ghost use Rattle.docker_model.specs.records.Field.{HasGoodFields, is_deletion};
 ghost use Rattle.docker_model.specs.records.Date.{runs_on_weekday, weekday_of};
 ghost use Rattle.docker_model.specs.state.State.{IsOpOf};
-ghost use Rattle.docker_model.specs.docker.NearDay.{near_starts, runs_near, may_count};
-ghost use Rattle.cif_file.specs.Meaning.{key_meant};
-ghost use Rattle.docker_join.specs.Meaning.{op_meant};
+ghost use Rattle.docker_laws.specs.NearDay.{near_starts, runs_near, may_count};
+ghost use Rattle.cif_change.specs.Meaning.{key_meant};
+ghost use Rattle.state_text.specs.Meaning.{op_meant};
 
-use cif_file::{Body, Key};
+use cif_change::{Body, Key};
 use cif_line::{Day, Line};
-use docker_join::Op;
+use state_text::Op;
 
 /// Whether what a key holds may count in the dockers of a day. Only a schedule that runs on none of
 /// the start days near the day may not.

@@ -5,13 +5,13 @@ ghost use Rattle.docker_model.specs.file.Journey.{calls_at};
 ghost use Rattle.docker_model.specs.records.Record.{kind_of, columns, is_location};
 ghost use Rattle.std.specs.Str.{bytes_eq};
 ghost use Rattle.docker_model.specs.state.Order.{bytes_cmp};
-ghost use Rattle.docker_model.specs.docker.ExcerptWalk.{is_here, name_in, is_call, goes_on};
-ghost use Rattle.cif_file.specs.Meaning.{key_meant};
-ghost use Rattle.docker_join.specs.Meaning.{op_meant, row_meant};
+ghost use Rattle.docker_laws.specs.ExcerptWalk.{is_here, name_in, is_call, goes_on};
+ghost use Rattle.cif_change.specs.Meaning.{key_meant};
+ghost use Rattle.state_text.specs.Meaning.{op_meant, row_meant};
 
-use cif_file::{Body, Key};
+use cif_change::{Body, Key};
 use cif_line::{Kind, Line, Tiploc, Uid, kind};
-use docker_join::{Entry, Op};
+use state_text::{Entry, Op};
 
 /// Whether a key is a TIPLOC's or an association's at a place.
 pub(crate) fn is_here(place: &Tiploc, key: &Key) -> bool

@@ -4,11 +4,9 @@ ghost use Rattle.std.specs.Prelude.{◌≡◌, ℕ, List, []};
 
 use crate::excerpt::Excerpt;
 use crate::excerpting::Excerpting;
-use cif_file::Key;
+use cif_change::Key;
 use cif_line::{Day, Memory, Tiploc};
-use docker_join::Entry;
-use docker_state::LedgerItem;
-use state_parts::{Keeper, Maker};
+use state_text::{Entry, Keeper, LedgerItem, Maker};
 use std::alloc::Global;
 use std::marker::{Brand, Model, PhantomData};
 

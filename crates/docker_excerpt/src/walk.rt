@@ -4,17 +4,16 @@ ghost use Rattle.std.specs.List.Sorted.{IsSorted};
 ghost use Rattle.docker_model.specs.state.Order.{bytes_cmp};
 ghost use Rattle.docker_model.specs.state.State as states;
 ghost use Rattle.docker_model.specs.state.StatePart.{IsAboveEntries};
-ghost use Rattle.docker_model.specs.docker.ExcerptWalk.{has_uid, goes_on, excerpt_for};
-ghost use Rattle.cif_file.specs.Meaning.{key_meant};
-ghost use Rattle.docker_join.specs.Meaning.{entry_meant, row_meant};
+ghost use Rattle.docker_laws.specs.ExcerptWalk.{has_uid, goes_on, excerpt_for};
+ghost use Rattle.cif_change.specs.Meaning.{key_meant};
+ghost use Rattle.state_text.specs.Meaning.{entry_meant, row_meant};
 ghost use Rattle.docker_excerpt.specs.Walked.{state_of_entries};
 ghost use Rattle.docker_excerpt.specs.ExcerptWalk.{HasWalked};
 
 use crate::needs::{goes_on, has_name, is_here, is_needed_with, name_in};
-use cif_file::{Key, ScheduleKey};
+use cif_change::{Key, ScheduleKey};
 use cif_line::{Memory, Tiploc, Uid};
-use docker_join::Entry;
-use state_parts::Given;
+use state_text::{Entry, Given};
 use std::alloc::Global;
 
 /// What is kept so far, and the run of schedules of one UID. The run is separate until it ends.

@@ -9,7 +9,7 @@ use Rattle.docker_model.specs.state.Lapse.{lapse_entry, lapse_keyed, lapse_entri
 use Rattle.docker_model.specs.state.Order.{IsStrictlyAscending}
 use Rattle.state_laws.proofs.states.KeptEntries.{lapse_ascends}
 use Rattle.cif_change.specs.declared.key.Key.{Key}
-use Rattle.cif_file.specs.Meaning.{key_meant}
+use Rattle.cif_change.specs.Meaning.{key_meant}
 use Rattle.docker_join.specs.declared.entry.Entry.{Entry}
 use Rattle.docker_join.specs.Meaning.{entry_meant, row_meant}
 use Rattle.docker_join.specs.Rows.{AreAscending}

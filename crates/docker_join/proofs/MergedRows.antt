@@ -10,7 +10,7 @@ use Rattle.docker_model.specs.state.Op.{key_cmp}
 use Rattle.docker_model.specs.state.Order.{IsBelow}
 use Rattle.cif_laws.proofs.orders.Orders.{key_total, exact_key}
 use Rattle.cif_change.specs.declared.key.Key.{Key}
-use Rattle.cif_file.specs.Meaning.{key_meant}
+use Rattle.cif_change.specs.Meaning.{key_meant}
 use Rattle.docker_join.specs.Rows.{row_cmp, AreAscending, value_at, picked_value, IsJoinOfRows}
 use Rattle.docker_join.specs.RowLaws.{value_here, value_behind, value_above}
 

@@ -12,7 +12,7 @@ use Rattle.docker_model.specs.state.Order.{IsBelow}
 use Rattle.cif_laws.proofs.orders.Orders.{key_total, exact_key}
 use Rattle.cif_laws.proofs.lists.AllOf.{all_front, all_behind}
 use Rattle.cif_change.specs.declared.key.Key.{Key}
-use Rattle.cif_file.specs.Meaning.{key_meant}
+use Rattle.cif_change.specs.Meaning.{key_meant}
 use Rattle.docker_join.specs.Rows.{row_cmp, AreAscending, IsJoinOfRows}
 use Rattle.docker_join.specs.RowLaws.{same_rows}
 use Rattle.docker_join.specs.Placing.{left_rows, is_level_at, IsRunAbove, IsJoinWith, IsPlaced}

@@ -14,7 +14,7 @@ use Rattle.cif_laws.proofs.lists.Fronts.{same_front}
 use Rattle.std.proofs.lemmas.List.Elements.{All-head, All-tail}
 use Rattle.cif_change.specs.declared.change.Body.{Body}
 use Rattle.cif_change.specs.declared.change.Body.TheVariants as body
-use Rattle.cif_file.specs.Meaning.{body_meant}
+use Rattle.cif_change.specs.Meaning.{body_meant}
 use Rattle.docker_join.specs.declared.stamp.FileStamp.{FileStamp}
 use Rattle.docker_join.specs.declared.stamp.Stamp.{Stamp}
 use Rattle.docker_join.specs.declared.entry.Op.{Op}

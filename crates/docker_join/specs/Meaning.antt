@@ -3,7 +3,7 @@ use Rattle.docker_model.specs.file.Change as changes
 use Rattle.docker_model.specs.state.Stamp as model
 use Rattle.docker_model.specs.state.Op as ops
 use Rattle.docker_model.specs.state.Op.{deleted, lapsed, put_with}
-use Rattle.cif_file.specs.Meaning.{body_meant, key_meant}
+use Rattle.cif_change.specs.Meaning.{body_meant, key_meant}
 use Rattle.cif_change.specs.declared.key.Key.{Key}
 use Rattle.docker_join.specs.declared.stamp.FileStamp.{FileStamp}
 use Rattle.docker_join.specs.declared.stamp.Stamp.{Stamp}

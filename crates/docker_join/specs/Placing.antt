@@ -5,7 +5,7 @@ use Rattle.std.specs.Ordering.{is_eq, is_gt}
 use Rattle.docker_model.specs.file.Change as model
 use Rattle.docker_model.specs.state.Op.{key_cmp}
 use Rattle.cif_change.specs.declared.key.Key.{Key}
-use Rattle.cif_file.specs.Meaning.{key_meant}
+use Rattle.cif_change.specs.Meaning.{key_meant}
 use Rattle.docker_join.specs.Rows.{AreAscending, IsJoinOfRows}
 
 -- whether the row this far from the end of `n` rows, from 1, is above a key

@@ -13,14 +13,14 @@ use Rattle.docker_model.specs.state.Order.{IsBelow}
 use Rattle.cif_laws.proofs.orders.Orders.{key_total, exact_key}
 use Rattle.cif_laws.proofs.lists.Membership.{Contains-cons, cons-Contains, cons-Contains-first, nil-Contains, below_by_recursion, all_members, member_of}
 use Rattle.cif_laws.proofs.orders.Ascending.{same_list}
-use Rattle.cif_field.specs.declared.letter.Stp.{Stp}
-use Rattle.cif_field.specs.declared.letter.Stp.TheVariants as stp
-use Rattle.cif_line.specs.Letter.{stp_letter}
+use Rattle.cif_change.specs.Stp.{Stp}
+use Rattle.cif_change.specs.Stp.TheVariants as stp
+use Rattle.cif_change.specs.Letter.{stp_letter}
 use Rattle.cif_change.specs.declared.key.Key.{Key}
 use Rattle.cif_change.specs.declared.key.Key.TheVariants as key
 use Rattle.cif_change.specs.declared.key.AssocKey.{AssocKey}
 use Rattle.cif_change.specs.declared.key.ScheduleKey.{ScheduleKey}
-use Rattle.cif_file.specs.Meaning.{key_meant}
+use Rattle.cif_change.specs.Meaning.{key_meant}
 use Rattle.docker_join.specs.Rows.{row_cmp, AreAscending, AreValidRows, value_at, picked_value, IsJoinOfRows}
 
 -- STP indicators of one letter are equal

@@ -7,7 +7,7 @@ use Rattle.docker_model.specs.file.Change as model
 use Rattle.docker_model.specs.state.Op.{key_cmp}
 use Rattle.docker_model.specs.state.Order.{IsStrictlyAscending}
 use Rattle.cif_change.specs.declared.key.Key.{Key}
-use Rattle.cif_file.specs.Meaning.{key_meant}
+use Rattle.cif_change.specs.Meaning.{key_meant}
 
 -- the order of rows by their keys
 abbrev pub row_cmp : {E : Type 0} → Key × E → Key × E → Ordering

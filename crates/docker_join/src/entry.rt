@@ -14,7 +14,7 @@ ghost use Rattle.docker_join.specs.Exact.{exact_entry};
 
 use crate::merge::{Merge, Pick};
 use crate::stamp::Stamp;
-use cif_file::Body;
+use cif_change::Body;
 use std::alloc::Global;
 use std::cmp::Ordering;
 

@@ -1,7 +1,7 @@
 //! Rows of tables: their lapse, and the join of two tables' rows in the memory of the first.
 ghost use Rattle.std.specs.Prelude.{◌≡◌, ◌+◌, ◌<◌, ◌≤◌, true, false, map, vec_len, vec_capacity, MatchOption};
 ghost use Rattle.std.specs.VecDeque.{deque_len, deque_capacity};
-ghost use Rattle.cif_file.specs.Meaning.{key_meant};
+ghost use Rattle.cif_change.specs.Meaning.{key_meant};
 ghost use Rattle.docker_model.specs.state.Lapse.{lapse_entries};
 ghost use Rattle.docker_join.specs.Meaning.{row_meant};
 ghost use Rattle.docker_join.specs.Rows.{AreAscending, IsJoinOfRows};
@@ -9,7 +9,7 @@ ghost use Rattle.docker_join.specs.Placing.{is_above_at, is_level_at, IsRunAbove
 
 use crate::entry::Entry;
 use crate::merge::Pick;
-use cif_file::Key;
+use cif_change::Key;
 use std::collections::VecDeque;
 
 /// Lapses what is known at each key under a horizon. The keys and the stamps stay. The bodies of

@@ -11,7 +11,7 @@ ghost use Rattle.docker_join.specs.GreaterLaws.{greater_closed, greater_one, gre
 ghost use Rattle.docker_join.specs.Exact.{exact_file_stamp, exact_stamp};
 
 use crate::merge::{Merge, Pick};
-use cif_line::Day;
+use cif_change::Day;
 use std::alloc::Global;
 use std::cmp::Ordering;
 

@@ -1,7 +1,7 @@
 //! Tables of what is known at keys.
 ghost use Rattle.std.specs.Prelude.{◌≡◌, ◌==◌, ◌+◌, ◌≤◌, [], false, length, map, vec_len, vec_capacity, IfOk, IfErr};
 ghost use Rattle.std.specs.Option.{option_copied};
-ghost use Rattle.cif_file.specs.Meaning.{key_meant};
+ghost use Rattle.cif_change.specs.Meaning.{key_meant};
 ghost use Rattle.docker_model.specs.state.Lapse.{lapse_entries};
 ghost use Rattle.docker_join.specs.Meaning.{row_meant};
 ghost use Rattle.docker_join.specs.Rows.{AreAscending, value_at};
@@ -9,7 +9,7 @@ ghost use Rattle.docker_join.specs.Rows.{AreAscending, value_at};
 use crate::entry::Entry;
 use crate::merge::{Merge, Pick};
 use crate::rows::{join_rows, lapse_rows};
-use cif_file::Key;
+use cif_change::Key;
 use std::alloc::Global;
 use std::marker::Model;
 

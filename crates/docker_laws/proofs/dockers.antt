@@ -34,3 +34,4 @@ pub mod ThinChanges
 pub mod ThinState
 pub mod FileSummary
 pub mod NoLinesElsewhere
+pub mod Sublists

@@ -1,2 +1,12 @@
 pub mod LawTerms
 pub mod FileSummary
+pub mod Best
+pub mod ChoiceWalk
+pub mod EventWalk
+pub mod Gathering
+pub mod Excerpt
+pub mod ExcerptWalk
+pub mod NearDay
+pub mod StandIn
+pub mod Thinning
+pub use Rattle.state_laws.specs.Index

@@ -16,10 +16,10 @@ ghost use Rattle.docker_model.specs.state.Summary.{IsSummary};
 ghost use Rattle.docker_model.specs.docker.DockerLine.{DockerLine};
 ghost use Rattle.docker_model.specs.docker.DockerList.{IsDockerList};
 ghost use Rattle.docker_model.specs.docker.DockerText.{IsDockerText};
-ghost use Rattle.docker_model.specs.docker.NearDay.{runs_near};
-ghost use Rattle.docker_model.specs.docker.Excerpt.{IsExcerpt};
-ghost use Rattle.docker_model.specs.docker.StandIn.{IsStandIn, StandsFor};
-ghost use Rattle.docker_model.specs.docker.Thinning.{is_end, thin_lines, lines_for, body_for, may_matter, thinned, thin_act, thin_change, thin_changes, table_of, IsThinning, HasNoChangeOf, AreAtMost, without, IsStateOfChanges};
+ghost use Rattle.docker_laws.specs.NearDay.{runs_near};
+ghost use Rattle.docker_laws.specs.Excerpt.{IsExcerpt};
+ghost use Rattle.docker_laws.specs.StandIn.{IsStandIn, StandsFor};
+ghost use Rattle.docker_laws.specs.Thinning.{is_end, thin_lines, lines_for, body_for, may_matter, thinned, thin_act, thin_change, thin_changes, table_of, IsThinning, HasNoChangeOf, AreAtMost, without, IsStateOfChanges};
 ghost use Rattle.docker_laws.specs.FileSummary.{summary_of};
 
 /// A table with good bodies and its thinned table for a place and a day have the same docker there

@@ -7,4 +7,3 @@ pub mod FileFault
 pub mod FaultSoFar
 pub mod ScheduleFault
 pub mod Change
-pub mod UnitChange

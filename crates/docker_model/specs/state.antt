@@ -1,4 +1,4 @@
--- States: orders, stamps, ops, the lapse, joins, summaries, indexes, and the texts of states.
+-- States: orders, stamps, ops, the lapse, joins, summaries, and the texts of states.
 
 pub mod Order
 pub mod Stamp
@@ -8,8 +8,6 @@ pub mod Lapse
 pub mod State
 pub mod Summary
 pub mod Row
-pub mod Index
-pub mod Staging
 pub mod StateText
 pub mod StatePart
 pub mod StateFault

@@ -4,11 +4,11 @@ ghost use Rattle.cif_line.specs.Device.{CountsFailure, Takes, TakesPart};
 ghost use Rattle.docker_model.specs.docker.DockerText.{ended, file_text, files_text};
 ghost use Rattle.docker_model.specs.records.PrintedTime.{minute_text};
 ghost use Rattle.docker_model.specs.state.State.{IsGoodItem};
-ghost use Rattle.docker_state.specs.Meaning.{item_meant};
+ghost use Rattle.docker_day.specs.Meaning.{item_meant};
 
 use arrayvec::ArrayVec;
 use cif_line::{Failed, Sink, write_all};
-use docker_state::LedgerItem;
+use docker_day::LedgerItem;
 use fixed_text::{put, whole};
 
 /// The bytes of a line: 33 columns and a line feed.

@@ -17,6 +17,7 @@ mod standard;
 mod stores;
 
 pub use devices::{InputDevice, OutputDevice};
+pub use docker_cmd::{Fault, JobFault};
 pub use fault_report::tell;
 pub use files::{Files, OpenFault};
 pub use folder::{Draft, Folder, Seen};

@@ -18,8 +18,8 @@ use Rattle.cif_laws.proofs.lists.Membership.{Contains-cons, cons-Contains-first,
 use Rattle.cif_laws.proofs.files.FileChanges.{file_change}
 use Rattle.state_laws.proofs.states.SummaryValid.{summary_is_valid}
 use Rattle.state_laws.proofs.joins.RaisedHorizon.{plain_summary}
-use Rattle.cif_change.specs.declared.key.Key.{Key}
-use Rattle.cif_change.specs.declared.change.Change as change
+use Rattle.cif_file.specs.Key.{Key}
+use Rattle.cif_file.specs.Change as change
 use Rattle.cif_file.specs.FileRead.{FileRead, IsOfRecords}
 use Rattle.cif_file.specs.Meaning.{change_meant}
 use Rattle.cif_file.specs.declared.parts.FileParts.{FileParts}

@@ -12,7 +12,7 @@ use Rattle.docker_model.specs.file.Change as model
 use Rattle.docker_model.specs.state.Op as ops
 use Rattle.state_index.specs.declared.index.Index.{Index}
 use Rattle.state_index.specs.Spots.{IsIndexOf}
-use Rattle.cif_change.specs.declared.key.Key.{Key}
+use Rattle.cif_file.specs.Key.{Key}
 use Rattle.docker_join.specs.declared.entry.Entry.{Entry}
 use Rattle.docker_state.specs.declared.item.LedgerItem.{LedgerItem}
 use Rattle.docker_state.specs.Meaning.{item_meant, row_meant, state_meant}

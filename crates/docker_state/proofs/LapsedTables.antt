@@ -10,7 +10,7 @@ use Rattle.docker_model.specs.state.Lapse.{lapse, lapse_entry, lapse_keyed, laps
 use Rattle.docker_model.specs.state.State.{IsGreatestAmong}
 use Rattle.state_laws.proofs.states.KeptEntries.{lapse_ascends}
 use Rattle.state_laws.proofs.states.LapsedGreatest.{lapsed_from, greatest_lapses}
-use Rattle.cif_change.specs.declared.key.Key.{Key}
+use Rattle.cif_file.specs.Key.{Key}
 use Rattle.docker_join.specs.declared.entry.Entry.{Entry}
 use Rattle.docker_join.specs.Records.{HasRecords}
 use Rattle.docker_join.specs.Meaning.{entry_meant}

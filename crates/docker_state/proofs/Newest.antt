@@ -9,7 +9,7 @@ use Rattle.docker_model.specs.file.Change.{Key}
 use Rattle.docker_model.specs.state.Order.{bytes_cmp, IsBelow, IsAtMost, IsStrictlyAscending}
 use Rattle.docker_model.specs.state.Op.{Entry, op_cmp}
 use Rattle.docker_model.specs.state.Stamp.{FileStamp, LedgerItem, file_stamp_cmp, ledger_item_cmp, IsKept}
-use Rattle.docker_model.specs.state.Staging.{IsToStage}
+use Rattle.state_laws.specs.Staging.{IsToStage}
 use Rattle.docker_model.specs.state.State.{State, IsValid, IsGoodEntry}
 use Rattle.cif_laws.proofs.lists.Membership.{Contains-cons, Contains-map, Contains-single, below_by_recursion, cons-Contains, cons-Contains-first, member_of}
 use Rattle.cif_laws.proofs.orders.AtMost.{at_most_below, at_most_or, at_most_trans, level}

@@ -7,7 +7,7 @@ use Rattle.docker_model.specs.state.Order.{IsBelow, IsAtMost}
 use Rattle.docker_model.specs.state.Stamp.{FileStamp, LedgerItem, file_stamp_cmp, IsFloor, IsKept}
 use Rattle.docker_model.specs.state.Op.{Entry}
 use Rattle.docker_model.specs.state.State.{State, IsValid, IsGoodEntry, IsJoin, raise_horizon}
-use Rattle.docker_model.specs.state.Staging.{IsToStage, IsStaged}
+use Rattle.state_laws.specs.Staging.{IsToStage, IsStaged}
 use Rattle.cif_laws.proofs.lists.Membership.{Contains-cons, Contains-map, member_of, nil-Contains}
 use Rattle.cif_laws.proofs.orders.Orders.{file_stamp_total}
 use Rattle.state_laws.proofs.joins.StagedEntry.{staging_joins}

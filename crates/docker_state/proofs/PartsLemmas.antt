@@ -7,11 +7,11 @@ use Rattle.docker_model.specs.state.State.{State, IsValid, IsOpOf}
 use Rattle.state_laws.proofs.joins.RaisedHorizon.{none_has_to}
 use Rattle.docker_model.specs.state.StatePart.{IsStampHere}
 use Rattle.state_laws.proofs.texts.StateGrown.{valid_more}
-use Rattle.cif_change.specs.declared.key.Key.{Key}
+use Rattle.cif_file.specs.Key.{Key}
 use Rattle.cif_file.specs.Meaning.{key_meant}
 use Rattle.docker_join.specs.declared.entry.Entry.{Entry}
 use Rattle.docker_join.specs.Meaning.{entry_meant, op_meant}
-use Rattle.cif_places.specs.declared.notes.Notes.{Notes}
+use Rattle.state_index.specs.Notes.{Notes}
 use Rattle.state_index.specs.Noted.{Item, HasNoted, items_of}
 use Rattle.docker_state.specs.declared.item.LedgerItem.{LedgerItem}
 use Rattle.docker_state.specs.Meaning.{item_meant, row_meant, state_meant}

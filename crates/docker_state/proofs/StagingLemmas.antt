@@ -14,7 +14,7 @@ use Rattle.docker_model.specs.state.Order.{IsAtMost, IsBelow}
 use Rattle.docker_model.specs.state.Lapse.{lapse_entry, HasNotToLapse}
 use Rattle.docker_model.specs.state.State.{State, entry_at, IsValid, IsGoodEntry, IsGreatestAmong, IsJoin}
 use Rattle.docker_model.specs.state.StatePart.{IsStampHere}
-use Rattle.docker_model.specs.state.Staging.{IsGreaterThan, IsToStage, staged_state}
+use Rattle.state_laws.specs.Staging.{IsGreaterThan, IsToStage, staged_state}
 use Rattle.state_laws.proofs.joins.StagedEntry.{to_stage_by_get}
 use Rattle.cif_laws.proofs.lists.Membership.{all_members, Contains-map, nil-Contains}
 use Rattle.state_laws.proofs.states.Lapse.{entry_stays}

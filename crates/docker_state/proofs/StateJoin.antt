@@ -12,7 +12,7 @@ use Rattle.docker_model.specs.state.Op.{key_cmp, deleted, lapsed, put_with}
 use Rattle.docker_model.specs.state.Order.{IsStrictlyAscending}
 use Rattle.docker_model.specs.state.State.{State, IsValid, IsGoodEntry, IsOpOf, IsJoin}
 use Rattle.docker_model.specs.state.Lapse.{lapse_entry, lapse_entries}
-use Rattle.cif_change.specs.declared.key.Key.{Key}
+use Rattle.cif_file.specs.Key.{Key}
 use Rattle.docker_join.specs.declared.entry.Entry.{Entry}
 use Rattle.docker_join.specs.Records.{HasRecords}
 use Rattle.docker_join.specs.Rows.{AreAscending, IsJoinOfRows}

@@ -14,7 +14,7 @@ use Rattle.docker_model.specs.state.State.{IsGreatestAmong}
 use Rattle.cif_laws.proofs.orders.Orders.{entry_total}
 use Rattle.cif_laws.proofs.orders.AtMost.{level, at_most_itself}
 use Rattle.cif_laws.proofs.lists.Membership.{Contains-map, map-Contains}
-use Rattle.cif_change.specs.declared.key.Key.{Key}
+use Rattle.cif_file.specs.Key.{Key}
 use Rattle.docker_join.specs.declared.entry.Entry.{Entry}
 use Rattle.docker_join.specs.Meaning.{op_meant, entry_meant}
 use Rattle.docker_join.specs.Greater.{IsGreater}

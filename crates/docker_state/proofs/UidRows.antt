@@ -15,7 +15,7 @@ use Rattle.std.proofs.lemmas.List.Elements.{All-contains, Contains-append_left, 
 use Rattle.std.proofs.lemmas.Map.Lookups.{exact_bytes}
 use Rattle.docker_model.specs.file.Change as model
 use Rattle.docker_model.specs.file.Change.{tiploc_key, association_key, schedule_key, ScheduleKey, Body, tiploc_body, association_body, schedule_body}
-use Rattle.docker_model.specs.state.Index.{AreOfUid}
+use Rattle.state_laws.specs.Index.{AreOfUid}
 use Rattle.docker_model.specs.state.Op as ops
 use Rattle.docker_model.specs.state.Op.{key_cmp, schedule_key_cmp, put_with}
 use Rattle.docker_model.specs.state.Order.{bytes_cmp, IsBelow, IsStrictlyAscending}
@@ -23,7 +23,7 @@ use Rattle.docker_model.specs.state.State.{State, AreAscending as AscendMeant, I
 use Rattle.cif_laws.proofs.lists.Membership.{Contains-cons, nil-Contains, Contains-map}
 use Rattle.cif_laws.proofs.orders.Ascending.{later_of}
 use Rattle.cif_laws.proofs.lists.Later.{pairs_from_later}
-use Rattle.cif_change.specs.declared.key.Key.{Key}
+use Rattle.cif_file.specs.Key.{Key}
 use Rattle.cif_file.specs.Meaning.{key_meant}
 use Rattle.docker_join.specs.declared.entry.Entry.{Entry}
 use Rattle.docker_join.specs.Rows.{row_cmp, AreAscending}

@@ -1,7 +1,7 @@
 -- A state whose rows have an index.
 use Rattle.std.specs.Prelude.{ℕ, List, map}
 use Rattle.docker_model.specs.state.State.{IsValid}
-use Rattle.cif_change.specs.declared.key.Key.{Key}
+use Rattle.cif_file.specs.Key.{Key}
 use Rattle.docker_join.specs.declared.entry.Entry.{Entry}
 use Rattle.state_index.specs.declared.index.Index.{Index}
 use Rattle.state_index.specs.Spots.{IsIndexOf}

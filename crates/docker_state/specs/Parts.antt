@@ -4,9 +4,9 @@ use Rattle.std.specs.Option.{option_map}
 use Rattle.docker_model.specs.file.Change.{Key}
 use Rattle.docker_model.specs.state.Op.{Entry}
 use Rattle.docker_model.specs.state.State.{IsValid}
-use Rattle.cif_change.specs.declared.key.Key.{Key as Kept}
+use Rattle.cif_file.specs.Key.{Key as Kept}
 use Rattle.docker_join.specs.declared.entry.Entry.{Entry as Row}
-use Rattle.cif_places.specs.declared.notes.Notes.{Notes}
+use Rattle.state_index.specs.Notes.{Notes}
 use Rattle.state_index.specs.Noted.{HasNoted, items_of}
 use Rattle.docker_state.specs.declared.item.LedgerItem.{LedgerItem}
 use Rattle.docker_state.specs.Meaning.{row_meant, state_meant}

@@ -7,8 +7,8 @@ use Rattle.docker_model.specs.state.Stamp.{IsKept}
 use Rattle.docker_model.specs.state.Op as ops
 use Rattle.docker_model.specs.state.Op.{key_cmp}
 use Rattle.docker_model.specs.state.State.{State}
-use Rattle.docker_model.specs.state.Staging.{IsToStage}
-use Rattle.cif_change.specs.declared.key.Key.{Key}
+use Rattle.state_laws.specs.Staging.{IsToStage}
+use Rattle.cif_file.specs.Key.{Key}
 use Rattle.docker_join.specs.declared.stamp.FileStamp.{FileStamp}
 use Rattle.docker_join.specs.declared.entry.Entry.{Entry}
 use Rattle.docker_state.specs.declared.item.LedgerItem.{LedgerItem}

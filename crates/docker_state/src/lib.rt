@@ -14,9 +14,10 @@ mod staging;
 mod state;
 mod uid_rows;
 
+pub use docker_join::{Merge, Op};
 pub use item::LedgerItem;
 pub use live::Live;
 pub use parts::Parts;
 pub use staging::Staging;
 pub use state::State;
-pub use state_index::Standing;
+pub use state_index::{Numbered, Standing};

@@ -2,7 +2,7 @@
 ghost use Rattle.std.specs.Prelude.{◌≡◌, ℕ, ◌+◌, ◌≤◌, List, [], ◌∷◌, ◌++◌, ◌↔◌, map, max, vec_len, vec_capacity, Contains, IfOk, IfErr, IfSome};
 ghost use Rattle.docker_model.specs.file.Change as model;
 ghost use Rattle.docker_model.specs.state.State as states;
-ghost use Rattle.docker_model.specs.state.Index.{AreCalling, AreLinked, AreOfUid};
+ghost use Rattle.state_laws.specs.Index.{AreCalling, AreLinked, AreOfUid};
 ghost use Rattle.state_index.specs.Noted.{AreNoted, items_of};
 ghost use Rattle.state_index.specs.Rooms.{HasRoomFor};
 ghost use Rattle.state_index.specs.Spots.{IsIndexOf};

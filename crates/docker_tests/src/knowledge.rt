@@ -5,10 +5,9 @@ use crate::files::*;
 use crate::offices::text_of;
 use cif_file::{FileCause, FileFault, MOST_RECORDS, read_file};
 use cif_line::{Bytes, Day, Kept};
-use docker_join::Merge;
 use docker_office::{OfficeFault, Reply, RunFault};
-use docker_state::State;
-use state_writer::{encoded_len, write_state};
+use docker_state::{Merge, State};
+use state_text::{encoded_len, write_state};
 use std::alloc::Global;
 use std::process::Abort;
 

@@ -9,7 +9,7 @@ use crate::knowledge::{FILES, Knowledge, Known, OFFICES, Step, texts_of_files};
 use cif_file::MOST_RECORDS;
 use cif_line::{Day, Kept};
 use docker_office::{Event, Exchange, Office, Reply, RunFault, run};
-use state_writer::encoded_len;
+use state_text::encoded_len;
 use std::alloc::Global;
 use std::process::Abort;
 

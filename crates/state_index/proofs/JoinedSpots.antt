@@ -11,7 +11,7 @@ use Rattle.docker_model.specs.state.Op as ops
 use Rattle.docker_model.specs.state.Op.{deleted, lapsed, put_with, body_end}
 use Rattle.docker_model.specs.state.Lapse.{lapse, lapse_entries}
 use Rattle.state_laws.proofs.states.Lapse.{below_or, put_lapses, put_stays}
-use Rattle.cif_file.specs.Meaning.{key_meant}
+use Rattle.cif_change.specs.Meaning.{key_meant}
 use Rattle.docker_join.specs.Meaning.{op_meant, entry_meant, row_meant}
 use Rattle.state_index.specs.SpotOrder.{Spot}
 use Rattle.state_index.specs.Spots.{Places, spot_at, spots_from, spots_of}

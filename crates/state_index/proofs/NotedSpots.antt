@@ -9,8 +9,8 @@ use Rattle.docker_model.specs.file.Change as model
 use Rattle.docker_model.specs.state.State.{AreAscending}
 use Rattle.docker_model.specs.state.Op.{op_of}
 use Rattle.state_index.specs.declared.mark.Mark.{Mark}
-use Rattle.cif_places.specs.declared.notes.Notes.{Notes}
-use Rattle.cif_places.specs.declared.piece.Piece.{Piece}
+use Rattle.cif_change.specs.declared.notes.Notes.{Notes}
+use Rattle.cif_change.specs.declared.piece.Piece.{Piece}
 use Rattle.state_index.specs.declared.room.Room.{Room}
 use Rattle.state_index.specs.declared.slots.Slots.{Slots}
 use Rattle.state_index.specs.Spots.{Places, call_places, link_places, spot_at, spots_from, spots_of, mark_spot, spots_in}

@@ -14,7 +14,7 @@ use Rattle.docker_join.specs.declared.stamp.FileStamp as stamp
 use Rattle.docker_join.specs.declared.entry.Entry.{Entry}
 use Rattle.docker_join.specs.Meaning.{file_stamp_meant, entry_meant, row_meant}
 use Rattle.docker_join.specs.Rows.{IsJoinOfRows}
-pub use Rattle.cif_places.specs.NamedPlaces.{AreRanks}
+pub use Rattle.cif_change.specs.NamedPlaces.{AreRanks}
 use Rattle.state_index.specs.SpotOrder.{Spot}
 use Rattle.state_index.specs.declared.mark.Mark.{Mark}
 use Rattle.state_index.specs.declared.moves.Moves.{Moves}

@@ -8,3 +8,5 @@ pub mod Turns
 pub mod Joined
 pub mod StandingRows
 pub mod Noted
+pub use Rattle.cif_change.specs.declared.notes.Notes
+pub use Rattle.cif_change.specs.declared.names.PlaceNames

@@ -1,7 +1,7 @@
 -- The marks of rows whose places are noted.
 use Rattle.std.specs.Prelude.{ℕ, ◌-◌, Bool, List, [], ◌∷◌, ◌++◌, map, length, get_or}
-use Rattle.cif_places.specs.declared.piece.Piece.{Piece}
-pub use Rattle.cif_places.specs.Noted.{Item, items_of, items_put, Keeps, if_asked, numbers_of, IsNoted, AreNoted, numbers_in, HasNoted, IsNext, no_piece, ArePicked}
+use Rattle.cif_change.specs.declared.piece.Piece.{Piece}
+pub use Rattle.cif_change.specs.Noted.{Item, items_of, items_put, Keeps, if_asked, numbers_of, IsNoted, AreNoted, numbers_in, HasNoted, IsNext, no_piece, ArePicked}
 use Rattle.state_index.specs.declared.mark.Mark.{Mark}
 
 -- the mark of a number in a row, by the indexes of the places that have numbers

@@ -3,7 +3,7 @@ use Rattle.std.specs.Prelude.{ℕ, List, Option, Some, None, slice_get, option_a
 use Rattle.std.specs.List.{filter_map}
 use Rattle.docker_model.specs.file.Change.{Key, association_key, schedule_key}
 use Rattle.docker_model.specs.state.Op.{Entry}
-use Rattle.docker_model.specs.state.Index.{CallingRow, LinkedRow}
+use Rattle.state_laws.specs.Index.{CallingRow, LinkedRow}
 use Rattle.state_index.specs.SpotOrder.{Spot}
 
 -- a place with the schedule that has the key

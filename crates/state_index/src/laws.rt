@@ -4,7 +4,7 @@ ghost use Rattle.std.specs.Prelude.{◌≡◌, List};
 ghost use Rattle.docker_model.specs.file.Change.{Key};
 ghost use Rattle.docker_model.specs.state.Op.{Entry};
 ghost use Rattle.docker_model.specs.state.State.{State, AreAscending, live_table};
-ghost use Rattle.docker_model.specs.state.Index.{IsCallingIndex, IsLinkedIndex};
+ghost use Rattle.state_laws.specs.Index.{IsCallingIndex, IsLinkedIndex};
 ghost use Rattle.state_index.specs.declared.index.Index.{Index};
 ghost use Rattle.state_index.specs.Spots.{IsIndexOf, call_spots, link_spots};
 ghost use Rattle.state_index.specs.Tables.{calling_rows, linked_rows};

@@ -9,8 +9,7 @@ ghost use Rattle.state_index.specs.Turns.{AtKey, turn_meant, turns_of, firsts, s
 ghost use Rattle.state_index.specs.Joined.{floor_meant, AreJoined, AreMoves, HasRows};
 
 use crate::turns::{Turn, Turns};
-use cif_file::Key;
-use cif_line::Memory;
+use cif_change::{Key, Memory};
 use docker_join::{Entry, FileStamp, Op};
 use std::alloc::Global;
 

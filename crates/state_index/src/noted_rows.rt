@@ -1,12 +1,10 @@
 //! What rows name, noted as they come.
 ghost use Rattle.std.specs.Prelude.{◌++◌, [], ◌∷◌, List, map, IsOk, IsErr, IfOk};
-ghost use Rattle.cif_file.specs.Meaning.{key_meant};
+ghost use Rattle.cif_change.specs.Meaning.{key_meant};
 ghost use Rattle.docker_join.specs.Meaning.{op_meant, row_meant};
 ghost use Rattle.state_index.specs.Noted.{Item, HasNoted, items_of};
 
-use cif_file::Key;
-use cif_line::Memory;
-use cif_places::Notes;
+use cif_change::{Key, Memory, Notes};
 use docker_join::{Entry, Op};
 use std::alloc::Global;
 

@@ -6,7 +6,7 @@ ghost use Rattle.state_index.specs.StandingRows.{is_put_at_mark, put_among, puts
 
 use crate::mark::Mark;
 use crate::standing::is_put_at;
-use cif_file::Key;
+use cif_change::Key;
 use docker_join::{Entry, Op};
 use std::alloc::Global;
 

@@ -9,8 +9,7 @@ ghost use Rattle.state_index.specs.Noted.{HasNoted, items_of, items_put};
 use crate::merge::ranks_of;
 use crate::names::ascending_places;
 use crate::slots::Slots;
-use cif_line::Memory;
-use cif_places::Notes;
+use cif_change::{Memory, Notes};
 use std::alloc::Global;
 
 /// The places of an index that will be made, and room for the rest of it.

@@ -1,7 +1,7 @@
 //! The rows that stand at a place.
 ghost use Rattle.std.specs.Prelude.{◌≡◌, List, map};
 ghost use Rattle.std.specs.Iterator.{YieldsFirstBy, item_count};
-ghost use Rattle.cif_file.specs.Meaning.{key_meant, body_meant};
+ghost use Rattle.cif_change.specs.Meaning.{key_meant, body_meant};
 ghost use Rattle.docker_join.specs.Meaning.{row_meant};
 ghost use Rattle.std.specs.Option.{option_map};
 ghost use Rattle.std.specs.Ordering.{is_lt, is_le, nat_cmp};
@@ -14,7 +14,7 @@ ghost use Rattle.state_index.specs.StandingRows.{standing_rows, standing_marks, 
 
 use crate::mark::Mark;
 use crate::names::rank_of;
-use cif_file::{Body, Key};
+use cif_change::{Body, Key};
 use docker_join::{Entry, Op};
 use std::marker::Model;
 

@@ -2,7 +2,7 @@
 ghost use Rattle.std.specs.Iterator.{YieldsFirstBy, item_count};
 ghost use Rattle.state_index.specs.Turns.{turn_meant};
 
-use cif_file::Key;
+use cif_change::Key;
 use docker_join::Entry;
 use std::cmp::Ordering;
 use std::marker::Model;

@@ -4,7 +4,7 @@ use Rattle.docker_model.specs.file.Change.{Key}
 use Rattle.docker_model.specs.state.Stamp.{FileStamp, LedgerItem, IsFloor}
 use Rattle.docker_model.specs.state.Op.{Entry}
 use Rattle.docker_model.specs.state.State.{State, IsValid}
-use Rattle.docker_model.specs.state.Staging.{IsStaged, IsCommit}
+use Rattle.state_laws.specs.Staging.{IsStaged, IsCommit}
 
 -- the file stamp of the first full item of a ledger, if there is one
 abbrev pub first_full_stamp : List LedgerItem → Option FileStamp

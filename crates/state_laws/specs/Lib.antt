@@ -1,2 +1,4 @@
 pub mod TextStage
 pub mod LawTerms
+pub mod Index
+pub mod Staging

@@ -6,7 +6,7 @@ ghost use Rattle.docker_model.specs.state.Stamp.{LedgerItem, FileStamp, IsFloor,
 ghost use Rattle.docker_model.specs.state.Op.{Entry, key_cmp};
 ghost use Rattle.docker_model.specs.state.State.{State, AreAscending, IsValid, IsJoin, raise_horizon, without_horizon, entry_at};
 ghost use Rattle.std.specs.declared.cmp.Ordering.TheVariants.{Less};
-ghost use Rattle.docker_model.specs.state.Staging.{IsGreaterThan, IsToStage, IsStaged, IsCommit, staged_state};
+ghost use Rattle.state_laws.specs.Staging.{IsGreaterThan, IsToStage, IsStaged, IsCommit, staged_state};
 ghost use Rattle.state_laws.specs.LawTerms.{HoldsOnceCommitted};
 
 /// Stage all entries of a received state under the floor of the union, commit, and then set the

@@ -2,7 +2,7 @@
 use Rattle.std.proofs.Common.{◌≡◌, Bool, true, false, cond, refl, sym, ◌∙◌, Some, None}
 use Rattle.std.specs.Prelude.{Option}
 use Rattle.std.specs.declared.cmp.Ordering.{Ordering}
-use Rattle.docker_model.specs.docker.Best.{better, with_one_more}
+use Rattle.docker_laws.specs.Best.{better, with_one_more}
 use Rattle.train_choice.specs.Ranked.{is_better}
 
 module _ {A : Type 0} (cmp : A → A → Ordering) (more : A) where

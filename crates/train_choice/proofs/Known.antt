@@ -11,9 +11,9 @@ use Rattle.std.proofs.lemmas.Map.Lookups.{exact_bytes, exact_unsigned}
 use Rattle.std.proofs.lemmas.Map.Text.{is_eq-slice_cmp}
 use Rattle.cif_laws.proofs.orders.AtMost.{eq_is}
 use Rattle.cif_laws.proofs.orders.Orders.{then_equal}
-use Rattle.docker_model.specs.docker.Best.{better}
+use Rattle.docker_laws.specs.Best.{better}
 use Rattle.docker_model.specs.docker.Choice.{Group, group_of, association_choice_cmp, association_runs}
-use Rattle.docker_model.specs.docker.Gathering.{counts_as, identity_of}
+use Rattle.docker_laws.specs.Gathering.{counts_as, identity_of}
 use Rattle.docker_model.specs.docker.LiveRows.{Link, is_of_group, link_in, train_in}
 use Rattle.docker_model.specs.file.Change.{AssociationKey}
 use Rattle.docker_model.specs.state.Op.{association_key_cmp}

@@ -5,7 +5,7 @@ use Rattle.std.proofs.lemmas.Bool.{ltb-true}
 use Rattle.std.proofs.lemmas.List.Elements.{All-from_recursion, recursion_from_All}
 use Rattle.docker_model.specs.records.Field.{HasGoodFields}
 use Rattle.docker_model.specs.file.Journey.{Occasion, times_of}
-use Rattle.docker_model.specs.docker.EventWalk.{fall_at}
+use Rattle.docker_laws.specs.EventWalk.{fall_at}
 use Rattle.train_choice.specs.Occurrences.{Occurrence, Progress, before_all, occurrences_at, occurrences_from, past_time, past_times, turned}
 use Rattle.train_choice.specs.Midnights.{some_late, ascends, falls_after, falls_along}
 

@@ -8,7 +8,7 @@ use Rattle.docker_model.specs.records.Record.{Kind, change_en_route, kind_of, id
 use Rattle.docker_model.specs.file.Journey.{Occasion, times_by_kind, times_of, times_along, fall_count}
 use Rattle.docker_model.specs.docker.Event.{Event, event_line, event_identity, changed_identity, has_identity}
 use Rattle.docker_model.specs.file.File.{first_record}
-use Rattle.docker_model.specs.docker.EventWalk.{events_here, events_from, fall_at, last_time, last_change}
+use Rattle.docker_laws.specs.EventWalk.{events_here, events_from, fall_at, last_time, last_change}
 use Rattle.docker_laws.proofs.dockers.EventWalk.{events_walked, times_split, falls_here, falls_more, line_here, identity_here, change_more}
 use Rattle.train_choice.specs.Occurrences.{Occurrence, occurrence_of, occurrences, Progress, before_all, occurrence_at, past_time, occurrences_at, past_times, turned, occurrences_from}
 

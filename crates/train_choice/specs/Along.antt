@@ -7,7 +7,7 @@ use Rattle.docker_model.specs.state.State.{IsBodyOf}
 use Rattle.docker_model.specs.docker.Choice.{Group}
 use Rattle.docker_model.specs.state.Row.{Row}
 use Rattle.docker_model.specs.docker.LiveRows.{Train, Link}
-use Rattle.docker_model.specs.docker.ChoiceWalk.{next_chosen, next_link}
+use Rattle.docker_laws.specs.ChoiceWalk.{next_chosen, next_link}
 
 -- the best schedule of the UID on the day, after these rows
 abbrev pub chosen_along : List ℕ → ℕ → Option Train → List Row → Option Train

@@ -4,9 +4,9 @@ use Rattle.std.specs.Prelude.{◌≡◌, ℕ, List, Option, Some, None, ⊤}
 use Rattle.std.specs.BTreeMap.{BTreeMap, get}
 use Rattle.std.specs.declared.cmp.Ordering.{Ordering}
 use Rattle.std.specs.Ordering.{ordering_then, nat_cmp, on}
-use Rattle.docker_model.specs.docker.Best.{with_one_more}
+use Rattle.docker_laws.specs.Best.{with_one_more}
 use Rattle.docker_model.specs.docker.Choice.{Group, association_choice_cmp}
-use Rattle.docker_model.specs.docker.Gathering.{identity_of}
+use Rattle.docker_laws.specs.Gathering.{identity_of}
 use Rattle.docker_model.specs.docker.LiveRows.{Link, is_linked, link_in, train_in}
 use Rattle.docker_model.specs.state.Order.{bytes_cmp}
 use Rattle.docker_model.specs.state.Row.{Row, AreRowsOf}

@@ -4,7 +4,7 @@ use Rattle.std.specs.Prelude.{ℕ, ◌+◌, if◌then◌else◌, List, [], ◌�
 use Rattle.docker_model.specs.records.Record.{columns}
 use Rattle.docker_model.specs.file.Journey.{Occasion, times_of}
 use Rattle.docker_model.specs.docker.Event.{Event, events_of, falls_to, event_line, event_identity, has_identity}
-use Rattle.docker_model.specs.docker.EventWalk.{fall_at}
+use Rattle.docker_laws.specs.EventWalk.{fall_at}
 
 -- an event: its number, what happens and when, the falls up to it, its line, and the identity of
 -- the train there

@@ -3,8 +3,8 @@ use Rattle.std.specs.Prelude.{ℕ, Bool, true, ◌==◌, Option, Some, None}
 use Rattle.std.specs.declared.cmp.Ordering.{Ordering}
 use Rattle.std.specs.Ordering.{is_lt}
 use Rattle.cif_line.specs.Letter.{stp_letter}
-use Rattle.cif_field.specs.declared.letter.Stp.{Stp}
-use Rattle.cif_field.specs.declared.letter.Stp.TheVariants.{Cancellation}
+use Rattle.cif_line.specs.declared.letter.Stp.{Stp}
+use Rattle.cif_line.specs.declared.letter.Stp.TheVariants.{Cancellation}
 use Rattle.docker_model.specs.docker.Choice.{choice_cmp}
 
 -- the order of choice, from the letter of the STP indicator and the first day of each

@@ -1,12 +1,12 @@
 //! Chooses the schedule of a train that counts on a day.
 ghost use Rattle.std.specs.Prelude.{◌≡◌, true, List, None, Some};
 ghost use Rattle.std.specs.Ordering.{on};
-ghost use Rattle.cif_file.specs.Meaning.{key_meant, body_meant};
+ghost use Rattle.cif_change.specs.Meaning.{key_meant, body_meant};
 ghost use Rattle.docker_model.specs.state.State.{IsBodyOf, live_table};
 ghost use Rattle.docker_model.specs.file.File.{first_record};
 ghost use Rattle.docker_model.specs.docker.Choice.{schedule_choice_cmp, schedule_runs};
-ghost use Rattle.docker_model.specs.docker.Best.{with_one_more};
-ghost use Rattle.docker_model.specs.docker.ChoiceWalk.{next_chosen};
+ghost use Rattle.docker_laws.specs.Best.{with_one_more};
+ghost use Rattle.docker_laws.specs.ChoiceWalk.{next_chosen};
 ghost use Rattle.docker_model.specs.state.Row.{Row, AreRowsOf};
 ghost use Rattle.docker_model.specs.docker.LiveRows.{Train, IsChosenOn, is_running, train_in, unless_cancelled};
 ghost use Rattle.cif_line.specs.Letter.{stp_letter};
@@ -18,7 +18,7 @@ use crate::ranked::is_better;
 use crate::rows::schedule_of;
 use crate::schedule_view::ScheduleView;
 use crate::walks::schedules_of;
-use cif_file::{Body, Key};
+use cif_change::{Body, Key};
 use cif_line::{Day, Stp, Uid};
 use docker_state::{Live, State};
 

@@ -1,10 +1,10 @@
 //! The associations at a place that count on a start day.
 ghost use Rattle.std.specs.Prelude.{◌≡◌, List, None, IfOk, OnOk};
 ghost use Rattle.std.specs.BTreeMap.{get};
-ghost use Rattle.cif_file.specs.Meaning.{key_meant, body_meant};
+ghost use Rattle.cif_change.specs.Meaning.{key_meant, body_meant};
 ghost use Rattle.docker_model.specs.docker.Choice.{Group, group_of};
-ghost use Rattle.docker_model.specs.docker.ChoiceWalk.{next_link};
-ghost use Rattle.docker_model.specs.docker.Gathering.{counts_as};
+ghost use Rattle.docker_laws.specs.ChoiceWalk.{next_link};
+ghost use Rattle.docker_laws.specs.Gathering.{counts_as};
 ghost use Rattle.docker_model.specs.docker.LiveRows.{link_in};
 ghost use Rattle.docker_model.specs.state.Row.{Row, AreRowsOf};
 ghost use Rattle.docker_model.specs.state.State.{IsBodyOf, live_table};
@@ -17,7 +17,7 @@ use crate::link_view::LinkView;
 use crate::ranked::is_better;
 use crate::rows::association_of;
 use crate::walks::associations_at;
-use cif_file::{AssocKey, Body, Key};
+use cif_change::{AssocKey, Body, Key};
 use cif_line::{Day, Memory, Tiploc};
 use docker_state::{Standing, State};
 use std::alloc::Global;

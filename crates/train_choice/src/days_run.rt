@@ -3,7 +3,7 @@ ghost use Rattle.std.specs.Prelude.{◌≡◌, ◌⊎◌, ◌<◌, ◌≤◌, tr
 ghost use Rattle.docker_model.specs.records.Record.{HasKind, association, basic_schedule, columns};
 ghost use Rattle.docker_model.specs.records.Field.{HasGoodFields, is_deletion};
 ghost use Rattle.docker_model.specs.records.Date.{is_end_date, is_days};
-ghost use Rattle.cif_field.specs.FieldRead.{field_at};
+ghost use Rattle.cif_line.specs.FieldRead.{field_at};
 ghost use Rattle.docker_model.specs.docker.Choice.{runs, schedule_runs, association_runs};
 ghost use Rattle.train_choice.specs.Runs.{runs_until};
 

@@ -2,7 +2,7 @@
 ghost use Rattle.std.specs.Prelude.{◌≡◌, List, IfOk};
 ghost use Rattle.docker_model.specs.state.State.{live_table};
 ghost use Rattle.docker_model.specs.state.Row.{Row, AreRowsOf};
-ghost use Rattle.docker_model.specs.docker.Gathering.{identity_of};
+ghost use Rattle.docker_laws.specs.Gathering.{identity_of};
 ghost use Rattle.docker_model.specs.docker.LiveRows.{train_in};
 
 use crate::choice::train_on;

@@ -3,7 +3,7 @@ ghost use Rattle.std.specs.Prelude.{◌≡◌};
 ghost use Rattle.docker_model.specs.docker.Choice.{group_of};
 ghost use Rattle.train_choice.specs.Keys.{association_key_meant};
 
-use cif_file::AssocKey;
+use cif_change::AssocKey;
 use cif_line::{Tiploc, Uid};
 use std::marker::Model;
 

@@ -8,7 +8,7 @@ ghost use Rattle.train_choice.specs.Keys.{association_key_meant};
 
 use crate::days_run::association_runs;
 use crate::ranked::Ranked;
-use cif_file::AssocKey;
+use cif_change::AssocKey;
 use cif_line::{Assoc, Day, Line, Stp, assoc};
 use std::marker::Model;
 

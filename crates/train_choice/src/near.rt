@@ -1,6 +1,6 @@
 //! A state, and one of its rows.
 ghost use Rattle.std.specs.Prelude.{◌≡◌};
-ghost use Rattle.docker_model.specs.state.Index.{AreOfUid};
+ghost use Rattle.docker_laws.specs.Index.{AreOfUid};
 ghost use Rattle.docker_model.specs.state.State.{HasGoodBodies, live_table};
 
 use crate::walks::valid;

@@ -1,12 +1,12 @@
 //! The schedule or the association of a row.
 ghost use Rattle.std.specs.Prelude.{◌≡◌};
-ghost use Rattle.cif_file.specs.Meaning.{key_meant, body_meant};
+ghost use Rattle.cif_change.specs.Meaning.{key_meant, body_meant};
 ghost use Rattle.docker_model.specs.state.State.{IsBodyOf};
 ghost use Rattle.docker_model.specs.docker.LiveRows.{association_of, schedule_of};
 
 use crate::link_view::LinkView;
 use crate::schedule_view::ScheduleView;
-use cif_file::{Body, Key};
+use cif_change::{Body, Key};
 
 /// The schedule of a row. `None` if the row isn't a schedule's.
 pub fn schedule_of<'a>(key: &'a Key, body: &'a Body) -> Option<ScheduleView<'a>>

@@ -16,7 +16,7 @@ use crate::events::Events;
 use crate::lately::{Lately, days_lately, is_marked_lately};
 use crate::ranked::Ranked;
 use crate::up_to::up_to_last;
-use cif_file::{Lines, ScheduleKey};
+use cif_change::{Lines, ScheduleKey};
 use cif_line::{Day, Line, Stp, Tiploc};
 use std::marker::Model;
 

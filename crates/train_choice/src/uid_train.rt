@@ -1,11 +1,11 @@
 //! A UID with its train on a start day.
 ghost use Rattle.std.specs.Prelude.{◌≡◌, Some, None, if◌then◌else◌};
 ghost use Rattle.std.specs.Str.{bytes_eq};
-ghost use Rattle.docker_model.specs.docker.Gathering.{runs_by};
+ghost use Rattle.docker_laws.specs.Gathering.{runs_by};
 ghost use Rattle.train_choice.specs.Keys.{schedule_key_meant};
 
 use crate::schedule_view::ScheduleView;
-use cif_file::ScheduleKey;
+use cif_change::ScheduleKey;
 use cif_line::Uid;
 
 /// A UID, and the schedule by which its train runs on some start day. `None` if it doesn't run

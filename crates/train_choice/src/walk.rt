@@ -5,7 +5,7 @@ ghost use Rattle.std.specs.Iterator.{YieldsFirstBy};
 ghost use Rattle.docker_model.specs.records.Record.{kind_of};
 ghost use Rattle.docker_model.specs.records.Field.{HasGoodFields};
 ghost use Rattle.docker_model.specs.file.Journey.{times_of};
-ghost use Rattle.docker_model.specs.docker.EventWalk.{fall_at};
+ghost use Rattle.docker_laws.specs.EventWalk.{fall_at};
 ghost use Rattle.train_choice.specs.Meaning.{times_meant};
 ghost use Rattle.train_choice.specs.Occurrences.{turned, identity_behind};
 ghost use Rattle.train_choice.specs.EventWalk.{occurrence_meant, progress_of, events_here, behind_line, HasRoom};

@@ -9,7 +9,7 @@ use Rattle.docker_model.specs.records.Field.{leftmost_bad_field}
 use Rattle.docker_model.specs.file.Journey.{times_along, midnights}
 use Rattle.docker_model.specs.file.Text.{lines_of}
 use Rattle.docker_model.specs.file.Change.{tiploc_key, schedule_named, tiploc_body, schedule_body, delete, put, Change, changes}
-use Rattle.docker_model.specs.file.UnitChange.{changes_of_unit, changes_of_units}
+use Rattle.cif_laws.specs.UnitChange.{changes_of_unit, changes_of_units}
 use Rattle.cif_laws.proofs.records.Builders.{wide, no_text, hd, bs, lo, li, lt, ta, zz, f2, f2_header, f2_basic, f2_origin, f2_terminus, f2_schedule, rename, rename_amend, night_schedule}
 
 kinds : map kind_of f2 ≡ Some header ∷ Some basic_schedule ∷ Some origin_location ∷ Some terminating_location ∷ Some trailer ∷ []

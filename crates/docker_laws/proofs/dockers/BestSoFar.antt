@@ -7,7 +7,7 @@ use Rattle.std.specs.Ordering.{is_lt, ordering_reverse}
 use Rattle.std.specs.Cmp.{IsTotalOrder}
 use Rattle.std.proofs.lemmas.List.Elements.{Contains-append_left, Contains-append_right, Contains-append_cases}
 use Rattle.docker_model.specs.state.Order.{IsAtMost}
-use Rattle.docker_model.specs.docker.Best.{IsBest, better, with_one_more}
+use Rattle.docker_laws.specs.Best.{IsBest, better, with_one_more}
 use Rattle.cif_laws.proofs.lists.Membership.{nil-Contains, Contains-single, single-Contains}
 use Rattle.cif_laws.proofs.orders.AtMost.{at_most_trans, at_most_itself, at_most_below}
 

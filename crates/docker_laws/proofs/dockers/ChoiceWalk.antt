@@ -8,8 +8,8 @@ use Rattle.docker_model.specs.file.Change.{Key, tiploc_key, association_key, sch
 use Rattle.docker_model.specs.state.Row.{Row}
 use Rattle.docker_model.specs.docker.Choice.{schedule_choice_cmp, association_choice_cmp, Group}
 use Rattle.docker_model.specs.docker.LiveRows.{Train, Link, schedule_of, association_of, schedules_in, associations_in, is_running, is_linked}
-use Rattle.docker_model.specs.docker.Best.{IsBest}
-use Rattle.docker_model.specs.docker.ChoiceWalk.{IsChosenSoFar, next_chosen, IsLinkSoFar, next_link}
+use Rattle.docker_laws.specs.Best.{IsBest}
+use Rattle.docker_laws.specs.ChoiceWalk.{IsChosenSoFar, next_chosen, IsLinkSoFar, next_link}
 use Rattle.docker_laws.proofs.dockers.BestSoFar.{best_of_none, best_more}
 use Rattle.docker_laws.proofs.dockers.OneChoice.{schedule_choice_total, association_choice_total}
 

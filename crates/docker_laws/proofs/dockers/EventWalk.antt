@@ -11,7 +11,7 @@ use Rattle.std.proofs.Math.Seq.{take-append_seam, take-append-add, get_or-append
 use Rattle.docker_model.specs.file.Journey.{Occasion, arrival, times_of, times_along, fall_count}
 use Rattle.docker_model.specs.file.File.{first_record}
 use Rattle.docker_model.specs.docker.Event.{Event, placed_times, events_of, falls_to, event_line, event_identity, changed_identity, has_identity}
-use Rattle.docker_model.specs.docker.EventWalk.{events_here, events_from, fall_at, last_time, last_change}
+use Rattle.docker_laws.specs.EventWalk.{events_here, events_from, fall_at, last_time, last_change}
 
 abbrev Placed : Type 0
 Placed = ℕ × (Occasion × ℕ)

@@ -11,7 +11,7 @@ use Rattle.docker_model.specs.docker.DockerLine.{DockerLine}
 use Rattle.docker_model.specs.docker.Association.{partner_start, IsIdentityOn, IsPartnerIdentity, IsAssociationLine}
 use Rattle.docker_model.specs.docker.DockerList.{IsEventLine, IsDockerList}
 use Rattle.docker_model.specs.docker.DockerText.{description_in, docker_text, IsDockerText}
-use Rattle.docker_model.specs.docker.Excerpt.{IsConcerned, IsNeeded, IsExcerpt}
+use Rattle.docker_laws.specs.Excerpt.{IsConcerned, IsNeeded, IsExcerpt}
 use Rattle.cif_laws.proofs.lists.BoolsAndOptions.{none_some}
 use Rattle.docker_laws.proofs.dockers.Events.{event_calls}
 use Rattle.docker_laws.proofs.dockers.OneDockerLine.{first_event_is}

@@ -16,13 +16,13 @@ use Rattle.docker_model.specs.state.Op.{Entry, body_of, key_cmp}
 use Rattle.docker_model.specs.state.Lapse.{HasNotToLapse, IsDayRefused}
 use Rattle.docker_model.specs.state.StatePart.{IsStampHere}
 use Rattle.docker_model.specs.state.State.{IsStampIn, IsOpOf, State, IsValid, IsLedger, IsGoodEntry, AreEntries, HaveLapsed, live_table}
-use Rattle.docker_model.specs.docker.Excerpt.{IsSublist, HasCall, IsNamed, IsNeeded, IsExcerptState}
-use Rattle.docker_model.specs.docker.ExcerptWalk.{is_here, has_uid, name_in, is_call}
+use Rattle.docker_laws.specs.Excerpt.{IsSublist, HasCall, IsNamed, IsNeeded, IsExcerptState}
+use Rattle.docker_laws.specs.ExcerptWalk.{is_here, has_uid, name_in, is_call}
 use Rattle.cif_laws.proofs.orders.Orders.{same_key}
 use Rattle.cif_laws.proofs.orders.Ascending.{later_of, ascending_of, ascending_last, below_next}
 use Rattle.cif_laws.proofs.lists.AllOf.{all_append}
 use Rattle.cif_laws.proofs.lists.Membership.{member_of, cons-Contains-first}
-use Rattle.cif_laws.proofs.lists.Sublists.{sublist_all, sublist_later, sublist_filter, sublist_itself, sublist_onward}
+use Rattle.docker_laws.proofs.dockers.Sublists.{sublist_all, sublist_later, sublist_filter, sublist_itself, sublist_onward}
 use Rattle.cif_laws.proofs.lists.BoolsAndOptions.{and_true}
 use Rattle.cif_laws.proofs.lists.FilteredMembers.{find_some, filter_back}
 use Rattle.state_laws.proofs.states.PlainTable.{Keyed, live_none}

@@ -14,11 +14,11 @@ use Rattle.docker_model.specs.state.Op.{Op, deleted, lapsed, put_with, Entry, bo
 use Rattle.docker_model.specs.state.Order.{IsBelow}
 use Rattle.docker_model.specs.state.Stamp.{LedgerItem}
 use Rattle.docker_model.specs.state.State.{State, AreAscending, AreEntries, live_table}
-use Rattle.docker_model.specs.docker.Excerpt.{IsNeeded, IsConcerned, IsSublist}
-use Rattle.docker_model.specs.docker.ExcerptWalk.{ExcerptSoFar, nothing_kept, is_here, has_uid, name_in, names_in, is_call, is_run_named, is_run_calling, is_run_needed, kept_after_run, goes_on, with_entry_of, next_kept, kept_from, kept_so_far, excerpt_for}
+use Rattle.docker_laws.specs.Excerpt.{IsNeeded, IsConcerned, IsSublist}
+use Rattle.docker_laws.specs.ExcerptWalk.{ExcerptSoFar, nothing_kept, is_here, has_uid, name_in, names_in, is_call, is_run_named, is_run_calling, is_run_needed, kept_after_run, goes_on, with_entry_of, next_kept, kept_from, kept_so_far, excerpt_for}
 use Rattle.cif_laws.proofs.orders.Ascending.{later_of}
 use Rattle.cif_laws.proofs.lists.Membership.{member_of, cons-Contains-first, nil-Contains, Contains-single}
-use Rattle.cif_laws.proofs.lists.Sublists.{sublist_itself, sublist_append, sublist_onward, sublist_member, sublist_front}
+use Rattle.docker_laws.proofs.dockers.Sublists.{sublist_itself, sublist_append, sublist_onward, sublist_member, sublist_front}
 use Rattle.cif_laws.proofs.lists.BoolsAndOptions.{both, either, none_some}
 use Rattle.cif_laws.proofs.lists.FilteredMembers.{filter_back, filter_forth}
 use Rattle.state_laws.proofs.states.PlainTable.{Keyed}

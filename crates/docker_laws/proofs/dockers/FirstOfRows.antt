@@ -5,7 +5,7 @@ use Rattle.std.specs.Prelude.{Option, find}
 use Rattle.std.specs.declared.cmp.Ordering.{Ordering}
 use Rattle.std.specs.Cmp.{IsTotalOrder}
 use Rattle.docker_model.specs.state.Order.{IsAtMost}
-use Rattle.docker_model.specs.docker.Best.{IsBest}
+use Rattle.docker_laws.specs.Best.{IsBest}
 use Rattle.cif_laws.proofs.lists.BoolsAndOptions.{true_is_not}
 use Rattle.cif_laws.proofs.orders.Least.{is_least, found_least, none_passes}
 

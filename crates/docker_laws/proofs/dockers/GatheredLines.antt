@@ -21,7 +21,7 @@ use Rattle.docker_model.specs.docker.Choice.{Group}
 use Rattle.docker_model.specs.docker.DockerLine.{DockerLine, docker_line_cmp}
 use Rattle.docker_model.specs.docker.DockerList.{IsDockerList}
 use Rattle.docker_model.specs.docker.LiveRows.{Train, Link, TellsTrains, TellsLinks}
-use Rattle.docker_model.specs.docker.Gathering.{IsDockerLine, start_days, IsWalk, row_lines, gathered}
+use Rattle.docker_laws.specs.Gathering.{IsDockerLine, start_days, IsWalk, row_lines, gathered}
 use Rattle.cif_laws.proofs.lists.Membership.{nil-Contains, Contains-flat_map, flat_map-Contains}
 use Rattle.cif_laws.proofs.orders.Ascending.{irreflexive}
 use Rattle.cif_laws.proofs.orders.Orders.{key_total, docker_line_total}

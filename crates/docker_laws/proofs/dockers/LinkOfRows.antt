@@ -10,7 +10,7 @@ use Rattle.docker_model.specs.state.Table.{Table}
 use Rattle.docker_model.specs.state.Row.{Row, AreRowsOf}
 use Rattle.docker_model.specs.docker.Choice.{association_runs, association_choice_cmp, Group, group_of, IsAssociated}
 use Rattle.docker_model.specs.docker.LiveRows.{HasAssociationsOf, Link, association_of, associations_in, is_of_group, is_linked, link_in, IsLinkOn, TellsLinks}
-use Rattle.docker_model.specs.docker.ChoiceWalk.{IsLinkSoFar}
+use Rattle.docker_laws.specs.ChoiceWalk.{IsLinkSoFar}
 use Rattle.cif_laws.proofs.lists.BoolsAndOptions.{both, none_some}
 use Rattle.cif_laws.proofs.lists.FilteredMembers.{part_back, part_forth}
 use Rattle.docker_laws.proofs.dockers.OneChoice.{association_choice_total, one_link}

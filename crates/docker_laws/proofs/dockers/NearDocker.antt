@@ -14,7 +14,7 @@ use Rattle.docker_model.specs.docker.DockerLine.{DockerLine}
 use Rattle.docker_model.specs.docker.Association.{partner_start, IsIdentityOn, IsPartnerIdentity, IsAssociationLine}
 use Rattle.docker_model.specs.docker.DockerList.{IsEventLine, IsDockerList}
 use Rattle.docker_model.specs.docker.DockerText.{description_in, docker_text, IsDockerText}
-use Rattle.docker_model.specs.docker.NearDay.{near_starts, runs_near}
+use Rattle.docker_laws.specs.NearDay.{near_starts, runs_near}
 use Rattle.cif_laws.proofs.lists.Membership.{cons-Contains-first}
 use Rattle.cif_laws.proofs.lists.BoolsAndOptions.{none_some}
 use Rattle.state_laws.proofs.indexes.CallsTest.{any_forth}

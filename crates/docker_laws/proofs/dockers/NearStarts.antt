@@ -9,7 +9,7 @@ use Rattle.docker_model.specs.state.Row.{Row, AreRowsOf}
 use Rattle.docker_model.specs.docker.DockerLine.{DockerLine}
 use Rattle.docker_model.specs.docker.Association.{IsAssociationLine}
 use Rattle.docker_model.specs.docker.DockerList.{IsEventLine}
-use Rattle.docker_model.specs.docker.Gathering.{start_days, IsWalk}
+use Rattle.docker_laws.specs.Gathering.{start_days, IsWalk}
 use Rattle.docker_laws.proofs.dockers.StartDays.{event_within, start_days_iff}
 use Rattle.docker_laws.proofs.dockers.FewMidnights.{bodies_few}
 

@@ -10,8 +10,8 @@ use Rattle.docker_model.specs.state.State.{State, IsValid, AreAscending, live_ta
 use Rattle.docker_model.specs.docker.DockerLine.{DockerLine}
 use Rattle.docker_model.specs.docker.DockerList.{IsDockerList}
 use Rattle.docker_model.specs.docker.DockerText.{IsDockerText}
-use Rattle.docker_model.specs.docker.NearDay.{runs_near, may_count, near_entries, near_state, excerpt_on}
-use Rattle.cif_laws.proofs.lists.Sublists.{sublist_filter}
+use Rattle.docker_laws.specs.NearDay.{runs_near, may_count, near_entries, near_state, excerpt_on}
+use Rattle.docker_laws.proofs.dockers.Sublists.{sublist_filter}
 use Rattle.cif_laws.proofs.lists.FilteredMembers.{filter_back, filter_forth}
 use Rattle.state_laws.proofs.states.PlainTable.{Keyed, Found, NotFound, find_in, one_per_key, live_at, live_none}
 use Rattle.docker_laws.proofs.dockers.FewMidnights.{bodies_few}

@@ -19,7 +19,7 @@ use Rattle.docker_model.specs.docker.Choice.{TrainRuns, IsChosenAssociation, gro
 use Rattle.docker_model.specs.docker.DockerLine.{DockerLine, docker_line_cmp, occasion_rank, associated_uid, line_of_event, line_of_association}
 use Rattle.docker_model.specs.docker.Association.{category_occasion, partner_start, IsIdentityOn, IsPartnerIdentity, IsAssociationLine}
 use Rattle.docker_model.specs.docker.DockerList.{IsEventLine}
-use Rattle.docker_model.specs.docker.Gathering.{IsDockerLine}
+use Rattle.docker_laws.specs.Gathering.{IsDockerLine}
 use Rattle.cif_laws.proofs.orders.Orders.{then_equal}
 use Rattle.cif_laws.proofs.lists.BoolsAndOptions.{both, none_some}
 use Rattle.cif_laws.proofs.lists.FilteredMembers.{find_some}

@@ -17,7 +17,7 @@ use Rattle.docker_model.specs.docker.Choice.{TrainRuns}
 use Rattle.docker_model.specs.docker.DockerLine.{DockerLine, line_of_event, docker_line_cmp}
 use Rattle.docker_model.specs.docker.DockerList.{IsEventLine}
 use Rattle.docker_model.specs.docker.LiveRows.{Train, IsTrainOn, TellsTrains}
-use Rattle.docker_model.specs.docker.Gathering.{event_lines, runs_by, start_days}
+use Rattle.docker_laws.specs.Gathering.{event_lines, runs_by, start_days}
 use Rattle.cif_laws.proofs.lists.Membership.{Contains-map, map-Contains, nil-Contains}
 use Rattle.cif_laws.proofs.lists.BoolsAndOptions.{both}
 use Rattle.cif_laws.proofs.orders.Orders.{schedule_key_total, exact_schedule_key}

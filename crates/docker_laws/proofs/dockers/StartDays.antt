@@ -8,7 +8,7 @@ use Rattle.docker_model.specs.file.Change.{schedule_key, ScheduleKey, schedule_b
 use Rattle.docker_model.specs.state.Table.{Table}
 use Rattle.docker_model.specs.state.State.{HasGoodBodies}
 use Rattle.docker_model.specs.docker.Event.{Event, event_day, falls_to}
-use Rattle.docker_model.specs.docker.Gathering.{start_days}
+use Rattle.docker_laws.specs.Gathering.{start_days}
 use Rattle.cif_laws.proofs.lists.Membership.{Contains-cons, cons-Contains, cons-Contains-first, nil-Contains, Contains-map, map-Contains}
 use Rattle.docker_laws.proofs.dockers.FewMidnights.{bodies_few, falls_below}
 use Rattle.cif_laws.proofs.lists.FilteredMembers.{filter_back, filter_forth}

@@ -13,7 +13,7 @@ use Rattle.docker_model.specs.file.Journey.{Occasion, arrival, departure, timed,
 use Rattle.docker_model.specs.file.File.{IsSchedule, IsJourney, IsSoundJourney, AreExtraDetails, MayLackJourney, IsWithinJourney, first_record}
 use Rattle.docker_model.specs.file.Change.{Key, tiploc_key, association_key, schedule_key, ScheduleKey, Body, tiploc_body, association_body, schedule_body, schedule_named}
 use Rattle.docker_model.specs.state.State.{IsScheduleOf, IsBodyOf}
-use Rattle.docker_model.specs.docker.Thinning.{is_end, thin_lines, lines_for, body_for}
+use Rattle.docker_laws.specs.Thinning.{is_end, thin_lines, lines_for, body_for}
 use Rattle.cif_laws.proofs.lists.Membership.{Contains-single, Contains-cons, cons-Contains, cons-Contains-first, nil-Contains, member_of, all_members}
 use Rattle.cif_laws.proofs.lists.FilteredMembers.{filter_back}
 use Rattle.state_laws.proofs.indexes.CallsTest.{calls_test}

@@ -12,15 +12,15 @@ use Rattle.docker_model.specs.file.File.{first_record}
 use Rattle.docker_model.specs.file.Change.{schedule_body, Key, Body, Act, delete, put, Change}
 use Rattle.docker_model.specs.state.Op.{key_cmp, op_of, body_of, put_with}
 use Rattle.docker_model.specs.state.Table.{Table, empty_table, after_change}
-use Rattle.docker_model.specs.docker.NearDay.{near_starts, may_count, runs_near}
+use Rattle.docker_laws.specs.NearDay.{near_starts, may_count, runs_near}
 use Rattle.docker_model.specs.docker.Choice.{runs_within}
 use Rattle.docker_model.specs.records.Field.{as_new}
 use Rattle.cif_laws.proofs.records.Columns.{new_columns}
 use Rattle.std.specs.List.{list_any}
-use Rattle.docker_model.specs.docker.Thinning.{IsThinning, thin_lines, lines_for, body_for, may_matter, thin_body, thinned, thin_act, thin_change, thin_changes, table_of, AreEnough, HasNoChangeOf, AreAtMost, without}
+use Rattle.docker_laws.specs.Thinning.{IsThinning, thin_lines, lines_for, body_for, may_matter, thin_body, thinned, thin_act, thin_change, thin_changes, table_of, AreEnough, HasNoChangeOf, AreAtMost, without}
 use Rattle.std.proofs.lemmas.List.{map-append}
-use Rattle.docker_model.specs.docker.Excerpt.{IsSublist}
-use Rattle.cif_laws.proofs.lists.Sublists.{sublist_itself, sublist_filter, sublist_onward, sublist_append, sublist_front}
+use Rattle.docker_laws.specs.Excerpt.{IsSublist}
+use Rattle.docker_laws.proofs.dockers.Sublists.{sublist_itself, sublist_filter, sublist_onward, sublist_append, sublist_front}
 use Rattle.cif_laws.proofs.orders.Orders.{same_key, key_total}
 use Rattle.cif_laws.proofs.orders.AtMost.{less_not_greater, at_most_trans}
 use Rattle.cif_laws.proofs.lists.Membership.{cons-Contains, cons-Contains-first, nil-Contains, Contains-single}

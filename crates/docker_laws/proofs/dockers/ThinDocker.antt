@@ -14,9 +14,9 @@ use Rattle.docker_model.specs.docker.DockerLine.{DockerLine}
 use Rattle.docker_model.specs.docker.Association.{partner_start, IsIdentityOn, IsPartnerIdentity, IsAssociationLine}
 use Rattle.docker_model.specs.docker.DockerList.{IsEventLine, IsDockerList}
 use Rattle.docker_model.specs.docker.DockerText.{description_in, docker_text, IsDockerText}
-use Rattle.docker_model.specs.docker.NearDay.{runs_near, may_count}
-use Rattle.docker_model.specs.docker.StandIn.{IsStandIn, StandsFor}
-use Rattle.docker_model.specs.docker.Thinning.{thin_lines, lines_for, body_for, may_matter, thin_body, thinned}
+use Rattle.docker_laws.specs.NearDay.{runs_near, may_count}
+use Rattle.docker_laws.specs.StandIn.{IsStandIn, StandsFor}
+use Rattle.docker_laws.specs.Thinning.{thin_lines, lines_for, body_for, may_matter, thin_body, thinned}
 use Rattle.docker_model.specs.state.Op.{put_with}
 use Rattle.cif_laws.proofs.lists.BoolsAndOptions.{then_some, none_some}
 use Rattle.state_laws.proofs.indexes.CallsTest.{calls_test}
@@ -25,7 +25,7 @@ use Rattle.docker_laws.proofs.dockers.OneDockerLine.{first_event_is}
 use Rattle.docker_laws.proofs.dockers.FewMidnights.{HasFewMidnights, bodies_few}
 use Rattle.docker_laws.proofs.dockers.LapsedDocker.{text_with}
 use Rattle.docker_laws.proofs.dockers.NearDocker.{near_start, IsStartNear, runs_near_by, started, partner_near}
-use Rattle.docker_model.specs.docker.Excerpt.{IsExcerpt}
+use Rattle.docker_laws.specs.Excerpt.{IsExcerpt}
 use Rattle.docker_laws.proofs.dockers.ExcerptDocker.{excerpt_list_iff, excerpt_text_iff}
 use Rattle.docker_laws.proofs.dockers.ThinBody.{first_of_thin, thin_elsewhere, needed_is_body}
 

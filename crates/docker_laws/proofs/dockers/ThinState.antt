@@ -18,12 +18,12 @@ use Rattle.docker_model.specs.state.Summary.{IsSummary}
 use Rattle.docker_model.specs.docker.DockerLine.{DockerLine}
 use Rattle.docker_model.specs.docker.DockerList.{IsDockerList}
 use Rattle.docker_model.specs.docker.DockerText.{IsDockerText}
-use Rattle.docker_model.specs.docker.NearDay.{may_count}
-use Rattle.docker_model.specs.docker.Thinning.{may_matter, thin_body, body_for, thinned, thin_act, thin_change, table_of, IsThinning, IsStateOfChanges}
+use Rattle.docker_laws.specs.NearDay.{may_count}
+use Rattle.docker_laws.specs.Thinning.{may_matter, thin_body, body_for, thinned, thin_act, thin_change, table_of, IsThinning, IsStateOfChanges}
 use Rattle.cif_laws.proofs.orders.Orders.{entry_total, file_stamp_total}
 use Rattle.cif_laws.proofs.lists.Membership.{Contains-single, single-Contains, Contains-map, all_members}
 use Rattle.cif_laws.proofs.lists.Later.{AllLater, later_map, later_map_weaker}
-use Rattle.cif_laws.proofs.lists.Sublists.{sublist_member, sublist_later}
+use Rattle.docker_laws.proofs.dockers.Sublists.{sublist_member, sublist_later}
 use Rattle.cif_laws.proofs.files.ChangeOrder.{Apart, changes_apart}
 use Rattle.cif_laws.proofs.files.FileChanges.{file_change}
 use Rattle.state_laws.proofs.states.PlainTable.{Keyed, Found, NotFound, find_in, one_per_key, live_at, live_none, Ascends, NoneThere, LastThere, last_there, step, entry_of_change, fold_entries, within_file}

@@ -11,7 +11,7 @@ use Rattle.docker_model.specs.state.Table.{Table}
 use Rattle.docker_model.specs.state.Row.{Row, AreRowsOf}
 use Rattle.docker_model.specs.docker.Choice.{schedule_runs, schedule_choice_cmp, IsRunning, IsChosen}
 use Rattle.docker_model.specs.docker.LiveRows.{HasSchedulesOf, Train, schedule_of, schedules_in, is_running, chosen_in, unless_cancelled, train_in, IsChosenOn, IsTrainOn, TellsTrains}
-use Rattle.docker_model.specs.docker.ChoiceWalk.{IsChosenSoFar}
+use Rattle.docker_laws.specs.ChoiceWalk.{IsChosenSoFar}
 use Rattle.cif_laws.proofs.lists.BoolsAndOptions.{both, none_some}
 use Rattle.cif_laws.proofs.lists.FilteredMembers.{part_back, part_forth}
 use Rattle.docker_laws.proofs.dockers.OneChoice.{schedule_choice_total, one_chosen, one_train}

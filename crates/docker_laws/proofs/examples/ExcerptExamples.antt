@@ -9,8 +9,8 @@ use Rattle.docker_model.specs.state.Op.{Entry, Op, deleted, lapsed, put_with, bo
 use Rattle.docker_model.specs.state.State.{State, AreAscending, live_table}
 use Rattle.docker_model.specs.docker.Choice.{TrainRuns, schedule_choice_cmp}
 use Rattle.docker_model.specs.docker.Association.{IsPartnerIdentity}
-use Rattle.docker_model.specs.docker.Excerpt.{IsNeeded, IsExcerpt, IsExcerptState}
-use Rattle.docker_model.specs.docker.ExcerptWalk.{excerpt_for}
+use Rattle.docker_laws.specs.Excerpt.{IsNeeded, IsExcerpt, IsExcerptState}
+use Rattle.docker_laws.specs.ExcerptWalk.{excerpt_for}
 use Rattle.docker_model.specs.state.Order.{IsAtMost}
 use Rattle.cif_laws.proofs.records.Builders.{no_text, bs, lo, lt, aa}
 use Rattle.cif_laws.proofs.lists.Membership.{Contains-cons, Contains-single}

@@ -8,7 +8,7 @@ use Rattle.docker_model.specs.file.Change.{schedule_key, association_key, schedu
 use Rattle.docker_model.specs.state.Row.{Row}
 use Rattle.docker_model.specs.docker.DockerText.{line_text}
 use Rattle.docker_model.specs.docker.LiveRows.{train_in, link_in}
-use Rattle.docker_model.specs.docker.Gathering.{gathered, start_days}
+use Rattle.docker_laws.specs.Gathering.{gathered, start_days}
 use Rattle.cif_laws.proofs.records.Builders.{no_text, bs, lo, li, lt, aa}
 
 abbrev base_lines : List (List ℕ)

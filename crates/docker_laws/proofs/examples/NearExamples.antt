@@ -2,7 +2,7 @@
 -- 2024, day 23537 to day 23543.
 use Rattle.std.proofs.Common.{◌≡◌, [], refl}
 use Rattle.jiff_core.specs.Calendar.{days_from_civil, day_count, days_of_years, days_of_months}
-use Rattle.docker_model.specs.docker.NearDay.{near_entries, excerpt_on}
+use Rattle.docker_laws.specs.NearDay.{near_entries, excerpt_on}
 use Rattle.docker_laws.proofs.examples.ExcerptExamples.{place, alone}
 
 -- on the day before its first day it counts: a train of that day may have it, one day later, as its

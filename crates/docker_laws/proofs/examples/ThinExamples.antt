@@ -17,8 +17,8 @@ use Rattle.docker_model.specs.docker.Choice.{IsRunning, TrainRuns, schedule_runs
 use Rattle.docker_model.specs.docker.DockerLine.{DockerLine, line_of_event}
 use Rattle.docker_model.specs.docker.Association.{IsAssociationLine, IsPartnerIdentity, partner_start}
 use Rattle.docker_model.specs.docker.DockerList.{IsEventLine, IsDockerList}
-use Rattle.docker_model.specs.docker.StandIn.{IsStandIn}
-use Rattle.docker_model.specs.docker.Thinning.{lines_for, thin_changes, table_of, IsThinning}
+use Rattle.docker_laws.specs.StandIn.{IsStandIn}
+use Rattle.docker_laws.specs.Thinning.{lines_for, thin_changes, table_of, IsThinning}
 use Rattle.cif_laws.proofs.records.Builders.{f2, no_text, bs, lo, li, lt, night_schedule}
 use Rattle.cif_laws.proofs.lists.Membership.{nil-Contains}
 use Rattle.cif_laws.proofs.lists.BoolsAndOptions.{both, none_some}

@@ -6,7 +6,7 @@ use Rattle.docker_model.specs.state.Stamp.{LedgerItem}
 use Rattle.docker_model.specs.state.Op.{Entry}
 use Rattle.docker_model.specs.state.Lapse.{lapse_entry}
 use Rattle.docker_model.specs.state.State.{State, raise_horizon}
-use Rattle.docker_model.specs.state.Staging.{IsStaged, IsPutIn, IsCommit}
+use Rattle.state_laws.specs.Staging.{IsStaged, IsPutIn, IsCommit}
 use Rattle.cif_laws.proofs.lists.Membership.{nil-Contains, Contains-single}
 use Rattle.state_laws.proofs.examples.HorizonExamples.{f2_state, state_with, lapsed_entry, raised_state}
 use Rattle.state_laws.proofs.states.LapsedGreatest.{lapsed_from, lapsed_to}

@@ -6,7 +6,7 @@ use Rattle.std.specs.Str.{bytes_eq}
 use Rattle.std.proofs.lemmas.List.Elements.{filter-append}
 use Rattle.std.proofs.lemmas.Slice.Eq.{bytes_eq-Decides}
 use Rattle.docker_model.specs.file.Change.{schedule_key, association_key}
-use Rattle.docker_model.specs.state.Index.{CallingRow, LinkedRow, calling_keys, linked_keys}
+use Rattle.state_laws.specs.Index.{CallingRow, LinkedRow, calling_keys, linked_keys}
 use Rattle.cif_laws.proofs.lists.Membership.{cons-Contains, cons-Contains-first}
 
 module _ {K : Type 0} (place : List ℕ) where

@@ -13,7 +13,7 @@ use Rattle.docker_model.specs.state.Stamp.{FileStamp, LedgerItem, file_stamp_cmp
 use Rattle.docker_model.specs.state.Op.{Entry, entry_cmp, op_cmp}
 use Rattle.docker_model.specs.state.Lapse.{lapse_entry}
 use Rattle.docker_model.specs.state.State.{State, without_horizon, IsJoin, IsValid, IsGoodEntry, IsGreatestAmong}
-use Rattle.docker_model.specs.state.Staging.{HasNoEntryOf, IsToStage, IsStaged, IsPutIn, IsCommit}
+use Rattle.state_laws.specs.Staging.{HasNoEntryOf, IsToStage, IsStaged, IsPutIn, IsCommit}
 use Rattle.cif_laws.proofs.orders.Orders.{entry_total, file_stamp_total, key_total, ledger_item_total}
 use Rattle.cif_laws.proofs.orders.Ascending.{same_list}
 use Rattle.state_laws.proofs.states.PlainTable.{Found, NotFound, find_in, one_per_key}

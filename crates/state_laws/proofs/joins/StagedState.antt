@@ -10,7 +10,7 @@ use Rattle.docker_model.specs.state.Order.{IsAtMost}
 use Rattle.docker_model.specs.state.Stamp.{FileStamp, IsFloor, IsKept}
 use Rattle.docker_model.specs.state.Op.{Entry, entry_cmp}
 use Rattle.docker_model.specs.state.State.{State, AreAscending, IsValid, IsGoodEntry, IsJoin, IsGreatestAmong}
-use Rattle.docker_model.specs.state.Staging.{IsStaged, IsPutIn, IsCommit, staged_state}
+use Rattle.state_laws.specs.Staging.{IsStaged, IsPutIn, IsCommit, staged_state}
 use Rattle.cif_laws.proofs.lists.Membership.{all_members}
 use Rattle.cif_laws.proofs.orders.Orders.{entry_total}
 use Rattle.state_laws.proofs.states.PlainTable.{one_per_key}

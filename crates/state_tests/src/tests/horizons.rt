@@ -1,153 +1,126 @@
-//! Texts under a horizon, and what has lapsed.
+//! What lapses under a horizon, and what stays.
 
 use super::records::{
-    AA, AFTER, ASHFELD_HEAD, BS, GREATEST, HD, HEAD, HEAD_LAPSED, ITEM, JOINS_HEAD, LAPSED, LAST,
-    LO, LT, NOTHING, ONE, PUT, SCHEDULE_HEAD, TI, TOO_LATE, ZZ,
+    AA_NO_END, BS, BS_C10003, BS_JULY, BS_NO_END, BS_REVISED, CENTRAL, HD_8A, HD_9A, HD_10B, LO,
+    LO_0905, LT, LT_0935, TI, ZZ,
 };
-use super::{at, goes_round, joined_text, read, refused, same, state, text_is};
-use cif_line::Day;
-use docker_bytes::{StateCause, StateFault};
+use super::{joined, made_is, set, set_on};
 use docker_state::State;
 use std::alloc::Global;
 use std::process::Abort;
 
-/// The text of one file and one entry of these parts, under a horizon.
-fn under(rt: &impl Abort, alloc: Global, horizon: &[u8], parts: &[&[u8]]) -> Vec<u8> {
-    let entry = joined_text(rt, alloc, parts);
-    let pieces = [b"DKS2", horizon, ONE, ITEM, ONE, entry.as_slice()];
-    joined_text(rt, alloc, &pieces)
+/// How a schedule is shown on its last day.
+const LIVE: &[&[u8]] = &[
+    b"horizon 23541",
+    b"item 23536 1260 DFROC1A U DFROC1Z",
+    b"C10001 23537: record 2 of 23536 1260 DFROC1A",
+    BS,
+    LO,
+    LT,
+    b"live C10001 23537",
+    BS,
+    LO,
+    LT,
+];
+
+/// How it is shown the day after.
+const LAPSED: &[&[u8]] = &[
+    b"horizon 23542",
+    b"item 23536 1260 DFROC1A U DFROC1Z",
+    b"C10001 23537: record 2 of 23536 1260 DFROC1A",
+    b"lapsed",
+];
+
+/// Asserts that a schedule is shown as these lines after horizons are set one by one.
+fn under_is(rt: &impl Abort, alloc: Global, days: &[&str], lines: &[&[u8]]) {
+    let file: &[&[u8]] = &[HD_9A, BS, LO, LT, ZZ];
+    made_is(rt, alloc, set_on(rt, alloc, file, days), lines);
 }
 
-/// Asserts that a text is the text of a state with this horizon, and is written unchanged.
-fn accepted(rt: &impl Abort, alloc: Global, text: &[u8], horizon: u16) {
-    let state = read(rt, alloc, text, 4096, 1000);
-    same(rt, state.horizon(), horizon);
-    text_is(rt, alloc, &state, text);
-    goes_round(rt, alloc, &state, text.len(), 1);
+#[test]
+fn a_horizon(rt: HostRuntime) {
+    let alloc = rt.alloc();
+    under_is(&rt, alloc, &["2024-06-14"], LIVE);
+    under_is(&rt, alloc, &["2024-06-14", "2024-06-15"], LAPSED);
+    under_is(&rt, alloc, &["2024-06-15", "2024-06-10"], LAPSED);
 }
 
-/// Asserts that a text of one entry under a horizon is accepted.
-fn accepted_under(rt: &impl Abort, alloc: Global, horizon: &[u8], parts: &[&[u8]], number: u16) {
-    let text = under(rt, alloc, horizon, parts);
-    accepted(rt, alloc, text.as_slice(), number);
+/// The file of a revision.
+const REVISION: &[&[u8]] = &[HD_10B, BS_REVISED, LO_0905, LT_0935, ZZ];
+
+/// An older file, whose schedule ends later.
+const OLDER: &[&[u8]] = &[HD_8A, BS_JULY, LO, LT, ZZ];
+
+/// How the join of both is shown under a horizon after the end of the revision.
+const REVISION_LAPSED: &[&[u8]] = &[
+    b"horizon 23542",
+    b"item 23535 1260 DFROC1A U DFROC1Z",
+    b"item 23537 1260 DFROC1B U DFROC1A",
+    b"C10001 23537: record 2 of 23537 1260 DFROC1B",
+    b"lapsed",
+];
+
+/// Asserts that the revision has lapsed in the join of two states, after these days are set for the
+/// join.
+fn has_lapsed(rt: &impl Abort, alloc: Global, one: State, other: State, days: &[&str]) {
+    let both = joined(rt, alloc, one, other);
+    made_is(rt, alloc, set(rt, both, days), REVISION_LAPSED);
 }
 
-/// Asserts that it is refused at this offset.
-fn refused_under(
+/// Asserts that the revision has lapsed whether these days are set for the first file, for the
+/// second, or after the join.
+fn lapses(
     rt: &impl Abort,
     alloc: Global,
-    horizon: &[u8],
-    parts: &[&[u8]],
-    fault: StateFault,
+    (one, its): (&[&[u8]], &[&str]),
+    (other, theirs): (&[&[u8]], &[&str]),
+    last: &[&str],
 ) {
-    let text = under(rt, alloc, horizon, parts);
-    refused(rt, alloc, &[text.as_slice()], 1000, fault);
-}
-
-/// The entry of the schedule.
-const SCHEDULE: &[&[u8]] = &[HEAD, BS, LO, LT];
-
-/// The entry of the association.
-const ASSOCIATION: &[&[u8]] = &[JOINS_HEAD, PUT, AA];
-
-#[test]
-fn horizons_of_no_day(rt: HostRuntime) {
-    let alloc = rt.alloc();
-    let bad = at(4, StateCause::Horizon);
-    refused_under(&rt, alloc, TOO_LATE, SCHEDULE, bad);
-    refused(&rt, alloc, &[b"DKS2", TOO_LATE], 6, bad);
-    let long = at(5, StateCause::Long);
-    refused(&rt, alloc, &[b"DKS2", TOO_LATE], 5, long);
-    let greatest = joined_text(&rt, alloc, &[b"DKS2", GREATEST, NOTHING]);
-    accepted(&rt, alloc, greatest.as_slice(), 36524);
-}
-
-/// A schedule without an end.
-const ENDLESS: &[u8] =
-    b"BSNC100012406109999991111100 POO1A10                                           P";
-
-/// The body of Ashfield Central.
-const CENTRAL: &[u8] = b"         ASHFIELD CENTRAL                                      ";
-
-#[test]
-fn puts_that_end_before_the_horizon(rt: HostRuntime) {
-    let alloc = rt.alloc();
-    let bad = at(41, StateCause::Body);
-    let short = at(41, StateCause::Short);
-    accepted_under(&rt, alloc, LAST, SCHEDULE, 23541);
-    refused_under(&rt, alloc, AFTER, SCHEDULE, bad);
-    refused_under(&rt, alloc, GREATEST, SCHEDULE, bad);
-    refused_under(&rt, alloc, AFTER, &[HEAD, BS], bad);
-    let front = BS.get(..79).expect(&rt, "79 bytes");
-    refused_under(&rt, alloc, AFTER, &[HEAD, front], short);
-    accepted_under(&rt, alloc, LAST, ASSOCIATION, 23541);
-    refused_under(&rt, alloc, AFTER, ASSOCIATION, bad);
-    accepted_under(&rt, alloc, GREATEST, &[HEAD, ENDLESS, LO, LT], 36524);
-    accepted_under(&rt, alloc, GREATEST, &[ASHFELD_HEAD, PUT, CENTRAL], 36524);
-}
-
-/// Asserts that a lapsed entry is accepted under a horizon, and its text has `len` bytes.
-fn accepted_lapsed(
-    rt: &impl Abort,
-    alloc: Global,
-    horizon: &[u8],
-    number: u16,
-    entry: &[u8],
-    len: usize,
-) {
-    let text = under(rt, alloc, horizon, &[entry, LAPSED]);
-    same(rt, text.len(), len);
-    accepted(rt, alloc, text.as_slice(), number);
-}
-
-/// Asserts that lapsed entries of each kind are accepted.
-fn each_accepted_lapsed(rt: &impl Abort, alloc: Global, horizon: &[u8], number: u16) {
-    accepted_lapsed(rt, alloc, horizon, number, ASHFELD_HEAD, 65);
-    accepted_lapsed(rt, alloc, horizon, number, JOINS_HEAD, 81);
-    accepted_lapsed(rt, alloc, horizon, number, SCHEDULE_HEAD, 67);
+    let first = set_on(rt, alloc, one, its);
+    let second = set_on(rt, alloc, other, theirs);
+    has_lapsed(rt, alloc, first, second, last);
 }
 
 #[test]
-fn what_has_lapsed_has_no_body(rt: HostRuntime) {
+fn a_horizon_between_two_files(rt: HostRuntime) {
     let alloc = rt.alloc();
-    each_accepted_lapsed(&rt, alloc, b"\0\0", 0);
-    each_accepted_lapsed(&rt, alloc, AFTER, 23542);
-    each_accepted_lapsed(&rt, alloc, GREATEST, 36524);
-    let tail = at(67, StateCause::Tail);
-    refused_under(&rt, alloc, b"\0\0", &[HEAD_LAPSED, BS, LO, LT], tail);
-    let bad = at(41, StateCause::Body);
-    refused_under(&rt, alloc, AFTER, &[SCHEDULE_HEAD, b"\x03"], bad);
+    let none: &[&str] = &[];
+    let day: &[&str] = &["2024-06-15"];
+    lapses(&rt, alloc, (REVISION, day), (OLDER, none), none);
+    lapses(&rt, alloc, (OLDER, day), (REVISION, none), none);
+    lapses(&rt, alloc, (OLDER, none), (REVISION, day), none);
+    lapses(&rt, alloc, (OLDER, day), (REVISION, day), none);
+    lapses(&rt, alloc, (REVISION, none), (OLDER, none), day);
 }
 
-/// The state of these records under the horizon of a day.
-fn lapsed(rt: &impl Abort, alloc: Global, records: &[&[u8]], day: &str) -> State {
-    let mut state = state(rt, alloc, records);
-    state.set_horizon(Day::from_iso(day).expect(rt, "a day"));
-    state
-}
-
-/// Asserts that the state of the schedule under the horizon of a day has a text of `len` bytes,
-/// with one entry of these parts.
-fn has_under(
-    rt: &impl Abort,
-    alloc: Global,
-    day: &str,
-    horizon: &[u8],
-    parts: &[&[u8]],
-    len: usize,
-) {
-    let state = lapsed(rt, alloc, &[HD, BS, LO, LT, ZZ], day);
-    let wanted = under(rt, alloc, horizon, parts);
-    text_is(rt, alloc, &state, wanted.as_slice());
-    goes_round(rt, alloc, &state, len, 1);
-}
+/// A schedule without an end, and a deletion, under the last possible horizon.
+const WITHOUT_END: &[&[u8]] = &[
+    b"horizon 36524",
+    b"item 23536 1260 DFROC1A U DFROC1Z",
+    b"ASHFELD: record 2 of 23536 1260 DFROC1A",
+    &CENTRAL,
+    b"C10001: record 3 of 23536 1260 DFROC1A",
+    AA_NO_END,
+    b"C10001 23537: record 4 of 23536 1260 DFROC1A",
+    BS_NO_END,
+    LO,
+    LT,
+    b"C10003 23537: record 7 of 23536 1260 DFROC1A",
+    b"deleted",
+    b"live ASHFELD",
+    &CENTRAL,
+    b"live C10001",
+    AA_NO_END,
+    b"live C10001 23537",
+    BS_NO_END,
+    LO,
+    LT,
+];
 
 #[test]
-fn a_state_with_a_horizon_goes_round(rt: HostRuntime) {
+fn what_has_no_end_stays(rt: HostRuntime) {
     let alloc = rt.alloc();
-    has_under(&rt, alloc, "2024-06-14", LAST, SCHEDULE, 311);
-    let gone: &[&[u8]] = &[SCHEDULE_HEAD, LAPSED];
-    has_under(&rt, alloc, "2024-06-15", AFTER, gone, 67);
-    let tiploc = lapsed(&rt, alloc, &[HD, TI, ZZ], "2059-12-31");
-    goes_round(&rt, alloc, &tiploc, 128, 7);
+    let file: &[&[u8]] = &[HD_9A, TI, AA_NO_END, BS_NO_END, LO, LT, BS_C10003, ZZ];
+    let one = set_on(&rt, alloc, file, &["2059-12-31"]);
+    made_is(&rt, alloc, one, WITHOUT_END);
 }

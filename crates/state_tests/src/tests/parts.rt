@@ -1,135 +1,51 @@
-//! Each kind of part at its bounds: keys, record numbers, bodies, counts of lines and last lines.
+//! A state assembled from its parts.
 
-use super::records::{
-    AA, ASHFELD, BS, BS_DELETED, C10001, CENTRAL, DELETED, FILE, ITEM, JOINS, LO, LT, MARK, ONE,
-    PUT, SECOND,
-};
-use super::{at, goes_round, joined_text, read, refused, text_is};
-use docker_bytes::StateCause;
+use super::records::{BS_DELETED, HD_9A, ZZ};
+use super::{same, shown, shown_again, state};
+use cif_file::Key;
+use docker_join::{Entry, Op};
+use docker_state::{LedgerItem, Parts, State};
 use std::alloc::Global;
 use std::process::Abort;
 
-/// The parts of an entry, after a ledger of one file.
-fn with_entry(rt: &impl Abort, alloc: Global, parts: &[&[u8]]) -> Vec<u8> {
-    let entry = joined_text(rt, alloc, parts);
-    joined_text(rt, alloc, &[MARK, ONE, ITEM, ONE, entry.as_slice()])
+/// Asserts the last key that was given.
+fn last_is(rt: &impl Abort, parts: &Parts, wanted: Option<Key>) {
+    same(rt, parts.last().copied(), wanted);
 }
 
-/// Asserts that the text of one entry of these parts is read, and written again.
-fn accepted(rt: &impl Abort, alloc: Global, parts: &[&[u8]], len: usize) {
-    let text = with_entry(rt, alloc, parts);
-    let state = read(rt, alloc, text.as_slice(), 4096, 1000);
-    text_is(rt, alloc, &state, text.as_slice());
-    goes_round(rt, alloc, &state, len, 1);
+/// Asserts the items that were given.
+fn ledger_is(rt: &impl Abort, parts: &Parts, wanted: &[LedgerItem]) {
+    assert_eq!(rt; parts.ledger(), wanted);
 }
 
-/// Asserts that one entry of these parts, the first of the text, is refused for this cause.
-fn refused_entry(rt: &impl Abort, alloc: Global, parts: &[&[u8]], cause: StateCause) {
-    let text = with_entry(rt, alloc, parts);
-    refused(rt, alloc, &[text.as_slice()], 1000, at(41, cause));
-}
-
-/// Asserts that a deletion of this key by this record is accepted.
-fn accepted_deletion(rt: &impl Abort, alloc: Global, key: &[u8], number: &[u8]) {
-    accepted(rt, alloc, &[key, FILE, number, DELETED], 67);
-}
-
-/// Asserts that a deletion of this key is refused for this cause.
-fn refused_deletion(rt: &impl Abort, alloc: Global, key: &[u8], number: &[u8], cause: StateCause) {
-    refused_entry(rt, alloc, &[key, FILE, number, DELETED], cause);
-}
-
-/// Asserts that a body put for a key is refused.
-fn refused_body(rt: &impl Abort, alloc: Global, key: &[u8], body: &[u8]) {
-    let parts = [key, FILE, SECOND, PUT, body];
-    refused_entry(rt, alloc, &parts, StateCause::Body);
-}
-
-#[test]
-fn entries_at_their_bounds(rt: HostRuntime) {
-    let alloc = rt.alloc();
-    accepted_deletion(&rt, alloc, C10001, SECOND);
-    accepted_deletion(&rt, alloc, C10001, b"\xff\xff\xff\xfe");
-    accepted_deletion(&rt, alloc, b"\x03C10001\x8e\xacC", SECOND);
-    accepted(&rt, alloc, &[ASHFELD, FILE, SECOND, PUT, CENTRAL], 128);
-    accepted(&rt, alloc, &[JOINS, FILE, SECOND, PUT, AA], 161);
-    let three = b"\x00\x00\x00\x03";
-    let schedule: &[&[u8]] = &[C10001, FILE, SECOND, PUT, three, BS, LO, LT];
-    accepted(&rt, alloc, schedule, 311);
-}
-
-/// Invalid keys.
-const BAD_KEYS: &[&[u8]] = &[
-    b"\x01 SHFELD",
-    b"\x01ASHFEL\x7f",
-    b"\x01ASH\x1fELD",
-    b"\x02C1000\x1fC10002\x5b\xf1ASHFELD P",
-    b"\x02C10001C1000\x7f\x5b\xf1ASHFELD P",
-    b"\x02C10001C10002\x8e\xadASHFELD P",
-    b"\x02C10001C10002\x5b\xf1 SHFELD P",
-    b"\x02C10001C10002\x5b\xf1ASHFELD\x1fP",
-    b"\x02C10001C10002\x5b\xf1ASHFELD X",
-    b"\x03C1000\x7f\x5b\xf1P",
-    b"\x03C10001\x8e\xadP",
-    b"\x03C10001\x5b\xf1X",
-    b"\x03C10001\x5b\xf1\x00",
-];
-
-#[test]
-fn bad_keys(rt: HostRuntime) {
-    for key in BAD_KEYS {
-        refused_deletion(&rt, rt.alloc(), key, SECOND, StateCause::Body);
+/// The state of one deletion, built from its parts.
+fn rebuilt(rt: &impl Abort, alloc: Global, one: &State) -> State {
+    let (items, rows) = (one.ledger(), one.entries());
+    if items.len() != 1 {
+        panic!(rt; "one item");
     }
-}
-
-#[test]
-fn record_numbers_of_no_change(rt: HostRuntime) {
-    let alloc = rt.alloc();
-    let stamp = StateCause::Stamp;
-    refused_deletion(&rt, alloc, C10001, b"\x00\x00\x00\x00", stamp);
-    refused_deletion(&rt, alloc, C10001, b"\x00\x00\x00\x01", stamp);
-    refused_deletion(&rt, alloc, C10001, b"\xff\xff\xff\xff", stamp);
-}
-
-/// Invalid descriptions of a timing point.
-const BAD_DESCRIPTIONS: &[&[u8]] = &[
-    b"\x1f        ASHFIELD CENTRAL                                     ~",
-    b"         ASHFIELD CENTRAL                                     \x7f",
-];
-
-/// Invalid lines of an association.
-const BAD_LINES: &[&[u8]] = &[
-    b"AARC10001C100022406102406141111100JJSASHFELD  TP                               P",
-    b"AANC10003C100022406102406141111100JJSASHFELD  TP                               P",
-    b"AANC10001C100022406102406141111100JJSBRAYTON  TP                               P",
-    b"AANC10001C100022406102406141111102JJSASHFELD  TP                               P",
-    b"AANC10001C100022406102406141111100JJSASHFELD  TP                              \x7fP",
-    BS,
-];
-
-#[test]
-fn bad_bodies(rt: HostRuntime) {
-    for body in BAD_DESCRIPTIONS {
-        refused_body(&rt, rt.alloc(), ASHFELD, body);
+    if rows.len() != 1 {
+        panic!(rt; "one entry");
     }
-    for line in BAD_LINES {
-        refused_body(&rt, rt.alloc(), JOINS, line);
-    }
-}
-
-/// Asserts that a schedule with this count and these lines is refused.
-fn refused_schedule(rt: &impl Abort, alloc: Global, count: &[u8; 4], lines: &[&[u8]]) {
-    let lines = joined_text(rt, alloc, lines);
-    let parts = [C10001, FILE, SECOND, PUT, count, lines.as_slice()];
-    refused_entry(rt, alloc, &parts, StateCause::Body);
+    let (item, row) = (items[0], &rows[0]);
+    let mut parts = Parts::new(alloc);
+    last_is(rt, &parts, None);
+    same(rt, parts.ledger().is_empty(), true);
+    parts.item(item).expect(rt, "memory");
+    last_is(rt, &parts, None);
+    ledger_is(rt, &parts, items);
+    let stamp = row.1.stamp;
+    let op = Op::Deleted;
+    parts.entry(row.0, Entry { stamp, op }).expect(rt, "memory");
+    last_is(rt, &parts, Some(row.0));
+    parts.finish().expect(rt, "memory")
 }
 
 #[test]
-fn lines_that_are_no_schedule(rt: HostRuntime) {
+fn parts(rt: HostRuntime) {
     let alloc = rt.alloc();
-    refused_schedule(&rt, alloc, b"\x00\x00\x00\x00", &[]);
-    refused_schedule(&rt, alloc, b"\x00\x00\x00\x01", &[BS]);
-    refused_schedule(&rt, alloc, b"\x00\x00\x00\x01", &[BS_DELETED]);
-    refused_schedule(&rt, alloc, b"\x00\x00\x00\x02", &[BS, LO]);
-    refused_schedule(&rt, alloc, b"\x00\x00\x00\x04", &[BS, LO, LT, LT]);
+    let one = state(&rt, alloc, &[HD_9A, BS_DELETED, ZZ]);
+    let again = rebuilt(&rt, alloc, &one);
+    let before = shown(&rt, alloc, &one);
+    shown_again(&rt, alloc, &again, before.as_slice());
 }

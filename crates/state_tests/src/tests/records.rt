@@ -1,85 +1,26 @@
-//! Records and parts of texts, from which the rows are made.
+//! Records, and how states show them, from which the tests are made.
 
 /// The header of an update of 9 June 2024, 21:00.
-pub(super) const HD: &[u8] =
+pub(super) const HD_9A: &[u8] =
     b"HDTPS.UDFROC1.PD2406090906242100DFROC1ADFROC1ZUA                                ";
+
+/// The header of a full extract of 9 June 2024, 21:00.
+pub(super) const HD_9A_FULL: &[u8] =
+    b"HDTPS.UDFROC1.PD2406090906242100DFROC1ADFROC1ZFA                                ";
+
+/// The header of another update of that minute.
+pub(super) const HD_9B: &[u8] =
+    b"HDTPS.UDFROC1.PD2406090906242100DFROC1BDFROC1AUA                                ";
+
+/// The header of a third update of that minute.
+pub(super) const HD_9C: &[u8] =
+    b"HDTPS.UDFROC1.PD2406090906242100DFROC1CDFROC1BUA                                ";
 
 /// The header of an update a day later.
 pub(super) const HD_10B: &[u8] =
     b"HDTPS.UDFROC1.PD2406091006242100DFROC1BDFROC1AUA                                ";
 
-/// The header of an update of 8 June.
-pub(super) const HD_8A: &[u8] =
-    b"HDTPS.UDFROC1.PD2406090806242100DFROC1ADFROC1ZUA                                ";
-
-/// The header of another update of 9 June.
-pub(super) const HD_9B: &[u8] =
-    b"HDTPS.UDFROC1.PD2406090906242100DFROC1BDFROC1AUA                                ";
-
-/// A new permanent schedule of C10001, from 10 to 14 June 2024.
-pub(super) const BS: &[u8] =
-    b"BSNC100012406102406141111100 POO1A10                                           P";
-
-/// Its deletion.
-pub(super) const BS_DELETED: &[u8] =
-    b"BSDC10001240610              POO                                               P";
-
-/// An origin: Ashfeld, 09:00.
-pub(super) const LO: &[u8] =
-    b"LOASHFELD 0900 09001  SL                                                        ";
-
-/// A terminus: Brayton, 09:30.
-pub(super) const LT: &[u8] =
-    b"LTBRAYTON 0930 09322  FL                                                        ";
-
-/// The insertion of Ashfield Central.
-pub(super) const TI: &[u8] =
-    b"TIASHFELD         ASHFIELD CENTRAL                                              ";
-
-/// Its amendment: another code and description.
-pub(super) const TA: &[u8] =
-    b"TAASHFELD         ASHFIELD NEW                                          ASHFLDN ";
-
-/// C10001 joins C10002 at Ashfeld.
-pub(super) const AA: &[u8] =
-    b"AANC10001C100022406102406141111100JJSASHFELD  TP                               P";
-
-/// A trailer.
-pub(super) const ZZ: &[u8] =
-    b"ZZ                                                                              ";
-
-/// The beginning of a text: its mark, and the horizon 0.
-pub(super) const MARK: &[u8] = b"DKS2\0\0";
-
-/// The mark of a text of the older format, which has no horizon.
-pub(super) const OLD_MARK: &[u8] = b"DKS1";
-
-/// The number one in eight bytes.
-pub(super) const ONE: &[u8] = b"\x00\x00\x00\x00\x00\x00\x00\x01";
-
-/// The number two in eight bytes.
-pub(super) const TWO: &[u8] = b"\x00\x00\x00\x00\x00\x00\x00\x02";
-
-/// The greatest number in eight bytes.
-pub(super) const MOST: &[u8] = b"\xff\xff\xff\xff\xff\xff\xff\xff";
-
-/// The ledger item of the file of 9 June.
-pub(super) const ITEM: &[u8] = b"\x5b\xf0\x04\xecDFROC1AUDFROC1Z";
-
-/// The ledger item of the file of 9 June, with a day after the last one.
-pub(super) const ITEM_LATE: &[u8] = b"\x8e\xad\x04\xecDFROC1AUDFROC1Z";
-
-/// The ledger item of an update of 5 June.
-pub(super) const ITEM_5A: &[u8] = b"\x5b\xec\x04\xecDFROC1AUDFROC1Z";
-
-/// The ledger item of a full extract of 7 June.
-pub(super) const ITEM_7B: &[u8] = b"\x5b\xee\x04\xecDFROC1BFDFROC1A";
-
-/// An entry of the schedule, up to its lines.
-pub(super) const HEAD: &[u8] =
-    b"\x03C10001\x5b\xf1P\x5b\xf0\x04\xecDFROC1A\x00\x00\x00\x02\x01\x00\x00\x00\x03";
-
-/// The header of an update of 5 June 2024, 21:00.
+/// The header of an update of 5 June.
 pub(super) const HD_5A: &[u8] =
     b"HDTPS.UDFROC1.PD2406090506242100DFROC1ADFROC1ZUA                                ";
 
@@ -87,17 +28,37 @@ pub(super) const HD_5A: &[u8] =
 pub(super) const HD_7B: &[u8] =
     b"HDTPS.UDFROC1.PD2406090706242100DFROC1BDFROC1AFA                                ";
 
-/// The header of a third update of 9 June.
-pub(super) const HD_9C: &[u8] =
-    b"HDTPS.UDFROC1.PD2406090906242100DFROC1CDFROC1BUA                                ";
+/// The header of an update of 8 June.
+pub(super) const HD_8A: &[u8] =
+    b"HDTPS.UDFROC1.PD2406090806242100DFROC1ADFROC1ZUA                                ";
 
-/// The revision of the schedule of C10001.
+/// A new permanent schedule of C10001, from 10 to 14 June 2024.
+pub(super) const BS: &[u8] =
+    b"BSNC100012406102406141111100 POO1A10                                           P";
+
+/// Its revision.
 pub(super) const BS_REVISED: &[u8] =
     b"BSRC100012406102406141111100 POO1A10                                           P";
 
-/// The schedule of C10001 to 21 June.
+/// Its deletion.
+pub(super) const BS_DELETED: &[u8] =
+    b"BSDC10001240610              POO                                               P";
+
+/// The same schedule to 21 June.
 pub(super) const BS_LONGER: &[u8] =
     b"BSNC100012406102406211111100 POO1A10                                           P";
+
+/// The same schedule to 31 July.
+pub(super) const BS_JULY: &[u8] =
+    b"BSNC100012406102407311111100 POO1A10                                           P";
+
+/// The same schedule without an end.
+pub(super) const BS_NO_END: &[u8] =
+    b"BSNC100012406109999991111100 POO1A10                                           P";
+
+/// An association of C10001 and C20001 at Colwell without an end.
+pub(super) const AA_NO_END: &[u8] =
+    b"AANC10001C200012406109999991111100JJSCOLWELL  TP                               P";
 
 /// A schedule of C10002.
 pub(super) const BS_C10002: &[u8] =
@@ -106,6 +67,10 @@ pub(super) const BS_C10002: &[u8] =
 /// The deletion of a schedule of C10003.
 pub(super) const BS_C10003: &[u8] =
     b"BSDC10003240610              POO                                               P";
+
+/// An origin: Ashfeld, 09:00.
+pub(super) const LO: &[u8] =
+    b"LOASHFELD 0900 09001  SL                                                        ";
 
 /// An origin: Ashfeld, 08:50.
 pub(super) const LO_0850: &[u8] =
@@ -123,6 +88,10 @@ pub(super) const LO_1000: &[u8] =
 pub(super) const LO_1100: &[u8] =
     b"LOASHFELD 1100 11001  SL                                                        ";
 
+/// A terminus: Brayton, 09:30.
+pub(super) const LT: &[u8] =
+    b"LTBRAYTON 0930 09322  FL                                                        ";
+
 /// A terminus: Brayton, 09:35.
 pub(super) const LT_0935: &[u8] =
     b"LTBRAYTON 0935 09372  FL                                                        ";
@@ -135,90 +104,62 @@ pub(super) const LT_1030: &[u8] =
 pub(super) const LT_1130: &[u8] =
     b"LTBRAYTON 1130 11322  FL                                                        ";
 
-/// The ledger item of the update of 10 June.
-pub(super) const ITEM_10B: &[u8] = b"\x5b\xf1\x04\xecDFROC1BUDFROC1A";
+/// The insertion of Ashfield Central.
+pub(super) const TI: &[u8] =
+    b"TIASHFELD         ASHFIELD CENTRAL                                              ";
 
-/// The ledger item of the third update of 9 June.
-pub(super) const ITEM_9C: &[u8] = b"\x5b\xf0\x04\xecDFROC1CUDFROC1B";
+/// Its amendment: another code and description.
+pub(super) const TA: &[u8] =
+    b"TAASHFELD         ASHFIELD NEW                                          ASHFLDN ";
 
-/// The entry of the schedule of C10001, put by the update of 10 June, up to its lines.
-pub(super) const HEAD_10B: &[u8] =
-    b"\x03C10001\x5b\xf1P\x5b\xf1\x04\xecDFROC1B\x00\x00\x00\x02\x01\x00\x00\x00\x03";
+/// A schedule of C30001, on 10 June 2024.
+pub(super) const BS_C30001: &[u8] =
+    b"BSNC300012406102406101000000 POO3C30                                           P";
 
-/// The entry of the schedule of C10001, put by the third update of 9 June, up to its lines.
-pub(super) const HEAD_9C: &[u8] =
-    b"\x03C10001\x5b\xf1P\x5b\xf0\x04\xecDFROC1C\x00\x00\x00\x02\x01\x00\x00\x00\x03";
+/// A schedule of C30002, on that day.
+pub(super) const BS_C30002: &[u8] =
+    b"BSNC300022406102406101000000 POO3C32                                           P";
 
-/// The entry of the schedule of C10002, put by the full extract, up to its lines.
-pub(super) const HEAD_C10002: &[u8] =
-    b"\x03C10002\x5b\xf1P\x5b\xee\x04\xecDFROC1B\x00\x00\x00\x02\x01\x00\x00\x00\x03";
+/// Its deletion.
+pub(super) const BS_C30002_DELETED: &[u8] =
+    b"BSDC30002240610              POO                                               P";
 
-/// The tag and the key of the TIPLOC ASHFELD.
-pub(super) const ASHFELD: &[u8] = b"\x01ASHFELD";
+/// An origin: Ashfeld, 10:00, without a public time or a line.
+pub(super) const LO_1000_PLAIN: &[u8] =
+    b"LOASHFELD 1000     1                                                            ";
 
-/// The tag and the key of the association of C10001 and C10002.
-pub(super) const JOINS: &[u8] = b"\x02C10001C10002\x5b\xf1ASHFELD P";
+/// A call at Colwell, 10:10, without public times.
+pub(super) const LI_COLWELL: &[u8] =
+    b"LICOLWELL 1010 1012              3                                              ";
 
-/// The tag and the key of the schedule of C10001.
-pub(super) const C10001: &[u8] = b"\x03C10001\x5b\xf1P";
+/// A second call there, 10:40.
+pub(super) const LI_COLWELL_AGAIN: &[u8] =
+    b"LICOLWELL21040 1042              4                                              ";
 
-/// The file stamp of the file of 9 June.
-pub(super) const FILE: &[u8] = b"\x5b\xf0\x04\xecDFROC1A";
+/// A terminus: Brayton, 11:00, without a public time or a path.
+pub(super) const LT_1100_PLAIN: &[u8] =
+    b"LTBRAYTON 1100     2                                                            ";
 
-/// The number of the first record after a header.
-pub(super) const SECOND: &[u8] = b"\x00\x00\x00\x02";
+/// An origin: Colwell, 10:45.
+pub(super) const LO_COLWELL: &[u8] =
+    b"LOCOLWELL 1045     5                                                            ";
 
-/// The op of a deletion.
-pub(super) const DELETED: &[u8] = b"\x00";
+/// A terminus: Dunmere, 11:00.
+pub(super) const LT_DUNMERE: &[u8] =
+    b"LTDUNMERE 1100     1                                                            ";
 
-/// The op of a put.
-pub(super) const PUT: &[u8] = b"\x01";
+/// An association of C30001 and C30002 at Colwell on 10 June 2024.
+pub(super) const AA_COLWELL: &[u8] =
+    b"AANC30001C300022406102406101000000VVSCOLWELL2 TP                               P";
 
-/// The body of a TIPLOC: 63 printable bytes, the least and the greatest among them.
-pub(super) const CENTRAL: &[u8] =
-    b"         ASHFIELD CENTRAL                                     ~";
+/// A trailer.
+pub(super) const ZZ: &[u8] =
+    b"ZZ                                                                              ";
 
-/// The last day of the schedule, 2024-06-14.
-pub(super) const LAST: &[u8] = b"\x5b\xf5";
+/// How the new code that the amendment gives is shown.
+pub(super) const NEW: [u8; 63] =
+    *b"         ASHFIELD NEW                                          ";
 
-/// The day after it.
-pub(super) const AFTER: &[u8] = b"\x5b\xf6";
-
-/// The last day of the calendar, 2059-12-31.
-pub(super) const GREATEST: &[u8] = b"\x8e\xac";
-
-/// One too many.
-pub(super) const TOO_LATE: &[u8] = b"\x8e\xad";
-
-/// Two empty counts.
-pub(super) const NOTHING: &[u8] = b"\0\0\0\0\0\0\0\0\0\0\0\0\0\0\0\0";
-
-/// The tag, the key and the stamp of the schedule of C10001.
-pub(super) const SCHEDULE_HEAD: &[u8] =
-    b"\x03C10001\x5b\xf1P\x5b\xf0\x04\xecDFROC1A\x00\x00\x00\x02";
-
-/// The tag, the key and the stamp of the association of C10001 and C10002.
-pub(super) const JOINS_HEAD: &[u8] =
-    b"\x02C10001C10002\x5b\xf1ASHFELD P\x5b\xf0\x04\xecDFROC1A\x00\x00\x00\x02";
-
-/// The tag, the key and the stamp of the TIPLOC ASHFELD.
-pub(super) const ASHFELD_HEAD: &[u8] = b"\x01ASHFELD\x5b\xf0\x04\xecDFROC1A\x00\x00\x00\x02";
-
-/// The op of a lapsed entry.
-pub(super) const LAPSED: &[u8] = b"\x02";
-
-/// The entry of the schedule up to its lines, with an invalid tag.
-pub(super) const HEAD_OF_NO_TAG: &[u8] =
-    b"\x04C10001\x5b\xf1P\x5b\xf0\x04\xecDFROC1A\x00\x00\x00\x02\x01\x00\x00\x00\x03";
-
-/// The entry of the schedule up to its lines, with the stamp of a file that isn't in the ledger.
-pub(super) const HEAD_OF_NO_FILE: &[u8] =
-    b"\x03C10001\x5b\xf1P\x5b\xf0\x04\xecDFROC1B\x00\x00\x00\x02\x01\x00\x00\x00\x03";
-
-/// The entry of the schedule up to its lines, with an invalid op.
-pub(super) const HEAD_OF_NO_OP: &[u8] =
-    b"\x03C10001\x5b\xf1P\x5b\xf0\x04\xecDFROC1A\x00\x00\x00\x02\x03\x00\x00\x00\x03";
-
-/// The entry of the schedule up to its lines, with the op of a lapsed entry.
-pub(super) const HEAD_LAPSED: &[u8] =
-    b"\x03C10001\x5b\xf1P\x5b\xf0\x04\xecDFROC1A\x00\x00\x00\x02\x02\x00\x00\x00\x03";
+/// How the insertion of Ashfield Central is shown.
+pub(super) const CENTRAL: [u8; 63] =
+    *b"         ASHFIELD CENTRAL                                      ";

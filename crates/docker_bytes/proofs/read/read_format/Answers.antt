@@ -1,6 +1,6 @@
 use Rattle.std.proofs.Common.{refl, []}
 use Rattle.std.proofs.lemmas.Result.{err_from_is_err_and}
-use Rattle.state_parts.specs.FormatMeaning.{format_meant}
+use Rattle.state_text.specs.FormatMeaning.{format_meant}
 use Rattle.docker_bytes.specs.SourceRead.{ReadsAll, RefusesState, ReadsOnePieceMore, WantsSoFar}
 use Rattle.docker_bytes.proofs.ReadLemmas.{unread, as_asked, made_of_all, refused_of_all, wants_of_all, wants_more}
 use Rattle.docker_bytes.proofs.read.read_format.Goals as goal

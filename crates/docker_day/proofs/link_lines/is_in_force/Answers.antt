@@ -2,7 +2,7 @@ use Rattle.std.specs.Prelude.{◌&&◌, not}
 use Rattle.std.proofs.Common.{ap, sym, ◌∙◌}
 use Rattle.docker_model.specs.file.Change.{AssociationKey}
 use Rattle.docker_model.specs.docker.Choice.{association_runs, group_of}
-use Rattle.docker_model.specs.docker.Gathering.{counts_as}
+use Rattle.docker_laws.specs.Gathering.{counts_as}
 use Rattle.docker_model.specs.docker.LiveRows.{link_in}
 use Rattle.docker_model.specs.state.State.{live_table}
 use Rattle.train_choice.specs.Ranked.{is_cancellation}

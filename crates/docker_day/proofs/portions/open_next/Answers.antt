@@ -1,4 +1,4 @@
-use Rattle.cif_file.specs.Meaning.{key_meant, body_meant}
+use Rattle.cif_change.specs.Meaning.{key_meant, body_meant}
 use Rattle.docker_day.proofs.RowPortions.{row_passed}
 use Rattle.docker_day.proofs.portions.open_next.Goals as goal
 

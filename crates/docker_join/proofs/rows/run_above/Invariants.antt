@@ -1,7 +1,7 @@
 use Rattle.std.proofs.Common.{◌≡◌, ◌+◌, ◌-◌, ◌<◌, ◌≤◌, true}
 use Rattle.std.specs.VecDeque.{deque_len}
 use Rattle.cif_change.specs.declared.key.Key.{Key}
-use Rattle.cif_file.specs.Meaning.{key_meant}
+use Rattle.cif_change.specs.Meaning.{key_meant}
 use Rattle.docker_join.specs.Placing.{is_above_at}
 use Rattle.docker_join.proofs.rows.run_above.Given as goal
 

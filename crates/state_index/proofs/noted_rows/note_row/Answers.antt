@@ -1,6 +1,6 @@
 use Rattle.std.proofs.Common.{◌≡◌, None, ap}
 use Rattle.docker_model.specs.state.Op.{body_of}
-use Rattle.cif_file.specs.Meaning.{key_meant}
+use Rattle.cif_change.specs.Meaning.{key_meant}
 use Rattle.docker_join.specs.declared.entry.Op.{Op}
 use Rattle.docker_join.specs.Meaning.{op_meant}
 use Rattle.state_index.proofs.noted_rows.note_row.Goals as goal

@@ -1,5 +1,5 @@
 use Rattle.std.proofs.Common.{sym, ◌∙◌}
-use Rattle.cif_file.specs.Meaning.{key_meant, body_meant}
+use Rattle.cif_change.specs.Meaning.{key_meant, body_meant}
 use Rattle.train_choice.proofs.Along.{next_is_one}
 use Rattle.train_choice.proofs.choice.with_row.Goals as goal
 

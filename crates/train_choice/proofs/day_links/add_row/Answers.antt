@@ -1,7 +1,7 @@
 use Rattle.std.proofs.Common.{sym, ◌∙◌}
 use Rattle.std.proofs.lemmas.Result.{on_ok_weaker}
 use Rattle.std.specs.BTreeMap.{get}
-use Rattle.cif_file.specs.Meaning.{key_meant, body_meant}
+use Rattle.cif_change.specs.Meaning.{key_meant, body_meant}
 use Rattle.train_choice.specs.Known.{group_cmp}
 use Rattle.train_choice.proofs.Along.{next_link_is_one, next_link_is_none}
 use Rattle.train_choice.proofs.day_links.add_row.Goals as goal

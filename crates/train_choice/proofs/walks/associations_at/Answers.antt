@@ -1,5 +1,5 @@
 use Rattle.std.proofs.Common.{subst}
-use Rattle.docker_model.specs.state.Index.{AreLinked}
+use Rattle.docker_laws.specs.Index.{AreLinked}
 use Rattle.docker_model.specs.state.State.{State, live_table}
 use Rattle.docker_laws.proofs.dockers.IndexedWalk.{linked_has}
 use Rattle.train_choice.proofs.Along.{good_linked, live_linked}

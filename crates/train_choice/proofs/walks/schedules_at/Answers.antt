@@ -1,5 +1,5 @@
 use Rattle.std.proofs.Common.{subst}
-use Rattle.docker_model.specs.state.Index.{AreCalling}
+use Rattle.docker_laws.specs.Index.{AreCalling}
 use Rattle.docker_model.specs.state.State.{State, live_table}
 use Rattle.train_choice.proofs.Along.{good_calling, live_calling}
 use Rattle.train_choice.proofs.walks.schedules_at.Goals as goal

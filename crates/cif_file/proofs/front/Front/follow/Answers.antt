@@ -2,7 +2,7 @@
 use Rattle.std.proofs.Common.{ap, ◌∙◌, refl}
 use Rattle.std.specs.Prelude.{is_ok}
 use Rattle.docker_model.specs.file.File.{follows_basic}
-use Rattle.cif_journey.specs.Cause.{cause_meant}
+use Rattle.cif_change.specs.Cause.{cause_meant}
 use Rattle.cif_file.proofs.AnswerLemmas.{at_ok}
 use Rattle.cif_file.proofs.FrontLemmas.{followed, bad_line, stands_before, line_goes_on}
 use Rattle.cif_file.proofs.front.Front.follow.Goals as goal

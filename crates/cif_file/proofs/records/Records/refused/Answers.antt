@@ -2,7 +2,7 @@
 use Rattle.std.proofs.Common.{◌≡◌, ap, subst, refl, true, false}
 use Rattle.std.specs.Prelude.{◌↔◌}
 use Rattle.docker_model.specs.file.File.{IsFile}
-use Rattle.cif_journey.specs.Cause.{cause_meant}
+use Rattle.cif_change.specs.Cause.{cause_meant}
 use Rattle.cif_file.proofs.ParserLemmas.{refused_over, refused_within}
 use Rattle.cif_file.proofs.records.Records.refused.Goals as goal
 use Rattle.cif_file.proofs.records.Records.refused.Goals.{then-self, else-self+then-is_ended, else-self+else-is_ended}

@@ -1,7 +1,7 @@
 -- The line was judged: it is taken, or refused for its length or a byte.
 use Rattle.std.proofs.Common.{refl, subst}
 use Rattle.cif_file.specs.ParserRead.{CountsNext, FaultsNext}
-use Rattle.cif_journey.specs.Cause.{cause_meant}
+use Rattle.cif_change.specs.Cause.{cause_meant}
 use Rattle.cif_file.proofs.AnswerLemmas.{if_err_by}
 use Rattle.cif_file.proofs.FrontLemmas.{on_ok_one}
 use Rattle.cif_file.proofs.ParserLemmas.{refused_line}

@@ -1,8 +1,8 @@
 use Rattle.std.proofs.Common.{◌≡◌, sym, ap, subst, arith}
 use Rattle.std.specs.Prelude.{is_ok}
 use Rattle.docker_model.specs.state.StatePart.{width}
-use Rattle.state_parts.specs.declared.cause.StateCause.{StateCause}
-use Rattle.state_parts.specs.FaultMeaning.{cause_meant}
+use Rattle.state_text.specs.declared.cause.StateCause.{StateCause}
+use Rattle.state_text.specs.FaultMeaning.{cause_meant}
 use Rattle.docker_bytes.specs.StateReading.{format_of, before_of, text_of, IsToldAtEnd}
 use Rattle.docker_bytes.proofs.TextEnd.{whole_text, wanting_at_end, short_at_end}
 use Rattle.docker_bytes.proofs.reading.StateReading+Received+R.join.Goals as goal

@@ -1,4 +1,4 @@
-use Rattle.state_parts.specs.FormatMeaning.{format_meant}
+use Rattle.state_text.specs.FormatMeaning.{format_meant}
 use Rattle.docker_bytes.proofs.reading.StateReading.judge.Given as goal
 
 -- the part is one of the format of the text

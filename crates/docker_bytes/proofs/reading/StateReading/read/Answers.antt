@@ -1,7 +1,7 @@
 use Rattle.std.proofs.Common.{refl, sym, [], ◌<◌, ◌+◌, length, append-nil, arith}
 use Rattle.std.proofs.lemmas.Result.{err_from_is_err_and}
 use Rattle.docker_model.specs.state.StatePart.{width}
-use Rattle.state_parts.specs.FaultMeaning.{cause_meant}
+use Rattle.state_text.specs.FaultMeaning.{cause_meant}
 use Rattle.docker_bytes.specs.StateReading.{before_of}
 use Rattle.docker_bytes.proofs.ReadingLemmas.{before_rest, open_text, told_of_piece, rest_more, reads_further}
 use Rattle.docker_bytes.proofs.reading.StateReading.read.Goals as goal

@@ -1,7 +1,7 @@
 use Rattle.std.proofs.Common.{◌≡◌, ◌+◌, ◌<◌, ℕ, List, [], ◌∷◌, refl, ap, sym, subst, ◌∙◌, inr, length, length-append, arith}
 use Rattle.docker_model.specs.state.StatePart.{width}
 use Rattle.docker_bytes.specs.StateReading.{format_of, before_of, IsPartRefused}
-use Rattle.state_parts.specs.FaultMeaning.{cause_meant}
+use Rattle.state_text.specs.FaultMeaning.{cause_meant}
 use Rattle.docker_bytes.proofs.ReadingLemmas.{part_read}
 use Rattle.docker_bytes.proofs.LineLemmas.{line_leads, line_bad, line_width}
 use Rattle.docker_bytes.proofs.reading.StateReading.take_line.Goals as goal

@@ -2,7 +2,7 @@ use Rattle.std.proofs.Common.{rules, ◌≡◌, ◌+◌, ◌-◌, ◌<◌, ◌�
 use Rattle.std.proofs.lemmas.List.{nil_from_length}
 use Rattle.std.proofs.lemmas.Result.{err_from_is_err_and}
 use Rattle.docker_model.specs.state.StatePart.{width}
-use Rattle.state_parts.specs.FaultMeaning.{cause_meant}
+use Rattle.state_text.specs.FaultMeaning.{cause_meant}
 use Rattle.docker_bytes.specs.declared.reading.StateReading.{StateReading}
 use Rattle.docker_bytes.specs.StateReading.{before_of, ReadsOn, IsLineOf}
 use Rattle.docker_bytes.proofs.LineLemmas.{line_width, lines_within}

@@ -1,4 +1,4 @@
-use Rattle.cif_file.specs.Meaning.{key_meant}
+use Rattle.cif_change.specs.Meaning.{key_meant}
 use Rattle.docker_excerpt.proofs.NearWalk.{near_above}
 use Rattle.docker_excerpt.proofs.day_walk.DayWalk.entry.Goals as goal
 

@@ -2,7 +2,7 @@ use Rattle.std.proofs.Common.{List, subst}
 use Rattle.std.proofs.lemmas.Result.{IfOk-weaker}
 use Rattle.docker_model.specs.file.Change.{Key}
 use Rattle.docker_model.specs.state.Op.{Entry}
-use Rattle.docker_model.specs.docker.NearDay.{near_state}
+use Rattle.docker_laws.specs.NearDay.{near_state}
 use Rattle.docker_excerpt.specs.ExcerptWalk.{HasWalked}
 use Rattle.docker_excerpt.proofs.day_walk.DayWalk.finish.Goals as goal
 

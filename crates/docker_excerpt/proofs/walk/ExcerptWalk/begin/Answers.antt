@@ -1,11 +1,11 @@
 use Rattle.std.proofs.Common.{◌≡◌, ◌++◌, ◌∷◌, [], ◌∙◌, ℕ, List, map, refl, ap, sym, subst, Contains, true, false}
 use Rattle.std.specs.Prelude.{◌↔◌}
-use Rattle.docker_model.specs.docker.ExcerptWalk.{goes_on}
-use Rattle.cif_file.specs.Meaning.{key_meant}
+use Rattle.docker_laws.specs.ExcerptWalk.{goes_on}
+use Rattle.cif_change.specs.Meaning.{key_meant}
 use Rattle.cif_change.specs.declared.key.Key.{Key}
 use Rattle.cif_change.specs.declared.key.Key.TheVariants as key
-use Rattle.docker_join.specs.declared.entry.Entry.{Entry}
-use Rattle.docker_join.specs.Meaning.{entry_meant, row_meant}
+use Rattle.state_text.specs.Entry.{Entry}
+use Rattle.state_text.specs.Meaning.{entry_meant, row_meant}
 use Rattle.docker_excerpt.specs.Walked.{state_of_entries, IsWalk}
 use Rattle.docker_excerpt.proofs.WalkTurns.{walk_begins}
 use Rattle.docker_excerpt.proofs.WalkSteps.{rows_more, run_ended, walk_by}

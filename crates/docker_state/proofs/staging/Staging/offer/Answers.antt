@@ -1,5 +1,5 @@
 use Rattle.std.proofs.Common.{ap}
-use Rattle.docker_model.specs.state.Staging.{staged_state}
+use Rattle.state_laws.specs.Staging.{staged_state}
 use Rattle.cif_file.specs.Meaning.{key_meant}
 use Rattle.docker_join.specs.Meaning.{entry_meant}
 use Rattle.docker_state.specs.Staging.{Staging}

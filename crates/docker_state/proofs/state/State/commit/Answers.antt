@@ -1,8 +1,8 @@
 use Rattle.std.proofs.Common.{rules, List, map, ap, ◌∙◌, subst}
 use Rattle.docker_model.specs.state.State.{State, IsJoin}
-use Rattle.docker_model.specs.state.Staging.{staged_state}
+use Rattle.state_laws.specs.Staging.{staged_state}
 use Rattle.state_laws.proofs.joins.StagedState.{join_with_staged}
-use Rattle.cif_change.specs.declared.key.Key.{Key}
+use Rattle.cif_file.specs.Key.{Key}
 use Rattle.docker_join.specs.declared.entry.Entry.{Entry}
 use Rattle.state_index.specs.Noted.{HasNoted, items_of}
 use Rattle.docker_state.specs.Meaning.{item_meant, row_meant}

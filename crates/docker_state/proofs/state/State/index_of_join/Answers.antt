@@ -1,7 +1,7 @@
 use Rattle.std.proofs.Common.{List, ◌++◌, map, sym, subst}
 use Rattle.docker_model.specs.state.State.{State, IsJoin}
 use Rattle.docker_model.specs.state.Stamp.{IsFloor}
-use Rattle.cif_change.specs.declared.key.Key.{Key}
+use Rattle.cif_file.specs.Key.{Key}
 use Rattle.docker_join.specs.declared.entry.Entry.{Entry}
 use Rattle.state_index.specs.Joined.{AreJoined, AreMoves}
 use Rattle.docker_state.specs.Meaning.{floor_meant, item_meant, row_meant, state_meant}

@@ -4,7 +4,7 @@ use Rattle.docker_model.specs.state.Stamp.{IsFloor}
 use Rattle.docker_model.specs.state.State.{State, IsJoin}
 use Rattle.docker_model.specs.state.Lapse.{lapse_entries}
 use Rattle.state_laws.proofs.joins.JoinValid.{join_is_valid}
-use Rattle.cif_change.specs.declared.key.Key.{Key}
+use Rattle.cif_file.specs.Key.{Key}
 use Rattle.docker_join.specs.declared.entry.Entry.{Entry}
 use Rattle.docker_join.specs.Rows.{AreAscending}
 use Rattle.docker_state.specs.declared.item.LedgerItem.{LedgerItem}

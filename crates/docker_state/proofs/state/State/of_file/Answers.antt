@@ -8,7 +8,7 @@ use Rattle.docker_model.specs.state.Op.{key_cmp}
 use Rattle.cif_file.specs.Meaning.{change_meant}
 use Rattle.docker_join.specs.Meaning.{file_stamp_meant}
 use Rattle.docker_join.proofs.MeantOrder.{ascending_meant}
-use Rattle.cif_places.specs.declared.names.PlaceNames.{PlaceNames}
+use Rattle.state_index.specs.PlaceNames.{PlaceNames}
 use Rattle.state_index.specs.Rooms.{HasRoomFor}
 use Rattle.state_index.specs.Noted.{ArePicked, items_of, items_put}
 use Rattle.docker_state.specs.Meaning.{row_meant}

@@ -2,7 +2,7 @@ use Rattle.std.proofs.Common.{◌≡◌, List, ap, sym, ◌∙◌, subst, rules}
 use Rattle.std.specs.BTreeMap.{get}
 use Rattle.std.specs.Ordering.{is_eq}
 use Rattle.docker_model.specs.docker.Choice.{Group, group_of}
-use Rattle.docker_model.specs.docker.Gathering.{counts_as}
+use Rattle.docker_laws.specs.Gathering.{counts_as}
 use Rattle.docker_model.specs.docker.LiveRows.{link_in}
 use Rattle.docker_model.specs.file.Change.{AssociationKey}
 use Rattle.docker_model.specs.state.Op.{association_key_cmp}

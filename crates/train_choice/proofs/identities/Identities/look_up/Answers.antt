@@ -1,5 +1,5 @@
 use Rattle.std.proofs.Common.{ap, ◌∙◌}
-use Rattle.docker_model.specs.docker.Gathering.{identity_of}
+use Rattle.docker_laws.specs.Gathering.{identity_of}
 use Rattle.docker_model.specs.state.State.{live_table}
 use Rattle.train_choice.proofs.Known.{one_more_identity}
 use Rattle.train_choice.proofs.identities.Identities.look_up.Goals as goal

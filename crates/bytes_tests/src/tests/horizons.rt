@@ -1,0 +1,153 @@
+//! Texts under a horizon, and what has lapsed.
+
+use super::records::{
+    AA, AFTER, ASHFELD_HEAD, BS, GREATEST, HD, HEAD, HEAD_LAPSED, ITEM, JOINS_HEAD, LAPSED, LAST,
+    LO, LT, NOTHING, ONE, PUT, SCHEDULE_HEAD, TI, TOO_LATE, ZZ,
+};
+use super::{at, goes_round, joined_text, read, refused, same, state, text_is};
+use cif_line::Day;
+use docker_bytes::{StateCause, StateFault};
+use docker_state::State;
+use std::alloc::Global;
+use std::process::Abort;
+
+/// The text of one file and one entry of these parts, under a horizon.
+fn under(rt: &impl Abort, alloc: Global, horizon: &[u8], parts: &[&[u8]]) -> Vec<u8> {
+    let entry = joined_text(rt, alloc, parts);
+    let pieces = [b"DKS2", horizon, ONE, ITEM, ONE, entry.as_slice()];
+    joined_text(rt, alloc, &pieces)
+}
+
+/// Asserts that a text is the text of a state with this horizon, and is written unchanged.
+fn accepted(rt: &impl Abort, alloc: Global, text: &[u8], horizon: u16) {
+    let state = read(rt, alloc, text, 4096, 1000);
+    same(rt, state.horizon(), horizon);
+    text_is(rt, alloc, &state, text);
+    goes_round(rt, alloc, &state, text.len(), 1);
+}
+
+/// Asserts that a text of one entry under a horizon is accepted.
+fn accepted_under(rt: &impl Abort, alloc: Global, horizon: &[u8], parts: &[&[u8]], number: u16) {
+    let text = under(rt, alloc, horizon, parts);
+    accepted(rt, alloc, text.as_slice(), number);
+}
+
+/// Asserts that it is refused at this offset.
+fn refused_under(
+    rt: &impl Abort,
+    alloc: Global,
+    horizon: &[u8],
+    parts: &[&[u8]],
+    fault: StateFault,
+) {
+    let text = under(rt, alloc, horizon, parts);
+    refused(rt, alloc, &[text.as_slice()], 1000, fault);
+}
+
+/// The entry of the schedule.
+const SCHEDULE: &[&[u8]] = &[HEAD, BS, LO, LT];
+
+/// The entry of the association.
+const ASSOCIATION: &[&[u8]] = &[JOINS_HEAD, PUT, AA];
+
+#[test]
+fn horizons_of_no_day(rt: HostRuntime) {
+    let alloc = rt.alloc();
+    let bad = at(4, StateCause::Horizon);
+    refused_under(&rt, alloc, TOO_LATE, SCHEDULE, bad);
+    refused(&rt, alloc, &[b"DKS2", TOO_LATE], 6, bad);
+    let long = at(5, StateCause::Long);
+    refused(&rt, alloc, &[b"DKS2", TOO_LATE], 5, long);
+    let greatest = joined_text(&rt, alloc, &[b"DKS2", GREATEST, NOTHING]);
+    accepted(&rt, alloc, greatest.as_slice(), 36524);
+}
+
+/// A schedule without an end.
+const ENDLESS: &[u8] =
+    b"BSNC100012406109999991111100 POO1A10                                           P";
+
+/// The body of Ashfield Central.
+const CENTRAL: &[u8] = b"         ASHFIELD CENTRAL                                      ";
+
+#[test]
+fn puts_that_end_before_the_horizon(rt: HostRuntime) {
+    let alloc = rt.alloc();
+    let bad = at(41, StateCause::Body);
+    let short = at(41, StateCause::Short);
+    accepted_under(&rt, alloc, LAST, SCHEDULE, 23541);
+    refused_under(&rt, alloc, AFTER, SCHEDULE, bad);
+    refused_under(&rt, alloc, GREATEST, SCHEDULE, bad);
+    refused_under(&rt, alloc, AFTER, &[HEAD, BS], bad);
+    let front = BS.get(..79).expect(&rt, "79 bytes");
+    refused_under(&rt, alloc, AFTER, &[HEAD, front], short);
+    accepted_under(&rt, alloc, LAST, ASSOCIATION, 23541);
+    refused_under(&rt, alloc, AFTER, ASSOCIATION, bad);
+    accepted_under(&rt, alloc, GREATEST, &[HEAD, ENDLESS, LO, LT], 36524);
+    accepted_under(&rt, alloc, GREATEST, &[ASHFELD_HEAD, PUT, CENTRAL], 36524);
+}
+
+/// Asserts that a lapsed entry is accepted under a horizon, and its text has `len` bytes.
+fn accepted_lapsed(
+    rt: &impl Abort,
+    alloc: Global,
+    horizon: &[u8],
+    number: u16,
+    entry: &[u8],
+    len: usize,
+) {
+    let text = under(rt, alloc, horizon, &[entry, LAPSED]);
+    same(rt, text.len(), len);
+    accepted(rt, alloc, text.as_slice(), number);
+}
+
+/// Asserts that lapsed entries of each kind are accepted.
+fn each_accepted_lapsed(rt: &impl Abort, alloc: Global, horizon: &[u8], number: u16) {
+    accepted_lapsed(rt, alloc, horizon, number, ASHFELD_HEAD, 65);
+    accepted_lapsed(rt, alloc, horizon, number, JOINS_HEAD, 81);
+    accepted_lapsed(rt, alloc, horizon, number, SCHEDULE_HEAD, 67);
+}
+
+#[test]
+fn what_has_lapsed_has_no_body(rt: HostRuntime) {
+    let alloc = rt.alloc();
+    each_accepted_lapsed(&rt, alloc, b"\0\0", 0);
+    each_accepted_lapsed(&rt, alloc, AFTER, 23542);
+    each_accepted_lapsed(&rt, alloc, GREATEST, 36524);
+    let tail = at(67, StateCause::Tail);
+    refused_under(&rt, alloc, b"\0\0", &[HEAD_LAPSED, BS, LO, LT], tail);
+    let bad = at(41, StateCause::Body);
+    refused_under(&rt, alloc, AFTER, &[SCHEDULE_HEAD, b"\x03"], bad);
+}
+
+/// The state of these records under the horizon of a day.
+fn lapsed(rt: &impl Abort, alloc: Global, records: &[&[u8]], day: &str) -> State {
+    let mut state = state(rt, alloc, records);
+    state.set_horizon(Day::from_iso(day).expect(rt, "a day"));
+    state
+}
+
+/// Asserts that the state of the schedule under the horizon of a day has a text of `len` bytes,
+/// with one entry of these parts.
+fn has_under(
+    rt: &impl Abort,
+    alloc: Global,
+    day: &str,
+    horizon: &[u8],
+    parts: &[&[u8]],
+    len: usize,
+) {
+    let state = lapsed(rt, alloc, &[HD, BS, LO, LT, ZZ], day);
+    let wanted = under(rt, alloc, horizon, parts);
+    text_is(rt, alloc, &state, wanted.as_slice());
+    goes_round(rt, alloc, &state, len, 1);
+}
+
+#[test]
+fn a_state_with_a_horizon_goes_round(rt: HostRuntime) {
+    let alloc = rt.alloc();
+    has_under(&rt, alloc, "2024-06-14", LAST, SCHEDULE, 311);
+    let gone: &[&[u8]] = &[SCHEDULE_HEAD, LAPSED];
+    has_under(&rt, alloc, "2024-06-15", AFTER, gone, 67);
+    let tiploc = lapsed(&rt, alloc, &[HD, TI, ZZ], "2059-12-31");
+    goes_round(&rt, alloc, &tiploc, 128, 7);
+}

@@ -1,0 +1,462 @@
+-- The lines that the reader of a schedule has taken, according to what it keeps of them.
+use Rattle.std.proofs.Common.{◌≡◌, ℕ, ◌+◌, ◌≤◌, ◌<◌, Bool, true, false, cond, List, [], ◌∷◌, ◌++◌, map, subst, refl, ap, sym, ◌∙◌, Some, None, arith, append-nil, append_assoc}
+use Rattle.std.specs.Prelude.{Option, IsTrue, ◌↔◌, ◌||◌, ◌&&◌, nat_le, is_some, is_none, IsOk, OnOk, IfErr, Result, Ok, Err}
+use Rattle.std.proofs.lemmas.Bool.{false≢true, le-leb, leb-true}
+use Rattle.docker_model.specs.records.Record.{Kind, kind_of, IsRecord, HasKind, basic_schedule, origin_location, intermediate_location, terminating_location, columns}
+use Rattle.docker_model.specs.records.Clock.{half_minutes, scheduled_time}
+use Rattle.docker_model.specs.file.File.{first_record, IsSchedule, BeginsSchedule}
+use Rattle.docker_model.specs.records.Field.{is_deletion, HasGoodFields, leftmost_bad_field}
+use Rattle.docker_model.specs.file.FileFault as fault
+use Rattle.docker_model.specs.file.FileFault.{bad_kind, bad_place}
+use Rattle.cif_laws.specs.RecordCause.{field_cause, schedule_cause, first_line_cause}
+use Rattle.docker_model.specs.file.ScheduleFault.{IsScheduleFault}
+use Rattle.docker_model.specs.file.Journey.{Occasion, arrival, pass, departure, timed, times_of, times_by_kind, times_along, midnights, fall_count}
+use Rattle.cif_laws.proofs.records.Columns.{good_fields}
+use Rattle.cif_laws.proofs.records.ScheduledTimes.{time_there}
+use Rattle.cif_laws.specs.RecordTest.{is_record, has_good_fields}
+use Rattle.cif_laws.proofs.lists.BoolsAndOptions.{test_by_none, and_true}
+use Rattle.cif_laws.proofs.records.RecordTests.{record_iff_test, midnights_step, last_time_step, no_times, no_times_before}
+use Rattle.cif_laws.specs.TimesSoFar.{last_of, falls_after, later_or}
+use Rattle.cif_laws.specs.ScheduleStage.{Stage, after_basic, after_details, in_journey, after_journey, stage_after, is_basic_kind, stage_of, may_lack, may_end, is_first_line, is_sound_next, next_stage}
+use Rattle.cif_laws.proofs.schedules.ScheduleStages.{no_stage_of_none, stage_of_more, first_line_iff_test, schedule_iff_stage, begins_iff_stage, sound_next_by_count}
+use Rattle.cif_laws.proofs.schedules.ScheduleCauses.{first_line_fault, begins_next_stage, schedule_fault}
+use Rattle.cif_change.specs.declared.cause.FileCause.{FileCause}
+use Rattle.cif_change.specs.Cause.{cause_meant}
+use Rattle.cif_change.specs.JourneyRead.{JourneyState, stage_then, HasLines, IsScheduleCause, may_end_by, time_list, FaultsLine}
+
+abbrev Lines : Type 0
+Lines = List (List ℕ)
+
+abbrev no_stage : Option Stage
+no_stage = None
+
+-- equal `Some` values have equal contents
+some_is : {A : Type 0} (x y : A) → Some x ≡ Some y → x ≡ y
+some_is x y same = cc
+
+-- ---- the end
+
+-- lines that have a stage are a schedule if and only if a schedule may end there
+whole_iff : (lines : Lines) (stage : Stage) → stage_of lines ≡ Some stage → IsSchedule lines ↔ (may_end stage lines ≡ true)
+whole_iff lines stage at = (
+  λ is.
+      let told = (schedule_iff_stage lines).0 is in
+      subst (λ s. may_end s lines ≡ true) (some_is told.0 stage (sym told.1.found ∙ at)) told.1.may,
+  λ may. (schedule_iff_stage lines).1 (stage, record { found = at; may = may }),
+)
+
+-- the test agrees with what the reader keeps
+may_end_same : (stage : Stage) (lines : Lines) (lacking : Bool) → lacking ≡ may_lack (first_record lines)
+    → may_end_by (Some stage) lacking ≡ may_end stage lines
+may_end_same after_basic lines lacking same = same
+may_end_same after_details lines lacking same = same
+may_end_same in_journey lines lacking same = refl
+may_end_same after_journey lines lacking same = refl
+
+complete_iff : (journey : JourneyState) (lines : Lines) → HasLines journey lines → IsTrue (may_end_by journey.stage journey.lacking) ↔ IsSchedule lines
+complete_iff journey lines has = by journey.stage refl
+  where
+    by : (stage : Option Stage) → journey.stage ≡ stage → IsTrue (may_end_by stage journey.lacking) ↔ IsSchedule lines
+    by None h =
+        (λ bad. absurd cc, λ is. let told = (schedule_iff_stage lines).0 is in let bad : Some told.0 ≡ None = sym told.1.found ∙ sym has.stage_is ∙ h in cc)
+    by (Some stage) h =
+        let iff = whole_iff lines stage (sym has.stage_is ∙ h) in
+        let same = may_end_same stage lines journey.lacking has.lacking_is in
+        (λ test. iff.1 (sym same ∙ test), λ is. same ∙ iff.0 is)
+
+-- the lines are a schedule if and only if the reader says so
+pub complete_by : (journey : JourneyState) (lines : Lines) (result : Bool) → result ≡ may_end_by journey.stage journey.lacking → HasLines journey lines
+    → IsTrue result ↔ IsSchedule lines
+complete_by journey lines result told has =
+    let iff = complete_iff journey lines has in (λ test. iff.0 (sym told ∙ test), λ is. told ∙ iff.1 is)
+
+-- ---- one more line
+
+-- the stage after one more line; a first line is a basic schedule
+abbrev pub next_by : Option Stage → Lines → List ℕ → Option Stage
+next_by None lines line = cond (is_first_line line) (Some after_basic) None
+next_by (Some stage) lines line = next_stage stage lines line
+
+-- the cause why there is no next stage
+abbrev pub cause_by : Option Stage → List ℕ → fault.FileCause
+cause_by None line = first_line_cause line
+cause_by (Some stage) line = schedule_cause stage line
+
+begins_by : (journey : JourneyState) (lines : Lines) (line : List ℕ) (next : Stage) → HasLines journey lines → next_by journey.stage lines line ≡ Some next
+    → BeginsSchedule (lines ++ line ∷ [])
+begins_by journey lines line next has found = by journey.stage refl found
+  where
+    first : (b : Bool) → is_first_line line ≡ b → cond b (Some after_basic) None ≡ Some next → BeginsSchedule (line ∷ [])
+    first true h told = (begins_iff_stage line []).1 (after_basic, λ i. cond (h i) (Some after_basic) None)
+    first false h told = cc
+
+    by : (stage : Option Stage) → journey.stage ≡ stage → next_by stage lines line ≡ Some next → BeginsSchedule (lines ++ line ∷ [])
+    by None h told = subst (λ l. BeginsSchedule (l ++ line ∷ [])) (sym (has.fresh h)) (first (is_first_line line) refl told)
+    by (Some stage) h told = begins_next_stage lines stage line next (sym has.stage_is ∙ h) told
+
+fault_by : (journey : JourneyState) (lines : Lines) (line : List ℕ) → HasLines journey lines → IsRecord line → next_by journey.stage lines line ≡ None
+    → IsScheduleFault lines line (cause_by journey.stage line)
+fault_by journey lines line has is nowhere = by journey.stage refl nowhere
+  where
+    first : (b : Bool) → is_first_line line ≡ b → cond b (Some after_basic) None ≡ None → IsScheduleFault [] line (first_line_cause line)
+    first true h told = cc
+    first false h told = first_line_fault line is h
+
+    by : (stage : Option Stage) → journey.stage ≡ stage → next_by stage lines line ≡ None → IsScheduleFault lines line (cause_by journey.stage line)
+    by None h told =
+        subst (λ s. IsScheduleFault lines line (cause_by s line)) (sym h)
+        (subst (λ l. IsScheduleFault l line (first_line_cause line)) (sym (has.fresh h)) (first (is_first_line line) refl told))
+    by (Some stage) h told = subst (λ s. IsScheduleFault lines line (cause_by s line)) (sym h) (schedule_fault lines stage line (sym has.stage_is ∙ h) is told)
+
+-- a line that leads to no stage is refused for its cause
+pub refused_by : (journey : JourneyState) (lines : Lines) (line : List ℕ) (cause : fault.FileCause) → HasLines journey lines → IsRecord line
+    → next_by journey.stage lines line ≡ None → cause_by journey.stage line ≡ cause → IsScheduleFault lines line cause
+refused_by journey lines line cause has is nowhere same = subst (IsScheduleFault lines line) same (fault_by journey lines line has is nowhere)
+
+-- an answer that is `Ok` if and only if there is a next stage, and otherwise gives the cause
+pub judged_ok : {A : Type 0} (answer : Result A FileCause) (journey : JourneyState) (lines : Lines) (line : List ℕ) → HasLines journey lines → IsRecord line
+    → IsOk answer ↔ (is_some (next_by journey.stage lines line) ≡ true) → IsOk answer ↔ BeginsSchedule (lines ++ line ∷ [])
+judged_ok answer journey lines line has is iff = (
+  λ ok. by (next_by journey.stage lines line) refl (iff.0 ok),
+  λ begins. from (next_by journey.stage lines line) refl begins,
+)
+  where
+    by : (next : Option Stage) → next_by journey.stage lines line ≡ next → is_some (next_by journey.stage lines line) ≡ true
+        → BeginsSchedule (lines ++ line ∷ [])
+    by None h some = let bad : false ≡ true = (λ i. is_some (sym h i)) ∙ some in cc
+    by (Some next) h some = begins_by journey lines line next has h
+
+    from : (next : Option Stage) → next_by journey.stage lines line ≡ next → BeginsSchedule (lines ++ line ∷ []) → IsOk answer
+    from None h begins = absurd ((fault_by journey lines line has is h).here begins)
+    from (Some next) h begins = iff.1 (λ i. is_some (h i))
+
+-- a refused line is refused for the cause at its place
+pub judged_err : {A : Type 0} (answer : Result A FileCause) (journey : JourneyState) (lines : Lines) (line : List ℕ) (told : fault.FileCause)
+    → HasLines journey lines → IsRecord line
+    → IsOk answer ↔ (is_some (next_by journey.stage lines line) ≡ true) → told ≡ cause_by journey.stage line
+    → IfErr answer (λ cause. cause_meant cause ≡ Some told)
+    → IfErr answer (λ cause. IsScheduleCause lines line (cause_meant cause))
+judged_err (Ok value) journey lines line told has is iff same err = err
+judged_err (Err cause) journey lines line told has is iff same err =
+    subst (IsScheduleCause lines line) (sym err) (subst (IsScheduleFault lines line) (sym same) (by (next_by journey.stage lines line) refl))
+  where
+    by : (next : Option Stage) → next_by journey.stage lines line ≡ next → IsScheduleFault lines line (cause_by journey.stage line)
+    by None h = fault_by journey lines line has is h
+    by (Some next) h = let bad = iff.1 (λ i. is_some (h i)) in absurd cc
+
+-- the tests of a first line, and of a later line at its place
+pub first_test : (journey : JourneyState) (lines : Lines) (line : List ℕ) → journey.stage ≡ None
+    → is_some (next_by journey.stage lines line) ≡ is_first_line line
+first_test journey lines line at = (λ i. is_some (next_by (at i) lines line)) ∙ by (is_first_line line)
+  where
+    by : (b : Bool) → is_some (cond b (Some after_basic) None) ≡ b
+    by true = refl
+    by false = refl
+
+-- a stage that leads on by this kind
+pub record LeadsOn (stage : Option Stage) (kind : Option Kind) (next : Stage) : Type 0 where
+  pub here : Stage
+  pub at : stage ≡ Some here
+  pub after : stage_after here kind ≡ Some next
+
+-- a stage after a line of a kind comes from an earlier stage
+pub leads_on : (stage : Option Stage) (kind : Option Kind) (next : Stage) → stage_then stage kind ≡ Some next → LeadsOn stage kind next
+leads_on None kind next led = absurd cc
+leads_on (Some here) kind next led = record { here = here; at = refl; after = led }
+
+-- the test of a later line at its place
+pub next_test : (journey : JourneyState) (lines : Lines) (line : List ℕ) (next : Stage) → IsRecord line → stage_then journey.stage (kind_of line) ≡ Some next
+    → is_some (next_by journey.stage lines line) ≡ is_sound_next lines line
+next_test journey lines line next is led =
+    let on = leads_on journey.stage (kind_of line) next led in
+    (λ i. is_some (next_by (on.at i) lines line))
+    ∙ (λ i. is_some (cond ((record_iff_test line).0 is i && is_sound_next lines line) (on.after i) None))
+    ∙ by (is_sound_next lines line)
+  where
+    by : (b : Bool) → is_some (cond b (Some next) None) ≡ b
+    by true = refl
+    by false = refl
+
+-- why a line at its place is refused: its leftmost bad field, or the third midnight
+pub next_cause : (journey : JourneyState) (line : List ℕ) (next : Stage) → stage_then journey.stage (kind_of line) ≡ Some next
+    → field_cause line ≡ cause_by journey.stage line
+next_cause journey line next led =
+    let on = leads_on journey.stage (kind_of line) next led in
+    sym ((λ i. cause_by (on.at i) line) ∙ known on.here (kind_of line) refl on.after)
+  where
+    known : (here : Stage) (kind : Option Kind) → kind_of line ≡ kind → stage_after here (kind_of line) ≡ Some next
+        → schedule_cause here line ≡ field_cause line
+    known here None h after = let bad : None ≡ Some next = sym (no_stage_of_none here) ∙ ap (stage_after here) (sym h) ∙ after in cc
+    known here (Some kind) h after =
+        (λ i. cond (is_none (h i)) bad_kind (cond (is_none (stage_after here (kind_of line))) bad_place (field_cause line)))
+        ∙ (λ i. cond (is_none (after i)) bad_place (field_cause line))
+
+-- what holds if and only if a test passes holds if and only if an equal test passes
+pub iff_along : (P : Type 0) (a b : Bool) → a ≡ b → P ↔ (b ≡ true) → P ↔ (a ≡ true)
+iff_along P a b same iff = (λ p. same ∙ iff.0 p, λ test. iff.1 (sym same ∙ test))
+
+-- a record of no kind, and one that can't come after the lines so far
+pub unknown_kind : (journey : JourneyState) (lines : Lines) (line : List ℕ) → HasLines journey lines → IsRecord line → kind_of line ≡ None
+    → IsScheduleFault lines line fault.bad_kind
+unknown_kind journey lines line has is none = refused_by journey lines line fault.bad_kind has is (nowhere journey.stage) (cause journey.stage)
+  where
+    nowhere : (stage : Option Stage) → next_by stage lines line ≡ None
+    nowhere None = (λ i. cond (is_record line && is_basic_kind (none i) && has_good_fields line) (Some after_basic) None) ∙ by (is_record line)
+      where
+        by : (b : Bool) → cond (b && false && has_good_fields line) (Some after_basic) None ≡ None
+        by true = refl
+        by false = refl
+    nowhere (Some stage) =
+        (λ i. cond (is_record line && is_sound_next lines line) (stage_after stage (none i)) None) ∙ by (is_record line && is_sound_next lines line)
+        ∙ no_stage_of_none stage
+      where
+        by : (b : Bool) → cond b (stage_after stage None) None ≡ stage_after stage None
+        by true = refl
+        by false = sym (no_stage_of_none stage)
+
+    cause : (stage : Option Stage) → cause_by stage line ≡ fault.bad_kind
+    cause None = λ i. cond (is_none (none i)) bad_kind (cond (is_basic_kind (kind_of line)) (field_cause line) bad_place)
+    cause (Some stage) = λ i. cond (is_none (none i)) bad_kind (cond (is_none (stage_after stage (kind_of line))) bad_place (field_cause line))
+
+-- a line of a kind that can't come there
+pub out_of_place : (journey : JourneyState) (lines : Lines) (line : List ℕ) (stage : Stage) (kind : Kind) → HasLines journey lines → IsRecord line
+    → journey.stage ≡ Some stage → kind_of line ≡ Some kind
+    → stage_after stage (Some kind) ≡ None → IsScheduleFault lines line fault.bad_place
+out_of_place journey lines line stage kind has is at known none =
+    refused_by journey lines line fault.bad_place has is
+    ((λ i. next_by (at i) lines line) ∙ (λ i. cond (is_record line && is_sound_next lines line) (nowhere i) None) ∙ by
+    (is_record line && is_sound_next lines line))
+    ((λ i. cause_by (at i) line) ∙ (λ i. cond (is_none (known i)) bad_kind (cond (is_none (stage_after stage (known i))) bad_place (field_cause line))) ∙
+    (λ i. cond (is_none (none i)) bad_place (field_cause line)))
+  where
+    nowhere : stage_after stage (kind_of line) ≡ None
+    nowhere = ap (stage_after stage) known ∙ none
+
+    by : (b : Bool) → cond b no_stage no_stage ≡ no_stage
+    by true = refl
+    by false = refl
+
+-- ---- the times of one more line
+
+-- the falls of times, one after the other
+pub falls_in_turn : (last first : Option ℕ) (rest : List ℕ) → falls_after last (time_list first ++ rest) ≡ falls_after last (time_list first) + falls_after
+    (later_or first last) rest
+falls_in_turn None None rest = omega arith
+falls_in_turn (Some last) None rest = omega arith
+falls_in_turn None (Some time) rest = omega arith
+falls_in_turn (Some last) (Some time) rest = omega arith
+
+-- the last of the times, one after the other
+pub last_in_turn : (last first second third : Option ℕ) → later_or third (later_or second (later_or first last)) ≡ later_or
+    (last_of (time_list first ++ time_list second ++ time_list third)) last
+last_in_turn last None None None = refl
+last_in_turn last (Some a) None None = refl
+last_in_turn last None (Some b) None = refl
+last_in_turn last (Some a) (Some b) None = refl
+last_in_turn last None None (Some c) = refl
+last_in_turn last (Some a) None (Some c) = refl
+last_in_turn last None (Some b) (Some c) = refl
+last_in_turn last (Some a) (Some b) (Some c) = refl
+
+one_line : (line : List ℕ) → times_along (line ∷ []) ≡ map (λ (time : Occasion × ℕ). time.1) (times_of line)
+one_line line = ap (map (λ (time : Occasion × ℕ). time.1)) (append-nil (times_of line))
+
+-- ---- what the reader keeps of one more line
+
+-- the first line stays, because some lines came before
+first_stays : (lines : Lines) (stage : Stage) (line : List ℕ) → stage_of lines ≡ Some stage → first_record (lines ++ line ∷ []) ≡ first_record lines
+first_stays [] stage line at = cc
+first_stays (basic ∷ rest) stage line at = refl
+
+next_is : (lines : Lines) (line : List ℕ) (stage next : Stage) → stage_of lines ≡ Some stage → IsRecord line → is_sound_next lines line ≡ true
+    → stage_after stage (kind_of line) ≡ Some next
+    → stage_of (lines ++ line ∷ []) ≡ Some next
+next_is lines line stage next at is sound after =
+    stage_of_more lines stage line at
+    ∙ (λ i. cond ((record_iff_test line).0 is i && is_sound_next lines line) (stage_after stage (kind_of line)) None)
+    ∙ (λ i. cond (sound i) (stage_after stage (kind_of line)) None)
+    ∙ after
+
+-- for a deletion only the stage goes on
+pub deletion_goes_on : (journey : JourneyState) (lines : Lines) (line : List ℕ) (stage next : Stage) → HasLines journey lines → IsRecord line
+    → journey.stage ≡ Some stage → journey.deletion ≡ true
+    → stage_after stage (kind_of line) ≡ Some next → HasLines (record journey { stage = Some next }) (lines ++ line ∷ [])
+deletion_goes_on journey lines line stage next has is at deletion after =
+    let stage_is : stage_of lines ≡ Some stage = sym has.stage_is ∙ at in
+    let first = first_stays lines stage line stage_is in
+    record {
+      stage_is = sym (next_is lines line stage next stage_is is (deletion_sound (sym has.deletion_is ∙ deletion)) after);
+      fresh = λ none. absurd cc;
+      deletion_is = has.deletion_is ∙ ap is_deletion (sym first);
+      lacking_is = has.lacking_is ∙ ap may_lack (sym first);
+      falls_are = λ kept. let bad : true ≡ false = sym deletion ∙ kept in cc;
+      last_is = λ kept. let bad : true ≡ false = sym deletion ∙ kept in cc;
+    }
+  where
+    deletion_sound : is_deletion (first_record lines) ≡ true → is_sound_next lines line ≡ true
+    deletion_sound told = λ i. told i || (has_good_fields line && nat_le (midnights (lines ++ line ∷ [])) 2)
+
+-- the line is sound if its fields are good and the midnights with it are few
+sound_by_falls : (journey : JourneyState) (lines : Lines) (line : List ℕ) (more : ℕ) → HasLines journey lines → journey.deletion ≡ false
+    → more ≡ journey.falls + falls_after journey.last (times_along (line ∷ [])) → is_sound_next lines line ≡ (has_good_fields line && nat_le more 2)
+sound_by_falls journey lines line more has kept falls =
+    sound_next_by_count lines line
+    ∙ (λ i. (sym has.deletion_is ∙ kept) i || (has_good_fields line && nat_le
+    (sym (has.falls_are kept) i + falls_after (sym (has.last_is kept) i) (times_along (line ∷ []))) 2))
+    ∙ (λ i. has_good_fields line && nat_le (sym falls i) 2)
+
+-- a schedule that is no deletion goes on with a sound line
+pub sound_goes_on : (journey : JourneyState) (lines : Lines) (line : List ℕ) (stage next : Stage) (more : ℕ) (later : Option ℕ) → HasLines journey lines
+    → IsRecord line → journey.stage ≡ Some stage
+    → journey.deletion ≡ false → stage_after stage (kind_of line) ≡ Some next → HasGoodFields line
+    → more ≡ journey.falls + falls_after journey.last (times_along (line ∷ [])) → more ≤ 2 → later ≡ later_or (last_of (times_along (line ∷ []))) journey.last
+    → HasLines (record journey { stage = Some next; falls = more; last = later }) (lines ++ line ∷ [])
+sound_goes_on journey lines line stage next more later has is at kept after fields falls few last =
+    let stage_is : stage_of lines ≡ Some stage = sym has.stage_is ∙ at in
+    let first = first_stays lines stage line stage_is in
+    let sound = sound_by_falls journey lines line more has kept falls
+    ∙ and_true (has_good_fields line) (nat_le more 2) (test_by_none (leftmost_bad_field line) fields) (le-leb more 2 few) in
+    record {
+      stage_is = sym (next_is lines line stage next stage_is is sound after);
+      fresh = λ none. absurd cc;
+      deletion_is = has.deletion_is ∙ ap is_deletion (sym first);
+      lacking_is = has.lacking_is ∙ ap may_lack (sym first);
+      falls_are = λ _. falls ∙ (λ i. has.falls_are kept i + falls_after (has.last_is kept i) (times_along (line ∷ []))) ∙ sym (midnights_step lines line);
+      last_is = λ _. last ∙ (λ i. later_or (last_of (times_along (line ∷ []))) (has.last_is kept i)) ∙ sym (last_time_step lines line);
+    }
+
+-- the falls of three times, one after the other
+pub falls_of_three : (falls : ℕ) (last first second third : Option ℕ)
+    → ((falls + falls_after last (time_list first)) + falls_after (later_or first last) (time_list second)) + falls_after
+    (later_or second (later_or first last)) (time_list third)
+    ≡ falls + falls_after last (time_list first ++ time_list second ++ time_list third)
+falls_of_three falls last first second third =
+    let one = ap (falls_after last) (append_assoc (time_list first) (time_list second) (time_list third))
+    ∙ falls_in_turn last first (time_list second ++ time_list third) in
+    let two = falls_in_turn (later_or first last) second (time_list third) in
+    omega arith
+
+-- ---- the times of a line of a kind
+
+-- the one time of an origin
+pub origin_time : (line : List ℕ) → HasKind origin_location line → HasGoodFields line
+    → map (λ (time : Occasion × ℕ). time.1) (times_of line) ≡ half_minutes (columns 11 15 line) ∷ []
+origin_time line is good =
+    (λ i. map (λ (time : Occasion × ℕ). time.1) (times_by_kind (is i) line))
+    ∙ ap (λ time. map (λ (t : Occasion × ℕ). t.1) (timed departure time)) (time_there (columns 11 15 line) (good_fields origin_location line is good).1.0)
+
+-- the one time of a terminus
+pub terminus_time : (line : List ℕ) → HasKind terminating_location line → HasGoodFields line
+    → map (λ (time : Occasion × ℕ). time.1) (times_of line) ≡ half_minutes (columns 11 15 line) ∷ []
+terminus_time line is good =
+    (λ i. map (λ (time : Occasion × ℕ). time.1) (times_by_kind (is i) line))
+    ∙ ap (λ time. map (λ (t : Occasion × ℕ). t.1) (timed arrival time)) (time_there (columns 11 15 line) (good_fields terminating_location line is good).1.0)
+
+-- the times of a call
+pub call_times : (line : List ℕ) (first second third : Option ℕ) → HasKind intermediate_location line
+    → first ≡ scheduled_time (columns 11 15 line) → second ≡ scheduled_time (columns 21 25 line) → third ≡ scheduled_time (columns 16 20 line)
+    → map (λ (time : Occasion × ℕ). time.1) (times_of line) ≡ time_list first ++ time_list second ++ time_list third
+call_times line first second third is one two three =
+    (λ i. map (λ (time : Occasion × ℕ). time.1) (times_by_kind (is i) line))
+    ∙ (λ i. map (λ (time : Occasion × ℕ). time.1) (timed arrival (sym one i) ++ timed pass (sym two i) ++ timed departure (sym three i)))
+    ∙ by first second third
+  where
+    by : (a b c : Option ℕ)
+        → map (λ (time : Occasion × ℕ). time.1) (timed arrival a ++ timed pass b ++ timed departure c) ≡ time_list a ++ time_list b ++ time_list c
+    by None None None = refl
+    by (Some a) None None = refl
+    by None (Some b) None = refl
+    by (Some a) (Some b) None = refl
+    by None None (Some c) = refl
+    by (Some a) None (Some c) = refl
+    by None (Some b) (Some c) = refl
+    by (Some a) (Some b) (Some c) = refl
+
+-- ---- the first line
+
+-- a basic schedule with good fields is a first line
+pub first_line_is : (line : List ℕ) → IsRecord line → HasKind basic_schedule line → HasGoodFields line → is_first_line line ≡ true
+first_line_is line is kind fields = (first_line_iff_test line).0 (record { is = is; kind = kind; fields = fields })
+
+-- what the reader keeps of a basic schedule
+pub basic_read : (line : List ℕ) (journey : JourneyState) → is_first_line line ≡ true → journey.stage ≡ Some after_basic
+    → journey.deletion ≡ is_deletion line → journey.lacking ≡ may_lack line
+    → journey.falls ≡ 0 → journey.last ≡ None → HasLines journey (line ∷ [])
+basic_read line journey first at deletion lacking falls last =
+    let none = no_times basic_schedule line ((first_line_iff_test line).1 first).kind refl in
+    let times = no_times_before line [] none in
+    record {
+      stage_is = at ∙ (λ i. cond (sym first i) (Some after_basic) None);
+      fresh = λ no_stage. let bad : Some after_basic ≡ None = sym at ∙ no_stage in cc;
+      deletion_is = deletion;
+      lacking_is = lacking;
+      falls_are = λ _. falls ∙ ap fall_count (sym times);
+      last_is = λ _. last ∙ ap last_of (sym times);
+    }
+
+-- ---- one more line at its place
+
+-- what is kept after a line of a deletion
+pub deletion_read : (journey : JourneyState) (lines : Lines) (line : List ℕ) (next : Stage) → HasLines journey lines → IsRecord line
+    → stage_then journey.stage (kind_of line) ≡ Some next
+    → journey.deletion ≡ true → HasLines (record journey { stage = Some next }) (lines ++ line ∷ [])
+deletion_read journey lines line next has is led deletion =
+    let on = leads_on journey.stage (kind_of line) next led in deletion_goes_on journey lines line on.here next has is on.at deletion on.after
+
+-- the times that the line gives, and what is kept after them
+pub record IsTimed (journey : JourneyState) (line : List ℕ) (first second third : Option ℕ) (more : ℕ) (later : Option ℕ) : Type 0 where
+  pub times : map (λ (time : Occasion × ℕ). time.1) (times_of line) ≡ time_list first ++ time_list second ++ time_list third
+  pub falls : more ≡ journey.falls + falls_after journey.last (time_list first ++ time_list second ++ time_list third)
+  pub last : later ≡ later_or third (later_or second (later_or first journey.last))
+
+timed_falls : (journey : JourneyState) (line : List ℕ) (first second third : Option ℕ) (more : ℕ) (later : Option ℕ)
+    → IsTimed journey line first second third more later
+    → more ≡ journey.falls + falls_after journey.last (times_along (line ∷ []))
+timed_falls journey line first second third more later told = told.falls ∙ (λ i. journey.falls + falls_after journey.last (sym (one_line line ∙ told.times) i))
+
+-- a line is sound if and only if there are still at most two midnights
+pub sound_test : (journey : JourneyState) (lines : Lines) (line : List ℕ) (first second third : Option ℕ) (more : ℕ) (later : Option ℕ)
+    → HasLines journey lines → journey.deletion ≡ false
+    → HasGoodFields line → IsTimed journey line first second third more later → is_sound_next lines line ≡ nat_le more 2
+sound_test journey lines line first second third more later has kept fields told =
+    sound_by_falls journey lines line more has kept (timed_falls journey line first second third more later told)
+    ∙ (λ i. test_by_none (leftmost_bad_field line) fields i && nat_le more 2)
+
+-- a line with few midnights is sound
+pub sound_by_few : (journey : JourneyState) (lines : Lines) (line : List ℕ) (first second third : Option ℕ) (more : ℕ) (later : Option ℕ)
+    → HasLines journey lines → journey.deletion ≡ false
+    → HasGoodFields line → IsTimed journey line first second third more later → more ≤ 2 → is_sound_next lines line ≡ true
+sound_by_few journey lines line first second third more later has kept fields told few =
+    sound_test journey lines line first second third more later has kept fields told ∙ le-leb more 2 few
+
+-- a line with a third midnight is not sound
+pub unsound_by_many : (journey : JourneyState) (lines : Lines) (line : List ℕ) (first second third : Option ℕ) (more : ℕ) (later : Option ℕ)
+    → HasLines journey lines → journey.deletion ≡ false
+    → HasGoodFields line → IsTimed journey line first second third more later → 2 < more → ¬ (is_sound_next lines line ≡ true)
+unsound_by_many journey lines line first second third more later has kept fields told many sound =
+    let few = leb-true more 2 (sym (sound_test journey lines line first second third more later has kept fields told) ∙ sound) in omega arith
+
+-- what is kept after a sound line
+pub sound_read : (journey : JourneyState) (lines : Lines) (line : List ℕ) (next : Stage) (first second third : Option ℕ) (more : ℕ) (later : Option ℕ)
+    → HasLines journey lines → IsRecord line
+    → stage_then journey.stage (kind_of line) ≡ Some next → journey.deletion ≡ false → HasGoodFields line
+    → IsTimed journey line first second third more later → more ≤ 2
+    → HasLines (record journey { stage = Some next; falls = more; last = later }) (lines ++ line ∷ [])
+sound_read journey lines line next first second third more later has is led kept fields told few =
+    let on = leads_on journey.stage (kind_of line) next led in
+    sound_goes_on journey lines line on.here next more later has is on.at kept on.after fields (timed_falls journey line first second third more later told) few
+    (told.last ∙ last_in_turn journey.last first second third ∙ (λ i. later_or (last_of (sym (one_line line ∙ told.times) i)) journey.last))
+
+-- ---- answers on a line
+
+-- what holds for a value holds if there is one
+pub of_ok : {A E P : Type 0} (answer : Result A E) → OnOk answer P → IsOk answer → P
+of_ok (Ok value) holds is = holds
+of_ok (Err cause) holds is = absurd (false≢true is)
+
+-- a cause is the line's if it is the cause after all lines that the reader may have
+pub faults_line : {A : Type 0} (answer : Result A FileCause) (journey : JourneyState) (line : List ℕ)
+    → ((lines : Lines) → HasLines journey lines → IfErr answer (λ cause. IsScheduleCause lines line (cause_meant cause)))
+    → IfErr answer (FaultsLine journey line)
+faults_line (Ok value) journey line all = tt
+faults_line (Err cause) journey line all = all

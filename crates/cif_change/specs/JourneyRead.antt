@@ -1,0 +1,108 @@
+-- What the reader of a schedule's lines has read.
+use Rattle.std.specs.Prelude.{◌≡◌, ◌↔◌, ℕ, Bool, option_map, true, false, List, [], Option, None, Some, ◌∷◌, ◌++◌, map}
+use Rattle.docker_model.specs.file.File.{first_record, BeginsSchedule, IsSchedule}
+use Rattle.docker_model.specs.records.Field.{is_deletion}
+use Rattle.docker_model.specs.file.Journey.{times_of, times_along, midnights}
+use Rattle.docker_model.specs.records.Record.{Kind}
+use Rattle.docker_model.specs.file.FileFault as fault
+use Rattle.docker_model.specs.file.ScheduleFault.{IsScheduleFault}
+use Rattle.cif_laws.specs.TimesSoFar.{last_of}
+use Rattle.cif_laws.specs.ScheduleStage.{after_basic, after_details, in_journey, after_journey, stage_of, stage_after, may_lack}
+use Rattle.cif_laws.specs.ScheduleStage as place
+use Rattle.cif_change.specs.declared.cause.FileCause.{FileCause}
+use Rattle.cif_change.specs.declared.journey_times.LineTimes.{LineTimes}
+use Rattle.cif_change.specs.declared.progress.Progress.{Progress}
+use Rattle.cif_change.specs.declared.stage.ScheduleStage.{ScheduleStage}
+use Rattle.cif_change.specs.declared.stage.ScheduleStage.TheVariants.{AfterBasic, AfterDetails, InJourney, AfterJourney}
+use Rattle.cif_change.specs.Cause.{cause_meant}
+
+-- a stage of the code
+abbrev pub stage_meant : ScheduleStage → place.Stage
+stage_meant AfterBasic = after_basic
+stage_meant AfterDetails = after_details
+stage_meant InJourney = in_journey
+stage_meant AfterJourney = after_journey
+
+-- what the reader keeps of the lines: how far the schedule has come, whether it is a deletion,
+-- whether it may lack its journey, how often it has passed midnight, and its last time
+pub record JourneyState : Type 0 where
+  pub stage : Option place.Stage
+  pub deletion : Bool
+  pub lacking : Bool
+  pub falls : ℕ
+  pub last : Option ℕ
+
+-- the reader has taken these lines, with which some schedule begins. For a deletion no times are
+-- kept
+pub record HasLines (journey : JourneyState) (lines : List (List ℕ)) : Type 0 where
+  pub stage_is : journey.stage ≡ stage_of lines
+  pub fresh : journey.stage ≡ None → lines ≡ []
+  pub deletion_is : journey.deletion ≡ is_deletion (first_record lines)
+  pub lacking_is : journey.lacking ≡ may_lack (first_record lines)
+  pub falls_are : journey.deletion ≡ false → journey.falls ≡ midnights lines
+  pub last_is : journey.deletion ≡ false → journey.last ≡ last_of (times_along lines)
+
+-- the cause is why no schedule goes on with this line after the earlier lines
+abbrev pub IsScheduleCause : List (List ℕ) → List ℕ → Option fault.FileCause → Type 0
+IsScheduleCause earlier line None = ⊥
+IsScheduleCause earlier line (Some cause) = IsScheduleFault earlier line cause
+
+-- a time, if there is one, as a list
+abbrev pub time_list : Option ℕ → List ℕ
+time_list None = []
+time_list (Some time) = time ∷ []
+
+-- the times of a line of the code, each if given
+abbrev pub times_list : LineTimes → List ℕ
+times_list times = time_list times.first ++ time_list times.second ++ time_list times.third
+
+-- they are the times of this line
+abbrev pub AreTimesOf : List ℕ → LineTimes → Type 0
+AreTimesOf line times = map (λ time. time.1) (times_of line) ≡ times_list times
+
+-- the stage after one more line of a kind; before the first line there is no stage
+abbrev pub stage_then : Option place.Stage → Option Kind → Option place.Stage
+stage_then None kind = None
+stage_then (Some stage) kind = stage_after stage kind
+
+-- a schedule may end at a stage; `lacking` says whether it may lack its journey. Before its first
+-- line it may not end
+abbrev pub may_end_by : Option place.Stage → Bool → Bool
+may_end_by (Some after_journey) lacking = true
+may_end_by (Some in_journey) lacking = false
+may_end_by (Some _) lacking = lacking
+may_end_by None lacking = false
+
+-- what the reader's progress keeps
+abbrev pub progress_meant : Progress → JourneyState
+progress_meant progress = record {
+  stage = option_map stage_meant progress.stage;
+  deletion = progress.deletion;
+  lacking = progress.lacking;
+  falls = progress.clock.falls;
+  last = progress.clock.last;
+}
+
+-- the journey is complete
+abbrev pub is_over_by : Option place.Stage → Bool
+is_over_by (Some after_journey) = true
+is_over_by _ = false
+
+-- ---- what the reader does with a line
+
+-- the new progress has the lines of the old and this line
+abbrev pub Advances : Progress → List ℕ → Progress → Type 0
+Advances old line new =
+    (lines : List (List ℕ)) → HasLines (progress_meant old) lines → HasLines (progress_meant new) (lines ++ line ∷ [])
+
+-- this holds if and only if some schedule begins with the reader's lines and this one
+abbrev pub JudgesLine : JourneyState → List ℕ → Type 0 → Type 0
+JudgesLine journey line holds = (lines : List (List ℕ)) → HasLines journey lines → holds ↔ BeginsSchedule (lines ++ line ∷ [])
+
+-- the reader's cause is why no schedule goes on with this line after the reader's lines
+abbrev pub FaultsLine : JourneyState → List ℕ → FileCause → Type 0
+FaultsLine journey line cause = (lines : List (List ℕ)) → HasLines journey lines → IsScheduleCause lines line (cause_meant cause)
+
+-- this holds if and only if the reader's lines are a schedule
+abbrev pub JudgesWhole : JourneyState → Type 0 → Type 0
+JudgesWhole journey holds = (lines : List (List ℕ)) → HasLines journey lines → holds ↔ IsSchedule lines

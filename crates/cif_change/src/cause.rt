@@ -1,0 +1,95 @@
+//! Why a record is refused.
+ghost use Rattle.std.specs.Prelude.{◌≡◌, ◌≤◌, Some, length};
+ghost use Rattle.cif_change.specs.declared.cause.FileCause.TheVariants.{Field, Memory};
+ghost use Rattle.cif_change.specs.Cause.{cause_column, cause_name, cause_text};
+
+use cif_line::FieldFault;
+use std::alloc::AllocError;
+use std::error::Error;
+use std::fmt;
+
+/// The cause of a fault.
+#[derive(Clone, Copy, PartialEq, Eq, Debug)]
+pub enum FileCause {
+    /// The line does not have 80 bytes.
+    Length,
+    /// A byte of the line is not printable. Holds the leftmost such column, from 1.
+    Byte(u8),
+    /// The line does not begin with the identity of a kind of record.
+    Kind,
+    /// No file that begins with the earlier records has a record of this kind next.
+    Place,
+    /// A checked field of the record is not good. Holds the first column of the leftmost such
+    /// field, from 1.
+    Field(u8),
+    /// The record's schedule passes midnight a third time there.
+    Midnights,
+    /// The text ends before a trailer.
+    NoEnd,
+    /// The record comes after the trailer.
+    After,
+    /// There are more records than the limit allows.
+    TooMany,
+    /// The allocator refused to grow: out of memory.
+    Memory,
+}
+
+impl FileCause {
+    /// The name of the cause, as it stands in the text of a fault.
+    pub fn name(&self) -> &'static str
+        ensures name { result.now ≡ cause_name self.now }
+        ensures len { length result.now ≤ 9 }
+    {
+        match self {
+            FileCause::Length => "Length",
+            FileCause::Byte(_) => "Byte",
+            FileCause::Kind => "Kind",
+            FileCause::Place => "Place",
+            FileCause::Field(_) => "Field",
+            FileCause::Midnights => "Midnights",
+            FileCause::NoEnd => "NoEnd",
+            FileCause::After => "After",
+            FileCause::TooMany => "TooMany",
+            FileCause::Memory => "Memory",
+        }
+    }
+
+    /// The column that the cause holds, from 1. None if it holds no column.
+    pub fn column(&self) -> Option<u8>
+        ensures { result ≡ cause_column self.now }
+    {
+        match self {
+            FileCause::Byte(column) | FileCause::Field(column) => Some(*column),
+            _ => None,
+        }
+    }
+}
+
+impl fmt::Display for FileCause {
+    ghost output = { λ cause. Some (cause_text cause) };
+
+    fn fmt<W: fmt::Write>(&self, f: &mut fmt::Formatter<W>) -> fmt::Result {
+        match self.column() {
+            Some(column) => write!(f, "{} {column}", self.name()),
+            None => f.write_str(self.name()),
+        }
+    }
+}
+
+impl Error for FileCause {}
+
+impl From<FieldFault> for FileCause {
+    ghost from_gives = { λ fault cause. cause ≡ Field fault.0 };
+
+    fn from(fault: FieldFault) -> Self {
+        Self::Field(fault.0)
+    }
+}
+
+impl From<AllocError> for FileCause {
+    ghost from_gives = { λ _ cause. cause ≡ Memory };
+
+    fn from(_refused: AllocError) -> Self {
+        Self::Memory
+    }
+}

@@ -1,0 +1,132 @@
+//! The times of a journey's lines, and how often it passes midnight.
+ghost use Rattle.std.specs.Prelude.{◌≡◌, ◌+◌, ◌≤◌, ◌<◌, ◌↔◌, IsOk, IfOk, IfErr, Some, None, true};
+ghost use Rattle.docker_model.specs.records.Record.{HasKind, origin_location, intermediate_location, terminating_location};
+ghost use Rattle.docker_model.specs.records.Field.{HasGoodFields, leftmost_bad_field};
+ghost use Rattle.docker_model.specs.file.File.{follows_basic};
+ghost use Rattle.cif_laws.specs.TimesSoFar.{falls_after, later_or};
+ghost use Rattle.cif_line.specs.Kind.{meaning};
+ghost use Rattle.cif_change.specs.JourneyRead.{time_list, times_list, AreTimesOf};
+
+use cif_line::{FieldFault, Kind, Line, Time, call, origin, terminus};
+
+/// How often a journey has passed midnight, and its last time so far.
+#[derive(Clone, Copy, PartialEq, Eq, Debug)]
+pub(crate) struct Clock {
+    pub falls: u8,
+    pub last: Option<Time>,
+}
+
+/// The times of a line in their order. A line has at most three.
+#[derive(Clone, Copy, PartialEq, Eq, Debug)]
+pub(crate) struct LineTimes {
+    first: Option<Time>,
+    second: Option<Time>,
+    third: Option<Time>,
+}
+
+impl Clock {
+    /// The clock before the first time.
+    pub(crate) fn new() -> Clock
+        ensures { result ≡ record { falls = 0; last = None } }
+    {
+        Clock {
+            falls: 0,
+            last: None,
+        }
+    }
+
+    /// The clock after one more time, if there is one. A time below the last one is past midnight.
+    fn then(self, time: Option<Time>) -> Clock
+        requires { self.falls < 255 }
+        ensures falls { result.falls ≡ self.falls + falls_after self.last (time_list time) }
+        ensures last { result.last ≡ later_or time self.last }
+        ensures few { result.falls ≤ self.falls + 1 }
+    {
+        let Some(next) = time else {
+            return self;
+        };
+        let falls = match self.last {
+            Some(last) if next < last => self.falls + 1,
+            _ => self.falls,
+        };
+        Clock {
+            falls,
+            last: Some(next),
+        }
+    }
+
+    /// The clock after the times of one more line.
+    pub(crate) fn past(self, times: LineTimes) -> Clock
+        requires { self.falls < 250 }
+        ensures falls { result.falls ≡ self.falls + falls_after self.last (times_list times) }
+        ensures last { result.last ≡
+            later_or times.third (later_or times.second (later_or times.first self.last)) }
+    {
+        self.then(times.first).then(times.second).then(times.third)
+    }
+}
+
+/// The times of a line after a basic schedule, or its leftmost bad field.
+pub(crate) fn times_at(kind: Kind, line: &Line) -> Result<LineTimes, FieldFault>
+    requires kind { HasKind (meaning kind) line.now }
+    requires follows { follows_basic (Some (meaning kind)) ≡ true }
+    ensures ok { IsOk result ↔ HasGoodFields line.now }
+    ensures value { IfOk result (AreTimesOf line.now) }
+    ensures err { IfErr result (λ fault. leftmost_bad_field line.now ≡ Some fault.0) }
+{
+    match kind {
+        Kind::OriginLocation => origin_times(line),
+        Kind::IntermediateLocation => call_times(line),
+        Kind::TerminatingLocation => terminus_times(line),
+        _ => Ok(LineTimes {
+            first: None,
+            second: None,
+            third: None,
+        }),
+    }
+}
+
+/// The departure of an origin.
+fn origin_times(line: &Line) -> Result<LineTimes, FieldFault>
+    requires kind { HasKind origin_location line.now }
+    ensures ok { IsOk result ↔ HasGoodFields line.now }
+    ensures value { IfOk result (AreTimesOf line.now) }
+    ensures err { IfErr result (λ fault. leftmost_bad_field line.now ≡ Some fault.0) }
+{
+    let view = origin(line)?;
+    Ok(LineTimes {
+        first: Some(view.departure()),
+        second: None,
+        third: None,
+    })
+}
+
+/// The arrival, the pass and the departure at an intermediate location, each if given.
+fn call_times(line: &Line) -> Result<LineTimes, FieldFault>
+    requires kind { HasKind intermediate_location line.now }
+    ensures ok { IsOk result ↔ HasGoodFields line.now }
+    ensures value { IfOk result (AreTimesOf line.now) }
+    ensures err { IfErr result (λ fault. leftmost_bad_field line.now ≡ Some fault.0) }
+{
+    let view = call(line)?;
+    Ok(LineTimes {
+        first: view.arrival(),
+        second: view.pass(),
+        third: view.departure(),
+    })
+}
+
+/// The arrival at a terminating location.
+fn terminus_times(line: &Line) -> Result<LineTimes, FieldFault>
+    requires kind { HasKind terminating_location line.now }
+    ensures ok { IsOk result ↔ HasGoodFields line.now }
+    ensures value { IfOk result (AreTimesOf line.now) }
+    ensures err { IfErr result (λ fault. leftmost_bad_field line.now ≡ Some fault.0) }
+{
+    let view = terminus(line)?;
+    Ok(LineTimes {
+        first: Some(view.arrival()),
+        second: None,
+        third: None,
+    })
+}

@@ -1,0 +1,74 @@
+//! The places that rows name, with provisional numbers.
+ghost use Rattle.std.specs.Prelude.{◌≡◌, ◌++◌, [], ◌∷◌, IfOk, IsTrue, Some, slice_get};
+ghost use Rattle.std.specs.Int.{from_le_bytes, w64};
+ghost use Rattle.cif_change.specs.Noted.{Keeps};
+
+use crate::memo::Memo;
+use cif_line::Memory;
+use std::alloc::Global;
+
+/// Places in the order in which they came. A place may occur more than once. Its number is one of
+/// its indexes.
+#[derive(Debug, Drop)]
+pub struct PlaceNames {
+    /// The places.
+    pub list: Vec<[u8; 7]>,
+    memo: Memo,
+}
+
+impl PlaceNames {
+    /// No place yet. It takes no memory.
+    pub(crate) fn new(alloc: Global) -> PlaceNames
+        ensures { result.list.items ≡ [] }
+    {
+        PlaceNames {
+            list: Vec::new(alloc),
+            memo: Memo::new(alloc),
+        }
+    }
+
+    /// The number of a place. If the memo doesn't know the place, it gets the next number. `Memory`
+    /// if the allocator refuses to grow.
+    pub(crate) fn number_of(&mut self, place: &[u8; 7]) -> Result<u32, Memory>
+        ensures kept { Keeps self.old.list.items self.new.list.items }
+        ensures number { IfOk result (λ number.
+            slice_get self.new.list.items number ≡ Some place.now) }
+    {
+        if let Some(number) = self.memo.find(self.list.as_slice(), place) {
+            return Ok(number);
+        }
+        self.memo.grow()?;
+        let Ok(next) = u32::try_from(self.list.len()) else {
+            return Err(Memory);
+        };
+        self.list.push(*place)?;
+        self.memo.set(place, next);
+        Ok(next)
+    }
+}
+
+/// Whether a place is at an index of a list.
+pub(crate) fn is_at(places: &[[u8; 7]], index: u32, place: &[u8; 7]) -> bool
+    ensures { IsTrue result → slice_get places.now index ≡ Some place.now }
+{
+    match places.get(index as usize) {
+        Some(one) => is_same(one, place),
+        None => false,
+    }
+}
+
+/// Whether two places are equal.
+fn is_same(one: &[u8; 7], other: &[u8; 7]) -> bool
+    ensures { IsTrue result → one.now ≡ other.now }
+{
+    packed(one) == packed(other)
+}
+
+/// A place as one number, with the first byte lowest. So two places are compared at once, not byte
+/// by byte.
+pub(crate) fn packed(place: &[u8; 7]) -> u64
+    ensures { result ≡ from_le_bytes w64 (place.now ++ 0 ∷ []) }
+{
+    let [a, b, c, d, e, f, g] = *place;
+    u64::from_le_bytes([a, b, c, d, e, f, g, 0])
+}

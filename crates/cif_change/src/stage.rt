@@ -1,0 +1,68 @@
+//! How far a schedule has come.
+ghost use Rattle.std.specs.Prelude.{◌≡◌, option_map, Some, IsSome, true};
+ghost use Rattle.docker_model.specs.file.File.{follows_basic};
+ghost use Rattle.cif_laws.specs.ScheduleStage.{stage_after};
+ghost use Rattle.cif_line.specs.Kind.{meaning};
+ghost use Rattle.cif_change.specs.JourneyRead.{stage_meant, may_end_by, is_over_by};
+
+use cif_line::Kind;
+
+/// How far a schedule has come, according to its lines so far.
+#[derive(Clone, Copy, PartialEq, Eq, Debug)]
+pub(crate) enum ScheduleStage {
+    /// After its basic schedule.
+    AfterBasic,
+    /// After its extra details.
+    AfterDetails,
+    /// After its origin or a later line of its journey.
+    InJourney,
+    /// After its terminating location.
+    AfterJourney,
+}
+
+impl ScheduleStage {
+    /// The stage after one more line of this kind. None if no schedule has such a line next.
+    pub(crate) fn after(self, kind: Kind) -> Option<ScheduleStage>
+        ensures stage { option_map stage_meant result ≡
+            stage_after (stage_meant self) (Some (meaning kind)) }
+        ensures follows { IsSome result → follows_basic (Some (meaning kind)) ≡ true }
+    {
+        match (self, kind) {
+            (ScheduleStage::AfterBasic, Kind::ExtraDetails) => Some(ScheduleStage::AfterDetails),
+            (ScheduleStage::AfterBasic | ScheduleStage::AfterDetails, Kind::OriginLocation) => Some(
+                ScheduleStage::InJourney,
+            ),
+            (ScheduleStage::InJourney, Kind::IntermediateLocation | Kind::ChangeEnRoute) => {
+                Some(ScheduleStage::InJourney)
+            }
+            (ScheduleStage::InJourney, Kind::TerminatingLocation) => Some(
+                ScheduleStage::AfterJourney,
+            ),
+            _ => None,
+        }
+    }
+
+    /// Whether a schedule may end here. `lacking` says whether it may lack its journey.
+    pub(crate) fn may_end(self, lacking: bool) -> bool
+        ensures { result ≡ may_end_by (Some (stage_meant self)) lacking }
+    {
+        match self {
+            ScheduleStage::AfterBasic => lacking,
+            ScheduleStage::AfterDetails => lacking,
+            ScheduleStage::InJourney => false,
+            ScheduleStage::AfterJourney => true,
+        }
+    }
+
+    /// Whether the journey is complete.
+    pub(crate) fn is_over(self) -> bool
+        ensures { result ≡ is_over_by (Some (stage_meant self)) }
+    {
+        match self {
+            ScheduleStage::AfterBasic => false,
+            ScheduleStage::AfterDetails => false,
+            ScheduleStage::InJourney => false,
+            ScheduleStage::AfterJourney => true,
+        }
+    }
+}

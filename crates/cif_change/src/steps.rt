@@ -1,0 +1,212 @@
+//! The steps of a reader of a schedule's lines.
+ghost use Rattle.std.specs.Prelude.{◌≡◌, ◌==◌, ℕ, ◌↔◌, IsTrue, IsOk, IsErr, IfOk, IfErr, OnOk, Some, true, List, [], ◌∷◌};
+ghost use Rattle.docker_model.specs.records.Record.{HasKind, IsRecord, basic_schedule, column};
+ghost use Rattle.docker_model.specs.records.Field.{is_deletion};
+ghost use Rattle.docker_model.specs.file.File.{follows_basic};
+ghost use Rattle.cif_laws.specs.ScheduleStage.{is_sound_next, is_first_line};
+ghost use Rattle.cif_laws.specs.RecordCause.{first_line_cause, field_cause};
+ghost use Rattle.cif_line.specs.Kind.{meaning};
+ghost use Rattle.cif_change.specs.JourneyRead.{HasLines, stage_meant, stage_then, is_over_by, progress_meant, Advances, JudgesLine, FaultsLine, JudgesWhole};
+ghost use Rattle.cif_change.specs.Cause.{cause_meant};
+
+use crate::cause::FileCause;
+use crate::journey_times::{Clock, times_at};
+use crate::progress::Progress;
+use crate::stage::ScheduleStage;
+use cif_line::{Basic, Kind, Line, Stp, Transaction, basic, kind};
+
+/// How often a journey may pass midnight.
+const MOST_MIDNIGHTS: u8 = 2;
+
+impl Progress {
+    /// The progress before the first line.
+    pub(crate) fn new() -> Progress
+        ensures { HasLines (progress_meant result) [] }
+    {
+        Progress {
+            stage: None,
+            deletion: false,
+            lacking: false,
+            clock: Clock::new(),
+        }
+    }
+
+    /// Whether the lines are a schedule.
+    pub fn complete(self) -> bool
+        ensures { JudgesWhole (progress_meant self) (IsTrue result) }
+    {
+        match self.stage {
+            Some(stage) => stage.may_end(self.lacking),
+            None => false,
+        }
+    }
+
+    /// Whether the schedule is a deletion.
+    pub fn is_deletion(self) -> bool
+        ensures { result ≡ (progress_meant self).deletion }
+    {
+        self.deletion
+    }
+
+    /// Whether its journey is complete, so that no schedule goes on after its lines.
+    pub fn is_over(self) -> bool
+        ensures { result ≡ is_over_by (progress_meant self).stage }
+    {
+        match self.stage {
+            Some(stage) => stage.is_over(),
+            None => false,
+        }
+    }
+
+    /// Takes one more line, or returns why no schedule goes on with it. A refused line changes
+    /// nothing.
+    pub(crate) fn take(&mut self, line: &Line) -> Result<(), FileCause>
+        ensures ok { JudgesLine (progress_meant self.old) line.now (IsOk result) }
+        ensures read { OnOk result (Advances self.old line.now self.new) }
+        ensures err { IfErr result (FaultsLine (progress_meant self.old) line.now) }
+        ensures unchanged { IsErr result → self.new ≡ self.old }
+    {
+        let _record = line.bytes();
+        match kind(line) {
+            None => Err(FileCause::Kind),
+            Some(kind) => self.advance(kind, line),
+        }
+    }
+
+    /// Takes one more record of this kind, or returns why no schedule goes on with it. A refused
+    /// record changes nothing.
+    pub fn advance(&mut self, kind: Kind, line: &Line) -> Result<(), FileCause>
+        requires record { IsRecord line.now }
+        requires kind { HasKind (meaning kind) line.now }
+        ensures ok { JudgesLine (progress_meant self.old) line.now (IsOk result) }
+        ensures read { OnOk result (Advances self.old line.now self.new) }
+        ensures err { IfErr result (FaultsLine (progress_meant self.old) line.now) }
+        ensures unchanged { IsErr result → self.new ≡ self.old }
+    {
+        let Some(stage) = self.stage else {
+            return self.begin(kind, line);
+        };
+        match stage.after(kind) {
+            None => Err(FileCause::Place),
+            Some(next) => self.advance_to(next, kind, line),
+        }
+    }
+
+    /// Takes the first line.
+    fn begin(&mut self, kind: Kind, line: &Line) -> Result<(), FileCause>
+        requires record { IsRecord line.now }
+        requires kind { HasKind (meaning kind) line.now }
+        ensures ok { IsOk result ↔ (is_first_line line.now ≡ true) }
+        ensures read { OnOk result (HasLines (progress_meant self.new) (line.now ∷ [])) }
+        ensures err { IfErr result (λ cause. cause_meant cause ≡ Some (first_line_cause line.now)) }
+        ensures unchanged { IsErr result → self.new ≡ self.old }
+    {
+        match behind_first(kind, line) {
+            Ok(first) => {
+                *self = first;
+                Ok(())
+            }
+            Err(cause) => Err(cause),
+        }
+    }
+
+    /// Takes one more line, which is at its place.
+    fn advance_to(&mut self, next: ScheduleStage, kind: Kind, line: &Line) -> Result<(), FileCause>
+        requires record { IsRecord line.now }
+        requires kind { HasKind (meaning kind) line.now }
+        requires follows { follows_basic (Some (meaning kind)) ≡ true }
+        requires stage { stage_then (progress_meant self.old).stage (Some (meaning kind)) ≡
+            Some (stage_meant next) }
+        ensures ok { (lines : List (List ℕ)) → HasLines (progress_meant self.old) lines →
+            IsOk result ↔ (is_sound_next lines line.now ≡ true) }
+        ensures read { OnOk result (Advances self.old line.now self.new) }
+        ensures err { IfErr result (λ cause. cause_meant cause ≡ Some (field_cause line.now)) }
+        ensures unchanged { IsErr result → self.new ≡ self.old }
+    {
+        if self.deletion {
+            *self = Progress {
+                stage: Some(next),
+                deletion: self.deletion,
+                lacking: self.lacking,
+                clock: self.clock,
+            };
+            return Ok(());
+        }
+        let times = times_at(kind, line)?;
+        let clock = self.clock.past(times);
+        if clock.falls > MOST_MIDNIGHTS {
+            return Err(FileCause::Midnights);
+        }
+        *self = Progress {
+            stage: Some(next),
+            deletion: self.deletion,
+            lacking: self.lacking,
+            clock,
+        };
+        Ok(())
+    }
+}
+
+/// The progress after the first line, if that is a good basic schedule.
+fn behind_first(kind: Kind, line: &Line) -> Result<Progress, FileCause>
+    requires record { IsRecord line.now }
+    requires kind { HasKind (meaning kind) line.now }
+    ensures ok { IsOk result ↔ (is_first_line line.now ≡ true) }
+    ensures read { IfOk result (λ progress. HasLines (progress_meant progress) (line.now ∷ [])) }
+    ensures err { IfErr result (λ cause. cause_meant cause ≡ Some (first_line_cause line.now)) }
+{
+    match kind {
+        Kind::BasicSchedule => progress_after_first_basic(line),
+        _ => Err(FileCause::Place),
+    }
+}
+
+/// The progress after a basic schedule, if its fields are good.
+fn progress_after_first_basic(line: &Line) -> Result<Progress, FileCause>
+    requires record { IsRecord line.now }
+    requires kind { HasKind basic_schedule line.now }
+    ensures ok { IsOk result ↔ (is_first_line line.now ≡ true) }
+    ensures read { IfOk result (λ progress. HasLines (progress_meant progress) (line.now ∷ [])) }
+    ensures err { IfErr result (λ cause. cause_meant cause ≡ Some (first_line_cause line.now)) }
+{
+    let view = basic(line)?;
+    Ok(progress_after_basic(&view))
+}
+
+/// The progress after a basic schedule.
+pub fn progress_after_basic(view: &Basic<'_>) -> Progress
+    requires { is_first_line view.now ≡ true }
+    ensures { HasLines (progress_meant result) (view.now ∷ []) }
+{
+    let deletion = is_deletion(view);
+    let cancellation = is_cancellation(view);
+    Progress {
+        stage: Some(ScheduleStage::AfterBasic),
+        deletion,
+        lacking: deletion || cancellation,
+        clock: Clock::new(),
+    }
+}
+
+/// Whether the schedule is a deletion.
+fn is_deletion(view: &Basic<'_>) -> bool
+    ensures { result ≡ is_deletion view.now }
+{
+    match view.transaction() {
+        Transaction::Delete => true,
+        Transaction::New => false,
+        Transaction::Revise => false,
+    }
+}
+
+/// Whether the schedule cancels a train on its days.
+fn is_cancellation(view: &Basic<'_>) -> bool
+    ensures { result ≡ (column 80 view.now == 67) }
+{
+    match view.stp() {
+        Stp::Cancellation => true,
+        Stp::New => false,
+        Stp::Overlay => false,
+        Stp::Permanent => false,
+    }
+}

@@ -1,4 +1,0 @@
-pub mod CivilDays
-pub mod DateFields
-pub mod Lanes
-pub mod Times

@@ -1,9 +1,0 @@
--- `auto` proves these too: they are written so that a wrong body is refused without a long search.
-use Rattle.std.proofs.Common.{rules}
-use Rattle.cif_field.proofs.line.Line.bytes.Goals as goal
-
-pub returns-clause-bytes : goal.returns-clause-bytes
-returns-clause-bytes c = search rules
-
-pub returns-clause-record : goal.returns-clause-record
-returns-clause-record c = search rules

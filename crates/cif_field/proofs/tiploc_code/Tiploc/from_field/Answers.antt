@@ -1,9 +1,0 @@
--- `auto` proves these too: they are written so that a wrong body is refused without a long search.
-use Rattle.std.proofs.Common.{rules}
-use Rattle.cif_field.proofs.tiploc_code.Tiploc.from_field.Goals as goal
-
-pub invariant_of-result : goal.invariant_of-result
-invariant_of-result c = search rules
-
-pub returns-clause-some : goal.returns-clause-some
-returns-clause-some c = search rules

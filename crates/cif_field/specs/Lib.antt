@@ -1,3 +1,0 @@
-pub mod FieldRead
-pub mod Letter
-pub mod Tiploc

@@ -1,9 +1,0 @@
--- A line that is taken comes after the lines before it.
-use Rattle.std.proofs.Common.{subst, sym}
-use Rattle.cif_journey.specs.JourneyRead.{HasLines}
-use Rattle.cif_journey.proofs.JourneyLemmas.{of_ok}
-use Rattle.cif_journey.proofs.journey.Journey.line.Goals as goal
-
-pub returns-clause-read : goal.returns-clause-read
-returns-clause-read c = λ lines has is.
-    of_ok c.take.result c.take.ensures.read is lines (subst (λ journey. HasLines journey lines) (sym c.self.view_is) has)

@@ -1,0 +1,74 @@
+-- The digits of a day's text, read back.
+use Rattle.std.proofs.Common.{◌≡◌, ℕ, ◌+◌, ◌-◌, ◌*◌, ◌/◌, ◌%◌, ◌<◌, ◌≤◌, List, [], ◌∷◌, ◌++◌, true, ◌&&◌, ap, sym, subst, slice_index, ◌∙◌, pos, arith}
+use Rattle.std.specs.List.{list_all}
+use Rattle.std.specs.Char.{is_ascii_digit}
+use Rattle.std.proofs.lemmas.Bool.Decides.{nat_tests}
+use Rattle.jiff_core.specs.Calendar.{IsDate}
+use Rattle.jiff_core.proofs.SignedLemmas.{signed_arith}
+use Rattle.jiff_core.proofs.CalendarLemmas.{days_in_month_bounds}
+use Rattle.docker_model.specs.records.Date.{is_calendar_day, day_number, is_date, date_number, two_digits, full_year, last_day}
+use Rattle.docker_model.specs.records.PrintedTime.{two_digit_text, day_text}
+use Rattle.cif_laws.proofs.records.Dates.{is_calendar_day-IsDate}
+use Rattle.cif_line.proofs.CivilDays.{IsDayOf, number_is, text_is, day_at}
+
+-- 48 and a number below 10 make an ASCII digit
+is_digit : (n : ℕ) → n < 10 → is_ascii_digit (48 + n) ≡ true
+is_digit n low = grind (arith, nat_tests)
+
+-- six such digits
+are_digits : (a b c d e f : ℕ) → a < 10 → b < 10 → c < 10 → d < 10 → e < 10 → f < 10
+    → list_all is_ascii_digit ((48 + a) ∷ (48 + b) ∷ (48 + c) ∷ (48 + d) ∷ (48 + e) ∷ (48 + f) ∷ []) ≡ true
+are_digits a b c d e f ha hb hc hd he hf =
+    λ i. is_digit a ha i && (is_digit b hb i && (is_digit c hc i && (is_digit d hd i && (is_digit e he i && (is_digit f hf i && true)))))
+
+-- the last two digits of a year from 1960 to 2059 mean that year
+year_is : (year : ℕ) → 1960 ≤ year → year ≤ 2059 → full_year (year % 100) ≡ year
+year_is year low high = grind (arith, nat_tests)
+
+-- two digits spell their number
+digits_are : (n : ℕ) → 10 * ((48 + n / 10) - 48) + ((48 + n % 10) - 48) ≡ n
+digits_are n = omega arith
+
+-- a day's digits without the century, year first
+abbrev pub six_digits : ℕ → ℕ → ℕ → List ℕ
+six_digits year month day = two_digit_text (year % 100) ++ two_digit_text month ++ two_digit_text day
+
+-- six digits of a day are a date, whose number is the day's
+module _ (number year month day : ℕ) (h : IsDayOf number year month day) where
+  on_calendar : is_calendar_day year month day ≡ true
+  on_calendar =
+      let date : IsDate (pos year) (pos month) (pos day) = (
+        h.is_civil.0,
+        (omega (arith, signed_arith, h.is_civil.1), omega (arith, signed_arith, h.is_civil.1)),
+        (omega (arith, signed_arith, h.is_civil.2), omega (arith, signed_arith, h.is_civil.2)),
+      ) in
+      (is_calendar_day-IsDate year month day (omega (arith, h.high))).1 date
+
+  year_read : full_year (two_digits (six_digits year month day) 0) ≡ year
+  year_read = ap full_year (digits_are (year % 100)) ∙ year_is year h.low h.high
+
+  -- six digits of a day in the range are a date
+  pub six_digits-is_date : is_date (six_digits year month day) ≡ true
+  six_digits-is_date =
+      let digits : list_all is_ascii_digit (six_digits year month day) ≡ true =
+      are_digits (year % 100 / 10) (year % 100 % 10) (month / 10) (month % 10) (day / 10) (day % 10) (omega arith) (omega arith)
+      (omega (arith, h.is_civil.1.1)) (omega arith) (omega (arith, h.is_civil.2.1, days_in_month_bounds (pos year) month)) (omega arith) in
+      (λ i. digits i && is_calendar_day (year_read i) (digits_are month i) (digits_are day i)) ∙ on_calendar
+
+  -- the number of that date is the day's
+  pub six_digits-date_number : date_number (six_digits year month day) ≡ number
+  six_digits-date_number = (λ i. day_number (year_read i) (digits_are month i) (digits_are day i)) ∙ number_is number year month day h
+
+-- the digits of a text, without the century
+abbrev pub digits_in : List ℕ → List ℕ
+digits_in text = slice_index text 2 ∷ slice_index text 3 ∷ slice_index text 5 ∷ slice_index text 6 ∷ slice_index text 8 ∷ slice_index text 9 ∷ []
+
+-- the digits of a day's text are a date, whose number is the day
+pub digits_in-day_text : (number : ℕ) → number ≤ last_day → (text : List ℕ) → text ≡ day_text number
+    → (is_date (digits_in text) ≡ true) × (date_number (digits_in text) ≡ number)
+digits_in-day_text number low text same = let at = day_at number low in by at.0 at.1 at.2 at.3
+  where
+    by : (year month day : ℕ) → IsDayOf number year month day → (is_date (digits_in text) ≡ true) × (date_number (digits_in text) ≡ number)
+    by year month day h =
+        subst (λ t. (is_date (digits_in t) ≡ true) × (date_number (digits_in t) ≡ number)) (sym (same ∙ text_is number year month day h))
+        (six_digits-is_date number year month day h, six_digits-date_number number year month day h)

@@ -1,0 +1,9 @@
+-- `auto` proves these too: they are written so that a wrong body is refused without a long search.
+use Rattle.std.proofs.Common.{rules}
+use Rattle.cif_line.proofs.day.Day.from_yymmdd.Goals as goal
+
+pub returns-clause-some : goal.returns-clause-some
+returns-clause-some c = search rules
+
+pub returns-clause-value : goal.returns-clause-value
+returns-clause-value c = search rules

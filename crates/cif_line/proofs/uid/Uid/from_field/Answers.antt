@@ -1,0 +1,6 @@
+-- `auto` proves these too: they are written so that a wrong body is refused without a long search.
+use Rattle.std.proofs.Common.{rules}
+use Rattle.cif_line.proofs.uid.Uid.from_field.Goals as goal
+
+pub returns-then-are_printable-clause-value : goal.returns-then-are_printable-clause-value
+returns-then-are_printable-clause-value c = search rules

@@ -1,0 +1,117 @@
+//! Fields of one letter, of a header (HD), a basic schedule (BS) and an association (AA).
+ghost use Rattle.std.specs.Prelude.{◌≡◌, ◌↔◌, IsSome, IfSome, IsTrue, [], ◌∷◌};
+ghost use Rattle.docker_model.specs.records.Field.{is_update_indicator, is_transaction, is_stp_letter};
+ghost use Rattle.cif_line.specs.Letter.{extract_letter, transaction_letter, stp_letter};
+
+/// The update indicator of a header (HD): what an extract holds.
+#[derive(Clone, Copy, PartialEq, Eq, Debug)]
+pub enum Extract {
+    /// F, a full extract.
+    Full,
+    /// U, an update.
+    Update,
+}
+
+impl Extract {
+    /// The extract that `F` or `U` stands for. None for any other byte.
+    pub fn from_letter(letter: u8) -> Option<Extract>
+        ensures some { IsSome result ↔ IsTrue (is_update_indicator (letter ∷ [])) }
+        ensures value { IfSome result (λ extract. extract_letter extract ≡ letter) }
+    {
+        match letter {
+            b'F' => Some(Extract::Full),
+            b'U' => Some(Extract::Update),
+            _ => None,
+        }
+    }
+
+    /// Its letter, `F` or `U`.
+    pub fn letter(&self) -> u8
+        ensures { result ≡ extract_letter self.now }
+    {
+        match self {
+            Extract::Full => b'F',
+            Extract::Update => b'U',
+        }
+    }
+}
+
+/// The transaction type of a basic schedule (BS) or an association (AA): what the record does with
+/// its key.
+#[derive(Clone, Copy, PartialEq, Eq, Debug)]
+pub enum Transaction {
+    /// N, new.
+    New,
+    /// D, delete.
+    Delete,
+    /// R, revise.
+    Revise,
+}
+
+impl Transaction {
+    /// The transaction that `N`, `D` or `R` stands for. None for any other byte.
+    pub fn from_letter(letter: u8) -> Option<Transaction>
+        ensures some { IsSome result ↔ IsTrue (is_transaction (letter ∷ [])) }
+        ensures value { IfSome result (λ transaction. transaction_letter transaction ≡ letter) }
+    {
+        match letter {
+            b'N' => Some(Transaction::New),
+            b'D' => Some(Transaction::Delete),
+            b'R' => Some(Transaction::Revise),
+            _ => None,
+        }
+    }
+
+    /// Its letter, `N`, `D` or `R`.
+    pub fn letter(&self) -> u8
+        ensures { result ≡ transaction_letter self.now }
+    {
+        match self {
+            Transaction::New => b'N',
+            Transaction::Delete => b'D',
+            Transaction::Revise => b'R',
+        }
+    }
+}
+
+/// The STP (short term planning) indicator of a basic schedule (BS) or an association (AA), in the
+/// order of its letters. If several run on a day, the least is chosen.
+#[derive(Clone, Copy, PartialEq, Eq, PartialOrd, Ord, Debug)]
+pub enum Stp {
+    /// C, a cancellation.
+    Cancellation,
+    /// N, a new schedule of short term planning.
+    New,
+    /// O, an overlay.
+    Overlay,
+    /// P, permanent.
+    Permanent,
+}
+
+impl Stp {
+    /// The STP indicator that `C`, `N`, `O` or `P` stands for. None for any other byte.
+    pub fn from_letter(letter: u8) -> Option<Stp>
+        ensures some { IsSome result ↔ IsTrue (is_stp_letter letter) }
+        ensures value { IfSome result (λ stp. stp_letter stp ≡ letter) }
+    {
+        match letter {
+            b'C' => Some(Stp::Cancellation),
+            b'N' => Some(Stp::New),
+            b'O' => Some(Stp::Overlay),
+            b'P' => Some(Stp::Permanent),
+            _ => None,
+        }
+    }
+
+    /// Its letter, `C`, `N`, `O` or `P`.
+    pub fn letter(&self) -> u8
+        ensures { result ≡ stp_letter self.now }
+    {
+        match self {
+            Stp::Cancellation => b'C',
+            Stp::New => b'N',
+            Stp::Overlay => b'O',
+            Stp::Permanent => b'P',
+        }
+    }
+}

@@ -1,0 +1,145 @@
+//! A line of a CIF file: 80 printable bytes.
+ghost use Rattle.std.specs.Prelude.{◌≡◌, ℕ, ◌↔◌, ◌<◌, length, IsTrue, IsOk, IfOk, Ok, Err, Some, IsNone, IfSome, position, not, ◌≤◌, ◌-◌, ◌+◌, true};
+ghost use Rattle.std.specs.List.{AllPass};
+ghost use Rattle.docker_model.specs.records.Field.{as_new};
+ghost use Rattle.docker_model.specs.records.Record.{IsTextOfLength, IsRecord, leftmost_bad_byte, is_printable, column};
+ghost use Rattle.cif_line.specs.FieldRead.{field_at};
+
+use crate::printable::is_printable_line;
+use std::marker::Model;
+use thiserror::Error;
+
+/// A line of a CIF file: 80 bytes, each from a space (0x20) to a tilde (0x7E).
+#[derive(Clone, Copy, PartialEq, Eq, PartialOrd, Ord, Debug)]
+pub struct Line {
+    bytes: [u8; 80],
+}
+
+impl Model for Line {
+    ghost use Rattle.std.specs.Prelude.{List, ℕ};
+    ghost use Rattle.docker_model.specs.records.Record.{IsRecord};
+
+    ghost Value = { List ℕ };
+
+    ghost view = { λ line. line.bytes };
+
+    ghost invariant = { λ line. IsRecord line.bytes };
+
+    ghost inverse = { λ bytes. record { bytes = bytes } };
+}
+
+/// Why bytes are not a line. The length is judged before any byte.
+#[derive(Clone, Copy, PartialEq, Eq, Debug, Error)]
+pub enum LineFault {
+    /// There are not 80 bytes.
+    #[error("Length")]
+    Length,
+    /// A byte is not printable: the column, from 1, of the leftmost such byte.
+    #[error("Byte {0}")]
+    Byte(u8),
+}
+
+impl Line {
+    /// A line of these bytes. `Length` if they are not 80, and otherwise `Byte` with the leftmost
+    /// column whose byte is not printable.
+    pub fn new(bytes: &[u8]) -> Result<Line, LineFault>
+        ensures ok { IsOk result ↔ IsRecord bytes.now }
+        ensures value { IfOk result (λ line. line ≡ bytes.now) }
+        ensures length { (result ≡ Err LineFault.Length) ↔ (¬ (length bytes.now ≡ 80)) }
+        ensures byte { (column : ℕ) → (result ≡ Err (LineFault.Byte column)) ↔
+            ((length bytes.now ≡ 80) × (leftmost_bad_byte bytes.now ≡ Some column)) }
+    {
+        let Ok(bytes) = <[u8; 80]>::try_from(bytes) else {
+            return Err(LineFault::Length);
+        };
+        match bad_column(&bytes) {
+            Some(column) => Err(LineFault::Byte(column)),
+            None => Ok(Line { bytes }),
+        }
+    }
+
+    /// The `N` bytes from a column on, counted from 1.
+    pub fn field<const N: usize>(&self, first: usize) -> &[u8; N]
+        requires from { 0 < first }
+        requires within { first - 1 + N ≤ 80 }
+        ensures bytes { result.now ≡ field_at first N self.now }
+        ensures text { IsTextOfLength N result.now }
+    {
+        match self.bytes[first - 1..first - 1 + N].first_chunk() {
+            Some(field) => field,
+            None => unreachable!(),
+        }
+    }
+
+    /// The byte in a column, counted from 1.
+    pub fn column(&self, n: usize) -> u8
+        requires from { 0 < n }
+        requires within { n ≤ 80 }
+        ensures byte { result ≡ column n self.now }
+        ensures printable { is_printable result ≡ true }
+    {
+        self.bytes[n - 1]
+    }
+
+    /// The line with its transaction, column 3, set to `N`: for a basic schedule (BS) or an
+    /// association (AA).
+    pub fn as_new(mut self) -> Line
+        ensures { result ≡ as_new self }
+    {
+        self.bytes[2] = b'N';
+        self
+    }
+
+    /// The 80 bytes of the line.
+    pub fn bytes(&self) -> &[u8; 80]
+        ensures bytes { result.now ≡ self.now }
+        ensures record { IsRecord self.now }
+    {
+        &self.bytes
+    }
+}
+
+/// Whether a line may hold the byte: from a space to a tilde.
+pub fn is_printable(byte: u8) -> bool
+    ensures { result ≡ is_printable byte }
+{
+    b' ' <= byte && byte <= b'~'
+}
+
+/// The index of the leftmost byte that is not printable.
+fn first_bad_index(bytes: &[u8]) -> Option<usize>
+    ensures value { result ≡ position (λ b. not (is_printable b)) bytes.now }
+    ensures within { IfSome result (λ index. index < length bytes.now) }
+    ensures none { IsNone result ↔ AllPass is_printable bytes.now }
+{
+    bytes.iter().position(|byte| !is_printable(*byte))
+}
+
+/// The leftmost column, from 1, whose byte is not printable. It is searched for only once it is
+/// known to exist.
+#[tactic(auto, using(cif_laws::proofs::records::RecordTests::no_bad_byte))]
+fn bad_column(bytes: &[u8; 80]) -> Option<u8>
+    ensures value { result ≡ leftmost_bad_byte bytes.now }
+    ensures none { IsNone result ↔ AllPass is_printable bytes.now }
+{
+    if is_printable_line(bytes) {
+        return None;
+    }
+    first_bad_column(bytes)
+}
+
+/// The leftmost column, from 1, whose byte is not printable, found byte by byte.
+fn first_bad_column(bytes: &[u8; 80]) -> Option<u8>
+    ensures value { result ≡ leftmost_bad_byte bytes.now }
+    ensures none { IsNone result ↔ AllPass is_printable bytes.now }
+{
+    let index = first_bad_index(bytes)?;
+    Some(index as u8 + 1)
+}
+
+/// Whether each byte is one that a line may hold.
+pub(crate) fn are_printable(bytes: &[u8]) -> bool
+    ensures { IsTrue result ↔ AllPass is_printable bytes.now }
+{
+    bytes.iter().all(|byte| is_printable(*byte))
+}

@@ -1,0 +1,208 @@
+//! Times of day, as location records (LO, LI and LT) have them.
+ghost use Rattle.std.specs.Prelude.{◌≡◌, ◌↔◌, ◌≤◌, ◌<◌, ◌+◌, length, IsSome, is_some, IfSome, IsTrue, ◌*◌, true, take};
+ghost use Rattle.std.specs.List.{list_all};
+ghost use Rattle.std.specs.Char.{is_ascii_digit};
+ghost use Rattle.docker_model.specs.records.Date.{two_digits};
+ghost use Rattle.docker_model.specs.records.Clock.{is_blank, is_clock, minute_of, is_present_time, half_minutes, is_scheduled_time, scheduled_time, is_public_time};
+ghost use Rattle.docker_model.specs.records.PrintedTime.{shown_public, time_text};
+ghost use Rattle.cif_line.specs.FieldRead.{public_half_minutes, public_text};
+
+use crate::digits::two_digits;
+use std::marker::Model;
+
+/// A scheduled time of day, in half minutes from midnight: 0 to 2879.
+#[derive(Clone, Copy, PartialEq, Eq, PartialOrd, Ord, Debug)]
+pub struct Time {
+    half_minutes: u16,
+}
+
+impl Model for Time {
+    ghost use Rattle.std.specs.Prelude.{ℕ, ◌<◌};
+
+    ghost Value = { ℕ };
+
+    ghost view = { λ time. time.half_minutes };
+
+    ghost invariant = { λ time. time.half_minutes < 2880 };
+
+    ghost inverse = { λ half_minutes. record { half_minutes = half_minutes } };
+}
+
+impl Time {
+    /// The scheduled time of a field HHMM, from `0000` to `2359`, followed by `H` for half a minute
+    /// or a space. None for any other field, including a blank one.
+    pub fn from_field(field: &[u8; 5]) -> Option<Time>
+        ensures some { IsSome result ↔ IsTrue (is_present_time field.now) }
+        ensures value { IfSome result (λ time. time ≡ half_minutes field.now) }
+    {
+        let minute = clock(field)?;
+        match field[4] {
+            b'H' => Some(Time {
+                half_minutes: 2 * minute + 1,
+            }),
+            b' ' => Some(Time {
+                half_minutes: 2 * minute,
+            }),
+            _ => None,
+        }
+    }
+
+    /// The scheduled time of a field: `Some(None)` if it is blank, None if it is neither blank nor
+    /// a time.
+    #[tactic(auto, using(crate::proofs::Times::scheduled_times))]
+    pub fn scheduled(field: &[u8; 5]) -> Option<Option<Time>>
+        ensures some { is_some result ≡ is_scheduled_time field.now }
+        ensures value { IfSome result (λ time. time ≡ scheduled_time field.now) }
+    {
+        if is_blank_time(field) {
+            return Some(None);
+        }
+        match Time::from_field(field) {
+            Some(time) => Some(Some(time)),
+            None => None,
+        }
+    }
+
+    /// The scheduled time of a field, none if it is blank.
+    #[tactic(auto, using(crate::proofs::Times::scheduled_times))]
+    pub(crate) fn from_scheduled(field: &[u8; 5]) -> Option<Time>
+        requires good { is_scheduled_time field.now ≡ true }
+        ensures { result ≡ scheduled_time field.now }
+    {
+        if is_blank_time(field) {
+            return None;
+        }
+        Some(Time::from_present(field))
+    }
+
+    /// The scheduled time of a field that is known to be one.
+    #[tactic(auto, using(crate::proofs::Times::clock_bounds))]
+    pub(crate) fn from_present(field: &[u8; 5]) -> Time
+        requires good { is_present_time field.now ≡ true }
+        ensures { result ≡ half_minutes field.now }
+    {
+        let half = if field[4] == b'H' { 1 } else { 0 };
+        Time {
+            half_minutes: 2 * minute_in(field) + half,
+        }
+    }
+
+    /// The public time of a field HHMM, which is a whole minute; none if the field is blank or
+    /// `0000`.
+    pub(crate) fn from_public(field: &[u8; 4]) -> Option<Time>
+        requires good { is_public_time field.now ≡ true }
+        ensures value { result ≡ public_half_minutes field.now }
+        ensures shown { shown_public field.now ≡ public_text result }
+    {
+        if is_blank_public_time(field) || field == b"0000" {
+            return None;
+        }
+        let minute = clock(field)?;
+        Some(Time {
+            half_minutes: 2 * minute,
+        })
+    }
+
+    /// The half minutes from midnight: 0 to 2879.
+    pub fn half_minutes(&self) -> u16
+        ensures value { result ≡ self.now }
+        ensures bound { self.now < 2880 }
+    {
+        self.half_minutes
+    }
+
+    /// The time as HHMM, then `H` for half a minute or a space.
+    pub fn text(&self) -> [u8; 5]
+        ensures { result ≡ time_text self.now }
+    {
+        let minute = self.half_minutes / 2;
+        let hour = (minute / 60) as u8;
+        let minute = (minute % 60) as u8;
+        let half = if self.half_minutes % 2 == 1 {
+            b'H'
+        } else {
+            b' '
+        };
+        [
+            b'0' + hour / 10,
+            b'0' + hour % 10,
+            b'0' + minute / 10,
+            b'0' + minute % 10,
+            half,
+        ]
+    }
+}
+
+/// The minute of the day, 0 to 1439, in a field that begins HHMM. None if its first four bytes are
+/// no time from `0000` to `2359`.
+pub fn clock(field: &[u8]) -> Option<u16>
+    requires { 4 ≤ length field.now }
+    ensures some { IsSome result ↔ IsTrue (is_clock field.now) }
+    ensures value { IfSome result (λ minute. minute ≡ minute_of field.now) }
+    ensures bound { IfSome result (λ minute. minute < 1440) }
+{
+    let hour = two_digits(field, 0);
+    let minute = two_digits(field, 2);
+    if are_four_digits(field) & (hour < 24) & (minute < 60) {
+        Some(60 * hour + minute)
+    } else {
+        None
+    }
+}
+
+/// The minute of the day, from a field that is known to begin HHMM.
+#[tactic(auto, using(crate::proofs::Times::clock_bounds))]
+fn minute_in(field: &[u8; 5]) -> u16
+    requires good { is_clock field.now ≡ true }
+    ensures value { result ≡ minute_of field.now }
+    ensures bound { result < 1440 }
+{
+    60 * two_digits(field, 0) + two_digits(field, 2)
+}
+
+/// Whether the first four bytes of the field are digits. No byte has a branch of its own.
+#[tactic(auto, using(crate::proofs::Times::four_digits))]
+fn are_four_digits(field: &[u8]) -> bool
+    requires { 4 ≤ length field.now }
+    ensures { result ≡ list_all is_ascii_digit (take 4 field.now) }
+{
+    field[0].is_ascii_digit()
+        & field[1].is_ascii_digit()
+        & field[2].is_ascii_digit()
+        & field[3].is_ascii_digit()
+}
+
+/// Whether a field is HHMM, from `0000` to `2359`.
+pub fn is_clock(field: &[u8; 4]) -> bool
+    ensures { result ≡ is_clock field.now }
+{
+    clock(field).is_some()
+}
+
+/// Whether a field is a public time: HHMM, or blank. It is `0000` if the train passes, and that is
+/// checked first.
+#[tactic(auto, using(crate::proofs::Times::noughts))]
+pub fn is_public_time(field: &[u8; 4]) -> bool
+    ensures { result ≡ is_public_time field.now }
+{
+    if field == b"0000" {
+        return true;
+    }
+    is_blank_public_time(field) || is_clock(field)
+}
+
+/// Whether the field of a public time is all spaces.
+#[tactic(auto, using(crate::proofs::Times::four_spaces))]
+fn is_blank_public_time(field: &[u8; 4]) -> bool
+    ensures { result ≡ is_blank field.now }
+{
+    field == b"    "
+}
+
+/// Whether the field of a scheduled time is all spaces.
+#[tactic(auto, using(crate::proofs::Times::five_spaces))]
+fn is_blank_time(field: &[u8; 5]) -> bool
+    ensures { result ≡ is_blank field.now }
+{
+    field == b"     "
+}

@@ -1,0 +1,66 @@
+//! Codes of timing points, as the TIPLOC records (TI, TA and TD) and the location records have
+//! them.
+ghost use Rattle.std.specs.Prelude.{◌≡◌, ◌↔◌, ◌-◌, ◌++◌, length, IsSome, IfSome};
+ghost use Rattle.docker_model.specs.records.Field.{IsTiploc};
+ghost use Rattle.docker_model.specs.records.PrintedTime.{spaces};
+ghost use Rattle.cif_line.specs.Tiploc.{IsTiplocText};
+
+use crate::line::are_printable;
+use std::marker::Model;
+
+/// A TIPLOC: the code of a timing point, padded with spaces to seven bytes. Its first byte is not a
+/// space.
+#[derive(Clone, Copy, PartialEq, Eq, PartialOrd, Ord, Debug)]
+pub struct Tiploc {
+    bytes: [u8; 7],
+}
+
+impl Model for Tiploc {
+    ghost use Rattle.std.specs.Prelude.{List, ℕ};
+    ghost use Rattle.docker_model.specs.records.Field.{IsTiploc};
+
+    ghost Value = { List ℕ };
+
+    ghost view = { λ tiploc. tiploc.bytes };
+
+    ghost invariant = { λ tiploc. IsTiploc tiploc.bytes };
+
+    ghost inverse = { λ bytes. record { bytes = bytes } };
+}
+
+impl Tiploc {
+    /// The TIPLOC of a text of one to seven bytes, each printable and not a space, padded with
+    /// spaces to seven. None for any other text.
+    pub fn from_text(text: &str) -> Option<Tiploc>
+        ensures some { IsSome result ↔ IsTiplocText text.now }
+        ensures value { IfSome result (λ tiploc.
+            tiploc ≡ text.now ++ spaces (7 - length text.now)) }
+    {
+        let text = text.as_bytes();
+        if text.is_empty() || text.len() > 7 || !text.iter().all(|byte| byte.is_ascii_graphic()) {
+            return None;
+        }
+        let mut bytes = [b' '; 7];
+        bytes[..text.len()].copy_from_slice(text);
+        Some(Tiploc { bytes })
+    }
+
+    /// The TIPLOC of a field. None if its first byte is a space, or a byte is not printable.
+    pub fn from_field(field: &[u8; 7]) -> Option<Tiploc>
+        ensures some { IsSome result ↔ IsTiploc field.now }
+        ensures value { IfSome result (λ tiploc. tiploc ≡ field.now) }
+    {
+        if field[0] == b' ' || !are_printable(field) {
+            return None;
+        }
+        Some(Tiploc { bytes: *field })
+    }
+
+    /// The seven bytes of the code, with the spaces at its end.
+    pub fn bytes(&self) -> &[u8; 7]
+        ensures bytes { result.now ≡ self.now }
+        ensures tiploc { IsTiploc self.now }
+    {
+        &self.bytes
+    }
+}

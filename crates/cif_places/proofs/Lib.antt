@@ -1,2 +1,0 @@
-pub mod PackedPlaces
-pub mod Noted

@@ -1,5 +1,0 @@
-use Rattle.docker_chosen.proofs.Origins.{came_from}
-use Rattle.docker_chosen.proofs.laws.train_came_from_a_file.Goals as goal
-
-pub returns : goal.returns
-returns c = came_from

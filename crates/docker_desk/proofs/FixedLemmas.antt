@@ -1,0 +1,72 @@
+-- What the files that are known fix: states, dockers and trains.
+use Rattle.std.proofs.Common.{◌≡◌, ℕ, List, [], length, subst, arith}
+use Rattle.std.proofs.lemmas.List.{length-map}
+use Rattle.std.proofs.lemmas.List.Elements.{All-get_or}
+use Rattle.cif_laws.proofs.lists.ZipSteps.{zip_at}
+use Rattle.docker_model.specs.docker.DockerText.{IsDockerText}
+use Rattle.docker_model.specs.state.Lapse.{IsDayRefused}
+use Rattle.docker_model.specs.state.State.{State, live_table}
+use Rattle.docker_model.specs.state.StateText.{dks_2}
+use Rattle.docker_model.specs.state.Summary.{HaveDistinctMoments, IsSummary}
+use Rattle.docker_model.specs.state.Table.{Table, IsPlainTable}
+use Rattle.docker_model.specs.run.Run.{IsOffice, IsStateOf, Known, nothing, office_known}
+use Rattle.docker_model.specs.run.Knowledge.{AreOneKnowledge, HaveSameFiles, IsGoodKnown, sets_of}
+use Rattle.docker_laws.proofs.dockers.PrintedDocker.{printed_is_plain}
+use Rattle.docker_laws.proofs.runs.GoodKnowledge.{good_in_run}
+use Rattle.docker_laws.proofs.runs.KnownSets.{offices_are}
+use Rattle.docker_laws.proofs.runs.RunEnd.{docker_of_files}
+use Rattle.state_laws.proofs.states.OnePlainTable.{some_plain_table}
+use Rattle.state_laws.proofs.states.SummaryLaws.{summary_unique}
+use Rattle.docker_cmd.specs.RunEnds.{EndsWith, PrintsAs}
+use Rattle.docker_desk.specs.Answering.{answers_of, lines_of}
+use Rattle.docker_desk.specs.Learning.{IsKnown}
+use Rattle.docker_desk.specs.Moments.{Step}
+
+-- the same files under the same horizon have one state
+pub one_state : (first second : Known) (one two : State) → IsKnown first one → IsKnown second two → AreOneKnowledge first second → one ≡ two
+one_state first second one two left right same =
+    summary_unique first.files second.files same.0 second.horizon one two (subst (λ h. IsSummary first.files h one) same.1 left.is) right.is
+
+-- the same files have one docker for each place and each day that isn't refused
+pub one_docker : (first second : Known) (one two : State) → IsKnown first one → IsKnown second two → HaveSameFiles first.files second.files
+    → (place : List ℕ) (day : ℕ) → ¬ IsDayRefused one.horizon day → ¬ IsDayRefused two.horizon day → (text other : List ℕ)
+    → IsDockerText (live_table one) place day text → IsDockerText (live_table two) place day other → text ≡ other
+one_docker first second one two left right same place day prints prints_too =
+    docker_of_files dks_2 first second one two left.good right.good left.is right.is same place day
+    (subst (λ h. ¬ IsDayRefused h day) left.is.horizon_is prints) (subst (λ h. ¬ IsDayRefused h day) right.is.horizon_is prints_too)
+
+-- each docker is the plain table's
+pub plain_dockers : (known : Known) (state : State) → IsKnown known state → HaveDistinctMoments known.files
+    → (plain : Table) × (IsPlainTable known.files plain × PrintsAs state plain)
+plain_dockers known state is distinct =
+    let plain = some_plain_table known.files distinct in (
+      plain.0,
+      (
+        plain.1,
+        λ place day prints text.
+            printed_is_plain known.files known.horizon state plain.0 place day text is.good.0.0 is.good.0.1 is.good.1 is.is plain.1
+            (subst (λ h. ¬ IsDayRefused h day) is.is.horizon_is prints),
+      ),
+    )
+
+-- an office knows what its run says
+pub office_knows : (known : Known) (state : State) → EndsWith known state → IsKnown known state
+office_knows known state end =
+    let sets = sets_of end.offices end.events end.exchange in
+    let many = offices_are end.offices end.events end.exchange.replies in
+    let low = end.there in
+    let there : IsOffice sets end.office = omega (arith, many, low) in
+    subst (λ k. IsKnown k state) end.knows
+    (subst (IsKnown (office_known sets end.office)) end.has (record {
+      good = All-get_or (IsGoodKnown dks_2) sets.offices end.office nothing there
+          (good_in_run dks_2 end.offices end.events end.exchange.replies end.leaves.good end.leaves.run.replies).0;
+      is = zip_at IsStateOf sets.offices end.exchange.states end.office nothing (record { horizon = 0; ledger = []; entries = [] })
+          end.leaves.run.states there;
+    }))
+
+-- each step has one line and one answer
+pub one_each : {F : Type 0} (steps : List (Step F)) → length (answers_of steps) ≡ length (lines_of steps)
+one_each steps =
+    let first = length-map steps (λ (step : Step _). step.answer) in
+    let second = length-map steps (λ (step : Step _). step.line) in
+    omega (arith, first, second)

@@ -1,0 +1,215 @@
+-- What is known in a session, from step to step.
+use Rattle.std.proofs.Common.{◌≡◌, ◌≤◌, ℕ, Bool, List, [], ◌∷◌, ◌++◌, length, refl, sym, ◌∙◌, ap, subst, arith, append-nil, Some, None, Ok, Err}
+use Rattle.std.specs.Prelude.{Option, Result, max, ⊤}
+use Rattle.std.proofs.Math.Nat.{max-zero}
+use Rattle.std.proofs.lemmas.List.Elements.{All-cons, All-nil}
+use Rattle.docker_model.specs.records.Date.{IsDay}
+use Rattle.docker_model.specs.file.File.{IsFile, most_records}
+use Rattle.docker_model.specs.state.State.{State, IsJoin, raise_horizon}
+use Rattle.docker_model.specs.state.StateText.{dks_2}
+use Rattle.docker_model.specs.state.Summary.{IsSummary}
+use Rattle.docker_model.specs.run.Run.{Known, nothing, united}
+use Rattle.docker_laws.proofs.runs.GoodKnowledge.{horizon_good, united_good}
+use Rattle.state_laws.proofs.states.SummaryLaws.{join_is_summary, raised_summary}
+use Rattle.state_laws.proofs.texts.TextsApart.{one_text}
+use Rattle.cif_file.specs.SourceRead.{Held}
+use Rattle.docker_cmd.specs.Office.{HoldsState}
+use Rattle.docker_cmd.specs.SourceRead.{ReadsState}
+use Rattle.docker_cmd.specs.OfficeFault.{OfficeFault}
+use Rattle.docker_cmd.specs.Words.{NamesDay, Text}
+use Rattle.docker_cmd.specs.Job.{OfOne}
+use Rattle.docker_desk.specs.Lines.{LineView, whole_line, bad_line, cut_line}
+use Rattle.docker_cmd.specs.JobLine.{words_in}
+use Rattle.docker_desk.specs.Requests.{RequestView, behind_word, print_request, train_request, files_request, renew_request, take_request, merge_request, horizon_request, save_request}
+use Rattle.docker_desk.specs.Desk.{DeskView, EndsReceiving, EndsTaking}
+use Rattle.docker_desk.specs.Replies.{AnswerView, done_with, no_request, refused_for}
+use Rattle.docker_desk.specs.Moments.{Moment, Setting, Step}
+use Rattle.docker_desk.specs.Doing.{AreSteps, AsksOf, DoesAsked, DoesRequest, IsStep, answer_of, desk_by}
+use Rattle.docker_desk.specs.Learning.{AreLearned, Hears, HearsFile, HearsState, IsKnown, KnowsAt, Learns}
+
+-- ---- what is known
+
+-- with nothing more, as much is known
+known_with_nothing : (known : Known) → united known nothing ≡ known
+known_with_nothing known = λ i. record { files = append-nil known.files i; horizon = max-zero known.horizon i }
+
+-- what is known of a state, when nothing was heard and the state is the same
+nothing_heard : (old heard : Known) (before after : State) → heard ≡ nothing → after ≡ before → IsKnown old before → IsKnown (united old heard) after
+nothing_heard old heard before after none same is =
+    subst (λ h. IsKnown (united old h) after) (sym none)
+    (subst (λ k. IsKnown k after) (sym (known_with_nothing old)) (subst (IsKnown old) (sym same) is))
+
+-- what is known after a join with a state of which this is known
+known_joined : (old heard : Known) (own other after : State) → IsKnown old own → IsKnown heard other
+    → IsJoin own other after → IsKnown (united old heard) after
+known_joined old heard own other after first second join = record {
+  good = united_good dks_2 old heard first.good second.good;
+  is = join_is_summary old.files heard.files old.horizon heard.horizon own other after first.is second.is join;
+}
+
+-- what is known after a horizon was set
+known_raised : (old heard : Known) (day : ℕ) (state : State) → IsDay day → heard ≡ record { files = []; horizon = day } → IsKnown old state
+    → IsKnown (united old heard) (raise_horizon day state)
+known_raised old heard day state is_day heard_is known =
+    subst (λ h. IsKnown (united old h) (raise_horizon day state)) (sym heard_is) (record {
+      good = united_good dks_2 old (record { files = []; horizon = day }) known.good (horizon_good dks_2 day is_day);
+      is =
+          subst (λ fs. IsSummary fs (max old.horizon day) (raise_horizon day state)) (sym (append-nil old.files))
+          (raised_summary old.files old.horizon day state known.is);
+    })
+
+-- a file that was read is known
+known_file : (file : List (List ℕ)) (state : State) → IsFile file → length file ≤ most_records → IsSummary (file ∷ []) 0 state
+    → IsKnown (record { files = file ∷ []; horizon = 0 }) state
+known_file file state is few summary = record {
+  good = ((All-cons IsFile file [] is (All-nil IsFile), All-cons (λ f. length f ≤ most_records) file [] few (All-nil (λ f. length f ≤ most_records))), omega arith);
+  is = summary;
+}
+
+-- ---- one request
+
+module _ {F : Type 0} (setting : Setting F) (before after : Moment F) where
+  -- after a file was taken
+  file_known : (name : Text) (old heard : Known) → HearsFile setting name before after heard → IsKnown old before.desk.state
+      → IsKnown (united old heard) after.desk.state
+  file_known name old heard hears is =
+      let takes = hears.takes in
+      subst (λ h. IsKnown (united old h) after.desk.state) (sym hears.heard_is)
+      (known_joined old (record { files = takes.file ∷ []; horizon = 0 }) before.desk.state takes.own after.desk.state is
+      (known_file takes.file takes.own takes.is_text.is takes.is_text.within takes.of_file) takes.joined)
+
+  -- after a state was received
+  state_known : (name : Text) (old heard : Known) → HearsState setting name before after heard → IsKnown old before.desk.state
+      → IsKnown (united old heard) after.desk.state
+  state_known name old heard hears is =
+      known_joined old heard before.desk.state hears.joins.received after.desk.state is hears.of hears.joins.join
+
+  -- a saving leaves the state
+  same_saved : (result : Result ⊤ OfficeFault) → after.desk ≡ desk_by result before.desk → after.desk.state ≡ before.desk.state
+  same_saved (Ok done) same = ap (λ (desk : DeskView). desk.state) same
+  same_saved (Err fault) same = ap (λ (desk : DeskView). desk.state) same
+
+  -- a request that was refused leaves the state
+  refused_take : (held : Option (List ℕ)) (fault : OfficeFault) (result : Result ⊤ OfficeFault) → refused_for fault ≡ answer_of result
+      → EndsTaking held before.desk.state after.desk.state result → after.desk.state ≡ before.desk.state
+  refused_take held fault (Ok done) told ends = let never : ⊥ = cc in absurd never
+  refused_take held fault (Err why) told ends = ends.1
+
+  refused_merge : (held : Option (List ℕ)) (fault : OfficeFault) (result : Result ⊤ OfficeFault) → refused_for fault ≡ answer_of result
+      → EndsReceiving held before.desk.state after.desk.state result → after.desk.state ≡ before.desk.state
+  refused_merge held fault (Ok done) told ends = let never : ⊥ = cc in absurd never
+  refused_merge held fault (Err why) told ends = ends.1
+
+  -- each request has an answer
+  some_answer : (result : Result ⊤ OfficeFault) → ¬ (no_request ≡ answer_of result)
+  some_answer (Ok done) told = let never : ⊥ = cc in never
+  some_answer (Err fault) told = let never : ⊥ = cc in never
+
+  -- what is known after a request that was done
+  known_done : (request : RequestView) (text : List ℕ) (old heard : Known) → ((day : ℕ) → request ≡ horizon_request day → IsDay day)
+      → DoesRequest setting request before (done_with text) after → Hears setting request before after heard → IsKnown old before.desk.state
+      → IsKnown (united old heard) after.desk.state
+  known_done (print_request place day) text old heard days does hears is =
+      nothing_heard old heard _ _ hears (ap (λ (m : Moment F). m.desk.state) does.1) is
+  known_done (train_request uid day) text old heard days does hears is =
+      nothing_heard old heard _ _ hears (ap (λ (m : Moment F). m.desk.state) does.1) is
+  known_done files_request text old heard days does hears is = nothing_heard old heard _ _ hears (ap (λ (m : Moment F). m.desk.state) does.1) is
+  known_done renew_request text old heard days does hears is = state_known setting.name old heard hears is
+  known_done (take_request file) text old heard days does hears is = file_known file old heard hears is
+  known_done (merge_request other) text old heard days does hears is = state_known other old heard hears is
+  known_done (horizon_request day) text old heard days does hears is =
+      subst (λ (m : Moment F). IsKnown (united old heard) m.desk.state) (sym does.1)
+      (known_raised old heard day before.desk.state (days day refl) hears is)
+  known_done save_request text old heard days does hears is = nothing_heard old heard _ _ hears (same_saved does.result does.desk) is
+
+  -- a refused request leaves the state
+  same_refused : (request : RequestView) (fault : OfficeFault) → DoesRequest setting request before (refused_for fault) after
+      → after.desk.state ≡ before.desk.state
+  same_refused (print_request place day) fault does = ap (λ (m : Moment F). m.desk.state) does.1
+  same_refused (train_request uid day) fault does = ap (λ (m : Moment F). m.desk.state) does.1
+  same_refused files_request fault does = ap (λ (m : Moment F). m.desk.state) does.1
+  same_refused renew_request fault does = refused_merge (setting.held before.files setting.name) fault does.result does.told does.ends
+  same_refused (take_request file) fault does = refused_take (setting.held before.files file) fault does.result does.told does.ends
+  same_refused (merge_request other) fault does = refused_merge (setting.held before.files other) fault does.result does.told does.ends
+  same_refused (horizon_request day) fault does = let told = does.0 in let never : ⊥ = cc in absurd never
+  same_refused save_request fault does = same_saved does.result does.desk
+
+  -- a request is never answered as if it were none
+  never_unasked : (request : RequestView) → ¬ DoesRequest setting request before no_request after
+  never_unasked (print_request place day) does = does.0
+  never_unasked (train_request uid day) does = does.0
+  never_unasked files_request does = does.0
+  never_unasked renew_request does = some_answer does.result does.told
+  never_unasked (take_request file) does = some_answer does.result does.told
+  never_unasked (merge_request other) does = some_answer does.result does.told
+  never_unasked (horizon_request day) does = let told = does.0 in let never : ⊥ = cc in never
+  never_unasked save_request does = some_answer does.result does.told
+
+  -- what is known after what was asked for
+  known_asked : (request : Option RequestView) (answer : AnswerView) (old new : Known) → ((day : ℕ) → request ≡ Some (horizon_request day) → IsDay day)
+      → DoesAsked setting request before answer after → Learns setting request before answer after old new → IsKnown old before.desk.state
+      → IsKnown new after.desk.state
+  known_asked None answer old new days does learns is =
+      subst (λ (m : Moment F). IsKnown new m.desk.state) (sym does.1) (subst (λ k. IsKnown k before.desk.state) (sym learns) is)
+  known_asked (Some request) (done_with text) old new days does learns is =
+      subst (λ k. IsKnown k after.desk.state) (sym learns.1.1)
+      (known_done request text old learns.0 (λ day same. days day (ap Some same)) does learns.1.0 is)
+  known_asked (Some request) (refused_for fault) old new days does learns is =
+      subst (λ k. IsKnown k after.desk.state) (sym learns) (subst (IsKnown old) (sym (same_refused request fault does)) is)
+  known_asked (Some request) no_request old new days does learns is = absurd (never_unasked request does)
+
+-- ---- steps
+
+-- the day of a horizon that was asked for is a day
+one_day : (words : List Text) (day : ℕ) → OfOne (λ date. NamesDay date day) words → IsDay day
+one_day [] day of = absurd of
+one_day (word ∷ []) day of = of.within
+one_day (word ∷ second ∷ more) day of = absurd of
+
+day_asked : (may_write : Bool) (line : LineView) (request : Option RequestView) (day : ℕ) → AsksOf may_write line request → request ≡ Some (horizon_request day)
+    → IsDay day
+day_asked may_write (whole_line line) request day asks same =
+    let asked = subst (λ r. AsksOf may_write (whole_line line) r) same asks in one_day (words_in (behind_word line)) day asked.1.rest
+day_asked may_write bad_line request day asks same = let never : ⊥ = cc in absurd never
+day_asked may_write cut_line request day asks same = let never : ⊥ = cc in absurd never
+
+module _ {F : Type 0} (setting : Setting F) where
+  -- what is known after a step
+  known_step : (step : Step F) (old new : Known) → IsStep setting step → Learns setting step.request step.before step.answer step.after old new
+      → IsKnown old step.before.desk.state → IsKnown new step.after.desk.state
+  known_step step old new does learns is =
+      known_asked setting step.before step.after step.request step.answer old new
+      (λ day same. day_asked setting.may_write step.line step.request day does.asks same) does.does learns is
+
+  -- what is known after steps
+  pub known_steps : (first last : Moment F) (steps : List (Step F)) (old new : Known) → IsKnown old first.desk.state → AreSteps setting first steps last
+      → AreLearned setting old steps new → IsKnown new last.desk.state
+  known_steps first last [] old new is are learned =
+      subst (λ (m : Moment F). IsKnown new m.desk.state) (sym are) (subst (λ k. IsKnown k first.desk.state) (sym learned) is)
+  known_steps first last (step ∷ steps) old new is are learned =
+      known_steps step.after last steps learned.0 new
+      (known_step step old learned.0 are.1.0 learned.1.0 (subst (λ (m : Moment F). IsKnown old m.desk.state) (sym are.0) is)) are.1.1 learned.1.1
+
+  -- what is known at a moment of a session
+  pub known_then : (known : Known) (state : State) → KnowsAt setting known state → IsKnown known state
+  known_then known state at = subst (IsKnown known) at.has (known_steps at.first at.last at.steps at.start known at.begins at.are at.learned)
+
+  -- the first steps lead to a moment, and the others on from there
+  pub steps_apart : (first last : Moment F) (earlier later : List (Step F)) → AreSteps setting first (earlier ++ later) last
+      → (between : Moment F) × (AreSteps setting first earlier between × AreSteps setting between later last)
+  steps_apart first last [] later are = (first, (refl, are))
+  steps_apart first last (step ∷ earlier) later are =
+      let apart = steps_apart step.after last earlier later are.1.1 in (apart.0, ((are.0, (are.1.0, apart.1.0)), apart.1.1))
+
+-- ---- the beginning
+
+-- the state that was read is the one whose text the file held
+one_read : (limit : ℕ) (left : Option (List ℕ)) (read sent : State) → ReadsState dks_2 limit left read → HoldsState dks_2 limit left sent → read ≡ sent
+one_read limit left read sent reads holds =
+    let same : holds.text ≡ reads.text = subst (λ bytes. Held bytes reads.text) holds.told reads.held in
+    one_text dks_2 read sent reads.is.valid holds.is.valid (sym reads.is.is ∙ sym same ∙ holds.is.is)
+
+-- what is known of it is known
+pub known_read : (limit : ℕ) (left : Option (List ℕ)) (read sent : State) (start : Known) → ReadsState dks_2 limit left read → HoldsState dks_2 limit left sent
+    → IsKnown start sent → IsKnown start read
+known_read limit left read sent start reads holds is = subst (IsKnown start) (sym (one_read limit left read sent reads holds)) is

@@ -1,0 +1,43 @@
+use Rattle.std.proofs.Common.{◌≡◌, ◌-◌, ◌^◌, refl, ◌∙◌, arith}
+use Rattle.docker_desk.proofs.StepLemmas.{counts_on, ended_after, ended_endless, so_far_first, so_far_on}
+use Rattle.docker_desk.proofs.serving.serve_lines.Goals as goal
+
+pub loop-init : goal.loop-init
+loop-init g c = record {
+  so_far = so_far_first _ _ c.new-ahead.result _ _ c.new-ahead.ensures;
+  few = (let none = c.requires.none in omega (arith, none));
+  drafts = λ is. is;
+  stdin = refl;
+  output = refl;
+  going = λ before. (refl, before);
+}
+
+pub loop-preserved : goal.loop-preserved
+loop-preserved g c =
+    let counts = counts_on c.serve_next-next.result _ _ _ _ c.in_default.is c.serve_next-next.ensures.counted in
+    record {
+      so_far = so_far_on _ c.loop.counter _ _ _ _ _ _ _ _ _ c.serve_next-next.result c.loop.invariant.so_far c.in_default.is c.serve_next-next.ensures.serves;
+      few = (let few = c.loop.invariant.few in let more = c.serve_next-next.ensures.few in omega (arith, few, more));
+      drafts = λ is. c.loop.invariant.drafts (c.serve_next-next.ensures.drafts is);
+      stdin = counts.0 ∙ c.loop.invariant.stdin;
+      output = counts.1 ∙ c.loop.invariant.output;
+      going = λ before.
+          let going = c.loop.invariant.going before in
+          let stops = c.serve_next-next.ensures.stops going.1 in
+          (stops.0 ∙ going.0, stops.1 c.in_default.is);
+    }
+
+pub returns-in-Some-clause-answers : goal.returns-in-Some-clause-answers
+returns-in-Some-clause-answers g c =
+    ended_after _ c.in-Some.ending c.loop.counter _ _ _ _ _ _ _ _ c.loop.invariant.so_far c.in-Some.ensures.serves
+
+pub returns-clause-answers : goal.returns-clause-answers
+returns-clause-answers g c =
+    let full : c.loop.counter ≡ 2 ^ 64 - 1 = omega arith in ended_endless _ c.loop.counter _ _ _ _ _ _ full c.loop.invariant.so_far
+
+pub returns-in-Some-clause-not_passed : goal.returns-in-Some-clause-not_passed
+returns-in-Some-clause-not_passed g c = λ before.
+    let going = c.loop.invariant.going before in (c.serve_next-next.ensures.stops going.1).0 ∙ going.0
+
+pub returns-clause-not_passed : goal.returns-clause-not_passed
+returns-clause-not_passed g c = λ before. (c.loop.invariant.going before).0

@@ -1,0 +1,122 @@
+-- The lines of an input, and their answers on the output.
+use Rattle.std.specs.Prelude.{◌≡◌, ℕ, ◌+◌, ◌-◌, ◌^◌, ◌≤◌, ◌⊎◌, Bool, false, List, [], ◌∷◌, ◌++◌, length, map, Option, Some, None, ⊤}
+use Rattle.std.specs.List.{flat_map}
+use Rattle.cif_line.specs.Device.{Takes, TakesPart}
+use Rattle.docker_cmd.specs.Prepared.{DeviceBytes}
+use Rattle.docker_desk.specs.Lines.{AreLines, IsNextLine, LineView, ReadsNext, whole_line, bad_line, cut_line}
+use Rattle.docker_desk.specs.Replies.{AnswerView, bytes_told}
+use Rattle.docker_desk.specs.declared.ending.Ending.{Ending}
+use Rattle.docker_desk.specs.declared.ending.Ending.TheVariants.{Ended, InputFailed, InputEndless, OutputFailed}
+use Rattle.docker_desk.specs.Moments.{Moment, Setting, Step}
+use Rattle.docker_desk.specs.Doing.{AreSteps, DoesLine}
+
+-- the lines of steps
+abbrev pub lines_of : {F : Type 0} → List (Step F) → List LineView
+lines_of = map (λ step. step.line)
+
+-- the answers of steps
+abbrev pub answers_of : {F : Type 0} → List (Step F) → List AnswerView
+answers_of = map (λ step. step.answer)
+
+-- the bytes of the answers of steps
+abbrev pub answers_told : {F : Type 0} → List (Step F) → List ℕ
+answers_told = flat_map (λ step. bytes_told step.answer)
+
+-- the text begins with these lines, and then comes the rest
+abbrev pub AreFirstLines : List ℕ → List LineView → List ℕ → Type 0
+AreFirstLines text [] rest = rest ≡ text
+AreFirstLines text (line ∷ lines) rest =
+    (next : List ℕ) × (IsNextLine text line next × AreFirstLines next lines rest)
+
+-- if the input's bytes can be named, they begin with these lines
+abbrev pub BeginsWith : DeviceBytes → List LineView → Type 0
+BeginsWith None lines = ⊤
+BeginsWith (Some text) lines = (rest : List ℕ) × AreFirstLines text lines rest
+
+-- if the input's bytes can be named, they are these lines
+abbrev pub HasLines : DeviceBytes → List LineView → Type 0
+HasLines None lines = ⊤
+HasLines (Some text) lines = AreLines text lines
+
+-- if the input's bytes can be named, they are at least 2 ^ 64 - 1
+abbrev pub IsEndless : DeviceBytes → Type 0
+IsEndless None = ⊤
+IsEndless (Some text) = 2 ^ 64 - 1 ≤ length text
+
+-- the output gained each answer but the last, and a proper beginning of that one
+pub record BreaksOff {F : Type 0} (steps : List (Step F))
+    (output output_now : DeviceBytes) : Type 0 where
+  pub earlier : List (Step F)
+  pub last : Step F
+  pub whole : steps ≡ earlier ++ last ∷ []
+  pub between : DeviceBytes
+  pub told : Takes output (answers_told earlier) between
+  pub part : TakesPart between (bytes_told last.answer) output_now
+
+-- how the steps of a session end: at the input's end all lines are answered; if a device fails, the
+-- first lines of the input are
+abbrev pub EndsSession : {F : Type 0} → Ending → DeviceBytes → List (Step F) → DeviceBytes
+    → DeviceBytes → Type 0
+EndsSession Ended input steps output output_now =
+    HasLines input (lines_of steps) × Takes output (answers_told steps) output_now
+EndsSession InputFailed input steps output output_now =
+    BeginsWith input (lines_of steps) × Takes output (answers_told steps) output_now
+EndsSession InputEndless input steps output output_now =
+    BeginsWith input (lines_of steps)
+    × (IsEndless input × Takes output (answers_told steps) output_now)
+EndsSession OutputFailed input steps output output_now =
+    BeginsWith input (lines_of steps) × BreaksOff steps output output_now
+
+-- the lines of an input were answered on an output, and led from one moment to the other
+pub record AnswersLines {F : Type 0} (setting : Setting F) (before after : Moment F)
+    (input output output_now : DeviceBytes) (ending : Ending) : Type 0 where
+  pub steps : List (Step F)
+  pub are : AreSteps setting before steps after
+  pub ends : EndsSession ending input steps output output_now
+
+-- how often the input and the output failed, before and after
+abbrev pub CountsStreams : Ending → ℕ → ℕ → ℕ → ℕ → Type 0
+CountsStreams Ended input input_now output output_now = (input_now ≡ input) × (output_now ≡ output)
+CountsStreams InputFailed input input_now output output_now =
+    (input_now ≡ input + 1) × (output_now ≡ output)
+CountsStreams InputEndless input input_now output output_now =
+    (input_now ≡ input) × (output_now ≡ output)
+CountsStreams OutputFailed input input_now output output_now =
+    (input_now ≡ input) × (output_now ≡ output + 1)
+
+-- another line may come after this one
+abbrev pub IsFollowed : LineView → Type 0
+IsFollowed (whole_line line) = ⊤
+IsFollowed bad_line = ⊤
+IsFollowed cut_line = ⊥
+
+-- after one line: the session goes on, with that line answered, or it ends here
+abbrev pub ServesNext : {F : Type 0} → Setting F → Moment F → Moment F → DeviceBytes → DeviceBytes
+    → DeviceBytes → DeviceBytes → Option Ending → Type 0
+ServesNext setting before after input input_now output output_now None =
+    (line : LineView) × (answer : AnswerView) × (IsFollowed line
+    × (DoesLine setting line before answer after
+    × (ReadsNext input line input_now × Takes output (bytes_told answer) output_now)))
+ServesNext setting before after input input_now output output_now (Some ending) =
+    AnswersLines setting before after input output output_now ending
+
+-- how often the input and the output failed, before and after one line
+abbrev pub CountsNext : Option Ending → ℕ → ℕ → ℕ → ℕ → Type 0
+CountsNext None input input_now output output_now = (input_now ≡ input) × (output_now ≡ output)
+CountsNext (Some ending) input input_now output output_now =
+    CountsStreams ending input input_now output output_now
+
+-- an input that hadn't reported its end isn't read after it; and if the session goes on, the input
+-- still hasn't reported it
+abbrev pub StopsAtEnd : Option Ending → Bool → Bool → Bool → Bool → Type 0
+StopsAtEnd result ended ended_now passed passed_now =
+    ended ≡ false → (passed_now ≡ passed) × (result ≡ None → ended_now ≡ false)
+
+-- the output gained an answer, and the session ends as it is next to; or the output failed, gained
+-- a proper beginning of the answer, and the session ends for that
+abbrev pub TellsAnswer : List ℕ → Option Ending → DeviceBytes → DeviceBytes → ℕ → ℕ → Option Ending
+    → Type 0
+TellsAnswer told next output output_now failures failures_now result =
+    ((result ≡ next) × (Takes output told output_now × (failures_now ≡ failures)))
+    ⊎ ((result ≡ Some OutputFailed)
+    × (TakesPart output told output_now × (failures_now ≡ failures + 1)))

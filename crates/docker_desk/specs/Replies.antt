@@ -1,0 +1,41 @@
+-- The answers to requests.
+use Rattle.std.specs.Prelude.{ℕ, List, [], codes}
+use Rattle.docker_cmd.specs.OfficeFault.{OfficeFault}
+use Rattle.docker_cmd.specs.FaultLine.{fault_line, status_of}
+use Rattle.docker_cmd.specs.declared.fault.Fault.TheVariants.{Office}
+use Rattle.docker_desk.specs.Answers.{answer_text}
+use Rattle.docker_desk.specs.declared.reply.Answer.{Answer}
+use Rattle.docker_desk.specs.declared.reply.Answer.TheVariants as code
+
+-- the request was done, and has this text; it was refused; or the line asks for nothing
+pub data AnswerView : Type 0 where
+  done_with : (text : List ℕ) → AnswerView
+  refused_for : (fault : OfficeFault) → AnswerView
+  no_request : AnswerView
+
+-- the answer that an answer of the code's type means
+abbrev pub answer_meant : Answer → AnswerView
+answer_meant (code.Text page) = done_with page.text
+answer_meant code.Done = done_with []
+answer_meant (code.Refused fault) = refused_for fault
+answer_meant code.Usage = no_request
+
+-- the line that answers a line that asks for nothing
+abbrev pub usage_line : List ℕ
+usage_line = codes "desk: usage: [--write] STATE, and then a line for each request: print TIPLOC DATE | train UID DATE | files | renew | with --write take FILE | merge OTHER | horizon DATE | save\n"
+
+-- the status of an answer
+abbrev pub status_told : AnswerView → ℕ
+status_told (done_with text) = 0
+status_told (refused_for fault) = status_of (Office fault)
+status_told no_request = 2
+
+-- the text of an answer
+abbrev pub text_told : AnswerView → List ℕ
+text_told (done_with text) = text
+text_told (refused_for fault) = fault_line (Office fault)
+text_told no_request = usage_line
+
+-- the bytes of an answer: its header and its text
+abbrev pub bytes_told : AnswerView → List ℕ
+bytes_told answer = answer_text (status_told answer) (text_told answer)

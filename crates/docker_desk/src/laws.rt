@@ -1,0 +1,107 @@
+//! What holds of every session. Each law is the contract of a function that does nothing, so it
+//! holds for every value that it names.
+ghost use Rattle.std.specs.Prelude.{◌≡◌, ◌≤◌, ◌++◌, ℕ, List, Some, length};
+ghost use Rattle.docker_model.specs.state.Lapse.{IsDayRefused};
+ghost use Rattle.docker_model.specs.state.State.{State, live_table};
+ghost use Rattle.docker_model.specs.state.StateText.{dks_2, state_text};
+ghost use Rattle.docker_model.specs.state.Summary.{HaveDistinctMoments};
+ghost use Rattle.docker_model.specs.state.Table.{Table, IsPlainTable};
+ghost use Rattle.docker_model.specs.docker.DockerText.{IsDockerText};
+ghost use Rattle.docker_model.specs.run.Run.{Known};
+ghost use Rattle.docker_model.specs.run.Knowledge.{AreOneKnowledge, HaveSameFiles};
+ghost use Rattle.docker_cmd.specs.Office.{HoldsState};
+ghost use Rattle.docker_cmd.specs.RunEnds.{EndsWith, PrintsAs};
+ghost use Rattle.docker_cmd.specs.Prepared.{DeviceBytes, most_bytes};
+ghost use Rattle.docker_desk.specs.Lines.{AreLines, LineView};
+ghost use Rattle.docker_train.specs.TrainText.{IsTrainText};
+ghost use Rattle.docker_desk.specs.Answering.{EndsSession, answers_of, lines_of};
+ghost use Rattle.docker_desk.specs.Doing.{AreSteps};
+ghost use Rattle.docker_desk.specs.Learning.{AreLearned, IsKnown, IsTrainOf, KnowsAt};
+ghost use Rattle.docker_desk.specs.Moments.{Moment, Setting, Step};
+ghost use Rattle.docker_desk.specs.Serving.{Around, BeginsAt};
+ghost use Rattle.docker_desk.specs.declared.ending.Ending.{Ending};
+ghost use Rattle.docker_desk.specs.declared.ending.Ending.TheVariants.{Ended};
+
+use docker_program::Files;
+use docker_train::laws::{found_train_is_plain, train_came_from_a_file};
+
+/// If the file of a session held the text of the summary of some files under a horizon, the first
+/// state is that summary. Each later state is the summary of these files and of all that was taken
+/// and received until then, under the greatest horizon.
+pub fn known_files_fix_sessions<F: Files>()
+    ensures begins { (name : List ℕ) (old : Around F) (first : Moment F) (start : Known)
+        (sent : State) → BeginsAt F.held name old first
+        → HoldsState dks_2 most_bytes (F.held old.files name) sent → IsKnown start sent
+        → IsKnown start first.desk.state }
+    ensures goes_on { (setting : Setting F) (first last : Moment F) (steps : List (Step F))
+        (old new : Known) → IsKnown old first.desk.state → AreSteps setting first steps last
+        → AreLearned setting old steps new → IsKnown new last.desk.state }
+    ensures knows { (setting : Setting F) (known : Known) (state : State)
+        → KnowsAt setting known state → IsKnown known state }
+{}
+
+/// The first steps of a session lead to a moment, and the others lead on from there. So what holds
+/// of the last state of a session holds of each state before it.
+pub fn each_moment_is_a_last_one<F: Files>()
+    ensures { (setting : Setting F) (first last : Moment F) (earlier later : List (Step F))
+        → AreSteps setting first (earlier ++ later) last → (between : Moment F)
+        × AreSteps setting first earlier between × AreSteps setting between later last }
+{}
+
+/// An office at the end of a run has the summary of what it knows, as a desk has.
+pub fn offices_know_as_desks()
+    ensures { (known : Known) (state : State) → EndsWith known state → IsKnown known state }
+{}
+
+/// Two sessions, or a session and an office of a run, that know the same files and the same horizon
+/// have equal states, and so equal bytes. They print the same docker for each timing point and each
+/// day that neither refuses, even if their horizons differ.
+pub fn known_files_fix_states()
+    ensures state { (first second : Known) (one two : State) → IsKnown first one
+        → IsKnown second two → AreOneKnowledge first second → one ≡ two }
+    ensures text { (first second : Known) (one two : State) → IsKnown first one
+        → IsKnown second two → AreOneKnowledge first second
+        → state_text dks_2 one ≡ state_text dks_2 two }
+    ensures docker { (first second : Known) (one two : State) → IsKnown first one
+        → IsKnown second two → HaveSameFiles first.files second.files → (place : List ℕ) (day : ℕ)
+        → ¬ IsDayRefused one.horizon day → ¬ IsDayRefused two.horizon day → (text other : List ℕ)
+        → IsDockerText (live_table one) place day text
+        → IsDockerText (live_table two) place day other → text ≡ other }
+{}
+
+/// If no two files that a session knows have the same moment, they have a plain table. Each docker
+/// that is printed then is the docker of this table.
+pub fn dockers_are_of_the_plain_table()
+    ensures { (known : Known) (state : State) → IsKnown known state
+        → HaveDistinctMoments known.files
+        → (plain : Table) × IsPlainTable known.files plain × PrintsAs state plain }
+{}
+
+/// Each train that is answered came from a file that is known. If no two of these files have the
+/// same moment, it is what their plain table has for the UID on the day.
+pub fn trains_came_from_known_files()
+    ensures { (known : Known) (state : State) (uid : List ℕ) (day : ℕ) (text : List ℕ)
+        → IsKnown known state → IsTrainText state uid day text → state.horizon ≤ day
+        → IsTrainOf known uid day text }
+{
+    // Called for their contracts, which say this of the files of any summary.
+    train_came_from_a_file();
+    found_train_is_plain();
+}
+
+/// A text has one list of lines.
+pub fn an_input_has_one_reading()
+    ensures { (text : List ℕ) (lines others : List LineView) → AreLines text lines
+        → AreLines text others → lines ≡ others }
+{}
+
+/// Each line that is done has one answer. If the session ends at the input's end, these are all
+/// lines of the input.
+pub fn each_line_has_one_answer<F: Files>()
+    ensures one { (ending : Ending) (input output output_now : DeviceBytes) (steps : List (Step F))
+        → EndsSession ending input steps output output_now
+        → length (answers_of steps) ≡ length (lines_of steps) }
+    ensures all { (text : List ℕ) (lines : List LineView) (output output_now : DeviceBytes)
+        (steps : List (Step F)) → AreLines text lines
+        → EndsSession Ended (Some text) steps output output_now → lines_of steps ≡ lines }
+{}

@@ -1,0 +1,63 @@
+//! The answers to requests.
+ghost use Rattle.std.specs.Prelude.{◌-◌, ◌^◌, ◌<◌, IsErr, OnOk, OnErr};
+ghost use Rattle.cif_line.specs.Device.{CountsFailure, Takes, TakesPart};
+ghost use Rattle.docker_desk.specs.Answers.{answer_text};
+ghost use Rattle.docker_cmd.specs.FaultLine.{fault_line, status_of};
+ghost use Rattle.docker_cmd.specs.declared.fault.Fault.TheVariants as why;
+ghost use Rattle.docker_desk.specs.Replies.{answer_meant, bytes_told};
+
+use crate::answers::write_answer;
+use crate::page::Page;
+use cif_line::{Failed, Sink};
+use docker_cmd::{Fault, OfficeFault, fault_text, status};
+
+/// The line that answers a line that asks for nothing.
+pub const USAGE: &[u8] =
+    b"desk: usage: [--write] STATE, and then a line for each request: print TIPLOC DATE | train UID DATE | files | renew | with --write take FILE | merge OTHER | horizon DATE | save\n";
+
+/// The answer to a request.
+#[derive(Debug, Drop)]
+pub enum Answer {
+    /// The request was done, and this is its text.
+    Text(Page),
+    /// The request was done, and has no text.
+    Done,
+    /// The request was refused, and changed nothing.
+    Refused(OfficeFault),
+    /// The line asks for nothing.
+    Usage,
+}
+
+/// Writes an answer: its header, and then the text that was asked for, or the line of the fault. If
+/// a write fails, the sink has gained a proper beginning of the answer.
+pub fn write_reply<K: Sink>(answer: &Answer, sink: &mut K) -> Result<(), Failed>
+    requires { K.failures sink.old < 2 ^ 64 - 1 }
+    ensures whole { OnOk result (Takes (K.taken sink.old) (bytes_told (answer_meant answer.now))
+        (K.taken sink.new)) }
+    ensures part { OnErr result (TakesPart (K.taken sink.old)
+        (bytes_told (answer_meant answer.now)) (K.taken sink.new)) }
+    ensures failures { CountsFailure (IsErr result) (K.failures sink.old) (K.failures sink.new) }
+{
+    match answer {
+        Answer::Text(page) => write_answer(0, page.text(), sink),
+        Answer::Done => write_answer(0, b"", sink),
+        Answer::Refused(fault) => write_refusal(fault, sink),
+        Answer::Usage => write_answer(2, USAGE, sink),
+    }
+}
+
+/// Writes the answer to a request that is refused.
+fn write_refusal<K: Sink>(fault: &OfficeFault, sink: &mut K) -> Result<(), Failed>
+    requires { K.failures sink.old < 2 ^ 64 - 1 }
+    ensures whole { OnOk result (Takes (K.taken sink.old)
+        (answer_text (status_of (why.Office fault.now)) (fault_line (why.Office fault.now)))
+        (K.taken sink.new)) }
+    ensures part { OnErr result (TakesPart (K.taken sink.old)
+        (answer_text (status_of (why.Office fault.now)) (fault_line (why.Office fault.now)))
+        (K.taken sink.new)) }
+    ensures failures { CountsFailure (IsErr result) (K.failures sink.old) (K.failures sink.new) }
+{
+    let fault = Fault::Office(*fault);
+    let line = fault_text(&fault);
+    write_answer(status(&fault), line.as_slice(), sink)
+}

@@ -1,0 +1,92 @@
+-- Lists that have some elements of another list, in their order.
+use Rattle.std.proofs.Common.{List, [], ◌∷◌, ◌++◌, ◌≡◌, ◌∙◌, refl, sym, subst, inl, inr, ◌⊎◌, Contains, Bool, true, false, cond, All}
+use Rattle.std.specs.Prelude.{filter}
+use Rattle.docker_laws.specs.Excerpt.{IsSublist}
+use Rattle.cif_laws.proofs.lists.Membership.{Contains-cons, cons-Contains, cons-Contains-first, nil-Contains, below_by_recursion, each_member, member_of, all_members}
+use Rattle.cif_laws.proofs.lists.Later.{AllLater}
+
+-- some elements of a list are some elements of the list with one more in front
+pub sublist_behind : {A : Type 0} (xs ys : List A) (y : A) → IsSublist xs ys → IsSublist xs (y ∷ ys)
+sublist_behind [] ys y is = tt
+sublist_behind (x ∷ xs) ys y is = inr is
+
+-- each list is some elements of itself
+pub sublist_itself : {A : Type 0} (xs : List A) → IsSublist xs xs
+sublist_itself [] = tt
+sublist_itself (x ∷ xs) = inl (refl, sublist_itself xs)
+
+-- the elements that pass a test are some elements of the list
+pub sublist_filter : {A : Type 0} (test : A → Bool) (xs : List A) → IsSublist (filter test xs) xs
+sublist_filter test [] = tt
+sublist_filter test (x ∷ xs) = by (test x) (sublist_filter test xs)
+  where
+    by : (b : Bool) → IsSublist (filter test xs) xs → IsSublist (cond b (x ∷ filter test xs) (filter test xs)) (x ∷ xs)
+    by true rest = inl (refl, rest)
+    by false rest = sublist_behind (filter test xs) xs x rest
+
+-- the members of a sublist are members of the list
+pub sublist_member : {A : Type 0} (xs ys : List A) (z : A) → IsSublist xs ys → Contains xs z → Contains ys z
+sublist_member [] ys z is among = absurd (nil-Contains z among)
+sublist_member (x ∷ xs) [] z is among = absurd is
+sublist_member (x ∷ xs) (y ∷ ys) z is among =
+    by (λ rest inside. sublist_member xs ys z rest inside) (λ rest. sublist_member (x ∷ xs) ys z rest among) is (Contains-cons x xs z among)
+  where
+    by : (IsSublist xs ys → Contains xs z → Contains ys z) → (IsSublist (x ∷ xs) ys → Contains ys z)
+        → ((x ≡ y) × IsSublist xs ys) ⊎ IsSublist (x ∷ xs) ys → (x ≡ z) ⊎ Contains xs z → Contains (y ∷ ys) z
+    by inner outer (inl first) (inl same) = subst (Contains (y ∷ ys)) same (subst (λ v. Contains (y ∷ ys) v) (sym first.0) (cons-Contains-first y ys))
+    by inner outer (inl first) (inr inside) = cons-Contains y ys z (inner first.1 inside)
+    by inner outer (inr rest) where_ = cons-Contains y ys z (outer rest)
+
+-- if something holds of all elements of a list, it holds of all of a sublist
+pub sublist_all : {A : Type 0} (P : A → Type 0) (xs ys : List A) → IsSublist xs ys → All P ys → All P xs
+sublist_all P xs ys is all = all_members P xs (λ z among. member_of P ys z all (sublist_member xs ys z is among))
+
+-- if each member of a list stands in a relation to each later one, so it is in a sublist
+pub sublist_later : {A : Type 0} (R : A → A → Type 0) (xs ys : List A) → IsSublist xs ys → AllLater R ys → AllLater R xs
+sublist_later R [] ys is later = tt
+sublist_later R (x ∷ xs) [] is later = absurd is
+sublist_later {A} R (x ∷ xs) (y ∷ ys) is later =
+    by (λ rest. sublist_later R xs ys rest later.1) (λ rest. sublist_later R (x ∷ xs) ys rest later.1) is
+  where
+    by : (IsSublist xs ys → AllLater R xs) → (IsSublist (x ∷ xs) ys → AllLater R (x ∷ xs)) → ((x ≡ y) × IsSublist xs ys) ⊎ IsSublist (x ∷ xs) ys
+        → AllLater R (x ∷ xs)
+    by inner outer (inl first) = (
+      each_member (R x) xs (λ z among.
+          subst (λ v. R v z) (sym first.0) (below_by_recursion (R y) ys z later.0 (sublist_member xs ys z first.1 among))),
+      inner first.1,
+    )
+    by inner outer (inr rest) = outer rest
+
+-- a sublist of a sublist is a sublist
+pub sublist_onward : {A : Type 0} (xs ys zs : List A) → IsSublist xs ys → IsSublist ys zs → IsSublist xs zs
+sublist_onward [] ys zs first second = tt
+sublist_onward (x ∷ xs) [] zs first second = absurd first
+sublist_onward (x ∷ xs) (y ∷ ys) [] first second = absurd second
+sublist_onward {A} (x ∷ xs) (y ∷ ys) (z ∷ zs) first second =
+    by (λ inside behind. sublist_onward xs ys zs inside behind) (λ inside behind. sublist_onward (x ∷ xs) ys zs inside behind)
+    (λ behind. sublist_onward (x ∷ xs) (y ∷ ys) zs first behind) first second
+  where
+    by : (IsSublist xs ys → IsSublist ys zs → IsSublist xs zs) → (IsSublist (x ∷ xs) ys → IsSublist ys zs → IsSublist (x ∷ xs) zs)
+        → (IsSublist (y ∷ ys) zs → IsSublist (x ∷ xs) zs) → ((x ≡ y) × IsSublist xs ys) ⊎ IsSublist (x ∷ xs) ys
+        → ((y ≡ z) × IsSublist ys zs) ⊎ IsSublist (y ∷ ys) zs → IsSublist (x ∷ xs) (z ∷ zs)
+    by both_step first_step skip (inl here) (inl there) = inl (here.0 ∙ there.0, both_step here.1 there.1)
+    by both_step first_step skip (inr later) (inl there) = inr (first_step later there.1)
+    by both_step first_step skip here (inr behind) = inr (skip behind)
+
+-- two sublists joined are a sublist of the joined lists
+pub sublist_append : {A : Type 0} (us xs vs ys : List A) → IsSublist us xs → IsSublist vs ys → IsSublist (us ++ vs) (xs ++ ys)
+sublist_append [] [] vs ys first second = second
+sublist_append [] (x ∷ xs) vs ys first second = sublist_behind vs (xs ++ ys) x (sublist_append [] xs vs ys tt second)
+sublist_append (u ∷ us) [] vs ys first second = absurd first
+sublist_append {A} (u ∷ us) (x ∷ xs) vs ys first second =
+    by (λ inside. sublist_append us xs vs ys inside second) (λ inside. sublist_append (u ∷ us) xs vs ys inside second) first
+  where
+    by : (IsSublist us xs → IsSublist (us ++ vs) (xs ++ ys)) → (IsSublist (u ∷ us) xs → IsSublist (u ∷ us ++ vs) (xs ++ ys))
+        → ((u ≡ x) × IsSublist us xs) ⊎ IsSublist (u ∷ us) xs → IsSublist (u ∷ us ++ vs) (x ∷ xs ++ ys)
+    by both_step skip (inl here) = inl (here.0, both_step here.1)
+    by both_step skip (inr later) = inr (skip later)
+
+-- a front of a list is a sublist of it
+pub sublist_front : {A : Type 0} (xs ys : List A) → IsSublist xs (xs ++ ys)
+sublist_front [] ys = tt
+sublist_front (x ∷ xs) ys = inl (refl, sublist_front xs ys)

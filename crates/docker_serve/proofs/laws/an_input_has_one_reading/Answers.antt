@@ -1,5 +1,0 @@
-use Rattle.docker_serve.proofs.ReadingLemmas.{one_reading}
-use Rattle.docker_serve.proofs.laws.an_input_has_one_reading.Goals as goal
-
-pub returns : goal.returns
-returns c = one_reading

@@ -1,5 +1,0 @@
-use Rattle.docker_serve.proofs.FixedLemmas.{office_knows}
-use Rattle.docker_serve.proofs.laws.offices_know_as_desks.Goals as goal
-
-pub returns : goal.returns
-returns c = office_knows

@@ -1,0 +1,42 @@
+-- The entry of a live schedule: its stamp, and what its text needs of the stamp.
+use Rattle.std.proofs.Common.{◌≡◌, ◌<◌, ap, sym, ◌∙◌, subst, Some, None}
+use Rattle.std.specs.Prelude.{option_and_then}
+use Rattle.std.proofs.lemmas.List.Elements.{All-contains}
+use Rattle.docker_model.specs.file.Change.{Key, Body, schedule_key, schedule_body}
+use Rattle.docker_model.specs.state.Stamp.{LedgerItem, FileStamp}
+use Rattle.docker_model.specs.state.Op.{Op, deleted, lapsed, put_with, Entry, body_of}
+use Rattle.docker_model.specs.state.State.{State, IsValid, IsGoodItem, IsGoodEntry, entry_at, live_table}
+use Rattle.docker_model.specs.docker.LiveRows.{Train}
+use Rattle.cif_laws.proofs.lists.BoolsAndOptions.{none_some}
+use Rattle.cif_laws.proofs.lists.Membership.{Contains-map}
+use Rattle.state_laws.proofs.joins.StagedEntry.{entry_at_iff}
+use Rattle.train_choice.specs.Along.{IsLiveTrain}
+use Rattle.docker_train.specs.TrainText.{IsStampOf}
+
+-- an op that has a body puts it
+put_of : (op : Op) (body : Body) → body_of op ≡ Some body → op ≡ put_with body
+put_of deleted body is = none_some body is
+put_of lapsed body is = none_some body is
+put_of (put_with own) body is = cc
+
+-- the entry of a live schedule has its stamp
+pub stamp_is : (state : State) (train : Train) (entry : Entry) → IsLiveTrain (live_table state) train
+    → Some entry ≡ entry_at state (schedule_key train.key) → IsStampOf state train entry.stamp
+stamp_is state train entry live at = sym at ∙ (λ i. Some (record { stamp = entry.stamp; op = put i }))
+  where
+    put : entry.op ≡ put_with (schedule_body train.lines)
+    put = put_of entry.op (schedule_body train.lines) (ap (option_and_then (λ (e : Entry). body_of e.op)) at ∙ live)
+
+-- a live schedule has an entry
+pub entry_there : (state : State) (train : Train) → IsLiveTrain (live_table state) train → None ≡ entry_at state (schedule_key train.key) → ⊥
+entry_there state train live at =
+    none_some (schedule_body train.lines) (ap (option_and_then (λ (e : Entry). body_of e.op)) at ∙ live)
+
+-- the stamp of an entry has a minute of the day
+pub minute_of_day : (state : State) (key : Key) (entry : Entry) → IsValid state → entry_at state key ≡ Some entry → entry.stamp.file.moment.minute < 1440
+minute_of_day state key entry valid at =
+    let among = (entry_at_iff state valid.entries.1 key entry).0 at in
+    let good = All-contains (IsGoodEntry state.ledger) state.entries (key, entry) valid.entries.0 among in
+    let item = Contains-map (λ (it : LedgerItem). it.stamp) state.ledger entry.stamp.file good.stamp.in_ledger in
+    let is = All-contains IsGoodItem state.ledger item.0 valid.ledger.each item.1 in
+    subst (λ (stamp : FileStamp). stamp.moment.minute < 1440) item.2 is.minute

@@ -1,0 +1,198 @@
+-- That there is only one answer, where it came from, and which trains of a docker it names.
+use Rattle.std.proofs.Common.{◌≡◌, ℕ, ◌+◌, ◌<◌, ◌≤◌, List, Bool, true, false, cond, refl, ap, sym, ◌∙◌, subst, inl, inr, ◌⊎◌, Some, None, Contains, arith}
+use Rattle.std.specs.Prelude.{Option, option_map, IsTrue, ◌&&◌, nat_le, nat_lt}
+use Rattle.std.proofs.lemmas.Bool.{cases_lt, leb-true}
+use Rattle.docker_model.specs.records.Record.{columns}
+use Rattle.docker_model.specs.records.Date.{IsDay, date_number, end_number, is_end_date, no_end_number, runs_on_weekday, weekday_of}
+use Rattle.docker_model.specs.file.File.{first_record}
+use Rattle.docker_model.specs.file.Change.{Body, Act, Change, ScheduleKey, changes, schedule_key, schedule_body, delete, put}
+use Rattle.docker_model.specs.state.Stamp.{Stamp, file_stamp_of}
+use Rattle.docker_model.specs.state.Op.{Op, deleted, lapsed, put_with, Entry, op_of, body_end, readable_end}
+use Rattle.docker_model.specs.state.State.{State, IsValid, entry_at, live_table}
+use Rattle.docker_model.specs.state.Lapse.{IsDayRefused, lapse, lapse_entry, lapse_table}
+use Rattle.docker_model.specs.state.Table.{Table, IsPlainTable}
+use Rattle.docker_model.specs.state.Summary.{IsSummary, IsGreatestEntryOf}
+use Rattle.docker_model.specs.docker.Choice.{IsRunning, TrainRuns, runs_within}
+use Rattle.docker_model.specs.docker.LiveRows.{Train, IsChosenOn}
+use Rattle.docker_model.specs.docker.DockerLine.{DockerLine}
+use Rattle.docker_model.specs.docker.DockerList.{IsEventLine}
+use Rattle.docker_model.specs.docker.Association.{IsAssociationLine}
+use Rattle.cif_laws.proofs.lists.BoolsAndOptions.{both}
+use Rattle.state_laws.proofs.joins.StagedEntry.{entry_at_iff}
+use Rattle.state_laws.proofs.states.TableLapsed.{live_stays}
+use Rattle.state_laws.proofs.states.PlainLive.{live_is_lapsed_plain}
+use Rattle.docker_laws.proofs.dockers.TrainOfRows.{one_answer}
+use Rattle.docker_laws.proofs.dockers.LapsedChoice.{chosen_iff}
+use Rattle.docker_laws.proofs.dockers.PrintedDocker.{day_bound}
+use Rattle.docker_laws.proofs.dockers.GoodBodies.{good_bodies}
+use Rattle.docker_laws.proofs.dockers.NearStarts.{event_near, association_near}
+use Rattle.train_choice.specs.Along.{IsLiveTrain}
+use Rattle.docker_train.specs.TrainText.{Stamped, IsFoundFor, IsStampOf, IsTrainText, train_text}
+use Rattle.docker_train.specs.Origin.{CameFrom, IsFoundToRun, change_of}
+use Rattle.docker_train.proofs.Found.{stamp_is, entry_there}
+
+-- ---- one answer
+
+stamp_in : Stamp → Option Entry → Stamp
+stamp_in other None = other
+stamp_in other (Some entry) = entry.stamp
+
+one_stamp : (state : State) (train other : Train) (stamp its : Stamp) → train ≡ other → IsStampOf state train stamp → IsStampOf state other its → stamp ≡ its
+unfolding stamp_in
+one_stamp state train other stamp its same one two =
+    ap (stamp_in stamp) (sym (subst (λ (t : Train). IsStampOf state t stamp) same one) ∙ two)
+
+some_same : {A : Type 0} (a b : A) → Some a ≡ Some b → a ≡ b
+some_same a b h = cc
+
+-- a state has one answer for a UID and a day
+pub one_found : (state : State) (uid : List ℕ) (day : ℕ) (a b : Option Stamped) → IsFoundFor state uid day a → IsFoundFor state uid day b → a ≡ b
+one_found state uid day None None one two = refl
+one_found state uid day None (Some b) one (two, stamp) = absurd (one b.schedule.key b.schedule.lines two.running)
+one_found state uid day (Some a) None (one, stamp) two = absurd (two a.schedule.key a.schedule.lines one.running)
+one_found state uid day (Some a) (Some b) (one, stamp) (two, its) =
+    let same = some_same a.schedule b.schedule (one_answer (live_table state) uid day (Some a.schedule) (Some b.schedule) one two) in
+    let stamps = one_stamp state a.schedule b.schedule a.stamp b.stamp same stamp its in
+    λ i. Some (record { schedule = same i; stamp = stamps i })
+
+-- so it has one text
+pub one_text : (state : State) (uid : List ℕ) (day : ℕ) (text other : List ℕ) → IsTrainText state uid day text → IsTrainText state uid day other → text ≡ other
+one_text state uid day text other (found, is, text_is) (second, its, other_is) =
+    text_is ∙ ap (train_text uid day) (one_found state uid day found second is its) ∙ sym other_is
+
+-- ---- where it came from
+
+put_under : (horizon : ℕ) (op : Op) (body : Body) → lapse horizon op ≡ put_with body → op ≡ put_with body
+put_under horizon deleted body is = cc
+put_under horizon lapsed body is = cc
+put_under horizon (put_with own) body is = by (nat_lt (body_end own) horizon) is
+  where
+    by : (b : Bool) → cond b lapsed (put_with own) ≡ put_with body → put_with own ≡ put_with body
+    by true h = cc
+    by false h = h
+
+act_of_put : (act : Act) (body : Body) → op_of act ≡ put_with body → act ≡ put body
+act_of_put delete body is = cc
+act_of_put (put own) body is = cc
+
+-- a schedule of a summary came from one of its files
+pub came_from : (files : List (List (List ℕ))) (horizon : ℕ) (state : State) (uid : List ℕ) (day : ℕ) (found : Stamped) → IsSummary files horizon state
+    → IsFoundFor state uid day (Some found) → CameFrom files found
+came_from files horizon state uid day found is (chosen, at) =
+    let key = schedule_key found.schedule.key in
+    let entry : Entry = record { stamp = found.stamp; op = put_with (schedule_body found.schedule.lines) } in
+    let made = (is.entries key entry).0 ((entry_at_iff state is.entries_ascend key entry).0 at) in
+    by made.0 made.1 made.2
+  where
+    by : (greatest : Entry) → IsGreatestEntryOf files is.floor (schedule_key found.schedule.key) greatest
+        → lapse_entry horizon greatest ≡ record { stamp = found.stamp; op = put_with (schedule_body found.schedule.lines) } → CameFrom files found
+    by greatest made lapses = record {
+      file = made.is.file;
+      among = made.is.kept.among;
+      stamped = ap (λ (s : Stamp). s.file) stamps;
+      changed = subst (λ (c : Change). Contains (changes made.is.file) c) change_is made.is.among;
+    }
+      where
+        stamps : record { file = file_stamp_of made.is.file; number = made.is.change.number } ≡ found.stamp
+        stamps = ap (λ (e : Entry). e.stamp) made.is.entry_is ∙ ap (λ (e : Entry). e.stamp) lapses
+
+        act_is : made.is.change.act ≡ put (schedule_body found.schedule.lines)
+        act_is =
+            act_of_put made.is.change.act (schedule_body found.schedule.lines)
+            (ap (λ (e : Entry). e.op) made.is.entry_is
+            ∙ put_under horizon greatest.op (schedule_body found.schedule.lines) (ap (λ (e : Entry). e.op) lapses))
+
+        change_is : made.is.change ≡ change_of found
+        change_is = λ i. record { number = (stamps i).number; key = made.is.key_is i; act = act_is i }
+
+-- ---- the plain table
+
+within_end : (first last days : List ℕ) (day : ℕ) → IsTrue (runs_within first last days day) → day ≤ end_number last
+within_end first last days day runs =
+    let dates = (both (nat_le (date_number first) day && nat_le day (end_number last)) (runs_on_weekday days (weekday_of day)) runs).0 in
+    leb-true day (end_number last) (both (nat_le (date_number first) day) (nat_le day (end_number last)) dates).1
+
+end_reached : (horizon day : ℕ) (last : List ℕ) → horizon ≤ no_end_number → horizon ≤ day → day ≤ end_number last → horizon ≤ readable_end last
+end_reached horizon day last bound from to = by (is_end_date last)
+  where
+    by : (b : Bool) → horizon ≤ cond b (end_number last) no_end_number
+    by true = omega arith
+    by false = bound
+
+still_runs : (horizon : ℕ) (table : Table) (uid : List ℕ) (day : ℕ) (key : ScheduleKey) (lines : List (List ℕ)) → horizon ≤ no_end_number → horizon ≤ day
+    → IsRunning table uid day key lines → IsRunning (lapse_table horizon table) uid day key lines
+still_runs horizon table uid day key lines bound from is = record {
+  uid_is = is.uid_is;
+  is_live = live_stays horizon table (schedule_key key) (schedule_body lines) is.is_live
+      (end_reached horizon day (columns 16 21 (first_record lines)) bound from
+      (within_end (columns 10 15 (first_record lines)) (columns 16 21 (first_record lines)) (columns 22 28 (first_record lines)) day is.runs_then));
+  runs_then = is.runs_then;
+}
+
+-- what is chosen in a lapsed table is chosen in the table, on a day from the horizon on
+chosen_unlapsed : (horizon : ℕ) (table : Table) (uid : List ℕ) (day : ℕ) (found : Option Train) → horizon ≤ no_end_number → horizon ≤ day
+    → IsChosenOn (lapse_table horizon table) uid day found → IsChosenOn table uid day found
+chosen_unlapsed horizon table uid day None bound from none = λ key lines runs. none key lines (still_runs horizon table uid day key lines bound from runs)
+chosen_unlapsed horizon table uid day (Some train) bound from is = (chosen_iff horizon bound table day from uid train.key train.lines).1 is
+
+schedules_are : (state : State) (uid : List ℕ) (day : ℕ) (found : Option Stamped) → IsFoundFor state uid day found
+    → IsChosenOn (live_table state) uid day (option_map (λ (it : Stamped). it.schedule) found)
+schedules_are state uid day None is = is
+schedules_are state uid day (Some found) (is, stamp) = is
+
+-- what is found in a summary is what the plain table has
+pub found_is_plain : (files : List (List (List ℕ))) (horizon : ℕ) (state : State) (table : Table) (uid : List ℕ) (day : ℕ) (found : Option Stamped)
+    → IsSummary files horizon state → IsPlainTable files table → IsDay horizon → horizon ≤ day → IsFoundFor state uid day found
+    → IsChosenOn table uid day (option_map (λ (it : Stamped). it.schedule) found)
+found_is_plain files horizon state table uid day found is plain is_day from found_is =
+    let there = option_map (λ (it : Stamped). it.schedule) found in
+    chosen_unlapsed horizon table uid day there (day_bound horizon is_day) from
+    (subst (λ (live : Table). IsChosenOn live uid day there) (live_is_lapsed_plain files horizon state table is plain)
+    (schedules_are state uid day found found_is))
+
+-- ---- the trains of a docker
+
+live_has_stamp : (state : State) (train : Train) → IsLiveTrain (live_table state) train → (stamp : Stamp) × IsStampOf state train stamp
+live_has_stamp state train live = by (entry_at state (schedule_key train.key)) refl
+  where
+    by : (at : Option Entry) → entry_at state (schedule_key train.key) ≡ at → (stamp : Stamp) × IsStampOf state train stamp
+    by None h = absurd (entry_there state train live (sym h))
+    by (Some entry) h = (entry.stamp, stamp_is state train entry live (sym h))
+
+answered_from : (horizon start day : ℕ) → ¬ IsDayRefused horizon day → day ≤ start + 2 → horizon ≤ start
+answered_from horizon start day open_day near = by (cases_lt 0 horizon) (cases_lt day (horizon + 3))
+  where
+    by : (0 < horizon) ⊎ (horizon ≤ 0) → (day < horizon + 3) ⊎ (horizon + 3 ≤ day) → horizon ≤ start
+    by (inl some) (inl before) = absurd (open_day (some, before))
+    by (inr none) early = omega arith
+    by (inl some) (inr late) = omega arith
+
+found_to_run : (state : State) (start day : ℕ) (key : ScheduleKey) (lines : List (List ℕ)) → ¬ IsDayRefused state.horizon day → day ≤ start + 2
+    → TrainRuns (live_table state) key.uid start key lines → IsFoundToRun state key.uid start (record { key = key; lines = lines })
+found_to_run state start day key lines open_day near runs =
+    let stamped = live_has_stamp state (record { key = key; lines = lines }) runs.chosen.running.is_live in record {
+      answered = answered_from state.horizon start day open_day near;
+      stamp = stamped.0;
+      found = (runs.chosen, stamped.1);
+      runs = runs.no_cancellation;
+    }
+
+-- the train of an event is found for its UID on its start day
+pub event_train : (state : State) (place : List ℕ) (day : ℕ) (line : DockerLine) → IsValid state → ¬ IsDayRefused state.horizon day
+    → (made : IsEventLine (live_table state) place day line)
+    → IsFoundToRun state line.uid line.start (record { key = made.key; lines = made.schedule })
+event_train state place day line valid open_day made =
+    let near = event_near (live_table state) place day line (good_bodies state valid) made in
+    subst (λ (l : DockerLine). IsFoundToRun state l.uid l.start (record { key = made.key; lines = made.schedule })) (sym made.is)
+    (found_to_run state made.start day made.key made.schedule open_day near.1 made.train_runs)
+
+-- so is the base train of an association
+pub base_train : (state : State) (place : List ℕ) (day : ℕ) (line : DockerLine) → IsValid state → ¬ IsDayRefused state.horizon day
+    → (made : IsAssociationLine (live_table state) place day line)
+    → IsFoundToRun state line.uid line.start (record { key = made.base_key; lines = made.base })
+base_train state place day line valid open_day made =
+    let near = association_near (live_table state) place day line (good_bodies state valid) made in
+    let runs : TrainRuns (live_table state) made.base_key.uid made.start made.base_key made.base =
+    subst (λ (uid : List ℕ). TrainRuns (live_table state) uid made.start made.base_key made.base) (sym made.base_runs.chosen.running.uid_is) made.base_runs in
+    subst (λ (l : DockerLine). IsFoundToRun state l.uid l.start (record { key = made.base_key; lines = made.base })) (sym made.is)
+    (found_to_run state made.start day made.base_key made.base open_day near.1 runs)

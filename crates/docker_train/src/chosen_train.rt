@@ -1,0 +1,96 @@
+//! What a state says of a UID on a day.
+ghost use Rattle.std.specs.Prelude.{◌≡◌};
+ghost use Rattle.std.specs.Option.{option_copied, option_map};
+ghost use Rattle.docker_join.specs.Meaning.{stamp_meant};
+ghost use Rattle.docker_train.specs.TrainText.{lines_of};
+ghost use Rattle.docker_train.specs.TrainText as text;
+
+use crate::stamped::Stamped;
+use cif_line::{Day, Line, Uid};
+use docker_join::Stamp;
+use std::marker::Model;
+use train_choice::ScheduleView;
+
+/// A UID and a day, with the schedule chosen for them, if there is one.
+#[derive(Debug, Drop)]
+pub struct ChosenTrain<'a> {
+    uid: Uid,
+    day: Day,
+    found: Option<Stamped<'a>>,
+}
+
+impl<'a> Model for ChosenTrain<'a> {
+    ghost use Rattle.docker_train.specs.Answer as answer;
+
+    ghost Value = { answer.Answer };
+
+    ghost view = { λ train. record {
+      uid = train.uid;
+      day = train.day;
+      found = train.found;
+    } };
+}
+
+impl<'a> ChosenTrain<'a> {
+    /// What is found for a UID and a day.
+    pub(crate) fn of(uid: Uid, day: Day, found: Option<Stamped<'a>>) -> ChosenTrain<'a>
+        ensures { result ≡ record { uid = uid; day = day; found = found.entry } }
+    {
+        ChosenTrain { uid, day, found }
+    }
+
+    /// The UID.
+    pub fn uid(&self) -> Uid
+        ensures { result ≡ self.now.uid }
+    {
+        self.uid
+    }
+
+    /// The day.
+    pub fn day(&self) -> Day
+        ensures { result ≡ self.now.day }
+    {
+        self.day
+    }
+
+    /// The chosen schedule: its key and its lines. It may be a cancellation. `None` if no schedule
+    /// runs.
+    pub fn schedule(&self) -> Option<&ScheduleView<'a>>
+        ensures { option_copied result
+            ≡ option_map (λ (it : text.Stamped). it.schedule) self.now.found }
+    {
+        match &self.found {
+            Some(stamped) => Some(stamped.schedule()),
+            None => None,
+        }
+    }
+
+    /// Where the schedule came from: the date, the time and the reference of the extract, and the
+    /// record's number there. `None` if no schedule runs.
+    pub fn stamp(&self) -> Option<&'a Stamp>
+        ensures { option_map stamp_meant (option_copied result)
+            ≡ option_map (λ (it : text.Stamped). it.stamp) self.now.found }
+    {
+        match &self.found {
+            Some(stamped) => Some(stamped.stamp()),
+            None => None,
+        }
+    }
+
+    /// What is found.
+    pub(crate) fn found(&self) -> Option<&Stamped<'a>>
+        ensures { option_copied result ≡ self.now.found }
+    {
+        self.found.as_ref()
+    }
+
+    /// The lines of the schedule. There are none if no schedule runs.
+    pub(crate) fn lines(&self) -> &[Line]
+        ensures { result.now ≡ lines_of self.now.found }
+    {
+        match &self.found {
+            Some(stamped) => stamped.schedule().lines(),
+            None => &[],
+        }
+    }
+}

@@ -1,0 +1,53 @@
+//! What the answers for a UID and a day say. Each law is the contract of a function with no body,
+//! so it is true of everything that it names.
+ghost use Rattle.std.specs.Prelude.{◌≡◌, ◌≤◌, ℕ, List, Option, Some, option_map};
+ghost use Rattle.docker_model.specs.records.Date.{IsDay};
+ghost use Rattle.docker_model.specs.state.Lapse.{IsDayRefused};
+ghost use Rattle.docker_model.specs.state.State.{State, IsValid, live_table};
+ghost use Rattle.docker_model.specs.state.Summary.{IsSummary};
+ghost use Rattle.docker_model.specs.state.Table.{Table, IsPlainTable};
+ghost use Rattle.docker_model.specs.docker.Association.{IsAssociationLine};
+ghost use Rattle.docker_model.specs.docker.DockerLine.{DockerLine};
+ghost use Rattle.docker_model.specs.docker.DockerList.{IsEventLine};
+ghost use Rattle.docker_model.specs.docker.LiveRows.{IsChosenOn};
+ghost use Rattle.docker_train.specs.TrainText.{IsFoundFor, IsTrainText, Stamped};
+ghost use Rattle.docker_train.specs.Origin.{CameFrom, IsFoundToRun};
+
+/// A state, a UID and a day have at most one train text.
+pub fn one_train_text()
+    ensures { (state : State) (uid : List ℕ) (day : ℕ) (text other : List ℕ)
+        → IsTrainText state uid day text → IsTrainText state uid day other → text ≡ other }
+{}
+
+/// A schedule found in the summary of some files came from one of them: the file with its date,
+/// time and reference makes the change with its record number.
+pub fn train_came_from_a_file()
+    ensures { (files : List (List (List ℕ))) (horizon : ℕ) (state : State) (uid : List ℕ) (day : ℕ)
+        (found : Stamped) → IsSummary files horizon state → IsFoundFor state uid day (Some found)
+        → CameFrom files found }
+{}
+
+/// If the files of a set have distinct moments, what is found in their summary on a day from the
+/// horizon on is what their plain table has then.
+pub fn found_train_is_plain()
+    ensures { (files : List (List (List ℕ))) (horizon : ℕ) (state : State) (table : Table)
+        (uid : List ℕ) (day : ℕ) (found : Option Stamped) → IsSummary files horizon state
+        → IsPlainTable files table → IsDay horizon → horizon ≤ day → IsFoundFor state uid day found
+        → IsChosenOn table uid day (option_map (λ (it : Stamped). it.schedule) found) }
+{}
+
+/// Each event on a docker that isn't refused belongs to the train that is found for its UID on its
+/// start day, and that train runs then. Each association on it belongs to a base train of which the
+/// same is true.
+pub fn trains_of_a_docker()
+    ensures events { (state : State) (place : List ℕ) (day : ℕ) (line : DockerLine)
+        → IsValid state → ¬ IsDayRefused state.horizon day
+        → (made : IsEventLine (live_table state) place day line)
+        → IsFoundToRun state line.uid line.start
+        (record { key = made.key; lines = made.schedule }) }
+    ensures associations { (state : State) (place : List ℕ) (day : ℕ) (line : DockerLine)
+        → IsValid state → ¬ IsDayRefused state.horizon day
+        → (made : IsAssociationLine (live_table state) place day line)
+        → IsFoundToRun state line.uid line.start
+        (record { key = made.base_key; lines = made.base }) }
+{}

@@ -1,0 +1,201 @@
+//! The text of a train: a heading, the records of its schedule and a last line, each of 80 columns
+//! and a line feed.
+ghost use Rattle.std.specs.Prelude.{◌≡◌, ℕ, List, ◌-◌, ◌^◌, ◌<◌, ◌↔◌, IsOk, IsErr, Err, OnOk, OnErr, Some};
+ghost use Rattle.std.specs.List.{flat_map};
+ghost use Rattle.std.specs.Option.{option_copied};
+ghost use Rattle.cif_line.specs.Device.{CountsFailure, Takes, TakesPart};
+ghost use Rattle.docker_join.specs.Meaning.{stamp_meant};
+ghost use Rattle.docker_model.specs.records.PrintedTime.{minute_text};
+ghost use Rattle.docker_model.specs.docker.DockerText.{ended};
+ghost use Rattle.docker_model.specs.state.State as states;
+ghost use Rattle.cif_line.specs.Letter.{stp_letter};
+ghost use Rattle.docker_train.specs.Answer.{IsAnswerOf, PrintsPart, PrintsTrain, text_of};
+ghost use Rattle.docker_train.specs.TrainText.{IsTrainText, found_text, heading_with, last_line, number_text, running_text, stamp_text};
+
+use crate::chosen_train::ChosenTrain;
+use crate::fault::TrainFault;
+use crate::finding::find_train;
+use crate::stamped::Stamped;
+use arrayvec::ArrayVec;
+use cif_line::{Day, Failed, Line, Sink, Stp, Uid, write_all};
+use docker_day::State;
+use docker_join::Stamp;
+use fixed_text::{put, whole};
+use itoa::Buffer;
+
+/// The bytes of a line: 80 columns and a line feed.
+const WIDTH: usize = 81;
+
+/// Prints the schedule that is chosen for a UID on a day, or that none is. It is found before the
+/// first byte is written. So `Lapsed` writes nothing; it means that the day is before the horizon.
+/// `Sink` leaves the sink with a beginning of the text, and not all of it. It takes no memory.
+pub fn print_train<K: Sink>(
+    state: &State,
+    uid: &Uid,
+    day: Day,
+    sink: &mut K,
+) -> Result<(), TrainFault>
+    requires { K.failures sink.old < 2 ^ 64 - 1 }
+    ensures ok { IsOk result
+        → PrintsTrain state.now uid.now day (K.taken sink.old) (K.taken sink.new) }
+    ensures part { result ≡ Err TrainFault.Sink
+        → PrintsPart state.now uid.now day (K.taken sink.old) (K.taken sink.new) }
+    ensures lapsed { (result ≡ Err TrainFault.Lapsed) ↔ (day < state.now.horizon) }
+    ensures unwritten { result ≡ Err TrainFault.Lapsed → sink.new ≡ sink.old }
+    ensures failures { CountsFailure (result ≡ Err TrainFault.Sink)
+        (K.failures sink.old) (K.failures sink.new) }
+{
+    match find_train(state, uid, day) {
+        Ok(train) => write_train(&train, sink).map_err(|_| TrainFault::Sink),
+        Err(_) => Err(TrainFault::Lapsed),
+    }
+}
+
+/// Writes what was found for a UID and a day as it is printed. If a write fails, the sink has a
+/// beginning of the text, and not all of it.
+pub fn write_train<K: Sink>(train: &ChosenTrain<'_>, sink: &mut K) -> Result<(), Failed>
+    requires { K.failures sink.old < 2 ^ 64 - 1 }
+    ensures whole { OnOk result (Takes (K.taken sink.old) (text_of train.now) (K.taken sink.new)) }
+    ensures text { (state : states.State) (uid : List ℕ) (day : ℕ)
+        → IsAnswerOf state uid day train.now
+        → IsTrainText state uid day (text_of train.now) }
+    ensures part { OnErr result
+        (TakesPart (K.taken sink.old) (text_of train.now) (K.taken sink.new)) }
+    ensures failures { CountsFailure (IsErr result) (K.failures sink.old) (K.failures sink.new) }
+{
+    let heading = heading(&train.uid(), train.day(), &text_of_found(train.found()));
+    write_all(sink, &heading)?;
+    write_lines(sink, train.lines())?;
+    write_all(sink, &last_line())
+}
+
+/// Writes the lines of a schedule.
+fn write_lines<K: Sink>(sink: &mut K, lines: &[Line]) -> Result<(), Failed>
+    requires { K.failures sink.old < 2 ^ 64 - 1 }
+    ensures whole { OnOk result
+        (Takes (K.taken sink.old) (flat_map ended lines.now) (K.taken sink.new)) }
+    ensures part { OnErr result
+        (TakesPart (K.taken sink.old) (flat_map ended lines.now) (K.taken sink.new)) }
+    ensures failures { CountsFailure (IsErr result) (K.failures sink.old) (K.failures sink.new) }
+{
+    for line in lines {
+        write_all(sink, &text_of_line(line))?;
+    }
+    Ok(())
+}
+
+/// The heading, with a line feed.
+#[tactic(auto, unfolding(crate::specs::TrainText::heading_with))]
+fn heading(uid: &Uid, day: Day, found: &[u8; 46]) -> [u8; WIDTH]
+    ensures { result ≡ ended (heading_with uid.now day found.now) }
+{
+    let mut text = ArrayVec::new();
+    put(&mut text, b"TRAIN  ");
+    put(&mut text, uid.bytes());
+    put(&mut text, b"  ");
+    put(&mut text, &day.iso());
+    put(&mut text, b" ");
+    put(&mut text, found);
+    put(&mut text, b"        ");
+    put(&mut text, b"\n");
+    whole(text)
+}
+
+/// What the heading says of the schedule that was found, or that none was.
+#[tactic(auto, unfolding(crate::specs::TrainText::found_text))]
+fn text_of_found(found: Option<&Stamped<'_>>) -> [u8; 46]
+    ensures { result ≡ found_text (option_copied found.entry) }
+{
+    match found {
+        Some(stamped) => text_of_stamped(stamped),
+        None => *b"  NONE                                        ",
+    }
+}
+
+/// What the heading says of a schedule that was found.
+#[tactic(auto, unfolding(crate::specs::TrainText::found_text))]
+fn text_of_stamped(stamped: &Stamped<'_>) -> [u8; 46]
+    ensures { result ≡ found_text (Some stamped.now) }
+{
+    let stp = stamped.schedule().key().stp;
+    let mut text = ArrayVec::new();
+    put(&mut text, &[stp.letter(), b' ']);
+    put(&mut text, running(stp));
+    put(&mut text, b" ");
+    put(&mut text, &text_of_stamp(stamped.stamp()));
+    whole(text)
+}
+
+/// Whether a train runs by a schedule with this STP indicator, or is cancelled.
+fn running(stp: Stp) -> &'static [u8; 9]
+    ensures { result.now ≡ running_text (stp_letter stp) }
+{
+    match stp {
+        Stp::Cancellation => b"CANCELLED",
+        _ => b"RUNS     ",
+    }
+}
+
+/// A stamp: the date and the time of extract, the current file reference and the record number.
+#[tactic(auto, unfolding(crate::specs::TrainText::stamp_text))]
+fn text_of_stamp(stamp: &Stamp) -> [u8; 34]
+    requires { stamp.now.file.minute < 1440 }
+    ensures { result ≡ stamp_text (stamp_meant stamp.now) }
+{
+    let mut text = ArrayVec::new();
+    put(&mut text, &stamp.file.day.iso());
+    put(&mut text, b" ");
+    put(&mut text, &clock_text(stamp.file.minute));
+    put(&mut text, b" ");
+    put(&mut text, &stamp.file.reference);
+    put(&mut text, b" ");
+    put(&mut text, &number_text(stamp.number));
+    whole(text)
+}
+
+/// A minute of the day as HHMM.
+fn clock_text(minute: u16) -> [u8; 4]
+    requires { minute < 1440 }
+    ensures { result ≡ minute_text minute }
+{
+    let (hour, minute) = ((minute / 60) as u8, (minute % 60) as u8);
+    [
+        b'0' + hour / 10,
+        b'0' + hour % 10,
+        b'0' + minute / 10,
+        b'0' + minute % 10,
+    ]
+}
+
+/// A record number in ten columns, padded with spaces on the left.
+fn number_text(number: u32) -> [u8; 10]
+    ensures { result ≡ number_text number }
+{
+    let mut buffer = Buffer::new();
+    let digits = buffer.format(number).as_bytes();
+    let mut text = ArrayVec::new();
+    put(&mut text, &[b' '; 10][digits.len()..]);
+    put(&mut text, digits);
+    whole(text)
+}
+
+/// A record, with a line feed.
+fn text_of_line(line: &Line) -> [u8; WIDTH]
+    ensures { result ≡ ended line.now }
+{
+    let mut text = ArrayVec::new();
+    put(&mut text, line.bytes());
+    put(&mut text, b"\n");
+    whole(text)
+}
+
+/// The last line, with a line feed.
+fn last_line() -> [u8; WIDTH]
+    ensures { result ≡ ended last_line }
+{
+    let mut text = ArrayVec::new();
+    put(&mut text, b"END");
+    put(&mut text, &[b' '; 77]);
+    put(&mut text, b"\n");
+    whole(text)
+}

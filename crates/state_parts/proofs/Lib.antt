@@ -1,9 +1,0 @@
-pub mod LastElement
-pub mod ItemLemmas
-pub mod KeyLemmas
-pub mod StampLemmas
-pub mod BodyLemmas
-pub mod ScheduleLemmas
-pub mod ToldLemmas
-pub mod ReceivingLemmas
-pub mod StepLemmas

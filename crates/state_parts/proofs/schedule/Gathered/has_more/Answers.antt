@@ -1,6 +1,0 @@
--- `auto` proves these too: they are written so that a wrong body is refused without a long search.
-use Rattle.std.proofs.Common.{rules}
-use Rattle.state_parts.proofs.schedule.Gathered.has_more.Goals as goal
-
-pub returns : goal.returns
-returns c = search rules

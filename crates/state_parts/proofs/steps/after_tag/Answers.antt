@@ -1,6 +1,0 @@
--- `auto` proves these too: they are written so that a wrong body is refused without a long search.
-use Rattle.std.proofs.Common.{rules}
-use Rattle.state_parts.proofs.steps.after_tag.Goals as goal
-
-pub returns-in_default : goal.returns-in_default
-returns-in_default g c = search rules

@@ -1,0 +1,193 @@
+-- Pieces that are given to a sink through a buffer, one after another.
+use Rattle.std.proofs.Common.{◌≡◌, ℕ, suc, ◌+◌, ◌<◌, ◌≤◌, List, [], ◌∷◌, ◌++◌, length, take, drop, get_or, map, refl, ap, sym, ◌∙◌, subst, arith, append_assoc, append-nil, length-append, Some, None, Ok, Err, Result}
+use Rattle.std.specs.Prelude.{Option, IsErr, IsErrAnd, OnOk, OnErr}
+use Rattle.std.specs.List.{concat, flat_map}
+use Rattle.std.proofs.lemmas.List.{take-append-le, take-append-drop, take_more, map-append}
+use Rattle.std.proofs.lemmas.Grind.{flat_map-append}
+use Rattle.cif_device.proofs.DeviceLemmas.{counts_error}
+use Rattle.cif_line.specs.Device.{CountsFailure, Takes, TakesPart}
+use Rattle.state_text.specs.Written.{Gathers, Gives, Flushes}
+
+-- the bytes that a sink took, or nothing if it doesn't name them
+abbrev Told : Type 0
+Told = Option (List ℕ)
+
+-- ---- pieces that are gathered
+
+takes_none : (start : Told) → Takes start [] start
+takes_none None = refl
+takes_none (Some taken) = ap (λ t. Some t) (sym (append-nil taken))
+
+takes_then : (a : Told) (x y : List ℕ) (c e : Told) → Takes a x c → Takes c y e → Takes a (x ++ y) e
+takes_then None x y c e first second = second ∙ (λ i. longer (first i))
+  where
+    longer : Told → Told
+    longer None = None
+    longer (Some t) = Some (t ++ y)
+takes_then (Some taken) x y c e first second =
+    second ∙ (λ i. longer (first i)) ∙ ap (λ t. Some t) (append_assoc taken x y)
+  where
+    longer : Told → Told
+    longer None = None
+    longer (Some t) = Some (t ++ y)
+
+-- a piece was added to the buffer
+pub gathers_add : (start : Told) (held piece more : List ℕ) → more ≡ held ++ piece → Gathers start held piece start more
+gathers_add start held piece more is = ([], is, takes_none start)
+
+-- two pieces, one after the other
+pub gathers_then : (a : Told) (b p : List ℕ) (c : Told) (d q : List ℕ) (e : Told) (f : List ℕ)
+    → Gathers a b p c d → Gathers c d q e f → Gathers a b (p ++ q) e f
+gathers_then a b p c d q e f first second = (
+  first.0 ++ second.0,
+  append_assoc first.0 second.0 f ∙ ap (λ xs. first.0 ++ xs) second.1 ∙ sym (append_assoc first.0 d q)
+      ∙ ap (λ xs. xs ++ q) first.1 ∙ append_assoc b p q,
+  takes_then a first.0 second.0 c e first.2 second.2,
+)
+
+take_past : (xs ys : List ℕ) (n : ℕ) → take (length xs + n) (xs ++ ys) ≡ xs ++ take n ys
+take_past [] ys n = let same : 0 + n ≡ n = omega arith in ap (λ k. take k ys) same
+take_past (x ∷ xs) ys n =
+    let same : length (x ∷ xs) + n ≡ suc (length xs + n) = omega arith in
+    ap (λ k. take k (x ∷ xs ++ ys)) same ∙ ap (λ zs. x ∷ zs) (take_past xs ys n)
+
+-- a part of some bytes is a part of these bytes and more
+part_longer : (a : Told) (x y : List ℕ) (e : Told) → TakesPart a x e → TakesPart a (x ++ y) e
+part_longer a x y e part =
+    let size = length-append x y in
+    let below = part.1 in
+    let within : part.0 ≤ length x = omega arith in
+    (part.0, omega arith, subst (λ xs. Takes a xs e) (sym (take-append-le part.0 x y within)) part.2)
+
+-- a part after a piece that was gathered
+gathers_part : (a : Told) (b p : List ℕ) (c : Told) (d q : List ℕ) (e : Told)
+    → Gathers a b p c d → TakesPart c (d ++ q) e → TakesPart a (b ++ (p ++ q)) e
+gathers_part a b p c d q e first part =
+    let whole : first.0 ++ (d ++ q) ≡ b ++ (p ++ q) =
+    sym (append_assoc first.0 d q) ∙ ap (λ xs. xs ++ q) first.1 ∙ append_assoc b p q in
+    let size = sym (length-append first.0 (d ++ q)) ∙ ap length whole in
+    let below = part.1 in
+    let same = sym (take_past first.0 (d ++ q) part.0) ∙ ap (λ xs. take (length first.0 + part.0) xs) whole in (
+      length first.0 + part.0,
+      omega arith,
+      subst (λ xs. Takes a xs e) same (takes_then a first.0 (take part.0 (d ++ q)) c e first.2 part.2),
+    )
+
+-- ---- what is given, by the result
+
+module _ {S A E : Type 0} (taken : S → Told) (failures : S → ℕ) where
+  -- a buffer that is written is given to the sink
+  pub flush_gives : (old new : S) (held holds : List ℕ) (result : Result A E) → Flushes taken failures old held result new
+      → OnOk result (holds ≡ []) → Gives taken failures old held [] result new holds
+  flush_gives old new held holds (Ok done) whole empty = ((held, ap (λ xs. held ++ xs) empty, whole.0), whole.1)
+  flush_gives old new held holds (Err failed) part empty =
+      (subst (λ xs. TakesPart (taken old) xs (taken new)) (sym (append-nil held)) part.0, part.1)
+
+  -- one more piece after a piece that was gathered
+  pub then_gives : (old mid new : S) (b p d q h : List ℕ) (result : Result A E) → Gathers (taken old) b p (taken mid) d
+      → failures mid ≡ failures old → Gives taken failures mid d q result new h → Gives taken failures old b (p ++ q) result new h
+  then_gives old mid new b p d q h (Ok done) first same second =
+      (gathers_then (taken old) b p (taken mid) d q (taken new) h first second.0, second.1 ∙ same)
+  then_gives old mid new b p d q h (Err failed) first same second =
+      (gathers_part (taken old) b p (taken mid) d q (taken new) first second.0, second.1 ∙ ap (λ n. n + 1) same)
+
+  -- a failure at the first piece is a failure at all of it
+  pub fails_first : (old new : S) (b p q holds : List ℕ) (result : Result A E) (Q : E → Type 0) → IsErrAnd result Q
+      → TakesPart (taken old) (b ++ p) (taken new) × (failures new ≡ failures old + 1)
+      → Gives taken failures old b (p ++ q) result new holds
+  fails_first old new b p q holds (Ok done) Q is part = absurd is
+  fails_first old new b p q holds (Err failed) Q is part = (
+    subst (λ xs. TakesPart (taken old) xs (taken new)) (append_assoc b p q)
+        (part_longer (taken old) (b ++ p) q (taken new) part.0),
+    part.1,
+  )
+
+  -- what holds of bytes that are written, clause by clause
+  pub flushed : (old new : S) (bytes : List ℕ) (result : Result A E) → Flushes taken failures old bytes result new
+      → OnOk result (Takes (taken old) bytes (taken new)) × OnErr result (TakesPart (taken old) bytes (taken new))
+      × CountsFailure (IsErr result) (failures old) (failures new)
+  flushed old new bytes (Ok done) told = (told.0, tt, counts_error {A = A} {E = E} (Ok done) (failures old) (failures new) told.1 tt)
+  flushed old new bytes (Err failed) told = (tt, told.0, counts_error {A = A} {E = E} (Err failed) (failures old) (failures new) tt told.1)
+
+  -- what was gathered of a text is written in full, or in part
+  pub flush_written : (old mid new : S) (b p d whole : List ℕ) (result : Result A E) → Gathers (taken old) b p (taken mid) d
+      → failures mid ≡ failures old → b ++ p ≡ whole → Flushes taken failures mid d result new → Flushes taken failures old whole result new
+  flush_written old mid new b p d whole (Ok done) first same is second = (
+    subst (λ xs. Takes (taken old) xs (taken new)) (first.1 ∙ is) (takes_then (taken old) first.0 d (taken mid) (taken new) first.2 second.0),
+    second.1
+        ∙ same,
+  )
+  flush_written old mid new b p d whole (Err failed) first same is second = (
+    subst (λ xs. TakesPart (taken old) xs (taken new)) (ap (λ xs. b ++ xs) (append-nil p) ∙ is)
+        (gathers_part (taken old) b p (taken mid) d [] (taken new) first
+        (subst (λ xs. TakesPart (taken mid) xs (taken new)) (sym (append-nil d)) second.0)),
+    second.1 ∙ ap (λ n. n + 1) same,
+  )
+
+  -- a failure while the whole was gathered
+  pub part_written : (old new : S) (b p whole : List ℕ) (result : Result A E) (Q : E → Type 0) → IsErrAnd result Q → b ++ p ≡ whole
+      → TakesPart (taken old) (b ++ p) (taken new) × (failures new ≡ failures old + 1) → Flushes taken failures old whole result new
+  part_written old new b p whole (Ok done) Q fails is part = absurd fails
+  part_written old new b p whole (Err failed) Q fails is part = (subst (λ xs. TakesPart (taken old) xs (taken new)) is part.0, part.1)
+
+-- ---- a list whose elements each give their bytes
+
+module _ {X : Type 0} (bytes : List X → List ℕ) (joined : (xs ys : List X) → bytes (xs ++ ys) ≡ bytes xs ++ bytes ys) where
+  -- the bytes of one more element
+  pub one_more : (xs : List X) (i : ℕ) (x : X) (piece : List ℕ) → i < length xs → x ≡ get_or xs i x → bytes (x ∷ []) ≡ piece
+      → bytes (take (i + 1) xs) ≡ bytes (take i xs) ++ piece
+  one_more xs i x piece below at is =
+      ap bytes (take_more xs i x below ∙ ap (λ y. take i xs ++ y ∷ []) (sym at)) ∙ joined (take i xs) (x ∷ [])
+      ∙ ap (λ p. bytes (take i xs) ++ p) is
+
+  module _ (xs : List X) (i : ℕ) (x : X) (piece : List ℕ) (below : i < length xs) (at : x ≡ get_or xs i x) (is : bytes (x ∷ []) ≡ piece) where
+    -- after the elements so far, one more was given
+    pub each_given : (a : Told) (b : List ℕ) (c : Told) (d : List ℕ) (e : Told) (f : List ℕ)
+        → Gathers a b (bytes (take i xs)) c d → Gathers c d piece e f → Gathers a b (bytes (take (i + 1) xs)) e f
+    each_given a b c d e f first second =
+        subst (λ p. Gathers a b p e f) (sym (one_more xs i x piece below at is)) (gathers_then a b (bytes (take i xs)) c d piece e f first second)
+
+    -- after the elements so far, one more was given in part
+    pub each_part : (a : Told) (b : List ℕ) (c : Told) (d : List ℕ) (e : Told)
+        → Gathers a b (bytes (take i xs)) c d → TakesPart c (d ++ piece) e → TakesPart a (b ++ bytes xs) e
+    each_part a b c d e first part =
+        let now = bytes (take (i + 1) xs) in
+        let rest = bytes (drop (i + 1) xs) in
+        let all : now ++ rest ≡ bytes xs = sym (joined (take (i + 1) xs) (drop (i + 1) xs)) ∙ ap bytes (take-append-drop (i + 1) xs) in
+        let whole : (b ++ now) ++ rest ≡ b ++ bytes xs = append_assoc b now rest ∙ ap (λ ys. b ++ ys) all in
+        let so_far = gathers_part a b (bytes (take i xs)) c d piece e first part in
+        subst (λ ys. TakesPart a ys e) whole
+        (part_longer a (b ++ now) rest e (subst (λ p. TakesPart a (b ++ p) e) (sym (one_more xs i x piece below at is)) so_far))
+
+    -- a failure to make room for one more element is a failure at all of them
+    pub each_room_fails : {S A E : Type 0} (taken : S → Told) (failures : S → ℕ) (old now new : S) (b d holds : List ℕ) (result : Result A E) (Q : E → Type 0)
+        → Gathers (taken old) b (bytes (take i xs)) (taken now) d → failures now ≡ failures old → IsErrAnd result Q
+        → TakesPart (taken now) (d ++ []) (taken new) × (failures new ≡ failures now + 1) → Gives taken failures old b (bytes xs) result new holds
+    each_room_fails taken failures old now new b d holds (Ok done) Q first same is part = absurd is
+    each_room_fails taken failures old now new b d holds (Err failed) Q first same is part = (
+      each_part (taken old) b (taken now) d (taken new) first
+          (part_longer (taken now) d piece (taken new) (subst (λ ys. TakesPart (taken now) ys (taken new)) (append-nil d) part.0)),
+      part.1 ∙ ap (λ n. n + 1) same,
+    )
+
+    -- a failure at one more element is a failure at all of them
+    pub each_fails : {S A E : Type 0} (taken : S → Told) (failures : S → ℕ) (old now new : S) (b d holds : List ℕ) (result : Result A E) (Q : E → Type 0)
+        → Gathers (taken old) b (bytes (take i xs)) (taken now) d → failures now ≡ failures old → IsErrAnd result Q
+        → TakesPart (taken now) (d ++ piece) (taken new) × (failures new ≡ failures now + 1) → Gives taken failures old b (bytes xs) result new holds
+    each_fails taken failures old now new b d holds (Ok done) Q first same is part = absurd is
+    each_fails taken failures old now new b d holds (Err failed) Q first same is part =
+        (each_part (taken old) b (taken now) d (taken new) first part.0, part.1 ∙ ap (λ n. n + 1) same)
+
+-- the bytes of two lists together
+pub mapped_join : {A B : Type 0} (f : B → List ℕ) (m : A → B) (xs ys : List A)
+    → flat_map f (map m (xs ++ ys)) ≡ flat_map f (map m xs) ++ flat_map f (map m ys)
+mapped_join f m xs ys = ap (flat_map f) (map-append m xs ys) ∙ flat_map-append f (map m xs) (map m ys)
+
+-- two lists of lines, joined, have the bytes of the first and then of the second
+pub concat_join : (xs ys : List (List ℕ)) → concat (xs ++ ys) ≡ concat xs ++ concat ys
+concat_join [] ys = refl
+concat_join (x ∷ xs) ys = ap (λ zs. x ++ zs) (concat_join xs ys) ∙ sym (append_assoc x (concat xs) (concat ys))
+
+-- room was made, then a piece was added
+pub room_then_add : (a : Told) (b : List ℕ) (c : Told) (d piece f : List ℕ) → Gathers a b [] c d → f ≡ d ++ piece → Gathers a b piece c f
+room_then_add a b c d piece f room is = gathers_then a b [] c d piece c f room (gathers_add c d piece f is)

@@ -1,0 +1,12 @@
+pub mod BufferLemmas
+pub mod WriteLemmas
+pub mod LengthLemmas
+pub mod LastElement
+pub mod ItemLemmas
+pub mod KeyLemmas
+pub mod StampLemmas
+pub mod BodyLemmas
+pub mod ScheduleLemmas
+pub mod ToldLemmas
+pub mod ReceivingLemmas
+pub mod StepLemmas

@@ -1,0 +1,66 @@
+-- What is staged of the entries given. Its commit is the join.
+use Rattle.std.proofs.Common.{◌≡◌, ℕ, ◌-◌, List, [], ◌∷◌, ◌++◌, length, refl, ap, sym, ◌∙◌, subst, inl, inr, arith, length-append, All, Some, None}
+use Rattle.std.specs.Prelude.{Option, slice_get}
+use Rattle.docker_model.specs.file.Change.{Key}
+use Rattle.docker_model.specs.state.Op.{Entry, key_cmp}
+use Rattle.docker_model.specs.state.Order.{IsBelow}
+use Rattle.docker_model.specs.state.Stamp.{FileStamp, IsFloor}
+use Rattle.docker_model.specs.state.State.{State, IsValid, IsJoin}
+use Rattle.state_laws.specs.Staging.{IsStaged, IsCommit}
+use Rattle.cif_laws.proofs.lists.Membership.{member_of}
+use Rattle.state_laws.proofs.joins.StagedEntry.{nothing_staged, one_staged_more, one_left_out, staging_joins_before}
+use Rattle.docker_state.specs.declared.item.LedgerItem.{LedgerItem}
+use Rattle.docker_state.specs.Parts.{last_key}
+use Rattle.docker_state.specs.Staging.{Staging, IsOffered, IsAboveStaged}
+use Rattle.state_text.specs.Receiving.{told_state, items_of, IsStagedOf}
+use Rattle.state_text.specs.Told.{under}
+
+-- a key above the keys of all entries given is above what is staged of them
+pub above_staged : (own : State) (floor : Option FileStamp) (entries staged : List (Key × Entry)) (key : Key) → IsStaged own floor entries staged
+    → All (λ (entry : Key × Entry). IsBelow key_cmp entry.0 key) entries → IsAboveStaged staged key
+above_staged own floor entries staged key are above other among =
+    member_of (λ (entry : Key × Entry). IsBelow key_cmp entry.0 key) entries other above ((are.members other.0 other.1).0 among).0
+
+-- an entry that was offered is among the entries given
+pub offered_more : (own : State) (staging after : Staging) (entries : List (Key × Entry)) (key : Key) (entry : Entry) → IsStagedOf own staging entries
+    → IsAboveStaged staging.staged key → IsOffered own staging key entry after → IsStagedOf own after (entries ++ (key, entry) ∷ [])
+offered_more own staging after entries key entry are above (inl to) =
+    subst (λ (s : Staging). IsStagedOf own s (entries ++ (key, entry) ∷ [])) (sym to.1)
+    (record { floor = are.floor; staged = one_staged_more own staging.floor entries staging.staged key entry are.staged above to.0 })
+offered_more own staging after entries key entry are above (inr out) =
+    subst (λ (s : Staging). IsStagedOf own s (entries ++ (key, entry) ∷ [])) (sym out.1)
+    (record { floor = are.floor; staged = one_left_out own staging.floor entries staging.staged key entry are.staged out.0 })
+
+-- nothing is staged before the first entry
+pub none_staged : (own : State) (staging : Staging) (entries : List (Key × Entry)) → entries ≡ [] → staging.staged ≡ []
+    → IsFloor (own.ledger ++ staging.items) staging.floor → IsStagedOf own staging entries
+none_staged own staging entries none empty floor = record {
+  floor = floor;
+  staged = subst (λ es. IsStaged own staging.floor es staging.staged) (sym none)
+      (subst (λ es. IsStaged own staging.floor [] es) (sym empty) (nothing_staged own staging.floor));
+}
+
+-- a commit of what is staged is the join with what was given
+pub commit_joins : (own after : State) (items : List LedgerItem) (held : Option Staging) (entries : List (Key × Entry)) (staging : Staging) (horizon : ℕ)
+    → IsValid own → IsValid (under horizon (told_state (items_of items held) entries)) → items_of items held ≡ staging.items
+    → IsStagedOf own staging entries
+    → ((offered : List (Key × Entry)) → IsStaged own staging.floor offered staging.staged → IsCommit own staging.items staging.staged after)
+    → IsJoin own (told_state (items_of items held) entries) after
+commit_joins own after items held entries staging horizon valid told same are commit =
+    subst (λ its. IsJoin own (told_state its entries) after) (sym same)
+    (staging_joins_before own (under horizon (told_state staging.items entries)) staging.floor staging.staged after valid
+    (subst (λ its. IsValid (under horizon (told_state its entries))) same told) are.floor are.staged (commit entries are.staged))
+
+-- if there are no entries, there is no last key
+pub no_last : (entries : List (Key × Entry)) → entries ≡ [] → None ≡ last_key entries
+no_last entries none = subst (λ es. None ≡ last_key es) (sym none) refl
+
+last_of : {A : Type 0} (xs : List A) (x : A) → slice_get (xs ++ x ∷ []) (length (xs ++ x ∷ []) - 1) ≡ Some x
+last_of xs x =
+    let size = length-append xs (x ∷ []) in
+    let at : length (xs ++ x ∷ []) - 1 ≡ length xs = omega arith in
+    ap (slice_get (xs ++ x ∷ [])) at ∙ there xs
+  where
+    there : (ys : List _) → slice_get (ys ++ x ∷ []) (length ys) ≡ Some x
+    there [] = refl
+    there (y ∷ ys) = there ys

@@ -1,0 +1,101 @@
+-- How the lines of a schedule are judged.
+use Rattle.std.proofs.Common.{◌≡◌, ◌∙◌, ℕ, List, [], ◌∷◌, ◌++◌, length, refl, ap, sym, subst, inl, inr, ◌⊎◌, Some, None, ◌+◌, ◌<◌, ◌≤◌, Bool, true, false, arith, length-append}
+use Rattle.std.specs.Prelude.{Option, IsTrue, ◌↔◌, slice_index_or}
+use Rattle.std.proofs.Math.Seq.{get_or-append_seam}
+use Rattle.std.proofs.lemmas.Bool.{cases_lt}
+use Rattle.docker_model.specs.records.Record.{HasKind, basic_schedule}
+use Rattle.docker_model.specs.records.Field.{HasGoodFields}
+use Rattle.docker_model.specs.file.Change.{ScheduleKey}
+use Rattle.docker_model.specs.state.State.{State}
+use Rattle.docker_model.specs.file.File.{first_record, IsSchedule, BeginsSchedule}
+use Rattle.docker_model.specs.state.StateFault.{StateCause, bad_mark, bad_item, bad_order, bad_floor, bad_tag, bad_stamp, bad_body, too_short, has_tail, too_long, bad_horizon}
+use Rattle.state_text.specs.Judged.{IsOfKey, IsFirstOf}
+use Rattle.state_text.specs.Lines.{BeginUpTo, AreLinesIn, AreLinesUpToIn, IsLineRefusal, IsUpToRefusal}
+
+abbrev Lines : Type 0
+Lines = List (List ℕ)
+
+first_kind : (line : List ℕ) → BeginsSchedule (line ∷ []) → HasKind basic_schedule line × HasGoodFields line
+first_kind line begin =
+    let same : line ≡ begin.1.basic = ap first_record begin.1.whole in
+    (subst (HasKind basic_schedule) (sym same) begin.1.kind, subst HasGoodFields (sym same) begin.1.fields)
+
+-- a line that isn't a first line for the key begins no schedule of the key
+pub not_first : (state : State) (key : ScheduleKey) (count : ℕ) (lines : Lines) (line : List ℕ) → lines ≡ [] → ¬ IsFirstOf state.horizon key line
+    → ¬ AreLinesUpToIn state key count (lines ++ line ∷ [])
+not_first state key count lines line none bad are =
+    let one = subst (λ (l : Lines). AreLinesUpToIn state key count (l ++ line ∷ [])) none are in
+    let first = first_kind line one.0.lines_of.begin in
+    bad (record { kind = first.0; fields = first.1; of_key = record { new = one.0.lines_of.new; key_is = one.0.lines_of.key_is; stays = one.1 } })
+
+-- the lines with one more still have the key, and don't lapse
+pub one_line_more : (state : State) (key : ScheduleKey) (lines : Lines) (line : List ℕ) → (lines ≡ []) ⊎ AreLinesIn state key lines
+    → (lines ≡ [] → IsOfKey state.horizon key line)
+    → BeginsSchedule (lines ++ line ∷ []) → AreLinesIn state key (lines ++ line ∷ [])
+one_line_more state key [] line are first begin = let told = first refl in (record { begin = begin; new = told.new; key_is = told.key_is }, told.stays)
+one_line_more state key (basic ∷ lines) line (inl none) first begin = cc
+one_line_more state key (basic ∷ lines) line (inr are) first begin = (record { begin = begin; new = are.0.new; key_is = are.0.key_is }, are.1)
+
+-- if no more lines are to come after the next one, it is the last of `count`
+pub no_more : (more : Bool) (n count : ℕ) → (IsTrue more ↔ (n + 1 < count)) → n < count → more ≡ false → n + 1 ≡ count
+no_more more n count tells few none = by (cases_lt (n + 1) count)
+  where
+    by : (n + 1 < count) ⊎ (count ≤ n + 1) → n + 1 ≡ count
+    by (inl below) = absurd (let told = tells.1 below in cc)
+    by (inr enough) = omega arith
+
+-- the last of `count` lines that doesn't complete a schedule is refused
+pub incomplete : (count : ℕ) (lines : Lines) (line : List ℕ) (more complete : Bool) → (IsTrue more ↔ (length lines + 1 < count)) → length lines < count
+    → more ≡ false
+    → (IsTrue complete ↔ IsSchedule (lines ++ line ∷ [])) → complete ≡ false → ¬ BeginUpTo count (lines ++ line ∷ [])
+incomplete count lines line more complete tells few none is not_one up_to =
+    let size = length-append lines (line ∷ []) in
+    let last = no_more more (length lines) count tells few none in
+    let whole = is.1 (up_to.complete (omega arith)) in
+    cc
+
+-- a line may come next if more are to come, or if it completes a schedule
+pub begin_up_to : (count : ℕ) (lines : Lines) (line : List ℕ) (more : Bool) → (IsTrue more ↔ (length lines + 1 < count)) → BeginsSchedule (lines ++ line ∷ [])
+    → (more ≡ true) ⊎ IsSchedule (lines ++ line ∷ []) → BeginUpTo count (lines ++ line ∷ [])
+begin_up_to count lines line more tells begin (inl is) = record
+    { begin = begin; complete = λ all. let size = length-append lines (line ∷ []) in let below = tells.0 is in absurd (omega arith) }
+begin_up_to count lines line more tells begin (inr whole) = record { begin = begin; complete = λ all. whole }
+
+-- with more lines to come, a line may come next if some schedule begins with it
+pub more_up_to : (count : ℕ) (lines : Lines) (line : List ℕ) → length lines + 1 < count → BeginsSchedule (lines ++ line ∷ [])
+    → BeginUpTo count (lines ++ line ∷ [])
+more_up_to count lines line more begin = record { begin = begin; complete = λ all. let size = length-append lines (line ∷ []) in absurd (omega arith) }
+
+-- the line at the end of a buffer is the one that was written there
+pub written_last : (lines after : Lines) (line found : List ℕ) (at : ℕ) → after ≡ lines ++ line ∷ [] → at ≡ length lines → found ≡ slice_index_or after at found
+    → found ≡ line
+written_last lines after line found at put last is =
+    is ∙ ap (λ rows. slice_index_or rows at found) put ∙ ap (λ n. slice_index_or (lines ++ line ∷ []) n found) last
+    ∙ get_or-append_seam lines line [] found
+
+-- lines that begin a schedule with this one are the first of `count` lines of the key
+pub lines_up_to : (state : State) (key : ScheduleKey) (count : ℕ) (lines : Lines) (line bytes : List ℕ) → line ≡ bytes
+    → (lines ≡ []) ⊎ AreLinesIn state key lines → (lines ≡ [] → IsOfKey state.horizon key line)
+    → BeginUpTo count (lines ++ line ∷ []) → AreLinesUpToIn state key count (lines ++ bytes ∷ [])
+lines_up_to state key count lines line bytes same here first up_to =
+    let are = one_line_more state key lines line here first up_to.begin in
+    subst (λ b. AreLinesUpToIn state key count (lines ++ b ∷ [])) same (record { lines_of = are.0; complete = up_to.complete }, are.1)
+
+-- why a line doesn't continue the lines of the key
+pub line_refused : (state : State) (key : ScheduleKey) (count : ℕ) (lines : Lines) (line bytes : List ℕ) → line ≡ bytes
+    → (lines ≡ []) ⊎ AreLinesIn state key lines → (lines ≡ [] → IsOfKey state.horizon key line)
+    → (cause : Option StateCause) → IsLineRefusal count lines line cause → IsUpToRefusal state key count lines bytes cause
+line_refused state key count lines line bytes same here first None up_to = lines_up_to state key count lines line bytes same here first up_to
+line_refused state key count lines line bytes same here first (Some bad_body) refused = λ are.
+    let told = subst (λ b. AreLinesUpToIn state key count (lines ++ b ∷ [])) (sym same) are in
+    refused (record { begin = told.0.lines_of.begin; complete = told.0.complete })
+line_refused state key count lines line bytes same here first (Some bad_mark) refused = absurd refused
+line_refused state key count lines line bytes same here first (Some bad_item) refused = absurd refused
+line_refused state key count lines line bytes same here first (Some bad_order) refused = absurd refused
+line_refused state key count lines line bytes same here first (Some bad_floor) refused = absurd refused
+line_refused state key count lines line bytes same here first (Some bad_tag) refused = absurd refused
+line_refused state key count lines line bytes same here first (Some bad_stamp) refused = absurd refused
+line_refused state key count lines line bytes same here first (Some too_short) refused = absurd refused
+line_refused state key count lines line bytes same here first (Some has_tail) refused = absurd refused
+line_refused state key count lines line bytes same here first (Some too_long) refused = absurd refused
+line_refused state key count lines line bytes same here first (Some bad_horizon) refused = absurd refused

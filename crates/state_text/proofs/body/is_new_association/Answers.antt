@@ -1,0 +1,6 @@
+-- `auto` proves these too: they are written so that a wrong body is refused without a long search.
+use Rattle.std.proofs.Common.{rules}
+use Rattle.state_text.proofs.body.is_new_association.Goals as goal
+
+pub returns-then-eq : goal.returns-then-eq
+returns-then-eq c = search rules

@@ -1,0 +1,12 @@
+use Rattle.std.proofs.Common.{◌≡◌, ◌*◌, ◌^◌, ◌≤◌, length, take, map}
+use Rattle.std.specs.List.{flat_map}
+use Rattle.docker_model.specs.state.StateText.{entry_bytes}
+use Rattle.docker_state.specs.Meaning.{row_meant}
+use Rattle.state_text.proofs.length.rows_len.Given as goal
+
+-- the bytes of the entries so far were added
+abbrev pub invariant-loop-row : goal.invariant-loop-row
+invariant-loop-row l = record {
+  value : l.total ≡ length (flat_map entry_bytes (map row_meant (take l.row-index l.rows)));
+  bound : l.total ≤ l.row-index * 2 ^ 41;
+}

@@ -1,0 +1,6 @@
+-- `auto` proves these too: they are written so that a wrong body is refused without a long search.
+use Rattle.std.proofs.Common.{rules}
+use Rattle.state_text.proofs.stage.Stage.begins_item.Goals as goal
+
+pub returns-in-Body : goal.returns-in-Body
+returns-in-Body c = search rules

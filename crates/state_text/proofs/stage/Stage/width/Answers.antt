@@ -1,0 +1,6 @@
+-- `auto` proves these too: they are written so that a wrong body is refused without a long search.
+use Rattle.std.proofs.Common.{rules}
+use Rattle.state_text.proofs.stage.Stage.width.Goals as goal
+
+pub returns-in-Horizon-clause-value : goal.returns-in-Horizon-clause-value
+returns-in-Horizon-clause-value c = search rules

@@ -1,0 +1,6 @@
+-- `auto` proves these too: they are written so that a wrong body is refused without a long search.
+use Rattle.std.proofs.Common.{rules}
+use Rattle.state_text.proofs.steps.after_assoc_body.Goals as goal
+
+pub returns-in-None : goal.returns-in-None
+returns-in-None g c = search rules

@@ -1,0 +1,11 @@
+use Rattle.std.proofs.Common.{◌≡◌, take}
+use Rattle.std.specs.List.{concat}
+use Rattle.state_text.specs.Written.{Gathers}
+use Rattle.state_text.proofs.write.put_lines.Given as goal
+
+-- the lines so far were given
+abbrev pub invariant-loop-line : goal.invariant-loop-line
+invariant-loop-line g l = record {
+  given : Gathers (g.K.Sink.taken l.fn.sink) l.fn.buffer.items (concat (take l.line-index l.lines)) (g.K.Sink.taken l.sink) l.buffer.items;
+  no_failure : g.K.Sink.failures l.sink ≡ g.K.Sink.failures l.fn.sink;
+}

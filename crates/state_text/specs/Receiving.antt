@@ -1,0 +1,43 @@
+-- What a state has received of a text.
+use Rattle.std.specs.Prelude.{◌≡◌, List, ◌++◌, [], length, map, Option, Some, None}
+use Rattle.std.specs.Option.{option_map}
+use Rattle.docker_model.specs.file.Change as model
+use Rattle.docker_model.specs.state.Op as ops
+use Rattle.docker_model.specs.state.Stamp as stamps
+use Rattle.docker_model.specs.state.Stamp.{IsFloor}
+use Rattle.docker_model.specs.state.State.{State, IsLedger, IsValid}
+use Rattle.state_laws.specs.Staging.{IsStaged}
+use Rattle.cif_file.specs.Meaning.{key_meant}
+use Rattle.docker_state.specs.declared.item.LedgerItem.{LedgerItem}
+use Rattle.docker_state.specs.Meaning.{item_meant}
+use Rattle.docker_state.specs.Parts.{last_key}
+use Rattle.docker_state.specs.Staging.{Staging}
+use Rattle.state_text.specs.declared.receiving.Receiving.{Receiving}
+
+-- ledger items and entries, without a horizon
+abbrev pub told_state : List stamps.LedgerItem → List (model.Key × ops.Entry) → State
+told_state items entries = record { horizon = 0; ledger = items; entries = entries }
+
+-- the ledger items received; from the first entry on, they are with what is staged
+abbrev pub items_of : List LedgerItem → Option Staging → List stamps.LedgerItem
+items_of items None = map item_meant items
+items_of items (Some staging) = staging.items
+
+-- what was given
+abbrev pub told_of : {R : Type 0} → Receiving R → State
+told_of it = told_state (items_of it.items.items it.staging) it.given.entries
+
+-- what is staged of the entries given is what is to be, under the floor of both ledgers
+pub record IsStagedOf (own : State) (staging : Staging) (entries : List (model.Key × ops.Entry)) : Type 0 where
+  pub floor : IsFloor (own.ledger ++ staging.items) staging.floor
+  pub staged : IsStaged own staging.floor entries staging.staged
+
+-- the state is this one and valid, and what it has received agrees with what was given
+pub record IsReceiving {R : Type 0} (own : State) (it : Receiving R) : Type 0 where
+  pub own_is : it.own ≡ own
+  pub valid : IsValid it.own
+  pub ledger : IsLedger (told_of it).ledger
+  pub last : option_map key_meant it.last ≡ last_key it.given.entries
+  pub count : it.count ≡ length it.given.entries
+  pub none : it.staging ≡ None → it.given.entries ≡ []
+  pub some : (staging : Staging) → it.staging ≡ Some staging → IsStagedOf it.own staging it.given.entries

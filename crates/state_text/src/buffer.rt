@@ -1,0 +1,43 @@
+//! A buffer before a sink, so that small pieces reach a device together.
+ghost use Rattle.std.specs.Prelude.{◌≡◌, ◌+◌, ◌-◌, ◌^◌, ◌<◌, ◌≤◌, [], OnOk};
+ghost use Rattle.arrayvec.specs.ArrayVec.{array_vec_len};
+ghost use Rattle.state_text.specs.Written.{Gives, Flushes};
+
+use arrayvec::ArrayVec;
+use cif_line::{Failed, Sink, write_all};
+
+/// How many bytes are gathered before they are written.
+pub(crate) const ROOM: usize = 65_536;
+
+/// Bytes that a sink will take.
+pub(crate) type Buffer = ArrayVec<u8, ROOM>;
+
+/// Writes what the buffer holds, and empties it.
+pub(crate) fn flush<K: Sink>(sink: &mut K, buffer: &mut Buffer) -> Result<(), Failed>
+    requires { K.failures sink.old < 2 ^ 64 - 1 }
+    ensures gives { Flushes K.taken K.failures sink.old buffer.old.items result sink.new }
+    ensures empty { OnOk result (buffer.new.items ≡ []) }
+{
+    write_all(sink, buffer.as_slice())?;
+    buffer.clear();
+    Ok(())
+}
+
+/// Writes what the buffer holds if there is no room for this many more bytes.
+pub(crate) fn make_room<K: Sink>(
+    sink: &mut K,
+    buffer: &mut Buffer,
+    more: usize,
+) -> Result<(), Failed>
+    requires failures { K.failures sink.old < 2 ^ 64 - 1 }
+    requires small { more ≤ ROOM }
+    ensures gives { Gives K.taken K.failures sink.old buffer.old.items [] result
+        sink.new buffer.new.items }
+    ensures room { OnOk result (array_vec_len buffer.new + more ≤ ROOM) }
+{
+    if buffer.remaining_capacity() < more {
+        flush(sink, buffer)
+    } else {
+        Ok(())
+    }
+}

@@ -1,0 +1,65 @@
+//! What receives the parts of a state's text.
+ghost use Rattle.std.specs.Prelude.{◌≡◌, ◌-◌, ◌^◌, ◌<◌, [], ◌∷◌, ◌++◌, length, map, IsOk, IfOk};
+ghost use Rattle.std.specs.Option.{option_copied, option_map};
+ghost use Rattle.docker_model.specs.state.State.{State, IsLedger, IsOpOf, IsValid};
+ghost use Rattle.docker_model.specs.state.StatePart.{IsStampHere};
+ghost use Rattle.cif_file.specs.Meaning.{key_meant};
+ghost use Rattle.docker_join.specs.Meaning.{entry_meant};
+ghost use Rattle.docker_state.specs.Meaning.{item_meant};
+ghost use Rattle.docker_state.specs.Parts.{last_key};
+ghost use Rattle.state_text.specs.Told.{horizon_meant, under, with_item, with_row};
+
+use cif_file::Key;
+use cif_line::{Day, Memory};
+use docker_join::Entry;
+use docker_state::LedgerItem;
+
+/// Receives the parts of a state's text in order: the ledger items, then the entries. It keeps all
+/// of them, some, or none.
+pub trait Keeper: Drop + Sized {
+    // the ledger items and the entries given to it, as a state without a horizon, whatever it keeps
+    ghost given: { Self → State };
+
+    /// Takes the next ledger item.
+    fn item(&mut self, item: LedgerItem) -> Result<(), Memory>
+        requires before_entries { (given self.old).entries ≡ [] }
+        requires ledger { IsLedger ((given self.old).ledger ++ item_meant item ∷ []) }
+        ensures { IsOk result
+            → given self.new ≡ with_item (given self.old) (item_meant item) };
+
+    /// Takes the next entry, with its key.
+    fn entry(&mut self, key: Key, entry: Entry) -> Result<(), Memory>
+        requires few { length (given self.old).entries < 2 ^ 64 - 1 }
+        requires here { IsStampHere (given self.old) (key_meant key) (entry_meant entry).stamp }
+        requires op { IsOpOf (key_meant key) (entry_meant entry).op }
+        ensures { IsOk result
+            → given self.new ≡ with_row (given self.old) (key_meant key, entry_meant entry) };
+
+    /// The ledger items so far, ascending.
+    fn ledger(&self) -> &[LedgerItem]
+        ensures { map item_meant result.now ≡ (given self.now).ledger };
+
+    /// How many entries were given.
+    fn len(&self) -> u64
+        ensures { result ≡ length (given self.now).entries };
+
+    /// The key of the last entry given. `None` if there is none yet.
+    fn last(&self) -> Option<&Key>
+        ensures { option_map key_meant (option_copied result)
+            ≡ last_key (given self.now).entries };
+}
+
+/// A keeper that makes something of the parts by itself.
+pub trait Maker: Keeper {
+    /// What it makes.
+    type Made: Drop;
+
+    // it is made of this state
+    ghost makes: { Self.Made → State → Type 0 };
+
+    /// Makes something from the parts, under the horizon that was read.
+    fn finish(self, horizon: Option<Day>) -> Result<Self::Made, Memory>
+        requires { IsValid (under (horizon_meant horizon) (Self.given self)) }
+        ensures { IfOk result (λ made.
+            makes made (under (horizon_meant horizon) (Self.given self))) };
+}

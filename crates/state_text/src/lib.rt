@@ -1,0 +1,40 @@
+//! The text of a state: its parts and their widths, how it is written, and how each part is judged
+//! after the parts before it. Re-exports states from the crates below.
+#![tactic(auto)]
+
+mod body;
+mod buffer;
+mod cause;
+mod encode;
+mod fields;
+pub mod format;
+mod given;
+mod item;
+mod keeper;
+mod key;
+mod length;
+mod received;
+mod receiving;
+mod schedule;
+mod stage;
+mod stamp;
+mod steps;
+mod told;
+mod whole;
+mod write;
+
+pub use cause::StateCause;
+pub use cif_file::ScheduleKey;
+pub use docker_join::{Entry, Op};
+pub use docker_state::{LedgerItem, Parts, State};
+pub use given::Given;
+pub use keeper::{Keeper, Maker};
+pub use length::encoded_len;
+pub use received::Received;
+pub use receiving::Receiver;
+pub use schedule::{Gathered, judged_inner_line, judged_line};
+pub use stage::{Stage, Tag};
+pub use steps::step;
+pub use told::Told;
+pub use whole::Whole;
+pub use write::write_state;

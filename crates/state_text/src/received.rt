@@ -1,0 +1,93 @@
+//! A keeper for a state that receives the parts.
+ghost use Rattle.std.specs.Prelude.{◌≡◌, [], IsOk, IsErr};
+ghost use Rattle.docker_model.specs.state.State.{State, IsValid, IsJoin};
+ghost use Rattle.state_text.specs.Told.{horizon_meant, under};
+
+use crate::keeper::Keeper;
+use crate::receiving::{Receiver, Receiving};
+use cif_file::Key;
+use cif_line::{Day, Memory};
+use docker_join::Entry;
+use docker_state::{LedgerItem, State};
+use std::alloc::Global;
+use std::marker::Model;
+
+/// The parts so far, as a state receives them.
+#[derive(Drop)]
+pub struct Received<R: Receiver> {
+    receiving: Receiving<R>,
+}
+
+impl<R: Receiver> Model for Received<R> {
+    ghost use Rattle.docker_model.specs.state.State as states;
+    ghost use Rattle.state_text.specs.Receiving.{told_of, IsReceiving};
+
+    ghost Value = { states.State };
+
+    ghost view = { λ received. told_of received.receiving };
+
+    ghost invariant = { λ received. IsReceiving R.own received.receiving };
+}
+
+impl<R: Receiver> Received<R> {
+    /// No parts yet.
+    pub fn new(alloc: Global, own: State) -> Received<R>
+        requires valid { IsValid own }
+        requires own { own ≡ R.own }
+        ensures { result ≡ record { horizon = 0; ledger = []; entries = [] } }
+    {
+        Received {
+            receiving: Receiving::new(alloc, own),
+        }
+    }
+
+    /// The receiving state, joined with the parts, and then with the horizon that was read. If
+    /// memory runs out, the state is as it was.
+    pub(crate) fn join(self, horizon: Option<Day>) -> (State, Result<(), Memory>)
+        requires { IsValid (under (horizon_meant horizon) self) }
+        ensures ok { IsOk result.1
+            → IsJoin R.own (under (horizon_meant horizon) self) result.0 }
+        ensures err { IsErr result.1 → result.0 ≡ R.own }
+    {
+        let Received { receiving } = self;
+        let (mut joined, done) = receiving.finish();
+        if done.is_ok() {
+            if let Some(day) = horizon {
+                joined.set_horizon(day);
+            }
+        }
+        (joined, done)
+    }
+
+    /// The receiving state, as it was.
+    pub(crate) fn into_own(self) -> State
+        ensures { result ≡ R.own }
+    {
+        let Received { receiving } = self;
+        receiving.into_own()
+    }
+}
+
+impl<R: Receiver> Keeper for Received<R> {
+    ghost given = { λ received. received };
+
+    fn item(&mut self, item: LedgerItem) -> Result<(), Memory> {
+        self.receiving.item(item)
+    }
+
+    fn entry(&mut self, key: Key, entry: Entry) -> Result<(), Memory> {
+        self.receiving.entry(key, entry)
+    }
+
+    fn ledger(&self) -> &[LedgerItem] {
+        self.receiving.ledger()
+    }
+
+    fn len(&self) -> u64 {
+        self.receiving.len()
+    }
+
+    fn last(&self) -> Option<&Key> {
+        self.receiving.last()
+    }
+}

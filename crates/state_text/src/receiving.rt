@@ -1,0 +1,207 @@
+//! What a state receives of a text. Only the entries that the state is to take over are staged.
+ghost use Rattle.std.specs.Prelude.{◌≡◌, ◌+◌, ◌-◌, ◌^◌, ◌<◌, ℕ, [], ◌∷◌, ◌++◌, length, map, IsOk, IsErr, IsSome, None};
+ghost use Rattle.std.specs.Option.{option_copied, option_map};
+ghost use Rattle.docker_model.specs.state.State.{IsLedger, IsOpOf, IsValid, IsJoin};
+ghost use Rattle.docker_model.specs.state.StatePart.{IsStampHere};
+ghost use Rattle.cif_file.specs.Meaning.{key_meant};
+ghost use Rattle.docker_join.specs.Meaning.{entry_meant};
+ghost use Rattle.docker_state.specs.Meaning.{item_meant};
+ghost use Rattle.docker_state.specs.Parts.{last_key};
+ghost use Rattle.state_text.specs.Told.{under, with_item, with_row};
+ghost use Rattle.state_text.specs.Receiving.{told_state, told_of, IsStagedOf, IsReceiving};
+
+use crate::given::Given;
+use cif_file::Key;
+use cif_line::Memory;
+use docker_join::Entry;
+use docker_state::{LedgerItem, Staging, State};
+use std::alloc::Global;
+use std::marker::{Brand, PhantomData};
+use std::mem;
+
+/// Names the state that receives the parts of one text. A type bound by it holds that state,
+/// whatever is called on it.
+pub trait Receiver {
+    ghost use Rattle.docker_model.specs.state.State as states;
+
+    ghost own: { states.State };
+}
+
+impl Receiver for Brand {
+    ghost use Rattle.std.specs.Prelude.{[]};
+
+    ghost own = { record { horizon = 0; ledger = []; entries = [] } };
+}
+
+/// A state, and what it has received so far: the ledger items, and from the first entry on what is
+/// staged. It also has the last key, and the number of the entries given, staged or not.
+#[derive(Drop)]
+pub(crate) struct Receiving<R> {
+    alloc: Global,
+    own: State,
+    items: Vec<LedgerItem>,
+    staging: Option<Staging>,
+    last: Option<Key>,
+    count: u64,
+    given: Given,
+    of: PhantomData<R>,
+}
+
+/// Offers the next entry to what is staged of the entries before it.
+fn offer(
+    own: &State,
+    staging: &mut Staging,
+    given: &Given,
+    key: Key,
+    entry: Entry,
+) -> Result<(), Memory>
+    requires staged { IsStagedOf own.now staging.old given.now.entries }
+    requires here { IsStampHere (told_state staging.old.items given.now.entries)
+        (key_meant key) (entry_meant entry).stamp }
+    requires op { IsOpOf (key_meant key) (entry_meant entry).op }
+    ensures ok { IsOk result
+        → IsStagedOf own.now staging.new
+        (given.now.entries ++ (key_meant key, entry_meant entry) ∷ []) }
+    ensures items { staging.new.items ≡ staging.old.items }
+    ensures err { IsErr result → staging.new ≡ staging.old }
+{
+    staging.offer(own, key, entry)
+}
+
+impl<R: Receiver> Receiving<R> {
+    /// Nothing received yet.
+    pub(crate) fn new(alloc: Global, own: State) -> Receiving<R>
+        requires valid { IsValid own }
+        requires own { own ≡ R.own }
+        ensures receiving { IsReceiving R.own result }
+        ensures none { told_of result ≡ told_state [] [] }
+    {
+        Receiving {
+            alloc,
+            own,
+            items: Vec::new(alloc),
+            staging: None,
+            last: None,
+            count: 0,
+            given: Given::new(),
+            of: PhantomData,
+        }
+    }
+
+    /// Takes the next ledger item. No item comes after an entry.
+    pub(crate) fn item(&mut self, item: LedgerItem) -> Result<(), Memory>
+        requires receiving { IsReceiving R.own self.old }
+        requires before_entries { self.old.given.entries ≡ [] }
+        requires ledger { IsLedger ((told_of self.old).ledger ++ item_meant item ∷ []) }
+        ensures ok { IsOk result
+            → told_of self.new ≡ with_item (told_of self.old) (item_meant item) }
+        ensures receiving { IsReceiving R.own self.new }
+    {
+        if self.staging.is_some() {
+            return Err(Memory);
+        }
+        self.items.push(item)?;
+        Ok(())
+    }
+
+    /// Begins to stage: the ledger is complete.
+    fn begin(&mut self) -> Result<(), Memory>
+        requires receiving { IsReceiving R.own self.old }
+        requires none { self.old.staging ≡ None }
+        ensures ok { IsOk result }
+        ensures some { IsSome self.new.staging }
+        ensures same { told_of self.new ≡ told_of self.old }
+        ensures receiving { IsReceiving R.own self.new }
+    {
+        let items = mem::replace(&mut self.items, Vec::new(self.alloc));
+        self.staging = Some(Staging::new(self.alloc, &self.own, items)?);
+        Ok(())
+    }
+
+    /// Takes the next entry, with its key.
+    pub(crate) fn entry(&mut self, key: Key, entry: Entry) -> Result<(), Memory>
+        requires receiving { IsReceiving R.own self.old }
+        requires few { length self.old.given.entries < 2 ^ 64 - 1 }
+        requires here { IsStampHere (told_of self.old) (key_meant key) (entry_meant entry).stamp }
+        requires op { IsOpOf (key_meant key) (entry_meant entry).op }
+        ensures ok { IsOk result → told_of self.new
+            ≡ with_row (told_of self.old) (key_meant key, entry_meant entry) }
+        ensures receiving { IsReceiving R.own self.new }
+    {
+        if self.staging.is_none() {
+            self.begin()?;
+        }
+        let given = Given::with(&self.given, &key, &entry);
+        match &mut self.staging {
+            Some(staging) => offer(&self.own, staging, &self.given, key, entry)?,
+            None => unreachable!(),
+        }
+        self.last = Some(key);
+        self.count += 1;
+        self.given = given;
+        Ok(())
+    }
+
+    /// The ledger items so far, ascending.
+    pub(crate) fn ledger(&self) -> &[LedgerItem]
+        ensures { map item_meant result.now ≡ (told_of self.now).ledger }
+    {
+        match &self.staging {
+            Some(staging) => staging.items(),
+            None => self.items.as_slice(),
+        }
+    }
+
+    /// How many entries were given.
+    pub(crate) fn len(&self) -> u64
+        requires { IsReceiving R.own self.now }
+        ensures { result ≡ length (told_of self.now).entries }
+    {
+        self.count
+    }
+
+    /// The key of the last entry given. `None` if there is none yet.
+    pub(crate) fn last(&self) -> Option<&Key>
+        requires { IsReceiving R.own self.now }
+        ensures { option_map key_meant (option_copied result)
+            ≡ last_key (told_of self.now).entries }
+    {
+        self.last.as_ref()
+    }
+
+    /// The state, joined with what was received. If memory runs out, the state is as it was.
+    pub(crate) fn finish(self) -> (State, Result<(), Memory>)
+        requires { IsReceiving R.own self }
+        ensures ok { IsOk result.1 → (horizon : ℕ) → IsValid (under horizon (told_of self))
+            → IsJoin R.own (told_of self) result.0 }
+        ensures err { IsErr result.1 → result.0 ≡ R.own }
+    {
+        let Receiving {
+            alloc,
+            mut own,
+            items,
+            staging,
+            last: _,
+            count: _,
+            given: _,
+            of: _,
+        } = self;
+        let staging = match staging {
+            Some(staging) => staging,
+            None => match Staging::new(alloc, &own, items) {
+                Ok(staging) => staging,
+                Err(wanting) => return (own, Err(wanting)),
+            },
+        };
+        let done = own.commit(staging);
+        (own, done)
+    }
+
+    /// The state as it was.
+    pub(crate) fn into_own(self) -> State
+        requires { IsReceiving R.own self }
+        ensures { result ≡ R.own }
+    {
+        self.own
+    }
+}

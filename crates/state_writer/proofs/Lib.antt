@@ -1,3 +1,0 @@
-pub mod BufferLemmas
-pub mod WriteLemmas
-pub mod LengthLemmas
