@@ -9,7 +9,7 @@ use Rattle.docker_model.specs.records.Field.{is_deletion, HasGoodFields, leftmos
 use Rattle.docker_model.specs.file.FileFault as fault
 use Rattle.docker_model.specs.file.FileFault.{bad_kind, bad_place}
 use Rattle.cif_laws.specs.RecordCause.{field_cause, schedule_cause, first_line_cause}
-use Rattle.docker_model.specs.file.ScheduleFault.{IsScheduleFault}
+use Rattle.cif_laws.specs.ScheduleFault.{IsScheduleFault}
 use Rattle.docker_model.specs.file.Journey.{Occasion, arrival, pass, departure, timed, times_of, times_by_kind, times_along, midnights, fall_count}
 use Rattle.cif_laws.proofs.records.Columns.{good_fields}
 use Rattle.cif_laws.proofs.records.ScheduledTimes.{time_there}

@@ -5,7 +5,7 @@ use Rattle.docker_model.specs.records.Field.{is_deletion}
 use Rattle.docker_model.specs.file.Journey.{times_of, times_along, midnights}
 use Rattle.docker_model.specs.records.Record.{Kind}
 use Rattle.docker_model.specs.file.FileFault as fault
-use Rattle.docker_model.specs.file.ScheduleFault.{IsScheduleFault}
+use Rattle.cif_laws.specs.ScheduleFault.{IsScheduleFault}
 use Rattle.cif_laws.specs.TimesSoFar.{last_of}
 use Rattle.cif_laws.specs.ScheduleStage.{after_basic, after_details, in_journey, after_journey, stage_of, stage_after, may_lack}
 use Rattle.cif_laws.specs.ScheduleStage as place

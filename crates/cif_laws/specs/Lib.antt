@@ -1,6 +1,7 @@
 pub mod RecordTest
 pub mod TimesSoFar
 pub mod ScheduleStage
+pub mod ScheduleFault
 pub mod FileStage
 pub mod RecordCause
 pub mod LinesTold

@@ -5,7 +5,7 @@ ghost use Rattle.std.specs.List.{AllPairs};
 ghost use Rattle.docker_model.specs.records.Record.{IsRecord};
 ghost use Rattle.docker_model.specs.file.Text.{IsTextOf, lines_of};
 ghost use Rattle.docker_model.specs.file.FileFault.{FileCause, FileFault, IsFileFault, IsFileText};
-ghost use Rattle.docker_model.specs.file.ScheduleFault.{IsScheduleFault};
+ghost use Rattle.cif_laws.specs.ScheduleFault.{IsScheduleFault};
 ghost use Rattle.docker_model.specs.file.FaultSoFar.{IsFaultSoFar};
 ghost use Rattle.docker_model.specs.file.Change.{Change, Body, put, schedule_body, changes, changes_of_record};
 ghost use Rattle.cif_laws.specs.UnitChange.{changes_of_unit, changes_of_units, change_of_schedule};

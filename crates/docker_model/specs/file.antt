@@ -5,5 +5,4 @@ pub mod File
 pub mod Text
 pub mod FileFault
 pub mod FaultSoFar
-pub mod ScheduleFault
 pub mod Change
