@@ -138,6 +138,21 @@ def definitions():
 
 
 @functools.cache
+def by_name():
+    """The definitions by their names: bare, and after their crate."""
+    found = collections.defaultdict(list)
+    for it in definitions():
+        found[it.name].append(it)
+        found[f"{it.crate}::{it.name}"].append(it)
+    return found
+
+
+def named(name):
+    """The definitions of a name, which may be `crate::name`."""
+    return by_name().get(name, [])
+
+
+@functools.cache
 def defined_in(path):
     return {it.name: it for it in definitions() if it.file == path}
 

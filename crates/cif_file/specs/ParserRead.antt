@@ -135,6 +135,7 @@ abbrev pub IsCauseOf : ℕ → List ℕ → ℕ → Option model.FileCause → T
 IsCauseOf limit text number None = WantsMemoryAt limit (lines_of text) number
 IsCauseOf limit text number (Some cause) = IsFileFault limit text (record { number = number; cause = cause })
 
+-- the same for the fault that a call returns
 abbrev pub IsRefused : ℕ → List ℕ → FileFault → Type 0
 IsRefused limit text fault = IsCauseOf limit text fault.number (cause_meant fault.cause)
 

@@ -69,6 +69,7 @@ IsToldSoFar format limit text piece at None = IsWanting format limit text piece 
 IsToldSoFar format limit text piece at (Some cause) =
     HasBadPart format limit (text ++ piece) (record { at = at; cause = cause }) ⊎ IsLong format limit (text ++ piece) (record { at = at; cause = cause })
 
+-- the same for the fault that a call returns
 abbrev pub IsFaultTold : Format → ℕ → List ℕ → List ℕ → StateFault → Type 0
 IsFaultTold format limit text piece fault = IsToldSoFar format limit text piece fault.at (cause_meant fault.cause)
 
@@ -86,6 +87,7 @@ abbrev pub IsToldAtEnd : Format → ℕ → List ℕ → ℕ → Option model.St
 IsToldAtEnd format limit text at None = IsWhole format limit text × (at ≡ length text)
 IsToldAtEnd format limit text at (Some cause) = IsShort format limit text (record { at = at; cause = cause })
 
+-- the same for the fault that a call returns
 abbrev pub IsUnended : Format → ℕ → List ℕ → StateFault → Type 0
 IsUnended format limit text fault = IsToldAtEnd format limit text fault.at (cause_meant fault.cause)
 

@@ -59,6 +59,7 @@ abbrev pub begins_part : EntryPart → Bool
 begins_part before_tag = true
 begins_part _ = false
 
+-- what comes next is not in the middle of an entry
 abbrev pub begins_item : Before → Bool
 begins_item (in_entry count state part) = begins_part part
 begins_item _ = true
