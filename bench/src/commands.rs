@@ -1,5 +1,5 @@
 //! Time and memory of an office's commands, beside `wc -l` of the bytes that each reads, and beside
-//! the bench's plain program, which has to give the same bytes.
+//! a plain program, which has to give the same bytes.
 
 use crate::measure::{machine, run, Input, Spent};
 use std::collections::HashMap;
@@ -55,10 +55,9 @@ struct States {
     own: String,
 }
 
-/// Prints the table of an extract and an update of it. The states are left in the folder.
-pub fn table(program: &str, extract: &str, update: &str, folder: &str) -> Result<()> {
-    let plain = std::env::current_exe()?;
-    let plain = plain.to_str().ok_or_else(|| Error::other("this program's path isn't text"))?;
+/// Prints the table of an extract and an update of it, with these words before the plain program's
+/// own. The states are left in the folder.
+pub fn table(program: &str, plain: &[&str], extract: &str, update: &str, folder: &str) -> Result<()> {
     let states = make_states(program, extract, update, folder)?;
     let (place, date) = busiest(extract)?;
     let size = |path: &str| fs::metadata(path).map(|about| about.len());
@@ -111,7 +110,7 @@ pub fn table(program: &str, extract: &str, update: &str, folder: &str) -> Result
     ];
     for _ in 0..ROUNDS {
         for job in &mut jobs {
-            measure(job, [&[program], &[plain, "plain"]], own)?;
+            measure(job, [&[program], plain], own)?;
         }
     }
     let busy = jobs[1].lines.saturating_sub(2);

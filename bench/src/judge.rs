@@ -56,10 +56,14 @@ pub fn line_of(answer: &Answer) -> String {
     }
 }
 
-/// The first column of the leftmost field that isn't good.
+/// The first column of the leftmost field that isn't good. All fields are judged before one of them
+/// is looked for, because a processor can't foresee a branch for each.
 macro_rules! first_bad {
     ($line:expr, $(($column:expr, $check:expr)),+) => {{
         let line: &Line = $line;
+        if $($check.holds(&line[$column - 1..]))&+ {
+            return None;
+        }
         $(if !$check.holds(&line[$column - 1..]) {
             return Some($column);
         })+
@@ -124,8 +128,9 @@ pub struct Judge {
     journey_optional: bool,
     /// The schedule is a deletion: only the kind and the place of its lines after BS are checked.
     deletion: bool,
-    /// The half minutes of the journey's last event, and how often the times fell so far.
-    last_event: Option<u16>,
+    /// The half minutes of the journey's last event, 0 before the first one, and how often the
+    /// times fell so far.
+    last_event: u16,
     falls: u8,
 }
 
@@ -137,7 +142,7 @@ impl Judge {
             place: Place::Start,
             journey_optional: false,
             deletion: false,
-            last_event: None,
+            last_event: 0,
             falls: 0,
         }
     }
@@ -247,7 +252,7 @@ impl Judge {
             Kind::Basic => {
                 self.deletion = line[2] == b'D';
                 self.journey_optional = self.deletion || line[79] == b'C';
-                self.last_event = None;
+                self.last_event = 0;
                 self.falls = 0;
                 return false;
             }
@@ -260,13 +265,9 @@ impl Judge {
             return false;
         }
         for column in columns {
-            let Some(time) = judged_time(&line[column - 1..]) else {
-                continue;
-            };
-            if self.last_event.is_some_and(|last| time < last) {
-                self.falls += 1;
-            }
-            self.last_event = Some(time);
+            let time = judged_time(&line[column - 1..]).unwrap_or(self.last_event);
+            self.falls += u8::from(time < self.last_event);
+            self.last_event = time;
         }
         self.falls > 2
     }
@@ -364,60 +365,48 @@ impl Check {
             Check::Date => is_date(&field[..2], &field[2..4], &field[4..6]),
             Check::EndDate => field[..6] == *b"999999" || is_date(&field[..2], &field[2..4], &field[4..6]),
             Check::DayMonthYear => is_date(&field[4..6], &field[2..4], &field[..2]),
-            Check::Days => field[..7].iter().all(|mark| matches!(mark, b'0' | b'1')),
-            Check::Clock => minutes(field).is_some(),
-            Check::Public => field[..4] == *b"    " || minutes(field).is_some(),
-            Check::Time => half_minutes(field).is_some(),
-            Check::TimeOrBlank => field[..5] == *b"     " || half_minutes(field).is_some(),
+            Check::Days => field[..7].iter().fold(true, |good, mark| good & matches!(mark, b'0' | b'1')),
+            Check::Clock => is_clock(field),
+            Check::Public => (field[..4] == *b"    ") | is_clock(field),
+            Check::Time => is_time(field),
+            Check::TimeOrBlank => (field[..5] == *b"     ") | is_time(field),
         }
     }
 }
 
-/// The number of two digits.
+/// The number of two characters, if they are digits, and whether they are.
 #[inline(always)]
-fn two(digits: &[u8]) -> Option<u16> {
+fn two(digits: &[u8]) -> (u16, bool) {
     let (tens, ones) = (digits[0].wrapping_sub(b'0'), digits[1].wrapping_sub(b'0'));
-    (tens < 10 && ones < 10).then(|| u16::from(tens) * 10 + u16::from(ones))
+    (u16::from(tens) * 10 + u16::from(ones), (tens < 10) & (ones < 10))
 }
 
 /// Whether this is a day of the calendar. The years are 1960 to 2059, and every fourth is a leap
 /// year.
 fn is_date(year: &[u8], month: &[u8], day: &[u8]) -> bool {
-    let (Some(year), Some(month), Some(day)) = (two(year), two(month), two(day)) else {
-        return false;
-    };
-    let length = match month {
-        4 | 6 | 9 | 11 => 30,
-        2 if year % 4 == 0 => 29,
-        2 => 28,
-        1..=12 => 31,
-        _ => 0,
-    };
-    (1..=length).contains(&day)
+    const LENGTHS: [u16; 13] = [0, 31, 28, 31, 30, 31, 30, 31, 31, 30, 31, 30, 31];
+    let ((year, is_year), (month, is_month), (day, is_day)) = (two(year), two(month), two(day));
+    let length = LENGTHS.get(usize::from(month)).copied().unwrap_or(0) + u16::from((month == 2) & (year % 4 == 0));
+    is_year & is_month & is_day & (1..=length).contains(&day)
 }
 
 #[inline(always)]
-fn minutes(field: &[u8]) -> Option<u16> {
-    let (hour, minute) = (two(field)?, two(&field[2..])?);
-    (hour < 24 && minute < 60).then_some(hour * 60 + minute)
+fn is_clock(field: &[u8]) -> bool {
+    let ((hour, is_hour), (minute, is_minute)) = (two(field), two(&field[2..]));
+    is_hour & is_minute & (hour < 24) & (minute < 60)
 }
 
 #[inline(always)]
-fn half_minutes(field: &[u8]) -> Option<u16> {
-    let half = match field[4] {
-        b' ' => 0,
-        b'H' => 1,
-        _ => return None,
-    };
-    Some(minutes(field)? * 2 + half)
+fn is_time(field: &[u8]) -> bool {
+    is_clock(field) & ((field[4] == b' ') | (field[4] == b'H'))
 }
 
 /// The half minutes of a field that was judged before; none if it is spaces.
 #[inline(always)]
 pub fn judged_time(field: &[u8]) -> Option<u16> {
-    let digit = |at: usize| u16::from(field[at] - b'0');
-    let minutes = || (digit(0) * 10 + digit(1)) * 60 + digit(2) * 10 + digit(3);
-    (field[0] != b' ').then(|| minutes() * 2 + u16::from(field[4] == b'H'))
+    let digit = |at: usize| u16::from(field[at] & 0x0F);
+    let minutes = (digit(0) * 10 + digit(1)) * 60 + digit(2) * 10 + digit(3);
+    (field[0] != b' ').then_some(minutes * 2 + u16::from(field[4] == b'H'))
 }
 
 // ---------------------------------------------------------------- texts

@@ -25,7 +25,7 @@ use std::process::ExitCode;
 
 const USAGE: &str = "usage: extract full SCHEDULES SEED FILE | extract update SCHEDULES BASE_SEED SEED DAY FILE | \
 extract judge FILE | extract flip FILE SEED | extract compare DOCKER FILE SEED FLIPS | extract measure DOCKER FILE.. | extract state STATE_TIMES FILE UPDATE FOLDER | \
-extract commands DOCKER FILE UPDATE FOLDER | extract desk DOCKER DESK STATE_TIMES FILE UPDATE FOLDER DAY SEED | extract shapes DOCKER RECORDS SEED FOLDER | extract growth DOCKER FOLDER WORD.. | extract plain WORD.. | extract mutate DOCKER FOLDER SEED TIMES FILE..";
+extract commands DOCKER FILE UPDATE FOLDER [PEER] | extract desk DOCKER DESK STATE_TIMES FILE UPDATE FOLDER DAY SEED | extract shapes DOCKER RECORDS SEED FOLDER | extract growth DOCKER FOLDER WORD.. | extract plain WORD.. | extract mutate DOCKER FOLDER SEED TIMES FILE..";
 
 fn main() -> ExitCode {
     let words: Vec<String> = std::env::args().skip(1).collect();
@@ -67,7 +67,10 @@ fn job(words: &[&str]) -> Option<Result<u8>> {
         }
         ["growth", program, folder, words @ ..] => growth::tables(program, folder, words).map(|passes| u8::from(!passes)),
         ["plain", words @ ..] if !words.is_empty() => plain::run(words),
-        ["commands", program, path, update, folder] => commands::table(program, path, update, folder).map(|()| 0),
+        ["commands", program, path, update, folder] => {
+            own_path().and_then(|own| commands::table(program, &[&own, "plain"], path, update, folder)).map(|()| 0)
+        }
+        ["commands", program, path, update, folder, peer] => commands::table(program, &[peer], path, update, folder).map(|()| 0),
         ["desk", docker, desk, state_times, path, update, folder, day, seed] => {
             desk_tables([docker, desk, state_times], path, update, folder, day, number(seed)?).map(|()| 0)
         }
@@ -86,9 +89,12 @@ fn desk_tables(
     day: &str,
     seed: u64,
 ) -> Result<()> {
-    let plain = std::env::current_exe()?;
-    let plain = plain.to_str().ok_or_else(|| Error::other("this program's path isn't text"))?;
-    desk::tables(&desk::Programs { docker, desk, state_times, plain }, path, update, folder, day, seed)
+    desk::tables(&desk::Programs { docker, desk, state_times, plain: &own_path()? }, path, update, folder, day, seed)
+}
+
+fn own_path() -> Result<String> {
+    let path = std::env::current_exe()?.into_os_string();
+    path.into_string().map_err(|_| Error::other("this program's path isn't text"))
 }
 
 /// Prints what `docker check` would.
