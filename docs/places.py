@@ -57,8 +57,8 @@ class Function:
     def clauses(self):
         """The place of each clause that has a name."""
         lines = enumerate(self.contract.split("\n"), self.place.line)
-        found = ((CLAUSE.match(line), at) for at, line in lines)
-        return {it.group(1): Place(self.place.file, at) for it, at in found if it}
+        found = ((CLAUSE.match(line), number) for number, line in lines)
+        return {it.group(1): Place(self.place.file, number) for it, number in found if it}
 
 
 @functools.cache
@@ -211,6 +211,12 @@ def contract_of(text, begin):
     return "\n".join(lines)
 
 
+def is_open(head, owner, text):
+    """Whether a function can be called from outside its file. One of a trait can if the trait can."""
+    of_trait = owner[0] and re.search(rf"^pub trait {owner[0]}\b", text, re.M)
+    return bool(of_trait or re.match(r"\s*pub (?:const )?fn ", head))
+
+
 def exported(crate):
     """The names that a crate's lib.rt exports, and its public modules."""
     path = ROOT / "crates" / crate / "src" / "lib.rt"
@@ -222,7 +228,7 @@ def exported(crate):
 
 @functools.cache
 def functions():
-    """The functions of all crates."""
+    """The functions of all crates. One is public if its crate exports it, or the type or trait that it belongs to."""
     found = []
     for crate in crates():
         names, modules = exported(crate)
@@ -231,8 +237,7 @@ def functions():
             module = "::".join(path.relative_to(ROOT / "crates" / crate / "src").with_suffix("").parts)
             for begin, _, owner, name in bodies().functions_of(text):
                 head = contract_of(text, begin)
-                is_public = "pub fn" in head.split("(")[0] or bool(re.search(rf"^pub trait {owner[0]}\b", text, re.M)) if owner[0] else "pub fn" in head.split("(")[0]
-                is_public &= module in modules or (owner[0] or name) in names
+                is_public = is_open(head, owner, text) and (module in modules or (owner[0] or name) in names)
                 is_test = bool(re.search(r"#\[test\]\s*(?:#\[[^\]]*\]\s*)*$", text[:begin]))
                 found.append(Function(crate, module, owner, name, at(path, text.count("\n", 0, begin) + 1), head, is_public, is_test))
     return found

@@ -102,7 +102,8 @@ fn described(op: &Op) -> &[u8; 26]
     }
 }
 
-/// The description in a TIPLOC's body, which holds columns 10 to 72 of its record.
+/// The description in a TIPLOC's body: columns 19 to 44 of its record, whose columns 10 to 72 are the
+/// body.
 fn description_of(bytes: &[u8; 63]) -> &[u8; 26]
     ensures { result.now ≡ columns 10 35 bytes.now }
 {
