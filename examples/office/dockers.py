@@ -1,20 +1,11 @@
-#!/usr/bin/python3
 """Asks for dockers of one STATE, and for what STATE is made of. There are two ways to ask, with one interface.
 
 If there is a program `desk`, one process of it answers every request: it loads STATE once, and renews it when STATE's file changed.
 Else each request is a `docker` command of its own, which reads STATE again: of a national extract that takes 1.4 to 3 seconds and 1 GB of
 memory each time. Its answer is kept as long as STATE's file is the same one. Both give the same bytes.
 
-As a command, it has these words:
-
-  dockers.py STATE known               writes of when the newest file is, and which updates are missing before it
-
-  dockers.py STATE print DATE <PLACES  writes the docker of each place of a list, one a line, and says which places nobody knows
-
-  dockers.py advice LINE               writes what a fault's line means and what to do
-
-DOCKER names the program `docker`, and DESK the program `desk`. The status is the greatest of all answers'.
-"""
+DOCKER names the program `docker`, and DESK the program `desk`. Else they are those that ./install has put here, those of the sources around this file, or those that
+./install has put elsewhere on the PATH."""
 import collections
 import datetime
 import os
@@ -25,6 +16,9 @@ import subprocess
 import sys
 import threading
 from typing import NamedTuple, Optional
+
+HERE = pathlib.Path(__file__).resolve().parent
+NO_PROGRAM = "there is no program docker: build it by `./docker` or install it by `./install` of its sources, or name it in DOCKER"
 
 # One to seven bytes from 0x21 to 0x7E, as docker reads a TIPLOC; but a word that begins with a
 # hyphen is no TIPLOC.
@@ -86,7 +80,7 @@ def description_of(docker):
 def advice(line):
     """What a fault's line means and what to do, from the table of causes, which has no numbers. Nothing where it has no such fault."""
     fault = re.sub(r"^usage: .*", "usage", re.sub(r"^docker: |: (record|offset) \d+| \d+$", "", line.strip()))
-    causes = (pathlib.Path(__file__).resolve().parent / "causes").read_text(encoding="utf-8").splitlines()
+    causes = (HERE / "causes").read_text(encoding="utf-8").splitlines()
     return next((f"{means}. {what}" for name, means, what in (cause.split("\t") for cause in causes) if name == fault), "")
 
 
@@ -289,17 +283,42 @@ def grew(before, after):
     return before.horizon <= after.horizon and all(item in after.items for item in before.items if item[:11] >= floor)
 
 
+def candidates():
+    """The pairs of programs `docker` and `desk` that there may be, the best first."""
+    if named := os.environ.get("DOCKER"):
+        yield named, f"{named}-desk"
+        return
+    yield HERE / "docker", HERE / "desk"
+    built = HERE.parent.parent / "crates"
+    yield built / "docker" / "out" / "docker", built / "desk" / "out" / "desk"
+    for folder in os.get_exec_path():
+        installed = pathlib.Path(folder).parent / "share" / "station-office"
+        yield installed / "docker", installed / "desk"
+    yield "station-docker", "station-docker-desk"
+
+
+def programs():
+    """The paths of the programs `docker` and `desk`, each None if there is none."""
+    for docker, desk in candidates():
+        if found := shutil.which(docker):
+            return found, shutil.which(os.environ.get("DESK") or desk)
+    return None, None
+
+
 def reader_of(state, docker: Optional[str] = None, desk: Optional[str] = None):
     """The way that this machine has: `desk` if there is one, else `docker`."""
-    docker = docker or os.environ.get("DOCKER") or "station-docker"
-    desk = shutil.which(desk or os.environ.get("DESK") or f"{docker}-desk")
-    if desk is not None:
-        return Desk(desk, state)
-    found = shutil.which(docker)
-    if found is None:
-        say(f"there is no program {docker}; DOCKER names it")
+    found = programs()
+    docker, desk = docker or found[0], desk or found[1]
+    if docker is None and desk is None:
+        say(NO_PROGRAM)
         sys.exit(4)
-    return Commands(found, state)
+    return Desk(desk, state) if desk is not None else Commands(docker, state)
+
+
+def version():
+    """The version that was installed."""
+    path = HERE / "version"
+    return path.read_text(encoding="utf-8").strip() if path.exists() else "of a checkout"
 
 
 def say(text):
@@ -312,64 +331,3 @@ def say_fault(subject, answer):
     say(f"{subject}: {line}")
     if told := advice(line):
         say(f"{subject}: {told}")
-
-
-def print_known(reader):
-    """Writes of when the newest file is, and each gap."""
-    answer = reader.files()
-    if answer.status != 0:
-        say_fault(reader.state, answer)
-        return answer.status
-    extracts = extracts_of(answer.text)
-    print(f"known up to {extracts[-1].name}" if extracts else "nothing is known: no extract was taken")
-    for reference, extract in missing(extracts):
-        print(f"missing: {reference}, which comes before the {extract.name}")
-    return 0
-
-
-def print_places(reader, date, lines):
-    """Writes the dockers of the places of a list. If one is refused it says so, and the others follow. If STATE or the day is refused, it stops:
-    the others would be refused too."""
-    if not is_date(date):
-        say_fault("print", reader.print_docker("A", date))
-        return 2
-    worst = 0
-    for place in (line.strip() for line in lines):
-        if not place or place.startswith("#"):
-            continue
-        answer = reader.print_docker(place, date)
-        worst = max(worst, answer.status)
-        if answer.status != 0:
-            say_fault(place, answer)
-            if answer.status == 1:
-                break
-        else:
-            sys.stdout.buffer.write(answer.text)
-            if not description_of(answer.text):
-                say(f"{place}: nobody knows this code; is it spelled right?")
-    sys.stdout.flush()
-    return worst
-
-
-def main():
-    match sys.argv[1:]:
-        case ["advice", line]:
-            print(advice(line))
-            return
-        case [state, "known"]:
-            job = print_known
-        case [state, "print", date]:
-            def job(reader):
-                return print_places(reader, date, sys.stdin)
-        case _:
-            print("dockers.py: usage: STATE known | STATE print DATE <PLACES | advice LINE", file=sys.stderr)
-            sys.exit(2)
-    reader = reader_of(state)
-    try:
-        sys.exit(job(reader))
-    finally:
-        reader.close()
-
-
-if __name__ == "__main__":
-    main()

@@ -1,0 +1,1 @@
+"""What `station-office` does, a module for each part of an office's day."""

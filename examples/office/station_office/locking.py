@@ -1,0 +1,36 @@
+"""One station-office at a time on a STATE, with a folder to work in."""
+import contextlib
+import fcntl
+import shutil
+import time
+
+from .faults import Fault
+
+
+def locks(office, file):
+    """Waits until no other station-office has the lock."""
+    end = time.monotonic() + office.settings.wait
+    waits = False
+    while True:
+        try:
+            return fcntl.flock(file, fcntl.LOCK_EX | fcntl.LOCK_NB)
+        except BlockingIOError:
+            if time.monotonic() >= end:
+                raise Fault(4, office.state, "another station-office is at work on it") from None
+        if not waits:
+            office.say(office.state, f"another station-office is at work on it; this one waits up to {office.settings.wait:.0f} seconds")
+            waits = True
+        time.sleep(0.1)
+
+
+@contextlib.contextmanager
+def at_work(office):
+    """Has STATE, and an empty folder for what is unpacked and packed. What an ended run left there goes."""
+    with open(office.beside("lock"), "ab") as file:
+        locks(office, file)
+        shutil.rmtree(office.work, ignore_errors=True)
+        office.work.mkdir()
+        try:
+            yield
+        finally:
+            shutil.rmtree(office.work, ignore_errors=True)

@@ -1,0 +1,156 @@
+"""An office: STATE, the folder around it, and docker over both."""
+import contextlib
+import hashlib
+import math
+import os
+import pathlib
+import shutil
+import signal
+import stat
+import subprocess
+
+import dockers
+
+from . import packing
+from .faults import Fault
+
+# For each byte of STATE, how many a command writes: its copy, packed, and the draft of the new one.
+ROOM = 1.25
+# How many bytes a command writes in any case, and for each byte of a packed file about how many when
+# that is unpacked.
+LEAST, UNPACKED = 16384, 10
+
+
+def size_text(size):
+    """A number of bytes, as a person reads it."""
+    return f"{size / 1e6:.0f} MB" if size >= 10e6 else f"{size / 1e6:.1f} MB" if size >= 1e6 else f"{math.ceil(size / 1e3)} KB"
+
+
+def digest_of(path):
+    """What changes whenever a file's content does."""
+    with open(path, "rb") as file:
+        return hashlib.file_digest(file, "blake2b").hexdigest()[:32]
+
+
+def size_of(path):
+    """How many bytes a file has; none if there is no file."""
+    try:
+        return os.stat(path).st_size
+    except OSError:
+        return 0
+
+
+class Office:
+    """STATE and its folder. `status` is the greatest of all that was done."""
+
+    def __init__(self, state, settings):
+        self.state = pathlib.Path(state)
+        self.folder = self.state.parent
+        self.settings = settings
+        self.program, _ = dockers.programs()
+        self.work = self.folder / f".{self.state.name}.work"
+        self.status = 0
+        self.listed = None, None
+
+    def beside(self, ending):
+        """A hidden file of this office, beside STATE."""
+        return self.folder / f".{self.state.name}.{ending}"
+
+    def say(self, subject, line):
+        dockers.say(f"{subject}: {line}")
+
+    def report(self, fault):
+        """Says a fault, and counts its status."""
+        for line in fault.lines:
+            self.say(fault.subject, line)
+        self.status = max(self.status, fault.status)
+
+    @contextlib.contextmanager
+    def reporting(self):
+        """What goes wrong here is said, and what comes after this is done all the same."""
+        try:
+            yield
+        except Fault as fault:
+            self.report(fault)
+        except OSError as error:
+            self.report(self.device_fault(error))
+
+    def device_fault(self, error):
+        """The fault of a device that failed in this script."""
+        return Fault(4, error.filename2 or error.filename or self.folder, error.strerror or str(error), *self.shortage(self.needed()))
+
+    def needed(self, *paths):
+        """About how many bytes a command writes: STATE anew, a copy of it, and what these files bring."""
+        return int(ROOM * size_of(self.state)) + sum(map(size_of, paths)) + LEAST
+
+    def shortage(self, needs, folder=None):
+        """What the disk lacks, if it has less room than a command needs."""
+        found = os.statvfs(folder or self.folder)
+        free = found.f_bavail * found.f_frsize
+        return [f"the disk is full: {size_text(free)} are free, and about {size_text(needs)} are needed"] if free < needs else []
+
+    def docker(self, subject, *words, needs=0):
+        """What a docker command writes. Paths among its words are made whole. NEEDS is about how many bytes it writes."""
+        before = dockers.identity(self.state)
+        whole = [os.path.abspath(word) if isinstance(word, pathlib.Path) else word for word in words]
+        ended = subprocess.run([self.program, *whole], stdin=subprocess.DEVNULL, capture_output=True, check=False)
+        if ended.returncode != 0:
+            raise self.docker_fault(subject, ended, before, needs)
+        return ended.stdout
+
+    def docker_fault(self, subject, ended, before, needs):
+        """The fault of a docker command: its line, and what to do."""
+        if ended.returncode < 0:
+            why = ", as where the system has no memory left" if ended.returncode == -signal.SIGKILL else ""
+            return Fault(4, subject, f"docker was ended by signal {-ended.returncode}{why}")
+        line = ended.stderr.decode("utf-8", "replace").strip()
+        reasons = self.reasons(before, needs) if ended.returncode == 4 else []
+        return Fault(min(ended.returncode, 4), subject, line, *(reasons or filter(None, [dockers.advice(line)])))
+
+    def reasons(self, before, needs):
+        """What is seen to be wrong, where docker says only that a device failed."""
+        if dockers.identity(self.state) != before:
+            return ["another command wrote STATE meanwhile, so this one changed nothing: do it again"]
+        if not os.access(self.folder, os.W_OK):
+            return [f"{self.folder} may not be written"]
+        return self.shortage(needs)
+
+    def files(self):
+        """The extracts that count in STATE, from the newest full one on."""
+        now = dockers.identity(self.state)
+        if now is None or self.listed[0] != now:
+            self.listed = now, self.files_of(self.state, self.state)
+        return self.listed[1]
+
+    def files_of(self, subject, state):
+        """The extracts that count in a state."""
+        return dockers.extracts_of(self.docker(subject, "files", state))
+
+    def unpacked(self, path):
+        """A file with what another one holds: that one itself, if it isn't packed. A pipe is read into a file first."""
+        packed, plain = path, self.work / "plain"
+        try:
+            if not stat.S_ISREG(os.stat(path).st_mode):
+                packed = self.work / "piped"
+                with open(path, "rb") as pipe, open(packed, "wb") as file:
+                    shutil.copyfileobj(pipe, file, 1 << 20)
+            if packing.packing_of(packed) is None:
+                return packed
+            with packing.stream_of(packed) as stream, open(plain, "wb") as file:
+                shutil.copyfileobj(stream, file, 1 << 20)
+        except Fault as fault:
+            fault.subject = path
+            raise
+        except OSError as error:
+            lines = ["there is no such file"] if isinstance(error, FileNotFoundError) else [error.strerror or str(error), *self.shortage(UNPACKED * size_of(packed))]
+            raise Fault(4, path, *lines) from None
+        return plain
+
+    def stays(self, path):
+        """Another name for STATE's file as it is now, so that it can be compared with what STATE becomes."""
+        path.unlink(missing_ok=True)
+        try:
+            os.link(self.state, path)
+        except OSError:
+            shutil.copyfile(self.state, path)
+        return path

@@ -1,0 +1,97 @@
+"""What offices swap: each puts its state under its own name where the others find it, and merges theirs."""
+import contextlib
+import os
+import re
+import secrets
+import socket
+
+from . import packing
+from .archive import contents_of
+from .extracts import bytes_of, stamps_in
+from .faults import Fault
+from .office import digest_of, size_of
+from .withdrawn import known_of
+
+# Letters that make no words.
+LETTERS = "bcdfghjkmnpqrstvwxz"
+
+
+def new_name(office):
+    """A name that no other office has: the machine's, STATE's, and six letters by chance."""
+    parts = (socket.gethostname().split(".")[0], office.state.name.removesuffix(".state"), "".join(secrets.choice(LETTERS) for _ in range(6)))
+    return "-".join(re.sub(r"[^A-Za-z0-9_]+", "-", part).strip("-") or "office" for part in parts)
+
+
+def name_file(office):
+    """The file beside STATE that has the office's name."""
+    return office.folder / f"{office.state.name}.name"
+
+
+def name_of(office):
+    """The office's name. It is made with STATE, and kept in a file beside it."""
+    path = name_file(office)
+    with contextlib.suppress(FileNotFoundError):
+        if re.fullmatch(r"\w[\w.-]*", name := path.read_text(encoding="utf-8").strip()):
+            return name
+    name = new_name(office)
+    draft = office.work / "name"
+    draft.write_text(f"{name}\n", encoding="utf-8")
+    os.replace(draft, path)
+    return name
+
+
+def office_of(path):
+    """The name of the office whose state a file is."""
+    return path.name.removesuffix(".zst").removesuffix(".state")
+
+
+def own(office):
+    """The file in swap/ that carries this office's name."""
+    return office.folder / "swap" / f"{name_of(office)}.state.zst"
+
+
+def sent(office):
+    """Digests of what this office put into swap/ last, and before."""
+    try:
+        return office.beside("sent").read_text(encoding="utf-8").split()
+    except FileNotFoundError:
+        return []
+
+
+def is_ours(office, path):
+    """Whether a file in swap/ is what this office put there. Another office may have got its name with a copy of its folder."""
+    return path == own(office) and digest_of(path) in sent(office)
+
+
+def others(office):
+    """The files in swap/ that other offices put there."""
+    return [path for path in contents_of(office.folder / "swap")[0] if not is_ours(office, path)]
+
+
+def offices_with(office, extract):
+    """The offices in swap/ whose states know an extract."""
+    found = []
+    for path in others(office):
+        with contextlib.suppress(Fault, OSError), packing.stream_of(path) as state:
+            if bytes_of(extract) in stamps_in(state):
+                found.append(office_of(path))
+    return found
+
+
+def sends(office):
+    """Packs STATE into swap/, under the office's name. A file of that name that another office put there stays."""
+    if known := known_of(office, office.files()):
+        raise Fault(1, office.state, f"it isn't sent: it knows the {known[0].name}, which is withdrawn. `station-office withdraw {office.state} {known[0].reference}` drops it")
+    target = own(office)
+    target.parent.mkdir(exist_ok=True)
+    if target.exists() and not is_ours(office, target):
+        raise Fault(1, target, f"it isn't what this office put there, so it stays. Another office has the name {name_of(office)}. Remove {name_file(office)}, and this office gets a name of its own")
+    part = target.with_name(f".{target.name}.part")
+    try:
+        packing.pack(office.state, part)
+        digest = digest_of(part)
+        office.beside("sent").write_text("\n".join([digest, *sent(office)[:1]]) + "\n", encoding="utf-8")
+        os.replace(part, target)
+    except OSError as error:
+        part.unlink(missing_ok=True)
+        raise Fault(4, office.state, f"it can't be put into {target.parent}", *office.shortage(size_of(target) or size_of(office.state) // 4, target.parent), *filter(None, [error.strerror])) from None
