@@ -1,5 +1,5 @@
 //! The times of a journey's lines, and how often it passes midnight.
-ghost use Rattle.std.specs.Prelude.{◌≡◌, ◌+◌, ◌≤◌, ◌<◌, ◌↔◌, IsOk, IfOk, IfErr, Some, None, true};
+ghost use Rattle.std.specs.Prelude.{◌≡◌, ◌+◌, ◌≤◌, ◌<◌, ◌↔◌, IsOk, IfOk, IfErr, Some, None, true, if◌then◌else◌};
 ghost use Rattle.docker_model.specs.records.Record.{HasKind, origin_location, intermediate_location, terminating_location};
 ghost use Rattle.docker_model.specs.records.Field.{HasGoodFields, leftmost_bad_field};
 ghost use Rattle.docker_model.specs.file.File.{follows_basic};
@@ -36,22 +36,17 @@ impl Clock {
     }
 
     /// The clock after one more time, if there is one. A time below the last one is past midnight.
+    /// Nothing branches on whether there is one, since trains call and pass in no order.
     fn then(self, time: Option<Time>) -> Clock
         requires { self.falls < 255 }
         ensures falls { result.falls ≡ self.falls + falls_after self.last (time_list time) }
         ensures last { result.last ≡ later_or time self.last }
         ensures few { result.falls ≤ self.falls + 1 }
     {
-        let Some(next) = time else {
-            return self;
-        };
-        let falls = match self.last {
-            Some(last) if next < last => self.falls + 1,
-            _ => self.falls,
-        };
+        let Clock { falls, last } = self;
         Clock {
-            falls,
-            last: Some(next),
+            falls: falls + u8::from(is_fall(&last, &time)),
+            last: time.or(last),
         }
     }
 
@@ -63,6 +58,16 @@ impl Clock {
             later_or times.third (later_or times.second (later_or times.first self.last)) }
     {
         self.then(times.first).then(times.second).then(times.third)
+    }
+}
+
+/// Whether there are both times and the next one is below the last one: it is past midnight.
+fn is_fall(last: &Option<Time>, next: &Option<Time>) -> bool
+    ensures { falls_after last.now (time_list next.now) ≡ (if result then 1 else 0) }
+{
+    match (last, next) {
+        (Some(last), Some(next)) => next < last,
+        _ => false,
     }
 }
 

@@ -11,7 +11,7 @@ use Rattle.cif_laws.proofs.records.Columns.{IsGoodIn, fields_good}
 use Rattle.cif_line.specs.View.{IsTiplocRecord}
 
 -- the first column of the first of some fields that isn't good
-first_bad : List ℕ → List CheckedField → Option ℕ
+unfoldable pub first_bad : List ℕ → List CheckedField → Option ℕ
 first_bad line fields = option_map (λ (field : CheckedField). field.first) (find (λ field. not (field.is_good (columns field.first field.last line))) fields)
 
 -- the leftmost bad field is the first bad one among the checked fields of the kind
@@ -20,7 +20,7 @@ unfolding first_bad
 by_kind kind line is = ap (λ k. first_bad line (fields_of k line)) is
 
 -- a bad field after good ones
-behind_good : (line : List ℕ) (before : List CheckedField) (field : CheckedField) (after : List CheckedField)
+pub behind_good : (line : List ℕ) (before : List CheckedField) (field : CheckedField) (after : List CheckedField)
     → AllByRecursion (IsGoodIn line) before → field.is_good (columns field.first field.last line) ≡ false
     → first_bad line (before ++ field ∷ after) ≡ Some field.first
 unfolding first_bad

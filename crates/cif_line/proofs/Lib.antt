@@ -4,3 +4,4 @@ pub mod Lanes
 pub mod Times
 pub mod GoodFields
 pub mod Leftmost
+pub mod JoinedTests

@@ -1,33 +1,16 @@
 -- Times of day, read from their fields.
-use Rattle.std.proofs.Common.{◌≡◌, ℕ, List, [], ◌∷◌, true, false, Bool, ◌&&◌, refl, sym, subst, take, length, ◌≤◌, ◌<◌, arith}
-use Rattle.std.specs.Prelude.{codes, ◌==◌, ◌||◌, nat_lt, slice_index}
+use Rattle.std.proofs.Common.{◌≡◌, ℕ, List, [], ◌∷◌, true, false, cond, Bool, ◌&&◌, Some, None, Option, ap, refl, sym, ◌∙◌, subst, take, length, ◌≤◌, ◌<◌, arith}
+use Rattle.std.specs.Prelude.{codes, ◌==◌, ◌||◌, nat_lt, slice_index, IfSome}
 use Rattle.std.specs.List.{list_all}
 use Rattle.std.specs.Str.{bytes_eq}
 use Rattle.std.proofs.lemmas.Bool.{ltb-true}
-use Rattle.std.proofs.lemmas.Slice.Eq.{bytes_eq-Decides}
 use Rattle.std.specs.Char.{is_ascii_digit}
 use Rattle.docker_model.specs.records.Date.{two_digits}
-use Rattle.docker_model.specs.records.Clock.{is_blank, is_clock, is_present_time, is_public_time}
+use Rattle.docker_model.specs.records.Clock.{is_blank, is_clock, is_present_time, half_minutes, is_scheduled_time, scheduled_time}
 use Rattle.cif_laws.proofs.lists.BoolsAndOptions.{both}
 use Rattle.cif_laws.proofs.records.ScheduledTimes.{present_not_blank}
-
--- four digits, one by one
-pub four_digits : (field : List ℕ) → 4 ≤ length field →
-    list_all is_ascii_digit (take 4 field)
-    ≡ (((is_ascii_digit (slice_index field 0) && is_ascii_digit (slice_index field 1)) && is_ascii_digit (slice_index field 2))
-    && is_ascii_digit (slice_index field 3))
-four_digits [] long = absurd (omega arith)
-four_digits (a ∷ []) long = absurd (omega arith)
-four_digits (a ∷ b ∷ []) long = absurd (omega arith)
-four_digits (a ∷ b ∷ c ∷ []) long = absurd (omega arith)
-four_digits (a ∷ b ∷ c ∷ d ∷ field) long = regroup (is_ascii_digit a) (is_ascii_digit b) (is_ascii_digit c) (is_ascii_digit d)
-  where
-    regroup : (a b c d : Bool) → (a && (b && (c && (d && true)))) ≡ (((a && b) && c) && d)
-    regroup true true true true = refl
-    regroup true true true false = refl
-    regroup true true false d = refl
-    regroup true false c d = refl
-    regroup false b c d = refl
+use Rattle.cif_line.specs.declared.time_field.TimeField.{TimeField}
+use Rattle.cif_line.specs.TimeRead.{ReadsTime}
 
 -- a field of four bytes is blank if and only if it is four spaces
 pub four_spaces : (field : List ℕ) → length field ≡ 4 → bytes_eq field (codes "    ") ≡ is_blank field
@@ -68,12 +51,38 @@ clock_of_present field there = (both (is_clock field) ((slice_index field 4 == 7
 -- the bounds of the hour and the minute in a field that begins HHMM
 pub ruleset clock_bounds = (hour_bound, minute_bound, clock_of_present)
 
--- four zeros are a public time
-pub four_noughts : (field : List ℕ) → bytes_eq field (codes "0000") ≡ true → is_public_time field ≡ true
-four_noughts field same = subst (λ f. is_public_time f ≡ true) (sym ((bytes_eq-Decides field (codes "0000")).0 same)) refl
-
--- a public time, recognised by its zeros
-pub ruleset noughts = (four_noughts)
-
 -- a scheduled time that is present is distinguished from a blank one
 pub ruleset scheduled_times = (present_not_blank)
+
+-- of two tests of which one passes, the first passes if the second does not
+blank_if : (blank present : Bool) → (blank || present) ≡ true → present ≡ false → blank ≡ true
+blank_if true present one absent = refl
+blank_if false present one absent = cc
+
+-- what was read from a good field is its scheduled time
+read_is : (field : List ℕ) (read : TimeField) → ReadsTime field read → is_scheduled_time field ≡ true
+    → cond read.is_time (Some read.half_minutes) None ≡ scheduled_time field
+read_is field read reads good = by (is_present_time field) refl
+  where
+    by : (present : Bool) → is_present_time field ≡ present → cond read.is_time (Some read.half_minutes) None ≡ scheduled_time field
+    by true is =
+        (λ i. cond ((reads.time ∙ is) i) (Some (reads.value is i)) None) ∙ (λ i. cond (sym (present_not_blank field is) i) None (Some (half_minutes field)))
+    by false is =
+        let blank : is_blank field ≡ true = blank_if (is_blank field) (is_present_time field) good is in
+        (λ i. cond ((reads.time ∙ is) i) (Some read.half_minutes) None) ∙ (λ i. cond (sym blank i) None (Some (half_minutes field)))
+
+-- the time that was read from a good field, which stands in some columns
+pub scheduled_read : (field shown : List ℕ) (read : TimeField) (good : Bool) (time : Option ℕ) → ReadsTime field read → field ≡ shown
+    → good ≡ (read.is_blank || read.is_time) → good ≡ true → time ≡ cond read.is_time (Some read.half_minutes) None → time ≡ scheduled_time shown
+scheduled_read field shown read good time reads same judged pass is =
+    let scheduled : is_scheduled_time field ≡ true = (λ i. sym reads.blank i || sym reads.time i) ∙ sym judged ∙ pass in
+    is ∙ read_is field read reads scheduled ∙ ap scheduled_time same
+
+-- the time that was read from a field in some columns, if it is one
+pub present_read : (field shown : List ℕ) (read : TimeField) (time : Option ℕ) → ReadsTime field read → field ≡ shown
+    → time ≡ cond read.is_time (Some read.half_minutes) None → IfSome time (λ t. t ≡ half_minutes shown)
+present_read field shown read time reads same is = subst (λ o. IfSome o (λ t. t ≡ half_minutes shown)) (sym is) (by read.is_time refl)
+  where
+    by : (present : Bool) → read.is_time ≡ present → IfSome (cond present (Some read.half_minutes) None) (λ t. t ≡ half_minutes shown)
+    by true there = reads.value (sym reads.time ∙ there) ∙ ap half_minutes same
+    by false absent = tt

@@ -4,6 +4,7 @@ pub mod Tiploc
 pub mod Kind
 pub mod RecordRead
 pub mod View
+pub mod TimeRead
 pub mod CallRead
 pub use Rattle.cif_device.specs.Device
 pub use Rattle.cif_device.specs.Taken

@@ -22,6 +22,7 @@ mod printable;
 mod read;
 mod terminating_location;
 mod time;
+mod time_field;
 mod tiploc_code;
 mod tiploc_record;
 mod uid;

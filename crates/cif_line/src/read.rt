@@ -1,6 +1,6 @@
 //! Readers of records. Each makes a view of a line whose checked fields are good, and otherwise
 //! names the leftmost field that isn't.
-ghost use Rattle.std.specs.Prelude.{◌≡◌, IsOk, IfOk, IfErr, Some, None};
+ghost use Rattle.std.specs.Prelude.{◌≡◌, ◌↔◌, IsOk, IfOk, IfErr, IsSome, IfSome, Some, None};
 ghost use Rattle.docker_model.specs.records.Clock.{half_minutes};
 ghost use Rattle.docker_model.specs.records.Record.{HasKind, columns, header, association, basic_schedule, origin_location, intermediate_location, terminating_location, change_en_route};
 ghost use Rattle.docker_model.specs.records.Field.{leftmost_bad_field};
@@ -22,6 +22,7 @@ use crate::line::Line;
 use crate::origin_location::Origin;
 use crate::terminating_location::Terminus;
 use crate::time::{Time, is_clock, is_public_time};
+use crate::time_field::TimeField;
 use crate::tiploc_record::TiplocRecord;
 
 /// A view of a header (HD), or the first column of its leftmost bad field: 23 for the date of
@@ -198,16 +199,41 @@ fn end_time(line: &Line) -> Result<Time, u8>
     ensures bad_terminus { IfErr result (λ column.
         bad_field_of terminating_location line.now ≡ Some column) }
 {
+    match good_end_time(line) {
+        Some(time) => Ok(time),
+        None => Err(end_fault(line)),
+    }
+}
+
+/// The scheduled time of an origin or a terminating location whose checked fields are good. Their
+/// tests are joined, without a branch for each.
+fn good_end_time(line: &Line) -> Option<Time>
+    ensures origin { IsSome result ↔ (bad_field_of origin_location line.now ≡ None) }
+    ensures terminus { IsSome result ↔ (bad_field_of terminating_location line.now ≡ None) }
+    ensures time { IfSome result (λ time. time ≡ half_minutes (columns 11 15 line.now)) }
+{
+    let time = TimeField::read(line.field(11));
+    if is_tiploc(line.field(3)) & time.is_time & is_public_time(line.field(16)) {
+        time.time()
+    } else {
+        None
+    }
+}
+
+/// The first column of the leftmost bad field of an origin or a terminating location that has one.
+#[cold]
+fn end_fault(line: &Line) -> u8
+    requires bad { ¬ (bad_field_of origin_location line.now ≡ None) }
+    ensures origin { bad_field_of origin_location line.now ≡ Some result }
+    ensures terminus { bad_field_of terminating_location line.now ≡ Some result }
+{
     if !is_tiploc(line.field(3)) {
-        return Err(3);
+        return 3;
     }
-    let Some(time) = Time::from_field(line.field(11)) else {
-        return Err(11);
-    };
-    if !is_public_time(line.field(16)) {
-        return Err(16);
+    if Time::from_field(line.field(11)).is_none() {
+        return 11;
     }
-    Ok(time)
+    16
 }
 
 /// A view of an intermediate location (LI), or the first column of its leftmost bad field. It is 3
@@ -217,42 +243,59 @@ pub fn call(line: &Line) -> Result<Call<'_>, FieldFault>
     requires kind { HasKind intermediate_location line.now }
     ensures { ReadsAs line.now result }
 {
-    match call_times(line) {
-        Err(column) => Err(FieldFault(column)),
-        Ok(times) => Ok(Call::of(line, times)),
+    match good_call_times(line) {
+        Some(times) => Ok(Call::of(line, times)),
+        None => Err(FieldFault(call_fault(line))),
     }
 }
 
-/// The scheduled times of an intermediate location, or the first column of its leftmost bad field.
-fn call_times(line: &Line) -> Result<CallTimes, u8>
-    ensures good { IfOk result (λ times. bad_field_of intermediate_location line.now ≡ None) }
-    ensures times { IfOk result (AreTimesOf line.now) }
-    ensures bad { IfErr result (λ column.
-        bad_field_of intermediate_location line.now ≡ Some column) }
+/// The scheduled times of an intermediate location whose checked fields are good. Their tests are
+/// joined, without a branch for each.
+fn good_call_times(line: &Line) -> Option<CallTimes>
+    ensures some { IsSome result ↔ (bad_field_of intermediate_location line.now ≡ None) }
+    ensures times { IfSome result (AreTimesOf line.now) }
+{
+    let arrival = TimeField::read(line.field(11));
+    let departure = TimeField::read(line.field(16));
+    let pass = TimeField::read(line.field(21));
+    let are_good = is_tiploc(line.field(3))
+        & arrival.is_good()
+        & departure.is_good()
+        & pass.is_good()
+        & is_public_time(line.field(26))
+        & is_public_time(line.field(30));
+    if !are_good {
+        return None;
+    }
+    Some(CallTimes {
+        arrival: arrival.time(),
+        departure: departure.time(),
+        pass: pass.time(),
+    })
+}
+
+/// The first column of the leftmost bad field of an intermediate location that has one.
+#[cold]
+fn call_fault(line: &Line) -> u8
+    requires bad { ¬ (bad_field_of intermediate_location line.now ≡ None) }
+    ensures { bad_field_of intermediate_location line.now ≡ Some result }
 {
     if !is_tiploc(line.field(3)) {
-        return Err(3);
+        return 3;
     }
-    let Some(arrival) = Time::scheduled(line.field(11)) else {
-        return Err(11);
-    };
-    let Some(departure) = Time::scheduled(line.field(16)) else {
-        return Err(16);
-    };
-    let Some(pass) = Time::scheduled(line.field(21)) else {
-        return Err(21);
-    };
+    if Time::scheduled(line.field(11)).is_none() {
+        return 11;
+    }
+    if Time::scheduled(line.field(16)).is_none() {
+        return 16;
+    }
+    if Time::scheduled(line.field(21)).is_none() {
+        return 21;
+    }
     if !is_public_time(line.field(26)) {
-        return Err(26);
+        return 26;
     }
-    if !is_public_time(line.field(30)) {
-        return Err(30);
-    }
-    Ok(CallTimes {
-        arrival,
-        departure,
-        pass,
-    })
+    30
 }
 
 /// A view of a change en route (CR). It has no checked field, so there is always a view.

@@ -1,13 +1,12 @@
 //! Times of day, as location records (LO, LI and LT) have them.
-ghost use Rattle.std.specs.Prelude.{◌≡◌, ◌↔◌, ◌≤◌, ◌<◌, ◌+◌, length, IsSome, is_some, IfSome, IsTrue, ◌*◌, true, take};
-ghost use Rattle.std.specs.List.{list_all};
-ghost use Rattle.std.specs.Char.{is_ascii_digit};
+ghost use Rattle.std.specs.Prelude.{◌≡◌, ◌↔◌, ◌≤◌, ◌<◌, ◌+◌, length, IsSome, is_some, IfSome, IsTrue, ◌*◌, true};
 ghost use Rattle.docker_model.specs.records.Date.{two_digits};
-ghost use Rattle.docker_model.specs.records.Clock.{is_blank, is_clock, minute_of, is_present_time, half_minutes, is_scheduled_time, scheduled_time, is_public_time};
+ghost use Rattle.docker_model.specs.records.Clock.{is_clock, minute_of, is_present_time, half_minutes, is_scheduled_time, scheduled_time, is_public_time};
 ghost use Rattle.docker_model.specs.records.PrintedTime.{shown_public, time_text};
 ghost use Rattle.cif_line.specs.FieldRead.{public_half_minutes, public_text};
 
 use crate::digits::two_digits;
+use crate::time_field::{ClockField, TimeField, is_blank_public_time, is_blank_time};
 use std::marker::Model;
 
 /// A scheduled time of day, in half minutes from midnight: 0 to 2879.
@@ -29,22 +28,21 @@ impl Model for Time {
 }
 
 impl Time {
+    /// The time of this many half minutes from midnight.
+    pub(crate) fn from_half_minutes(half_minutes: u16) -> Time
+        requires { half_minutes < 2880 }
+        ensures { result ≡ half_minutes }
+    {
+        Time { half_minutes }
+    }
+
     /// The scheduled time of a field HHMM, from `0000` to `2359`, followed by `H` for half a minute
     /// or a space. None for any other field, including a blank one.
     pub fn from_field(field: &[u8; 5]) -> Option<Time>
         ensures some { IsSome result ↔ IsTrue (is_present_time field.now) }
         ensures value { IfSome result (λ time. time ≡ half_minutes field.now) }
     {
-        let minute = clock(field)?;
-        match field[4] {
-            b'H' => Some(Time {
-                half_minutes: 2 * minute + 1,
-            }),
-            b' ' => Some(Time {
-                half_minutes: 2 * minute,
-            }),
-            _ => None,
-        }
+        TimeField::read(field).time()
     }
 
     /// The scheduled time of a field: `Some(None)` if it is blank, None if it is neither blank nor
@@ -54,12 +52,11 @@ impl Time {
         ensures some { is_some result ≡ is_scheduled_time field.now }
         ensures value { IfSome result (λ time. time ≡ scheduled_time field.now) }
     {
-        if is_blank_time(field) {
-            return Some(None);
-        }
-        match Time::from_field(field) {
-            Some(time) => Some(Some(time)),
-            None => None,
+        let read = TimeField::read(field);
+        if read.is_good() {
+            Some(read.time())
+        } else {
+            None
         }
     }
 
@@ -141,10 +138,9 @@ pub fn clock(field: &[u8]) -> Option<u16>
     ensures value { IfSome result (λ minute. minute ≡ minute_of field.now) }
     ensures bound { IfSome result (λ minute. minute < 1440) }
 {
-    let hour = two_digits(field, 0);
-    let minute = two_digits(field, 2);
-    if are_four_digits(field) & (hour < 24) & (minute < 60) {
-        Some(60 * hour + minute)
+    let read = ClockField::read(field);
+    if read.is_good {
+        Some(read.minute)
     } else {
         None
     }
@@ -160,49 +156,16 @@ fn minute_in(field: &[u8; 5]) -> u16
     60 * two_digits(field, 0) + two_digits(field, 2)
 }
 
-/// Whether the first four bytes of the field are digits. No byte has a branch of its own.
-#[tactic(auto, using(crate::proofs::Times::four_digits))]
-fn are_four_digits(field: &[u8]) -> bool
-    requires { 4 ≤ length field.now }
-    ensures { result ≡ list_all is_ascii_digit (take 4 field.now) }
-{
-    field[0].is_ascii_digit()
-        & field[1].is_ascii_digit()
-        & field[2].is_ascii_digit()
-        & field[3].is_ascii_digit()
-}
-
 /// Whether a field is HHMM, from `0000` to `2359`.
 pub fn is_clock(field: &[u8; 4]) -> bool
     ensures { result ≡ is_clock field.now }
 {
-    clock(field).is_some()
+    ClockField::read(field).is_good
 }
 
-/// Whether a field is a public time: HHMM, or blank. It is `0000` if the train passes, and that is
-/// checked first.
-#[tactic(auto, using(crate::proofs::Times::noughts))]
+/// Whether a field is a public time: HHMM, or blank.
 pub fn is_public_time(field: &[u8; 4]) -> bool
     ensures { result ≡ is_public_time field.now }
 {
-    if field == b"0000" {
-        return true;
-    }
-    is_blank_public_time(field) || is_clock(field)
-}
-
-/// Whether the field of a public time is all spaces.
-#[tactic(auto, using(crate::proofs::Times::four_spaces))]
-fn is_blank_public_time(field: &[u8; 4]) -> bool
-    ensures { result ≡ is_blank field.now }
-{
-    field == b"    "
-}
-
-/// Whether the field of a scheduled time is all spaces.
-#[tactic(auto, using(crate::proofs::Times::five_spaces))]
-fn is_blank_time(field: &[u8; 5]) -> bool
-    ensures { result ≡ is_blank field.now }
-{
-    field == b"     "
+    is_blank_public_time(field) | is_clock(field)
 }

@@ -1,0 +1,105 @@
+-- The tests of a record's checked fields, joined.
+use Rattle.std.proofs.Common.{◌≡◌, ℕ, List, Bool, true, false, cond, [], ◌∷◌, Some, None, refl, sym, ◌∙◌, ◌&&◌}
+use Rattle.std.specs.Prelude.{not, option_map, find, Option, ◌↔◌}
+use Rattle.docker_model.specs.records.Record.{columns, origin_location, intermediate_location}
+use Rattle.docker_model.specs.records.Clock.{is_present_time, is_scheduled_time, is_public_time}
+use Rattle.docker_model.specs.records.Field.{CheckedField, checked, checked_fields, is_tiploc}
+use Rattle.cif_laws.proofs.lists.BoolsAndOptions.{both, and_true}
+use Rattle.cif_line.specs.View.{bad_field_of}
+use Rattle.cif_line.proofs.Leftmost.{first_bad, behind_good}
+
+-- the field is good in a line
+abbrev pub is_good_in : List ℕ → CheckedField → Bool
+is_good_in line field = field.is_good (columns field.first field.last line)
+
+-- a test and those of some fields, joined in their order
+abbrev pub joined : List ℕ → Bool → List CheckedField → Bool
+joined line before [] = before
+joined line before (field ∷ fields) = joined line (before && is_good_in line field) fields
+
+-- the first column of the first of some fields that isn't good
+abbrev pub first_bad_of : List ℕ → List CheckedField → Option ℕ
+first_bad_of line fields = option_map (λ (field : CheckedField). field.first) (find (λ field. not (is_good_in line field)) fields)
+
+-- if the joined tests pass, no field is bad
+pub none_if_joined : (line : List ℕ) (before : Bool) (fields : List CheckedField) → joined line before fields ≡ true
+    → (before ≡ true) × (first_bad_of line fields ≡ None)
+none_if_joined line before [] pass = (pass, refl)
+none_if_joined line before (field ∷ fields) pass =
+    let rest : ((before && is_good_in line field) ≡ true) × (first_bad_of line fields ≡ None) =
+    none_if_joined line (before && is_good_in line field) fields pass in
+    let two : (before ≡ true) × (is_good_in line field ≡ true) = both before (is_good_in line field) rest.0 in (
+      two.0,
+      (λ i. option_map (λ (f : CheckedField). f.first) (cond (not (two.1 i)) (Some field) (find (λ f. not (is_good_in line f)) fields))) ∙ rest.1,
+    )
+
+-- if no field is bad, the joined tests pass
+pub joined_if_none : (line : List ℕ) (before : Bool) (fields : List CheckedField) → first_bad_of line fields ≡ None → before ≡ true
+    → joined line before fields ≡ true
+joined_if_none line before [] none there = there
+joined_if_none line before (field ∷ fields) none there =
+    by (is_good_in line field) refl (joined_if_none line (before && is_good_in line field) fields)
+  where
+    by : (good : Bool) → is_good_in line field ≡ good
+        → (first_bad_of line fields ≡ None → (before && is_good_in line field) ≡ true → joined line (before && is_good_in line field) fields ≡ true)
+        → joined line (before && is_good_in line field) fields ≡ true
+    by true is more =
+        let rest : first_bad_of line fields ≡ None =
+        (λ i. option_map (λ (f : CheckedField). f.first)
+        (cond (not (sym is i)) (Some field) (find (λ f. not (is_good_in line f)) fields))) ∙ none in
+        more rest (and_true before (is_good_in line field) there is)
+    by false is more =
+        let bad : Some field.first ≡ None =
+        (λ i. option_map (λ (f : CheckedField). f.first)
+        (cond (not (sym is i)) (Some field) (find (λ f. not (is_good_in line f)) fields))) ∙ none in
+        cc
+
+-- a test that is the joined tests of all fields passes if and only if no field is bad
+passes_if_none : (line : List ℕ) (fields : List CheckedField) (test : Bool) → test ≡ joined line true fields
+    → test ≡ true ↔ (first_bad_of line fields ≡ None)
+passes_if_none line fields test is = (λ pass. (none_if_joined line true fields (sym is ∙ pass)).1, λ none. is ∙ joined_if_none line true fields none refl)
+
+-- what the joined tests of an intermediate location's checked fields say
+pub call_tests : (line : List ℕ) (tiploc arrival departure pass public_arrival public_departure test : Bool)
+    → (((((tiploc && arrival) && departure) && pass) && public_arrival) && public_departure) ≡ test
+    → tiploc ≡ is_tiploc (columns 3 9 line) → arrival ≡ is_scheduled_time (columns 11 15 line)
+    → departure ≡ is_scheduled_time (columns 16 20 line) → pass ≡ is_scheduled_time (columns 21 25 line)
+    → public_arrival ≡ is_public_time (columns 26 29 line) → public_departure ≡ is_public_time (columns 30 33 line)
+    → test ≡ true ↔ (bad_field_of intermediate_location line ≡ None)
+call_tests line t a d p m n test joins tiploc arrival departure pass public_arrival public_departure =
+    passes_if_none line (checked_fields intermediate_location line) test
+    (sym joins ∙ (λ i. ((((tiploc i && arrival i) && departure i) && pass i) && public_arrival i) && public_departure i))
+
+-- what the joined tests of the checked fields of an origin or a terminating location say
+pub end_tests : (line : List ℕ) (tiploc time public test : Bool) → ((tiploc && time) && public) ≡ test → tiploc ≡ is_tiploc (columns 3 9 line)
+    → time ≡ is_present_time (columns 11 15 line) → public ≡ is_public_time (columns 16 19 line)
+    → test ≡ true ↔ (bad_field_of origin_location line ≡ None)
+end_tests line t d p test joins tiploc time public =
+    passes_if_none line (checked_fields origin_location line) test (sym joins ∙ (λ i. (tiploc i && time i) && public i))
+
+-- the leftmost bad field of an intermediate location with a bad one, if the others are good
+pub call_last_bad : (line : List ℕ) → ¬ (bad_field_of intermediate_location line ≡ None) → is_tiploc (columns 3 9 line) ≡ true
+    → is_scheduled_time (columns 11 15 line) ≡ true → is_scheduled_time (columns 16 20 line) ≡ true → is_scheduled_time (columns 21 25 line) ≡ true
+    → is_public_time (columns 26 29 line) ≡ true → bad_field_of intermediate_location line ≡ Some 30
+unfolding first_bad
+call_last_bad line bad tiploc arrival departure pass public_arrival = by (is_public_time (columns 30 33 line)) refl
+  where
+    by : (good : Bool) → is_public_time (columns 30 33 line) ≡ good → bad_field_of intermediate_location line ≡ Some 30
+    by true good =
+        absurd (bad (none_if_joined line true (checked_fields intermediate_location line)
+        (λ i. ((((tiploc i && arrival i) && departure i) && pass i) && public_arrival i) && good i)).1)
+    by false last =
+        behind_good line
+        (checked 3 9 is_tiploc ∷ checked 11 15 is_scheduled_time ∷ checked 16 20 is_scheduled_time ∷ checked 21 25 is_scheduled_time
+        ∷ checked 26 29 is_public_time ∷ []) (checked 30 33 is_public_time) []
+        (tiploc, (arrival, (departure, (pass, (public_arrival, tt))))) last
+
+-- the scheduled times of an intermediate location are good if the joined tests pass
+pub times_good : (tiploc arrival departure pass public_arrival public_departure : Bool)
+    → (((((tiploc && arrival) && departure) && pass) && public_arrival) && public_departure) ≡ true
+    → (arrival ≡ true) × (departure ≡ true) × (pass ≡ true)
+times_good true true true true m n joins = (refl, refl, refl)
+times_good true true true false m n joins = cc
+times_good true true false p m n joins = cc
+times_good true false d p m n joins = cc
+times_good false a d p m n joins = cc

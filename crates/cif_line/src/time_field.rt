@@ -1,0 +1,121 @@
+//! Fields of times as they are read, good or not. No byte of a field has a branch of its own, so
+//! that the tests of a record's fields can be joined.
+ghost use Rattle.std.specs.Prelude.{◌≡◌, ◌+◌, ◌-◌, ◌*◌, ◌≤◌, ◌<◌, ◌||◌, length, true, take, Some, None, if◌then◌else◌};
+ghost use Rattle.std.specs.List.{list_all};
+ghost use Rattle.std.specs.Char.{is_ascii_digit};
+ghost use Rattle.docker_model.specs.records.Clock.{is_blank, is_clock, minute_of};
+
+use crate::time::Time;
+use std::simd::prelude::*;
+
+/// What the first four bytes of a field give as HHMM.
+#[derive(Clone, Copy, PartialEq, Eq, Debug)]
+pub(crate) struct ClockField {
+    /// Whether the bytes are a time from `0000` to `2359`.
+    pub is_good: bool,
+    /// The minute of the day, if they are.
+    pub minute: u16,
+}
+
+impl ClockField {
+    /// Reads the first four bytes of a field.
+    #[inline(always)]
+    pub(crate) fn read(field: &[u8]) -> ClockField
+        requires { 4 ≤ length field.now }
+        ensures good { result.is_good ≡ is_clock field.now }
+        ensures minute { is_clock field.now ≡ true → result.minute ≡ minute_of field.now }
+    {
+        let hour = spelled(field[0], field[1]);
+        let minute = spelled(field[2], field[3]);
+        ClockField {
+            is_good: are_four_digits(field) & (hour < 24) & (minute < 60),
+            minute: hour.wrapping_mul(60).wrapping_add(minute),
+        }
+    }
+}
+
+/// What the field of a scheduled time gives.
+#[derive(Clone, Copy, PartialEq, Eq, Debug)]
+pub(crate) struct TimeField {
+    /// Whether the field is all spaces.
+    pub is_blank: bool,
+    /// Whether it is a time.
+    pub is_time: bool,
+    half_minutes: u16,
+    ghost bound: { is_time ≡ true → half_minutes < 2880 },
+}
+
+impl TimeField {
+    ghost use Rattle.cif_line.specs.TimeRead.{ReadsTime};
+
+    /// Reads a field.
+    #[inline(always)]
+    pub(crate) fn read(field: &[u8; 5]) -> TimeField
+        ensures { ReadsTime field.now result }
+    {
+        let clock = ClockField::read(field);
+        let is_half = field[4] == b'H';
+        TimeField {
+            is_blank: is_blank_time(field),
+            is_time: clock.is_good & (is_half | (field[4] == b' ')),
+            half_minutes: clock
+                .minute
+                .wrapping_mul(2)
+                .wrapping_add(u16::from(is_half)),
+        }
+    }
+
+    /// Whether the field is blank or a time.
+    #[inline(always)]
+    pub(crate) fn is_good(self) -> bool
+        ensures { result ≡ (self.is_blank || self.is_time) }
+    {
+        self.is_blank | self.is_time
+    }
+
+    /// The time, none if the field is not one.
+    #[inline(always)]
+    pub(crate) fn time(self) -> Option<Time>
+        ensures { result ≡ (if self.is_time then Some self.half_minutes else None) }
+    {
+        if self.is_time {
+            Some(Time::from_half_minutes(self.half_minutes))
+        } else {
+            None
+        }
+    }
+}
+
+/// The number that two bytes spell if they are digits.
+#[inline(always)]
+fn spelled(tens: u8, units: u8) -> u16
+    ensures { 48 ≤ tens → 48 ≤ units → result ≡ 10 * (tens - 48) + (units - 48) }
+{
+    (10 * u16::from(tens) + u16::from(units)).wrapping_sub(11 * u16::from(b'0'))
+}
+
+/// Whether the first four bytes of a field are digits, all judged at once.
+#[inline(always)]
+fn are_four_digits(field: &[u8]) -> bool
+    requires { 4 ≤ length field.now }
+    ensures { result ≡ list_all is_ascii_digit (take 4 field.now) }
+{
+    let above_zero = u8x4::from_slice(field) - u8x4::splat(b'0');
+    above_zero.simd_gt(u8x4::splat(9)).to_bitmask() == 0
+}
+
+/// Whether the field of a public time is all spaces.
+#[tactic(auto, using(crate::proofs::Times::four_spaces))]
+pub(crate) fn is_blank_public_time(field: &[u8; 4]) -> bool
+    ensures { result ≡ is_blank field.now }
+{
+    field == b"    "
+}
+
+/// Whether the field of a scheduled time is all spaces.
+#[tactic(auto, using(crate::proofs::Times::five_spaces))]
+pub(crate) fn is_blank_time(field: &[u8; 5]) -> bool
+    ensures { result ≡ is_blank field.now }
+{
+    field == b"     "
+}
