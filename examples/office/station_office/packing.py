@@ -47,7 +47,7 @@ def zstd_stream(path):
     """What a file holds that is packed by zstd."""
     if shutil.which("zstd") is None:
         raise Fault(4, path, "there is no zstd here to unpack it")
-    with subprocess.Popen(["zstd", "-dcq", "--", path], stdin=subprocess.DEVNULL, stdout=subprocess.PIPE, stderr=subprocess.DEVNULL) as process:
+    with open(path, "rb") as packed, subprocess.Popen(["zstd", "-dcq"], stdin=packed, stdout=subprocess.PIPE, stderr=subprocess.DEVNULL) as process:
         try:
             yield process.stdout
             if process.stdout.read(1) == b"" and process.wait() != 0:

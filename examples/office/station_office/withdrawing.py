@@ -25,9 +25,11 @@ def withdraws(office, reference, moment=""):
 
 
 def stamp_that_is_meant(office, reference, moment):
-    """The file that a reference names, and the beginning of a moment if several have that reference."""
-    known = [*office.files(), *(it.extract for it in archive.list_of_taken(office))]
-    found = sorted({stamp_of(it) for it in known if it.reference == reference and written(stamp_of(it)).startswith(moment)})
+    """The file that a reference names, and the beginning of a moment if several have that reference. References come again, so what counts in STATE is meant first."""
+    def named(extracts):
+        return sorted({stamp_of(it) for it in extracts if it.reference == reference and written(stamp_of(it)).startswith(moment)})
+
+    found = named(office.files()) or named(it.extract for it in archive.list_of_taken(office))
     if len(found) > 1:
         raise Fault(1, reference, f"several files have this reference: add the moment of the one that you mean, {' or '.join(map(written, found))}")
     if found:
