@@ -7,3 +7,4 @@ pub mod View
 pub mod CallRead
 pub use Rattle.cif_device.specs.Device
 pub use Rattle.cif_device.specs.Taken
+pub use Rattle.cif_device.specs.FeedEnds
