@@ -81,14 +81,6 @@ unfolding one_more
 refused_behind takes refuses fed terms text initial now next before after piece fault at more few refused =
     record { more = one_more takes fed terms text initial now next before piece at more few; refused = refused }
 
--- a fault that is returned is the one that the taker gave
-pub refused_as : {T Terms Fault : Type 0} (takes : Taking T Terms) (refuses : Refusing T Terms Fault) (terms : Terms) (text : List ℕ)
-    (initial next : Option (List ℕ)) (taker : T) (fault told : Fault)
-    → ◌≡◌ {A = Result ℕ (FeedFault Fault)} (Err (feed.Refused fault)) (Err (feed.Refused told))
-    → HasRefused takes refuses 65536 terms text initial next taker fault → HasRefused takes refuses 65536 terms text initial next taker told
-refused_as takes refuses terms text initial next taker fault told is has =
-    let same : fault ≡ told = cc in subst (HasRefused takes refuses 65536 terms text initial next taker) same has
-
 -- the number of bytes that were fed fits in 64 bits
 pub fits_still : (fed n : ℕ) (text bytes piece : List ℕ) → length bytes ≡ fed → length piece ≡ n → length ((text ++ bytes) ++ piece) < 2 ^ 64
     → Fits w64 (fed + n)
@@ -147,3 +139,7 @@ count_told count is = cc
 -- nor is a refusal
 pub refusal_told : {Fault : Type 0} (fault : Fault) → ¬ (◌≡◌ {A = Result ℕ (FeedFault Fault)} (Err (feed.Refused fault)) (Err feed.Source))
 refusal_told fault is = cc
+
+-- nor is out of memory
+pub memory_told : {Fault : Type 0} → ¬ (◌≡◌ {A = Result ℕ (FeedFault Fault)} (Err feed.Memory) (Err feed.Source))
+memory_told is = cc

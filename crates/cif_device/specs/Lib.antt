@@ -1,2 +1,3 @@
 pub mod Device
 pub mod Taken
+pub mod FeedEnds

@@ -1,7 +1,8 @@
 //! What takes a text in pieces, and the feeding of it from a source.
-ghost use Rattle.std.specs.Prelude.{◌≡◌, ◌≢◌, ℕ, ◌+◌, ◌-◌, ◌^◌, ◌<◌, ◌↔◌, ◌++◌, true, false, List, length, IsOk, IfOk, IfErr, OnOk, OnErr, Err};
-ghost use Rattle.cif_device.specs.Device.{IsEnd};
-ghost use Rattle.cif_device.specs.Taken.{BehindEach, HasFed, HasRefused, IsTaking, LosesOnePieceMore};
+ghost use Rattle.std.specs.Prelude.{◌≡◌, ℕ, ◌-◌, ◌^◌, ◌<◌, ◌++◌, true, false, List, length, IfErr, OnOk, OnErr, Err};
+ghost use Rattle.cif_device.specs.Device.{CountsFailure};
+ghost use Rattle.cif_device.specs.FeedEnds.{EndsFeeding, most_at_once};
+ghost use Rattle.cif_device.specs.Taken.{BehindEach, IsTaking, LosesOnePieceMore};
 
 use crate::device::Source;
 use std::alloc::Global;
@@ -57,23 +58,12 @@ pub fn feed_all<S: Source, T: Taker>(
 ) -> Result<u64, FeedFault<T::Fault>>
     requires failures { S.failures source.old < 2 ^ 64 - 1 }
     requires taking { IsTaking T.takes taker.old }
-    ensures fed { IfOk result (λ count. BehindEach T.takes taker.old (λ terms text.
-        HasFed T.takes count terms text (S.left source.old) (S.left source.new) taker.new)) }
-    ensures end { IsOk result → IsEnd (S.left source.new) }
-    ensures refused { (fault : T.Fault) → result ≡ Err (FeedFault.Refused fault) →
-        BehindEach T.takes taker.old (λ terms text. HasRefused T.takes T.refuses 65536 terms text
-        (S.left source.old) (S.left source.new) taker.new fault) }
-    ensures memory { result ≡ Err FeedFault.Memory →
-        (S.left source.new ≡ S.left source.old) × (taker.new ≡ taker.old) }
-    ensures failed { result ≡ Err FeedFault.Source → BehindEach T.takes taker.old (λ terms text.
-        (count : ℕ) ×
-        HasFed T.takes count terms text (S.left source.old) (S.left source.new) taker.new) }
+    ensures ends { EndsFeeding T.takes T.refuses taker.old taker.new
+        (S.left source.old) (S.left source.new) result }
     ensures no_further { BehindEach T.takes taker.old (λ terms text.
-        LosesOnePieceMore T.takes 65536 terms text (S.left source.old) (S.left source.new)) }
-    ensures source { (result ≡ Err FeedFault.Source) ↔
-        (S.failures source.new ≡ S.failures source.old + 1) }
-    ensures no_failure { result ≢ Err FeedFault.Source →
-        S.failures source.new ≡ S.failures source.old }
+        LosesOnePieceMore T.takes most_at_once terms text (S.left source.old) (S.left source.new)) }
+    ensures failures { CountsFailure (result ≡ Err FeedFault.Source)
+        (S.failures source.old) (S.failures source.new) }
     ensures ended { OnOk result (S.ended source.new ≡ true) }
     ensures not_ended { S.ended source.old ≡ false → OnErr result (S.ended source.new ≡ false) }
     ensures not_passed { S.ended source.old ≡ false →

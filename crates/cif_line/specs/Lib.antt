@@ -8,3 +8,4 @@ pub mod TimeRead
 pub mod CallRead
 pub use Rattle.cif_device.specs.Device
 pub use Rattle.cif_device.specs.Taken
+pub use Rattle.cif_device.specs.FeedEnds

@@ -1,14 +1,21 @@
 -- Each piece is taken after the ones before it.
-use Rattle.std.proofs.Common.{rules, Ok, Err, ◌≡◌, ◌+◌, ◌<◌, ◌++◌, length, take, refl, ap, arith, ◌∙◌, subst}
+use Rattle.std.proofs.Common.{Ok, Err, ◌≡◌, ◌+◌, ◌<◌, ◌++◌, length, take, refl, ap, arith, ◌∙◌, subst}
 use Rattle.std.proofs.lemmas.List.{length-take-le}
 use Rattle.cif_device.specs.Device.{IsEnd}
-use Rattle.cif_device.proofs.FeedLemmas.{at_once, at_start, count_told, end_stays, ended_by, going_on, not_passed_by, still_going, still_not_passed, fed_where_failed, fits_still, next_turn, no_more, none_failed, nothing_more, nothing_read, one_more, refusal_told, refused_as, refused_behind, same_front}
+use Rattle.cif_device.proofs.FeedLemmas.{at_once, at_start, count_told, end_stays, ended_by, going_on, not_passed_by, still_going, still_not_passed, fed_where_failed, fits_still, next_turn, no_more, none_failed, nothing_more, nothing_read, one_more, memory_told, refusal_told, refused_behind, same_front}
 use Rattle.cif_device.specs.declared.feed.FeedFault.TheVariants as feed
 use Rattle.cif_device.proofs.feed.feed_all.Goals as goal
+
+pub returns-in_default-clause-ends : goal.returns-in_default-clause-ends
+returns-in_default-clause-ends g c = (refl, refl)
 
 pub returns-in_default-clause-no_further : goal.returns-in_default-clause-no_further
 returns-in_default-clause-no_further g c = λ terms text taken.
     nothing_read g.T.Taker.takes terms text (g.S.Source.left c.args.source.now) c.args.taker.now taken
+
+pub returns-in_default-clause-failures : goal.returns-in_default-clause-failures
+returns-in_default-clause-failures g c =
+    (none_failed (Err feed.Memory) (g.S.Source.failures c.args.source.now) (g.S.Source.failures c.args.source.now) (g.S.Source.failures c.args.source.now) memory_told refl refl, λ other. refl)
 
 pub pieces-init : goal.pieces-init
 pieces-init g c = record {
@@ -19,8 +26,8 @@ pieces-init g c = record {
   not_passed = λ was. refl;
 }
 
-pub returns-in_default-read-clause-failed : goal.returns-in_default-read-clause-failed
-returns-in_default-read-clause-failed g c = λ is terms text taken.
+pub returns-in_default-read-clause-ends : goal.returns-in_default-read-clause-ends
+returns-in_default-read-clause-ends g c = λ terms text taken.
     fed_where_failed g.T.Taker.takes c.pieces.fed terms text (g.S.Source.left c.args.source.now) (g.S.Source.left c.pieces.source)
     (g.S.Source.left c.read.new.self) c.pieces.taker (c.pieces.invariant.turn terms text taken) c.in_default-read.ensures.unmoved
 
@@ -29,28 +36,26 @@ returns-in_default-read-clause-no_further g c = λ terms text taken.
     no_more g.T.Taker.takes c.pieces.fed terms text (g.S.Source.left c.args.source.now) (g.S.Source.left c.pieces.source)
     (g.S.Source.left c.read.new.self) c.pieces.taker (c.pieces.invariant.turn terms text taken) c.in_default-read.ensures.unmoved
 
-pub returns-in_default-read-clause-source : goal.returns-in_default-read-clause-source
-returns-in_default-read-clause-source g c =
-    (λ is. c.in_default-read.ensures.counted ∙ ap (λ n. n + 1) c.pieces.invariant.no_failure, λ more. refl)
+pub returns-in_default-read-clause-failures : goal.returns-in_default-read-clause-failures
+returns-in_default-read-clause-failures g c =
+    ((λ is. c.in_default-read.ensures.counted ∙ ap (λ n. n + 1) c.pieces.invariant.no_failure, λ more. refl), λ other. absurd (other refl))
 
-pub returns-then-n-eq0-clause-fed : goal.returns-then-n-eq0-clause-fed
-returns-then-n-eq0-clause-fed g c = λ terms text taken.
-    nothing_more g.T.Taker.takes c.pieces.fed c.in-Ok-read.n terms text (g.S.Source.left c.args.source.now) (g.S.Source.left c.pieces.source)
-    (g.S.Source.left c.read.new.self) c.pieces.taker c.read.new.into (c.pieces.invariant.turn terms text taken) c.if-n-eq0.true c.in-Ok-read.ensures.moved
-
-pub returns-then-n-eq0-clause-end : goal.returns-then-n-eq0-clause-end
-returns-then-n-eq0-clause-end g c = λ ok.
+pub returns-then-n-eq0-clause-ends : goal.returns-then-n-eq0-clause-ends
+returns-then-n-eq0-clause-ends g c =
     let room : 0 < length c.read.new.into = omega (arith, c.pieces.invariant.room, c.as_mut_slice.ensures.len, c.read.auto.into) in
-    let end : IsEnd (g.S.Source.left c.pieces.source) = c.in-Ok-read.ensures.end c.if-n-eq0.true room in
-    end_stays (g.S.Source.left c.pieces.source) (g.S.Source.left c.read.new.self) (take c.in-Ok-read.n c.read.new.into) c.in-Ok-read.ensures.moved end
+    let end : IsEnd (g.S.Source.left c.pieces.source) = c.in-Ok-read.ensures.end c.if-n-eq0.true room in (
+      λ terms text taken.
+          nothing_more g.T.Taker.takes c.pieces.fed c.in-Ok-read.n terms text (g.S.Source.left c.args.source.now) (g.S.Source.left c.pieces.source)
+          (g.S.Source.left c.read.new.self) c.pieces.taker c.read.new.into (c.pieces.invariant.turn terms text taken) c.if-n-eq0.true c.in-Ok-read.ensures.moved,
+      end_stays (g.S.Source.left c.pieces.source) (g.S.Source.left c.read.new.self) (take c.in-Ok-read.n c.read.new.into) c.in-Ok-read.ensures.moved end,
+    )
 
-pub returns-then-n-eq0-clause-source : goal.returns-then-n-eq0-clause-source
-returns-then-n-eq0-clause-source g c =
-    none_failed (Ok c.pieces.fed) (g.S.Source.failures c.args.source.now) (g.S.Source.failures c.pieces.source) (g.S.Source.failures c.read.new.self)
-    (count_told c.pieces.fed) c.in-Ok-read.ensures.no_failure c.pieces.invariant.no_failure
-
-pub returns-then-n-eq0-clause-no_failure : goal.returns-then-n-eq0-clause-no_failure
-returns-then-n-eq0-clause-no_failure g c = λ ok. c.in-Ok-read.ensures.no_failure ∙ c.pieces.invariant.no_failure
+pub returns-then-n-eq0-clause-failures : goal.returns-then-n-eq0-clause-failures
+returns-then-n-eq0-clause-failures g c = (
+  none_failed (Ok c.pieces.fed) (g.S.Source.failures c.args.source.now) (g.S.Source.failures c.pieces.source) (g.S.Source.failures c.read.new.self)
+      (count_told c.pieces.fed) c.in-Ok-read.ensures.no_failure c.pieces.invariant.no_failure,
+  λ other. c.in-Ok-read.ensures.no_failure ∙ c.pieces.invariant.no_failure,
+)
 
 pub returns-then-n-eq0-clause-no_further : goal.returns-then-n-eq0-clause-no_further
 returns-then-n-eq0-clause-no_further g c = λ terms text taken.
@@ -59,28 +64,25 @@ returns-then-n-eq0-clause-no_further g c = λ terms text taken.
     (at_once c.in-Ok-read.n c.pieces.piece.len c.read.new.into (c.read.auto.into ∙ c.as_mut_slice.ensures.len) c.pieces.invariant.room
     c.in-Ok-read.ensures.within)
 
-pub returns-in-Err-clause-refused : goal.returns-in-Err-clause-refused
-returns-in-Err-clause-refused g c = λ fault is terms text taken.
+pub returns-in-Err-clause-ends : goal.returns-in-Err-clause-ends
+returns-in-Err-clause-ends g c = λ terms text taken.
     let at = c.pieces.invariant.turn terms text taken in
     let long : length c.read.new.into ≡ c.pieces.piece.len = c.read.auto.into ∙ c.as_mut_slice.ensures.len in
     let same : take c.in-Ok-read.n c.deref.result.now ≡ take c.in-Ok-read.n c.read.new.into =
     same_front c.in-Ok-read.n c.pieces.piece.len c.deref.result.now c.read.new.into c.pieces.piece.items c.deref.ensures.value long
     c.in-Ok-read.ensures.within in
-    refused_as g.T.Taker.takes g.T.Taker.refuses terms text (g.S.Source.left c.args.source.now) (g.S.Source.left c.read.new.self) c.take.new.self
-    c.in-Err.fault fault is
-    (refused_behind g.T.Taker.takes g.T.Taker.refuses c.pieces.fed terms text (g.S.Source.left c.args.source.now) (g.S.Source.left c.pieces.source)
+    refused_behind g.T.Taker.takes g.T.Taker.refuses c.pieces.fed terms text (g.S.Source.left c.args.source.now) (g.S.Source.left c.pieces.source)
     (g.S.Source.left c.read.new.self) c.pieces.taker c.take.new.self (take c.in-Ok-read.n c.read.new.into) c.in-Err.fault at c.in-Ok-read.ensures.moved
     (at_once c.in-Ok-read.n c.pieces.piece.len c.read.new.into long c.pieces.invariant.room c.in-Ok-read.ensures.within)
     (subst (λ piece. g.T.Taker.refuses c.take.new.self terms (text ++ at.bytes) piece c.in-Err.fault) same
-    (c.in-Err.ensures.refused terms (text ++ at.bytes) at.taken)))
+    (c.in-Err.ensures.refused terms (text ++ at.bytes) at.taken))
 
-pub returns-in-Err-clause-source : goal.returns-in-Err-clause-source
-returns-in-Err-clause-source g c =
-    none_failed (Err (feed.Refused c.in-Err.fault)) (g.S.Source.failures c.args.source.now) (g.S.Source.failures c.pieces.source)
-    (g.S.Source.failures c.read.new.self) (refusal_told c.in-Err.fault) c.in-Ok-read.ensures.no_failure c.pieces.invariant.no_failure
-
-pub returns-in-Err-clause-no_failure : goal.returns-in-Err-clause-no_failure
-returns-in-Err-clause-no_failure g c = λ ok. c.in-Ok-read.ensures.no_failure ∙ c.pieces.invariant.no_failure
+pub returns-in-Err-clause-failures : goal.returns-in-Err-clause-failures
+returns-in-Err-clause-failures g c = (
+  none_failed (Err (feed.Refused c.in-Err.fault)) (g.S.Source.failures c.args.source.now) (g.S.Source.failures c.pieces.source)
+      (g.S.Source.failures c.read.new.self) (refusal_told c.in-Err.fault) c.in-Ok-read.ensures.no_failure c.pieces.invariant.no_failure,
+  λ other. c.in-Ok-read.ensures.no_failure ∙ c.pieces.invariant.no_failure,
+)
 
 pub returns-in-Err-clause-no_further : goal.returns-in-Err-clause-no_further
 returns-in-Err-clause-no_further g c = λ terms text taken.
@@ -158,16 +160,3 @@ returns-in-Err-clause-not_passed g c = λ was.
     not_passed_by c.in-Ok-read.n (length c.read.new.into) (g.S.Source.ended c.pieces.source) (g.S.Source.ended c.read.new.self)
     (g.S.Source.passed c.pieces.source) (g.S.Source.passed c.read.new.self) c.in-Ok-read.ensures.ending (c.pieces.invariant.not_ended was)
     ∙ c.pieces.invariant.not_passed was
-
--- `auto` proves these too: they are written out so that a wrong body is refused without a long search.
-pub returns-in_default-read-clause-fed : goal.returns-in_default-read-clause-fed
-returns-in_default-read-clause-fed g c = tt
-
-pub returns-in_default-read-clause-end : goal.returns-in_default-read-clause-end
-returns-in_default-read-clause-end g c = search rules
-
-pub returns-in_default-read-clause-no_failure : goal.returns-in_default-read-clause-no_failure
-returns-in_default-read-clause-no_failure g c = λ other. absurd (other refl)
-
-pub returns-in-Err-clause-memory : goal.returns-in-Err-clause-memory
-returns-in-Err-clause-memory g c = search rules

@@ -1,0 +1,23 @@
+-- How the feeding of a taker from a source ends.
+use Rattle.std.specs.Prelude.{◌≡◌, ℕ, List, Option, Result, Ok, Err}
+use Rattle.cif_device.specs.Device.{IsEnd}
+use Rattle.cif_device.specs.Taken.{BehindEach, HasFed, HasRefused, Refusing, Taking}
+use Rattle.cif_device.specs.declared.feed.FeedFault.{FeedFault}
+use Rattle.cif_device.specs.declared.feed.FeedFault.TheVariants as feed
+
+-- the most bytes of a source that are read at once
+abbrev pub most_at_once : ℕ
+most_at_once = 65536
+
+-- what a taker and what a source had left became, by the result. The taker took as many bytes as
+-- that says, up to the end; or all that came before the source failed; or all before a piece that
+-- it refused. Or memory ran out before a byte was read
+abbrev pub EndsFeeding : {T Terms Fault : Type 0} → Taking T Terms → Refusing T Terms Fault → T → T → Option (List ℕ) → Option (List ℕ)
+    → Result ℕ (FeedFault Fault) → Type 0
+EndsFeeding takes refuses taker after left left_now (Ok count) =
+    BehindEach takes taker (λ terms text. HasFed takes count terms text left left_now after) × IsEnd left_now
+EndsFeeding takes refuses taker after left left_now (Err feed.Source) =
+    BehindEach takes taker (λ terms text. (count : ℕ) × HasFed takes count terms text left left_now after)
+EndsFeeding takes refuses taker after left left_now (Err feed.Memory) = (left_now ≡ left) × (after ≡ taker)
+EndsFeeding takes refuses taker after left left_now (Err (feed.Refused fault)) =
+    BehindEach takes taker (λ terms text. HasRefused takes refuses most_at_once terms text left left_now after fault)
