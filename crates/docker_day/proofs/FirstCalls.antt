@@ -7,12 +7,13 @@ use Rattle.std.specs.Option.{is_some}
 use Rattle.std.specs.Ordering.{nat_cmp}
 use Rattle.std.specs.Str.{bytes_eq}
 use Rattle.std.proofs.lemmas.Slice.Eq.{bytes_eq-Decides}
-use Rattle.docker_model.specs.docker.LiveRows.{Train, Link, train_in, IsTrainOn}
+use Rattle.docker_model.specs.docker.Choice.{Train}
+use Rattle.docker_laws.specs.LiveRows.{Link, train_in, IsTrainOn}
 use Rattle.docker_model.specs.docker.DockerLine.{DockerLine}
 use Rattle.docker_model.specs.file.Change.{ScheduleKey}
 use Rattle.docker_model.specs.file.Journey.{Occasion}
 use Rattle.docker_model.specs.records.Record.{column}
-use Rattle.docker_model.specs.state.Row.{Row, AreRowsOf}
+use Rattle.docker_laws.specs.Row.{Row, AreRowsOf}
 use Rattle.docker_model.specs.state.Table.{Table}
 use Rattle.docker_laws.proofs.dockers.TrainOfRows.{trains_tell}
 use Rattle.train_choice.specs.Occurrences as events

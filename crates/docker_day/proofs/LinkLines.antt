@@ -9,8 +9,9 @@ use Rattle.docker_model.specs.docker.Event.{Event, events_of, first_event_at}
 use Rattle.docker_model.specs.docker.Choice.{Group}
 use Rattle.docker_model.specs.docker.Association.{category_occasion}
 use Rattle.docker_model.specs.state.Table.{Table}
-use Rattle.docker_model.specs.docker.LiveRows as live_rows
-use Rattle.docker_model.specs.docker.LiveRows.{train_in, link_in}
+use Rattle.docker_model.specs.docker.Choice as choices
+use Rattle.docker_laws.specs.LiveRows as live_rows
+use Rattle.docker_laws.specs.LiveRows.{train_in, link_in}
 use Rattle.docker_laws.specs.Gathering.{start_days, is_in_force, line_at, line_with}
 use Rattle.docker_model.specs.docker.DockerLine.{DockerLine}
 use Rattle.train_choice.specs.Occurrences.{occurrence_of, occurrences}
@@ -38,7 +39,7 @@ pub first_call_is : (lines : List (List ℕ)) (location : List ℕ) (suffix : �
 first_call_is lines location suffix = find_mapped (occurrence_of lines) (is_call location suffix) (events_of lines)
 
 -- the line of an association is the definitions' line
-link_line_is : (trains : List ℕ → ℕ → Option live_rows.Train) (day start : ℕ) (link : live_rows.Link) (occasion : Option Occasion) (base : Option live_rows.Train)
+link_line_is : (trains : List ℕ → ℕ → Option choices.Train) (day start : ℕ) (link : live_rows.Link) (occasion : Option Occasion) (base : Option choices.Train)
     → link_line_with trains day start link occasion base ≡ line_with trains day start link.key link.line occasion base
 link_line_is trains day start link None base = refl
 link_line_is trains day start link (Some occasion) None = refl
@@ -56,7 +57,7 @@ none_of_all [] = refl
 none_of_all (day ∷ days) = none_of_all days
 
 -- the lines of a row are the lines on its start days
-row_pieces : (trains : List ℕ → ℕ → Option live_rows.Train) (links : Group → ℕ → Option live_rows.Link) (place : List ℕ) (day : ℕ) (view : RowView)
+row_pieces : (trains : List ℕ → ℕ → Option choices.Train) (links : Group → ℕ → Option live_rows.Link) (place : List ℕ) (day : ℕ) (view : RowView)
     → flat_map (row_piece trains links place day view) (start_days day) ≡ view_lines trains links place day view
 row_pieces trains links place day (Train train) = refl
 row_pieces trains links place day (Link link) = by (bytes_eq link.key.location place)
@@ -75,7 +76,7 @@ three_parts a b c d =
     append_assoc (a ++ b) c d ∙ append_assoc a b (c ++ d) ∙ (λ i. a ++ (b ++ (c ++ sym (append-nil d) i)))
 
 module _ (place : List ℕ) (day : ℕ) (view : RowView) where
-  three_at : (trains : List ℕ → ℕ → Option live_rows.Train) (links : Group → ℕ → Option live_rows.Link) (first second third last : List DockerLine)
+  three_at : (trains : List ℕ → ℕ → Option choices.Train) (links : Group → ℕ → Option live_rows.Link) (first second third last : List DockerLine)
       → second ≡ first ++ row_back trains links place day view 0 → third ≡ second ++ row_back trains links place day view 1
       → last ≡ third ++ row_back trains links place day view 2 → last ≡ first ++ view_lines trains links place day view
   three_at trains links first second third last one two three =

@@ -4,7 +4,7 @@ use Rattle.std.specs.Prelude.{Option, nat_le}
 use Rattle.std.proofs.Math.Dec.{leb-zero}
 use Rattle.docker_model.specs.docker.DockerLine.{DockerLine}
 use Rattle.docker_laws.specs.Gathering.{gathered}
-use Rattle.docker_model.specs.docker.LiveRows.{train_in, link_in}
+use Rattle.docker_laws.specs.LiveRows.{train_in, link_in}
 use Rattle.docker_model.specs.state.State.{live_table}
 use Rattle.train_choice.specs.Known.{PlaceDay}
 use Rattle.docker_day.specs.Lines.{Adds}
@@ -13,7 +13,7 @@ use Rattle.docker_day.specs.declared.row_view.RowView.{RowView}
 use Rattle.docker_day.specs.Visits.{Visit, visit_back, AreVisits, AddsAt, AddsIf}
 use Rattle.docker_day.proofs.LinkLines.{three_backs}
 use Rattle.docker_day.proofs.PassedOver.{first_back_alone}
-use Rattle.docker_model.specs.state.Row.{Row}
+use Rattle.docker_laws.specs.Row.{Row}
 
 module _ (there : PlaceDay) (view : RowView) where
   abbrev AddsBack : ℕ → List DockerLine → List DockerLine → Type 0

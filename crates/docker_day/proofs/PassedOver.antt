@@ -9,12 +9,13 @@ use Rattle.docker_model.specs.file.Change.{Key, tiploc_key, schedule_key, associ
 use Rattle.docker_model.specs.state.Op.{schedule_key_cmp, association_key_cmp}
 use Rattle.docker_model.specs.state.Table.{Table}
 use Rattle.docker_model.specs.state.State.{IsBodyOf}
-use Rattle.docker_model.specs.state.Row.{Row, AreRowsOf}
+use Rattle.docker_laws.specs.Row.{Row, AreRowsOf}
 use Rattle.docker_model.specs.docker.Association.{is_date_indicator}
 use Rattle.docker_model.specs.docker.Choice.{schedule_runs, association_runs, group_of}
 use Rattle.docker_model.specs.docker.DockerLine.{DockerLine, Detail, ends, tiploc_of_first}
-use Rattle.docker_model.specs.docker.LiveRows as live_rows
-use Rattle.docker_model.specs.docker.LiveRows.{train_in, link_in, IsTrainOn, IsLinkOn}
+use Rattle.docker_model.specs.docker.Choice as choices
+use Rattle.docker_laws.specs.LiveRows as live_rows
+use Rattle.docker_laws.specs.LiveRows.{train_in, link_in, IsTrainOn, IsLinkOn}
 use Rattle.docker_laws.specs.Gathering.{event_lines, runs_by, counts_as, is_in_force}
 use Rattle.cif_laws.proofs.orders.AtMost.{eq_is}
 use Rattle.cif_laws.proofs.orders.Orders.{exact_schedule_key, exact_association_key}
@@ -44,11 +45,11 @@ true_false : true ≡ false → ⊥
 true_false bad = cc
 
 -- if a live schedule doesn't run on a day, its train doesn't run by it then
-pub runs_not : (live : Table) (rows : List Row) (train : live_rows.Train) (start : ℕ) → AreRowsOf live rows → IsLiveTrain live train
+pub runs_not : (live : Table) (rows : List Row) (train : choices.Train) (start : ℕ) → AreRowsOf live rows → IsLiveTrain live train
     → schedule_runs (first_record train.lines) start ≡ false → runs_by (train_in rows train.key.uid start) train.key ≡ false
 runs_not live rows train start are is_live idle = by (train_in rows train.key.uid start) (trains_tell live rows are train.key.uid start)
   where
-    by : (found : Option live_rows.Train) → IsTrainOn live train.key.uid start found → runs_by found train.key ≡ false
+    by : (found : Option choices.Train) → IsTrainOn live train.key.uid start found → runs_by found train.key ≡ false
     by None none = refl
     by (Some other) runs = inner (is_eq (schedule_key_cmp other.key train.key)) refl
       where
@@ -133,7 +134,7 @@ module _ (live : Table) (rows : List Row) (are : AreRowsOf live rows) (place : L
   lines_back view back = row_back (train_in rows) (link_in rows) place day view back
 
   -- a schedule that doesn't run on a day has no line of a train that started then
-  idle_back : (train : live_rows.Train) (back : ℕ) → IsLiveTrain live train → runs_back train.lines day back ≡ false
+  idle_back : (train : choices.Train) (back : ℕ) → IsLiveTrain live train → runs_back train.lines day back ≡ false
       → lines_back (Train train) back ≡ []
   idle_back train back is_live idle = by (nat_le back day) refl
     where
@@ -144,7 +145,7 @@ module _ (live : Table) (rows : List Row) (are : AreRowsOf live rows) (place : L
           (event_lines place day (day - back) train.key train.lines) [])
 
   -- a schedule that passes no midnight has no line on a day after its start
-  early_back : (train : live_rows.Train) (back : ℕ) → 0 < back → some_late (occurrences_to place train.lines) ≡ false
+  early_back : (train : choices.Train) (back : ℕ) → 0 < back → some_late (occurrences_to place train.lines) ≡ false
       → lines_back (Train train) back ≡ []
   early_back train back some early = by (nat_le back day) refl
     where

@@ -4,10 +4,10 @@ use Rattle.std.specs.Prelude.{Option, ◌||◌}
 use Rattle.std.proofs.lemmas.Grind.{flat_map-append}
 use Rattle.std.specs.List.{flat_map}
 use Rattle.docker_model.specs.file.Change.{Key, Body}
-use Rattle.docker_model.specs.state.Row.{Row, AreRowsOf}
+use Rattle.docker_laws.specs.Row.{Row, AreRowsOf}
 use Rattle.docker_model.specs.state.State.{IsBodyOf, live_table}
 use Rattle.docker_model.specs.state.Table.{Table}
-use Rattle.docker_model.specs.docker.LiveRows.{train_in, link_in}
+use Rattle.docker_laws.specs.LiveRows.{train_in, link_in}
 use Rattle.docker_laws.specs.Gathering.{gathered, row_lines}
 use Rattle.docker_model.specs.docker.DockerLine.{DockerLine}
 use Rattle.train_choice.specs.Along.{AreGoodRows, AreLive}

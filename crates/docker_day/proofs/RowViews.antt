@@ -4,9 +4,10 @@ use Rattle.std.specs.Prelude.{Option}
 use Rattle.docker_model.specs.file.Change.{Key, tiploc_key, association_key, schedule_key, Body, tiploc_body, association_body, schedule_body}
 use Rattle.docker_model.specs.docker.Choice.{Group}
 use Rattle.docker_laws.specs.Gathering.{gathered, row_lines}
-use Rattle.docker_model.specs.docker.LiveRows as live_rows
-use Rattle.docker_model.specs.docker.LiveRows.{schedule_of, association_of}
-use Rattle.docker_model.specs.state.Row.{Row}
+use Rattle.docker_model.specs.docker.Choice as choices
+use Rattle.docker_laws.specs.LiveRows as live_rows
+use Rattle.docker_laws.specs.LiveRows.{schedule_of, association_of}
+use Rattle.docker_laws.specs.Row.{Row}
 use Rattle.docker_model.specs.state.Table.{Table}
 use Rattle.train_choice.specs.Along.{AreLive}
 use Rattle.docker_day.specs.RowViews.{AreLiveViews, IsLiveView, lines_of, view_lines, view_of, views_of}
@@ -26,7 +27,7 @@ pub live_views : (live : Table) (rows : List Row) → AreLive live rows → AreL
 live_views live [] are = tt
 live_views live (row ∷ rows) are = (live_view live row.0 row.1 are.0, live_views live rows are.1)
 
-module _ (trains : List ℕ → ℕ → Option live_rows.Train) (links : Group → ℕ → Option live_rows.Link) (place : List ℕ) (day : ℕ) where
+module _ (trains : List ℕ → ℕ → Option choices.Train) (links : Group → ℕ → Option live_rows.Link) (place : List ℕ) (day : ℕ) where
   -- a row has its lines as it is opened
   pub lines_viewed : (key : Key) (body : Body) → view_lines trains links place day (view_of key body) ≡ row_lines trains links place day key body
   lines_viewed (schedule_key key) (schedule_body lines) = refl

@@ -3,7 +3,7 @@ use Rattle.std.specs.Prelude.{◌≡◌, ℕ, ◌+◌, Bool, ◌&&◌, ◌||◌,
 use Rattle.std.specs.Str.{bytes_eq}
 use Rattle.docker_model.specs.records.Record.{kind_of, columns, column}
 use Rattle.docker_model.specs.file.Change.{AssociationKey, ScheduleKey}
-use Rattle.docker_model.specs.docker.Choice.{Group}
+use Rattle.docker_model.specs.docker.Choice.{Group, Train}
 use Rattle.docker_model.specs.file.Journey.{Occasion}
 use Rattle.docker_model.specs.docker.Event.{is_at}
 use Rattle.docker_model.specs.state.Table.{Table}
@@ -12,8 +12,8 @@ use Rattle.docker_model.specs.state.Order.{bytes_cmp}
 use Rattle.std.specs.declared.cmp.Ordering.{Ordering}
 use Rattle.std.specs.Ordering.{nat_cmp, ordering_then}
 use Rattle.docker_model.specs.records.PrintedTime.{spaces}
-use Rattle.docker_model.specs.state.Row.{Row, AreRowsOf}
-use Rattle.docker_model.specs.docker.LiveRows.{Train, Link, train_in, link_in}
+use Rattle.docker_laws.specs.Row.{Row, AreRowsOf}
+use Rattle.docker_laws.specs.LiveRows.{Link, train_in, link_in}
 use Rattle.docker_model.specs.docker.Association.{category_occasion, partner_start}
 use Rattle.docker_laws.specs.Gathering.{event_lines, runs_by, partner_identity, is_in_force}
 use Rattle.train_choice.specs.Occurrences.{Occurrence, occurrences}

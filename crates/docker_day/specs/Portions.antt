@@ -1,10 +1,10 @@
 -- The rows of a walk, taken some at a time.
 use Rattle.std.specs.Prelude.{◌≡◌, ℕ, List, ◌++◌}
-use Rattle.docker_model.specs.state.Row.{Row, AreRowsOf}
+use Rattle.docker_laws.specs.Row.{Row, AreRowsOf}
 use Rattle.docker_model.specs.state.State.{live_table}
 use Rattle.docker_model.specs.state.Table.{Table}
 use Rattle.docker_model.specs.docker.DockerLine.{DockerLine}
-use Rattle.docker_model.specs.docker.LiveRows.{train_in, link_in}
+use Rattle.docker_laws.specs.LiveRows.{train_in, link_in}
 use Rattle.docker_laws.specs.Gathering.{gathered}
 use Rattle.train_choice.specs.Along.{AreGoodRows, AreLive}
 use Rattle.train_choice.specs.Known.{PlaceDay}

@@ -2,11 +2,12 @@
 use Rattle.std.specs.Prelude.{ℕ, ◌-◌, Bool, true, nat_le, if◌then◌else◌, List, [], ◌∷◌, map, Option, ⊤}
 use Rattle.std.specs.List.{flat_map}
 use Rattle.docker_model.specs.file.Change.{Key, association_key, schedule_key, Body, association_body, schedule_body}
-use Rattle.docker_model.specs.state.Row.{Row}
+use Rattle.docker_laws.specs.Row.{Row}
 use Rattle.docker_model.specs.state.Table.{Table}
 use Rattle.docker_model.specs.docker.Choice.{Group}
 use Rattle.docker_model.specs.docker.DockerLine.{DockerLine}
-use Rattle.docker_model.specs.docker.LiveRows as live_rows
+use Rattle.docker_model.specs.docker.Choice as choices
+use Rattle.docker_laws.specs.LiveRows as live_rows
 use Rattle.docker_laws.specs.Gathering.{association_lines, schedule_lines}
 use Rattle.train_choice.specs.Along.{IsLiveLink, IsLiveTrain}
 use Rattle.train_choice.specs.Lately.{may_run_lately}
@@ -60,21 +61,21 @@ row_may_run (Link link) day = true
 row_may_run Other day = true
 
 -- the lines of a row
-abbrev pub view_lines : (List ℕ → ℕ → Option live_rows.Train) → (Group → ℕ → Option live_rows.Link) → List ℕ → ℕ → RowView → List DockerLine
+abbrev pub view_lines : (List ℕ → ℕ → Option choices.Train) → (Group → ℕ → Option live_rows.Link) → List ℕ → ℕ → RowView → List DockerLine
 view_lines trains links place day (Train train) = schedule_lines trains place day train.key train.lines
 view_lines trains links place day (Link link) = association_lines trains links place day link.key link.line
 view_lines trains links place day Other = []
 
 -- the lines of rows, row by row
-abbrev pub lines_of : (List ℕ → ℕ → Option live_rows.Train) → (Group → ℕ → Option live_rows.Link) → List ℕ → ℕ → List RowView → List DockerLine
+abbrev pub lines_of : (List ℕ → ℕ → Option choices.Train) → (Group → ℕ → Option live_rows.Link) → List ℕ → ℕ → List RowView → List DockerLine
 lines_of trains links place day rows = flat_map (view_lines trains links place day) rows
 
 -- the lines of a row on a start day
-abbrev pub row_piece : (List ℕ → ℕ → Option live_rows.Train) → (Group → ℕ → Option live_rows.Link) → List ℕ → ℕ → RowView → ℕ → List DockerLine
+abbrev pub row_piece : (List ℕ → ℕ → Option choices.Train) → (Group → ℕ → Option live_rows.Link) → List ℕ → ℕ → RowView → ℕ → List DockerLine
 row_piece trains links place day (Train train) start = schedule_piece trains place day train.key train.lines start
 row_piece trains links place day (Link link) start = link_here trains links place day link start
 row_piece trains links place day Other start = []
 
 -- the lines of a row `back` days before the day, if there is such a day
-abbrev pub row_back : (List ℕ → ℕ → Option live_rows.Train) → (Group → ℕ → Option live_rows.Link) → List ℕ → ℕ → RowView → ℕ → List DockerLine
+abbrev pub row_back : (List ℕ → ℕ → Option choices.Train) → (Group → ℕ → Option live_rows.Link) → List ℕ → ℕ → RowView → ℕ → List DockerLine
 row_back trains links place day row back = if nat_le back day then row_piece trains links place day row (day - back) else []

@@ -3,8 +3,8 @@ ghost use Rattle.std.specs.Prelude.{◌≡◌, ℕ, List, IfOk, IfSome};
 ghost use Rattle.std.specs.BTreeMap.{get};
 ghost use Rattle.std.specs.Ordering.{nat_cmp};
 ghost use Rattle.docker_model.specs.state.State.{live_table};
-ghost use Rattle.docker_model.specs.state.Row.{Row, AreRowsOf};
-ghost use Rattle.docker_model.specs.docker.LiveRows.{train_in};
+ghost use Rattle.docker_laws.specs.Row.{Row, AreRowsOf};
+ghost use Rattle.docker_laws.specs.LiveRows.{train_in};
 ghost use Rattle.docker_day.specs.Bases.{first_call, meant_if};
 
 use crate::base_calls::{BaseCalls, first_calls};

@@ -2,7 +2,7 @@
 use Rattle.std.proofs.Common.{◌≤◌, ℕ, List, Some, subst}
 use Rattle.std.specs.Prelude.{Option, option_map}
 use Rattle.docker_model.specs.records.Date.{IsDay}
-use Rattle.docker_model.specs.docker.LiveRows.{IsChosenOn}
+use Rattle.docker_model.specs.docker.Choice.{IsChosenOn}
 use Rattle.docker_model.specs.run.Run.{Files, Known}
 use Rattle.docker_model.specs.state.State.{State}
 use Rattle.docker_model.specs.state.Summary.{IsSummary}

@@ -5,7 +5,7 @@ use Rattle.docker_model.specs.file.File.{most_records}
 use Rattle.docker_model.specs.state.State.{State}
 use Rattle.docker_model.specs.state.StateText.{dks_2}
 use Rattle.docker_model.specs.state.Table.{Table, IsPlainTable}
-use Rattle.docker_model.specs.docker.LiveRows.{IsChosenOn}
+use Rattle.docker_model.specs.docker.Choice.{IsChosenOn}
 use Rattle.docker_model.specs.run.Run.{IsStateOf, Known, nothing, united}
 use Rattle.docker_model.specs.run.Knowledge.{IsGoodKnown}
 use Rattle.docker_train.specs.TrainText.{Stamped, train_text}

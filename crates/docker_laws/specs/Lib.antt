@@ -1,5 +1,6 @@
 pub mod LawTerms
 pub mod FileSummary
+pub mod LiveRows
 pub mod Best
 pub mod ChoiceWalk
 pub mod EventWalk
@@ -10,3 +11,4 @@ pub mod NearDay
 pub mod StandIn
 pub mod Thinning
 pub use Rattle.state_laws.specs.Index
+pub use Rattle.state_laws.specs.Row

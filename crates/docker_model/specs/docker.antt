@@ -6,4 +6,3 @@ pub mod DockerLine
 pub mod Association
 pub mod DockerList
 pub mod DockerText
-pub mod LiveRows

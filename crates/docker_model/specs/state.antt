@@ -7,7 +7,6 @@ pub mod Table
 pub mod Lapse
 pub mod State
 pub mod Summary
-pub mod Row
 pub mod StateText
 pub mod StatePart
 pub mod StateFault

@@ -6,7 +6,7 @@ use Rattle.docker_model.specs.file.Change.{Key, Body, schedule_key, schedule_bod
 use Rattle.docker_model.specs.state.Stamp.{LedgerItem, FileStamp}
 use Rattle.docker_model.specs.state.Op.{Op, deleted, lapsed, put_with, Entry, body_of}
 use Rattle.docker_model.specs.state.State.{State, IsValid, IsGoodItem, IsGoodEntry, entry_at, live_table}
-use Rattle.docker_model.specs.docker.LiveRows.{Train}
+use Rattle.docker_model.specs.docker.Choice.{Train}
 use Rattle.cif_laws.proofs.lists.BoolsAndOptions.{none_some}
 use Rattle.cif_laws.proofs.lists.Membership.{Contains-map}
 use Rattle.state_laws.proofs.joins.StagedEntry.{entry_at_iff}

@@ -12,8 +12,7 @@ use Rattle.docker_model.specs.state.State.{State, IsValid, entry_at, live_table}
 use Rattle.docker_model.specs.state.Lapse.{IsDayRefused, lapse, lapse_entry, lapse_table}
 use Rattle.docker_model.specs.state.Table.{Table, IsPlainTable}
 use Rattle.docker_model.specs.state.Summary.{IsSummary, IsGreatestEntryOf}
-use Rattle.docker_model.specs.docker.Choice.{IsRunning, TrainRuns, runs_within}
-use Rattle.docker_model.specs.docker.LiveRows.{Train, IsChosenOn}
+use Rattle.docker_model.specs.docker.Choice.{IsRunning, TrainRuns, runs_within, Train, IsChosenOn}
 use Rattle.docker_model.specs.docker.DockerLine.{DockerLine}
 use Rattle.docker_model.specs.docker.DockerList.{IsEventLine}
 use Rattle.docker_model.specs.docker.Association.{IsAssociationLine}

@@ -3,8 +3,7 @@ use Rattle.std.specs.Prelude.{◌≡◌, ◌≤◌, ℕ, List, Some, Contains}
 use Rattle.docker_model.specs.file.Change.{Change, changes, schedule_key, schedule_body, put}
 use Rattle.docker_model.specs.state.Stamp.{Stamp, file_stamp_of}
 use Rattle.docker_model.specs.state.State.{State}
-use Rattle.docker_model.specs.docker.Choice.{IsCancellation}
-use Rattle.docker_model.specs.docker.LiveRows.{Train}
+use Rattle.docker_model.specs.docker.Choice.{IsCancellation, Train}
 use Rattle.docker_train.specs.TrainText.{Stamped, IsFoundFor}
 
 -- the change that put a schedule, with the stamp's number

@@ -7,7 +7,7 @@ use Rattle.docker_model.specs.file.Change.{schedule_key, schedule_body}
 use Rattle.docker_model.specs.state.Stamp.{Stamp}
 use Rattle.docker_model.specs.state.Op.{put_with}
 use Rattle.docker_model.specs.state.State.{State, entry_at, live_table}
-use Rattle.docker_model.specs.docker.LiveRows.{Train, IsChosenOn}
+use Rattle.docker_model.specs.docker.Choice.{Train, IsChosenOn}
 use Rattle.docker_model.specs.docker.DockerText.{ended}
 use Rattle.train_choice.specs.Ranked.{is_cancellation}
 

@@ -9,7 +9,7 @@ ghost use Rattle.docker_model.specs.state.Table.{Table, IsPlainTable};
 ghost use Rattle.docker_model.specs.docker.Association.{IsAssociationLine};
 ghost use Rattle.docker_model.specs.docker.DockerLine.{DockerLine};
 ghost use Rattle.docker_model.specs.docker.DockerList.{IsEventLine};
-ghost use Rattle.docker_model.specs.docker.LiveRows.{IsChosenOn};
+ghost use Rattle.docker_model.specs.docker.Choice.{IsChosenOn};
 ghost use Rattle.docker_train.specs.TrainText.{IsFoundFor, IsTrainText, Stamped};
 ghost use Rattle.docker_train.specs.Origin.{CameFrom, IsFoundToRun};
 

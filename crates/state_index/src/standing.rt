@@ -29,7 +29,7 @@ pub struct Numbered<'a> {
 
 impl<'a> Model for Numbered<'a> {
     ghost use Rattle.std.specs.Prelude.{List, map};
-    ghost use Rattle.docker_model.specs.state.Row.{Row};
+    ghost use Rattle.state_laws.specs.Row.{Row};
     ghost use Rattle.docker_join.specs.Meaning.{row_meant};
     ghost use Rattle.state_index.specs.StandingRows.{standing_marks};
 
@@ -66,7 +66,7 @@ pub struct Standing<'a> {
 
 impl<'a> Model for Standing<'a> {
     ghost use Rattle.std.specs.Prelude.{List};
-    ghost use Rattle.docker_model.specs.state.Row.{Row};
+    ghost use Rattle.state_laws.specs.Row.{Row};
 
     ghost Value = { List Row };
 

@@ -10,7 +10,7 @@ use Rattle.docker_model.specs.file.Change.{Key, association_key, schedule_key, A
 use Rattle.docker_model.specs.state.Order.{bytes_cmp, IsStrictlyAscending}
 use Rattle.docker_model.specs.state.Op.{schedule_key_cmp, association_key_cmp}
 use Rattle.docker_model.specs.state.Table.{Table}
-use Rattle.docker_model.specs.state.Row.{Row, AreInKeyOrder}
+use Rattle.state_laws.specs.Row.{Row, AreInKeyOrder}
 
 -- a TIPLOC with a schedule that calls there
 abbrev pub CallingRow : Type 0

@@ -1,4 +1,5 @@
 pub mod TextStage
 pub mod LawTerms
+pub mod Row
 pub mod Index
 pub mod Staging

@@ -6,10 +6,10 @@ use Rattle.docker_model.specs.file.File.{first_record}
 use Rattle.std.specs.Ordering.{on}
 use Rattle.docker_model.specs.file.Change.{Key, tiploc_key, association_key, schedule_key, ScheduleKey, Body, tiploc_body, association_body, schedule_body}
 use Rattle.docker_model.specs.state.Table.{Table}
-use Rattle.docker_model.specs.docker.Choice.{Group, schedule_runs, schedule_choice_cmp, association_choice_cmp}
+use Rattle.docker_model.specs.docker.Choice.{Group, schedule_runs, schedule_choice_cmp, association_choice_cmp, Train, IsChosenOn}
 use Rattle.docker_laws.specs.Best.{with_one_more}
-use Rattle.docker_model.specs.state.Row.{Row, AreRowsOf}
-use Rattle.docker_model.specs.docker.LiveRows.{Train, Link, HasSchedulesOf, HasAssociationsOf, IsChosenOn, IsLinkOn, unless_cancelled, train_in, link_in, schedule_of, association_of, is_running, is_linked}
+use Rattle.docker_laws.specs.Row.{Row, AreRowsOf}
+use Rattle.docker_laws.specs.LiveRows.{Link, HasSchedulesOf, HasAssociationsOf, IsLinkOn, unless_cancelled, train_in, link_in, schedule_of, association_of, is_running, is_linked}
 use Rattle.docker_laws.specs.ChoiceWalk.{IsChosenSoFar, IsLinkSoFar, next_chosen, next_link}
 use Rattle.docker_model.specs.state.State.{HasGoodBodies}
 use Rattle.docker_laws.specs.Index.{AreCalling, AreLinked, AreOfUid}

@@ -14,11 +14,11 @@ use Rattle.cif_laws.proofs.orders.Orders.{then_equal}
 use Rattle.docker_laws.specs.Best.{better}
 use Rattle.docker_model.specs.docker.Choice.{Group, group_of, association_choice_cmp, association_runs}
 use Rattle.docker_laws.specs.Gathering.{counts_as, identity_of}
-use Rattle.docker_model.specs.docker.LiveRows.{Link, is_of_group, link_in, train_in}
+use Rattle.docker_laws.specs.LiveRows.{Link, is_of_group, link_in, train_in}
 use Rattle.docker_model.specs.file.Change.{AssociationKey}
 use Rattle.docker_model.specs.state.Op.{association_key_cmp}
 use Rattle.docker_model.specs.state.Order.{bytes_cmp}
-use Rattle.docker_model.specs.state.Row.{Row, AreRowsOf}
+use Rattle.docker_laws.specs.Row.{Row, AreRowsOf}
 use Rattle.docker_model.specs.state.Table.{Table}
 use Rattle.train_choice.specs.Known.{uid_day_cmp, AreIdentities, group_cmp, GroupLinks, AreDayLinks, HasOneMore}
 use Rattle.train_choice.specs.Ranked.{is_better}

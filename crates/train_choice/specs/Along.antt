@@ -4,9 +4,9 @@ use Rattle.std.specs.Prelude.{◌≡◌, ℕ, List, [], ◌∷◌, Option, Some,
 use Rattle.docker_model.specs.file.Change.{schedule_key, schedule_body, association_key, association_body}
 use Rattle.docker_model.specs.state.Table.{Table}
 use Rattle.docker_model.specs.state.State.{IsBodyOf}
-use Rattle.docker_model.specs.docker.Choice.{Group}
-use Rattle.docker_model.specs.state.Row.{Row}
-use Rattle.docker_model.specs.docker.LiveRows.{Train, Link}
+use Rattle.docker_model.specs.docker.Choice.{Group, Train}
+use Rattle.docker_laws.specs.Row.{Row}
+use Rattle.docker_laws.specs.LiveRows.{Link}
 use Rattle.docker_laws.specs.ChoiceWalk.{next_chosen, next_link}
 
 -- the best schedule of the UID on the day, after these rows

@@ -2,10 +2,10 @@
 ghost use Rattle.std.specs.Prelude.{◌≡◌, true, List, IfSome};
 ghost use Rattle.docker_model.specs.file.File.{first_record};
 ghost use Rattle.docker_model.specs.state.State.{live_table};
-ghost use Rattle.docker_model.specs.state.Row.{Row, AreRowsOf};
+ghost use Rattle.docker_laws.specs.Row.{Row, AreRowsOf};
 ghost use Rattle.docker_model.specs.docker.Choice.{schedule_runs};
 ghost use Rattle.docker_laws.specs.Gathering.{runs_by};
-ghost use Rattle.docker_model.specs.docker.LiveRows.{train_in};
+ghost use Rattle.docker_laws.specs.LiveRows.{train_in};
 ghost use Rattle.train_choice.specs.Along.{IsLiveTrain};
 ghost use Rattle.train_choice.specs.Keys.{schedule_key_meant};
 

@@ -1,9 +1,9 @@
 //! The identities of trains. Each is kept once it has been looked up.
 ghost use Rattle.std.specs.Prelude.{◌≡◌, List, IfOk};
 ghost use Rattle.docker_model.specs.state.State.{live_table};
-ghost use Rattle.docker_model.specs.state.Row.{Row, AreRowsOf};
+ghost use Rattle.docker_laws.specs.Row.{Row, AreRowsOf};
 ghost use Rattle.docker_laws.specs.Gathering.{identity_of};
-ghost use Rattle.docker_model.specs.docker.LiveRows.{train_in};
+ghost use Rattle.docker_laws.specs.LiveRows.{train_in};
 
 use crate::choice::train_on;
 use crate::schedule_view::ScheduleView;

@@ -20,7 +20,7 @@ pub struct LinkView<'a> {
 }
 
 impl<'a> Model for LinkView<'a> {
-    ghost use Rattle.docker_model.specs.docker.LiveRows.{Link};
+    ghost use Rattle.docker_laws.specs.LiveRows.{Link};
     ghost use Rattle.docker_model.specs.state.State.{IsAssociationOf};
     ghost use Rattle.train_choice.specs.Keys.{association_key_meant};
 

@@ -2,7 +2,7 @@
 ghost use Rattle.std.specs.Prelude.{◌≡◌};
 ghost use Rattle.cif_change.specs.Meaning.{key_meant, body_meant};
 ghost use Rattle.docker_model.specs.state.State.{IsBodyOf};
-ghost use Rattle.docker_model.specs.docker.LiveRows.{association_of, schedule_of};
+ghost use Rattle.docker_laws.specs.LiveRows.{association_of, schedule_of};
 
 use crate::link_view::LinkView;
 use crate::schedule_view::ScheduleView;

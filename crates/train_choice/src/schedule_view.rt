@@ -28,7 +28,7 @@ pub struct ScheduleView<'a> {
 }
 
 impl<'a> Model for ScheduleView<'a> {
-    ghost use Rattle.docker_model.specs.docker.LiveRows.{Train};
+    ghost use Rattle.docker_model.specs.docker.Choice.{Train};
     ghost use Rattle.docker_model.specs.state.State.{IsScheduleOf};
     ghost use Rattle.train_choice.specs.Keys.{schedule_key_meant};
 

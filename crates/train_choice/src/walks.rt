@@ -3,7 +3,7 @@ ghost use Rattle.std.specs.Prelude.{◌≡◌};
 ghost use Rattle.docker_model.specs.state.State.{live_table, HasGoodBodies};
 ghost use Rattle.docker_model.specs.docker.Choice.{Group};
 ghost use Rattle.docker_laws.specs.Index.{AreCalling, AreLinked};
-ghost use Rattle.docker_model.specs.docker.LiveRows.{HasSchedulesOf, HasAssociationsOf};
+ghost use Rattle.docker_laws.specs.LiveRows.{HasSchedulesOf, HasAssociationsOf};
 ghost use Rattle.train_choice.specs.Along.{AreGoodRows, AreLive};
 
 use crate::near::Near;

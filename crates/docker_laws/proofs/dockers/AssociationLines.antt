@@ -11,10 +11,10 @@ use Rattle.docker_model.specs.state.Op.{association_key_cmp}
 use Rattle.docker_model.specs.state.Table.{Table}
 use Rattle.docker_model.specs.state.State.{HasGoodBodies}
 use Rattle.docker_model.specs.docker.Event.{Event, event_day, first_event_at}
-use Rattle.docker_model.specs.docker.Choice.{TrainRuns, Group, group_of, IsChosenAssociation}
+use Rattle.docker_model.specs.docker.Choice.{TrainRuns, Group, group_of, IsChosenAssociation, Train}
 use Rattle.docker_model.specs.docker.DockerLine.{DockerLine, docker_line_cmp, line_of_association}
 use Rattle.docker_model.specs.docker.Association.{category_occasion, is_date_indicator, partner_start, IsPartnerIdentity, IsAssociationLine}
-use Rattle.docker_model.specs.docker.LiveRows.{Train, Link, IsTrainOn, TellsTrains, IsLinkOn, TellsLinks}
+use Rattle.docker_laws.specs.LiveRows.{Link, IsTrainOn, TellsTrains, IsLinkOn, TellsLinks}
 use Rattle.docker_laws.specs.Gathering.{start_days, counts_as, identity_of, partner_identity, line_at, line_with, is_in_force}
 use Rattle.cif_laws.proofs.lists.Membership.{nil-Contains, Contains-single, single-Contains}
 use Rattle.cif_laws.proofs.lists.BoolsAndOptions.{both, not_true}

@@ -16,11 +16,11 @@ use Rattle.docker_model.specs.state.Order.{IsBelow}
 use Rattle.docker_model.specs.state.Op.{key_cmp}
 use Rattle.docker_model.specs.state.Table.{Table}
 use Rattle.docker_model.specs.state.State.{HasGoodBodies}
-use Rattle.docker_model.specs.state.Row.{Row, AreInKeyOrder}
-use Rattle.docker_model.specs.docker.Choice.{Group}
+use Rattle.state_laws.specs.Row.{Row, AreInKeyOrder}
+use Rattle.docker_model.specs.docker.Choice.{Group, Train}
 use Rattle.docker_model.specs.docker.DockerLine.{DockerLine, docker_line_cmp}
 use Rattle.docker_model.specs.docker.DockerList.{IsDockerList}
-use Rattle.docker_model.specs.docker.LiveRows.{Train, Link, TellsTrains, TellsLinks}
+use Rattle.docker_laws.specs.LiveRows.{Link, TellsTrains, TellsLinks}
 use Rattle.docker_laws.specs.Gathering.{IsDockerLine, start_days, IsWalk, row_lines, gathered}
 use Rattle.cif_laws.proofs.lists.Membership.{nil-Contains, Contains-flat_map, flat_map-Contains}
 use Rattle.cif_laws.proofs.orders.Ascending.{irreflexive}

@@ -9,12 +9,12 @@ use Rattle.docker_model.specs.state.Order.{IsBelow}
 use Rattle.docker_model.specs.state.Op.{key_cmp}
 use Rattle.docker_model.specs.state.Table.{Table}
 use Rattle.docker_model.specs.state.State.{HasGoodBodies}
-use Rattle.docker_model.specs.state.Row.{Row, AreRowsOf}
+use Rattle.state_laws.specs.Row.{Row, AreRowsOf}
 use Rattle.state_laws.specs.Index.{AreCalling, AreLinked, AreOfUid}
 use Rattle.docker_model.specs.docker.Choice.{Group}
 use Rattle.docker_model.specs.docker.DockerLine.{DockerLine, docker_line_cmp}
 use Rattle.docker_model.specs.docker.DockerList.{IsDockerList}
-use Rattle.docker_model.specs.docker.LiveRows.{HasSchedulesOf, HasAssociationsOf, train_in, link_in}
+use Rattle.docker_laws.specs.LiveRows.{HasSchedulesOf, HasAssociationsOf, train_in, link_in}
 use Rattle.docker_laws.specs.Gathering.{IsWalk, gathered}
 use Rattle.docker_laws.proofs.dockers.GatheredLines.{sorted_gathering}
 use Rattle.docker_laws.proofs.dockers.TrainOfRows.{trains_tell}

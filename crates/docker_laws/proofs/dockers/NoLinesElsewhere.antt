@@ -4,7 +4,7 @@ use Rattle.std.specs.Prelude.{Option}
 use Rattle.docker_model.specs.file.Journey.{calls_at}
 use Rattle.docker_model.specs.file.Change.{ScheduleKey}
 use Rattle.docker_model.specs.docker.DockerLine.{DockerLine}
-use Rattle.docker_model.specs.docker.LiveRows.{Train}
+use Rattle.docker_model.specs.docker.Choice.{Train}
 use Rattle.docker_laws.specs.Gathering.{start_days, runs_by, event_lines, schedule_lines}
 use Rattle.cif_laws.proofs.lists.Membership.{nil-Contains, Contains-flat_map}
 use Rattle.docker_laws.proofs.dockers.Events.{event_calls}

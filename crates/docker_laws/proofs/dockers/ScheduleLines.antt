@@ -13,10 +13,10 @@ use Rattle.docker_model.specs.state.Op.{schedule_key_cmp}
 use Rattle.docker_model.specs.state.Table.{Table}
 use Rattle.docker_model.specs.state.State.{HasGoodBodies}
 use Rattle.docker_model.specs.docker.Event.{Event, events_of, event_day, event_line}
-use Rattle.docker_model.specs.docker.Choice.{TrainRuns}
+use Rattle.docker_model.specs.docker.Choice.{TrainRuns, Train}
 use Rattle.docker_model.specs.docker.DockerLine.{DockerLine, line_of_event, docker_line_cmp}
 use Rattle.docker_model.specs.docker.DockerList.{IsEventLine}
-use Rattle.docker_model.specs.docker.LiveRows.{Train, IsTrainOn, TellsTrains}
+use Rattle.docker_laws.specs.LiveRows.{IsTrainOn, TellsTrains}
 use Rattle.docker_laws.specs.Gathering.{event_lines, runs_by, start_days}
 use Rattle.cif_laws.proofs.lists.Membership.{Contains-map, map-Contains, nil-Contains}
 use Rattle.cif_laws.proofs.lists.BoolsAndOptions.{both}

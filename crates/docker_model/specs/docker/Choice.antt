@@ -1,6 +1,6 @@
 -- Which schedule of a train, and which association, counts on a day. A day is any number here,
 -- without a bound; dockers are made for days 0 to 36524.
-use Rattle.std.specs.Prelude.{◌≡◌, ℕ, Bool, false, ◌&&◌, nat_le, IsTrue, List, Option, Some}
+use Rattle.std.specs.Prelude.{◌≡◌, ℕ, Bool, false, ◌&&◌, nat_le, IsTrue, List, Option, Some, None}
 use Rattle.std.specs.declared.cmp.Ordering.{Ordering}
 use Rattle.std.specs.Ordering.{ordering_then, nat_cmp}
 use Rattle.docker_model.specs.records.Record.{Kind, association, basic_schedule, kind_of, columns}
@@ -89,3 +89,13 @@ pub record IsAssociated (live : Table) (group : Group) (day : ℕ) (key : Associ
 pub record IsChosenAssociation (live : Table) (group : Group) (day : ℕ) (key : AssociationKey) (line : List ℕ) : Type 0 where
   pub associated : IsAssociated live group day key line
   pub first : (other : AssociationKey) (others : List ℕ) → IsAssociated live group day other others → IsAtMost association_choice_cmp key other
+
+-- a schedule by which a train may run: its key and its lines
+pub record Train : Type 0 where
+  pub key : ScheduleKey
+  pub lines : List (List ℕ)
+
+-- the answer is the chosen schedule of the UID on the day, or none if none runs
+abbrev pub IsChosenOn : Table → List ℕ → ℕ → Option Train → Type 0
+IsChosenOn live uid day None = (key : ScheduleKey) (lines : List (List ℕ)) → ¬ IsRunning live uid day key lines
+IsChosenOn live uid day (Some train) = IsChosen live uid day train.key train.lines

@@ -3,7 +3,7 @@ use Rattle.std.proofs.Common.{ap, sym, ◌∙◌}
 use Rattle.docker_model.specs.file.Change.{AssociationKey}
 use Rattle.docker_model.specs.docker.Choice.{association_runs, group_of}
 use Rattle.docker_laws.specs.Gathering.{counts_as}
-use Rattle.docker_model.specs.docker.LiveRows.{link_in}
+use Rattle.docker_laws.specs.LiveRows.{link_in}
 use Rattle.docker_model.specs.state.State.{live_table}
 use Rattle.train_choice.specs.Ranked.{is_cancellation}
 use Rattle.docker_day.proofs.PassedOver.{not_in_force}

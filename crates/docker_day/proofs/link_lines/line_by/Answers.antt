@@ -1,5 +1,5 @@
 use Rattle.std.proofs.Common.{◌≡◌, Some, ap, sym, ◌∙◌, rules}
-use Rattle.docker_model.specs.docker.LiveRows.{train_in}
+use Rattle.docker_laws.specs.LiveRows.{train_in}
 use Rattle.train_choice.specs.Meaning.{occasion_meant}
 use Rattle.train_choice.specs.EventWalk.{occurrence_meant}
 use Rattle.docker_day.specs.Bases.{first_call, meant_if}

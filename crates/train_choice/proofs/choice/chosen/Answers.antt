@@ -1,5 +1,5 @@
 use Rattle.std.proofs.Common.{subst}
-use Rattle.docker_model.specs.docker.LiveRows.{HasSchedulesOf}
+use Rattle.docker_laws.specs.LiveRows.{HasSchedulesOf}
 use Rattle.docker_model.specs.state.State.{State, live_table}
 use Rattle.train_choice.proofs.Along.{chosen_of_uid}
 use Rattle.train_choice.proofs.choice.chosen.Goals as goal

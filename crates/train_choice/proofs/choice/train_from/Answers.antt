@@ -1,6 +1,6 @@
 use Rattle.std.proofs.Common.{ap, ◌∙◌, Some}
 use Rattle.docker_model.specs.state.State.{live_table}
-use Rattle.docker_model.specs.docker.LiveRows.{Train}
+use Rattle.docker_model.specs.docker.Choice.{Train}
 use Rattle.train_choice.specs.Keys.{schedule_key_meant}
 use Rattle.train_choice.specs.Along.{chosen_along}
 use Rattle.train_choice.proofs.Along.{train_from_told}

@@ -1,8 +1,8 @@
 use Rattle.std.proofs.Common.{ap, sym, ◌∙◌}
 use Rattle.std.specs.Prelude.{Option}
 use Rattle.std.specs.Ordering.{on}
-use Rattle.docker_model.specs.docker.Choice.{schedule_choice_cmp}
-use Rattle.docker_model.specs.docker.LiveRows.{Train, is_running}
+use Rattle.docker_model.specs.docker.Choice.{schedule_choice_cmp, Train}
+use Rattle.docker_laws.specs.LiveRows.{is_running}
 use Rattle.train_choice.specs.Ranked.{is_better}
 use Rattle.train_choice.proofs.BestSoFar.{not_better, not_passing, passes_better}
 use Rattle.train_choice.proofs.choice.with_one.Goals as goal

@@ -3,7 +3,7 @@ use Rattle.std.specs.Prelude.{Option}
 use Rattle.std.specs.BTreeMap.{Updates, get}
 use Rattle.std.specs.Ordering.{on}
 use Rattle.docker_model.specs.docker.Choice.{Group, association_choice_cmp, group_of}
-use Rattle.docker_model.specs.docker.LiveRows.{Link}
+use Rattle.docker_laws.specs.LiveRows.{Link}
 use Rattle.train_choice.specs.Known.{group_cmp}
 use Rattle.train_choice.specs.Ranked.{is_better}
 use Rattle.train_choice.proofs.Known.{not_running, better_there, best_of_group}

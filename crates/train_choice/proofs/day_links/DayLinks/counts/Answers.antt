@@ -3,10 +3,10 @@ use Rattle.std.specs.BTreeMap.{get}
 use Rattle.std.specs.Ordering.{is_eq}
 use Rattle.docker_model.specs.docker.Choice.{Group, group_of}
 use Rattle.docker_laws.specs.Gathering.{counts_as}
-use Rattle.docker_model.specs.docker.LiveRows.{link_in}
+use Rattle.docker_laws.specs.LiveRows.{link_in}
 use Rattle.docker_model.specs.file.Change.{AssociationKey}
 use Rattle.docker_model.specs.state.Op.{association_key_cmp}
-use Rattle.docker_model.specs.state.Row.{Row, AreRowsOf}
+use Rattle.docker_laws.specs.Row.{Row, AreRowsOf}
 use Rattle.docker_model.specs.state.State.{live_table}
 use Rattle.train_choice.specs.Keys.{association_key_meant}
 use Rattle.train_choice.specs.Known.{PlaceDay, group_cmp}

@@ -1,5 +1,5 @@
 use Rattle.std.proofs.Common.{ap, ◌∙◌, None}
-use Rattle.docker_model.specs.docker.LiveRows.{Train}
+use Rattle.docker_model.specs.docker.Choice.{Train}
 use Rattle.docker_model.specs.state.State.{IsScheduleOf}
 use Rattle.train_choice.proofs.KeptLines.{falls_few}
 use Rattle.train_choice.proofs.Occurrences.{events_met}

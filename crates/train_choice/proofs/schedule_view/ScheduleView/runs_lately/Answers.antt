@@ -1,5 +1,5 @@
 use Rattle.std.proofs.Common.{ap, sym, ◌∙◌, subst}
-use Rattle.docker_model.specs.docker.LiveRows.{Train}
+use Rattle.docker_model.specs.docker.Choice.{Train}
 use Rattle.docker_model.specs.state.State.{IsScheduleOf}
 use Rattle.train_choice.proofs.LatelyRuns.{lately_told, never_told}
 use Rattle.train_choice.proofs.schedule_view.ScheduleView.runs_lately.Goals as goal

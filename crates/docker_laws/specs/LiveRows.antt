@@ -7,8 +7,8 @@ use Rattle.std.specs.Ordering.{is_gt}
 use Rattle.docker_model.specs.file.File.{first_record}
 use Rattle.docker_model.specs.file.Change.{Key, schedule_key, ScheduleKey, Body, schedule_body, association_key, AssociationKey, association_body}
 use Rattle.docker_model.specs.state.Table.{Table}
-use Rattle.docker_model.specs.state.Row.{Row}
-use Rattle.docker_model.specs.docker.Choice.{Group, group_of, schedule_runs, schedule_choice_cmp, association_runs, association_choice_cmp, IsRunning, IsChosen, TrainRuns, IsChosenAssociation}
+use Rattle.state_laws.specs.Row.{Row}
+use Rattle.docker_model.specs.docker.Choice.{Train, Group, group_of, schedule_runs, schedule_choice_cmp, association_runs, association_choice_cmp, IsRunning, IsChosen, TrainRuns, IsChosenAssociation}
 use Rattle.docker_model.specs.docker.Association.{RunsNot}
 
 -- live rows, among them each schedule of the UID
@@ -30,11 +30,6 @@ HasNoScheduleOf uid rows = (key : ScheduleKey) (body : Body) → Contains rows (
 -- none of the rows is of an association of the group
 abbrev pub HasNoAssociationOf : Group → List Row → Type 0
 HasNoAssociationOf group rows = (key : AssociationKey) (body : Body) → Contains rows (association_key key, body) → ¬ (group_of key ≡ group)
-
--- a schedule by which a train may run: its key and its lines
-pub record Train : Type 0 where
-  pub key : ScheduleKey
-  pub lines : List (List ℕ)
 
 -- an association: its key and its line
 pub record Link : Type 0 where
@@ -100,11 +95,6 @@ is_link_choice links group day link =
 -- the chosen association of the group on the base's start day among the rows, if one runs
 abbrev pub link_in : List Row → Group → ℕ → Option Link
 link_in rows group day = find (is_link_choice (associations_in rows) group day) (associations_in rows)
-
--- the answer is the chosen schedule of the UID on the day, or none if none runs
-abbrev pub IsChosenOn : Table → List ℕ → ℕ → Option Train → Type 0
-IsChosenOn live uid day None = (key : ScheduleKey) (lines : List (List ℕ)) → ¬ IsRunning live uid day key lines
-IsChosenOn live uid day (Some train) = IsChosen live uid day train.key train.lines
 
 -- the answer is the UID's train that starts on the day, or none if none runs
 abbrev pub IsTrainOn : Table → List ℕ → ℕ → Option Train → Type 0
