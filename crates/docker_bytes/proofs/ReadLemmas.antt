@@ -2,8 +2,7 @@
 use Rattle.std.proofs.Common.{◌≡◌, ◌≢◌, ℕ, ◌<◌, List, [], ◌∷◌, ◌++◌, length, take, drop, refl, ap, sym, ◌∙◌, subst, inl, inr, ◌⊎◌, arith, append_assoc, append-nil, length-drop, Some, None, Err, Result}
 use Rattle.std.specs.Prelude.{Option, Ok, IfOk, IfErr, IsOk, OnOk, ◌^◌}
 use Rattle.std.proofs.lemmas.List.{take-append-drop}
-use Rattle.std.proofs.lemmas.Result.{IfOk-weaker}
-use Rattle.cif_line.specs.Device.{CountsFailure, Reads, IsEnd}
+use Rattle.cif_line.specs.Device.{Reads, IsEnd}
 use Rattle.cif_line.specs.Taken.{BehindEach, HasFed, HasRefused, LosesOnePieceMore}
 use Rattle.docker_model.specs.state.State.{State}
 use Rattle.docker_model.specs.state.StateText.{Format}
@@ -22,6 +21,7 @@ use Rattle.docker_bytes.specs.StateReading.{format_of, IsToldSoFar, IsFaultTold,
 use Rattle.docker_bytes.specs.ParserRead.{ParserState, HasRead, IsUnread}
 use Rattle.docker_bytes.specs.StateTaken.{RefusesPart, StateTerms, TakesState}
 use Rattle.docker_bytes.specs.SourceRead.{Held, ReadsState, ReadsMade, IsCauseOf, IsFaultOf, RefusesState, ReadsOnePieceMore, ReadsAll, WantsSoFar, WantsMemory, JoinsState}
+use Rattle.docker_bytes.specs.ReadEnds.{as_it_is, CountsOutcome, CountsWhy, EndsReadingBy, EndsText, IsOutcome, IsWhyUnread, StopsReading, Wanting}
 use Rattle.docker_bytes.proofs.TextEnd.{sound_text}
 
 -- ---- causes
@@ -91,14 +91,20 @@ told_as_state format limit text piece rest found told result so_far memory state
     let same = not_memory found told result memory state is in
     subst (IsFaultOf format limit ((text ++ piece) ++ rest)) same.0 (told_so_far format limit text piece rest found.at found.cause same.1 so_far)
 
--- a fault returned at the end is the text's
-pub ended_as_state : {A : Type 0} (format : Format) (limit : ℕ) (text : List ℕ) (found told : StateFault) (result : ReadFault)
+-- a fault found at the end is returned as the text's, or as out of memory for a complete text
+pub ended_for : {A : Type 0} (format : Format) (limit : ℕ) (text : List ℕ) (IsMade : A → Type 0) (found : StateFault) (result : ReadFault)
     → IsUnended format limit text found → (found.cause ≡ cause.Memory → result ≡ fault.Memory)
-    → (found.cause ≢ cause.Memory → result ≡ fault.State found) → ◌≡◌ {A = Result A ReadFault} (Err result) (Err (fault.State told))
-    → IsFaultOf format limit text told
-ended_as_state format limit text found told result at_end memory state is =
-    let same = not_memory found told result memory state is in
-    subst (IsFaultOf format limit text) same.0 (told_at_end format limit text found.at found.cause same.1 at_end)
+    → (found.cause ≢ cause.Memory → result ≡ fault.State found)
+    → EndsText format limit text IsMade (Err result)
+ended_for format limit text IsMade found result at_end memory state = by (memory_or_not found.cause)
+  where
+    by : (found.cause ≡ cause.Memory) ⊎ (found.cause ≢ cause.Memory) → EndsText format limit text IsMade (Err result)
+    by (inl wanting) =
+        subst (λ (told : ReadFault). EndsText format limit text IsMade (Err told)) (sym (memory wanting))
+        (subst (λ c. IsToldAtEnd format limit text found.at (cause_meant c)) wanting at_end).0
+    by (inr other) =
+        subst (λ (told : ReadFault). EndsText format limit text IsMade (Err told)) (sym (state other))
+        (told_at_end format limit text found.at found.cause other at_end)
 
 -- if out of memory is returned, that is what was found
 is_memory : {A : Type 0} (found : StateFault) (result : ReadFault) → (found.cause ≢ cause.Memory → result ≡ fault.State found)
@@ -117,13 +123,6 @@ pub told_as_memory : {A : Type 0} (format : Format) (limit : ℕ) (text piece : 
     → (at : ℕ) × IsWanting format limit text piece at
 told_as_memory format limit text piece found result so_far state is =
     (found.at, subst (λ c. IsToldSoFar format limit text piece found.at (cause_meant c)) (is_memory found result state is) so_far)
-
--- if out of memory is returned at the end, the text is complete
-pub ended_as_memory : {A : Type 0} (format : Format) (limit : ℕ) (text : List ℕ) (found : StateFault) (result : ReadFault) → IsUnended format limit text found
-    → (found.cause ≢ cause.Memory → result ≡ fault.State found) → ◌≡◌ {A = Result A ReadFault} (Err result) (Err fault.Memory) → IsWhole format limit text
-ended_as_memory format limit text found result at_end state is =
-    let wanting = subst (λ c. IsToldAtEnd format limit text found.at (cause_meant c)) (is_memory found result state is) at_end in
-    wanting.0
 
 -- ---- bytes after the state
 
@@ -216,63 +215,16 @@ pub as_asked : {K : Type 0} (parser : ParserState K) (format : Format) (limit : 
     → P (format_of parser.reading) parser.reading.limit → P format limit
 as_asked parser format limit text P has told = subst (λ n. P format n) has.limit_is (subst (λ f. P f parser.reading.limit) has.format_is told)
 
--- what was made of a text that was read to its end
-pub made_of_all : {K Made : Type 0} (makes : Made → State → Type 0) (format : Format) (limit : ℕ) (initial : Option (List ℕ)) (parser : ParserState K)
-    (result : Result Made ReadFault) → ReadsAll format limit initial parser
-    → ((text : List ℕ) → HasRead parser format limit text → IfOk result (IsMadeOf makes format limit text)) → IfOk result (ReadsMade makes format limit initial)
-made_of_all makes format limit initial parser result all of =
-    IfOk-weaker result _ (ReadsMade makes format limit initial) (λ made told. record { text = all.text; held = all.held; of = told }) (of all.text all.read)
-
--- if what is made of a state is the state itself, it is the text's state
-pub made_itself : (format : Format) (limit : ℕ) (text : List ℕ) (made : State) → IsMadeOf (λ made state. made ≡ state) format limit text made
-    → IsStateText format limit text made
-made_itself format limit text made of = subst (IsStateText format limit text) (sym of.made_of) of.is
-
--- so it is for what a source held
-pub read_itself : (format : Format) (limit : ℕ) (initial : Option (List ℕ)) (result : Result State ReadFault)
-    → IfOk result (ReadsMade (λ made state. made ≡ state) format limit initial) → IfOk result (ReadsState format limit initial)
-read_itself format limit initial result =
-    IfOk-weaker result (ReadsMade (λ made state. made ≡ state) format limit initial) (ReadsState format limit initial)
-    (λ made read. record { text = read.text; held = read.held; is = made_itself format limit read.text made read.of })
-
--- the fault of a text that was read to its end
-pub refused_of_all : {K : Type 0} (format : Format) (limit : ℕ) (initial : Option (List ℕ)) (parser : ParserState K) (found : StateFault)
-    → ReadsAll format limit initial parser → ((text : List ℕ) → HasRead parser format limit text → IsFaultOf format limit text found)
-    → RefusesState format limit initial found
-refused_of_all format limit initial parser found all is = record { text = all.text; held = all.held; is = is all.text all.read }
-
--- memory ran out at the end of a text
-pub wants_of_all : {K : Type 0} (format : Format) (most limit : ℕ) (initial next : Option (List ℕ)) (parser : ParserState K) → ReadsAll format limit initial parser
-    → ((text : List ℕ) → HasRead parser format limit text → IsWhole format limit text) → WantsMemory format most limit initial next
-wants_of_all format most limit initial next parser all is =
-    let whole = is all.text all.read in
-    inr (inr (whole.0, record { text = all.text; held = all.held; is = whole.1 }))
-
--- memory ran out before the end of a text
-pub wants_more : (format : Format) (most limit : ℕ) (initial next : Option (List ℕ)) → WantsSoFar format most limit initial next
-    → WantsMemory format most limit initial next
-wants_more format most limit initial next (inl nothing) = inl nothing
-wants_more format most limit initial next (inr part) = inr (inl part)
-
--- the join with the state of a text that was read to its end
-pub joined_of_all : {K : Type 0} (format : Format) (limit : ℕ) (initial : Option (List ℕ)) (parser : ParserState K) (own after : State)
-    → ReadsAll format limit initial parser → ((text : List ℕ) → HasRead parser format limit text → JoinsText format limit text own after)
-    → JoinsState format limit initial own after
-joined_of_all format limit initial parser own after all is =
-    let joins = is all.text all.read in
-    record { received = joins.received; read = record { text = all.text; held = all.held; is = joins.is }; join = joins.join }
-
 -- the fault of a piece is the fault of what the source held
-pub refused_within : {K : Type 0} (terms : StateTerms) (initial next : Option (List ℕ)) (parser : ParserState K) (told : ReadFault) {A : Type 0} (found : StateFault)
-    → HasRefused TakesState RefusesPart 65536 terms [] initial next parser told → ◌≡◌ {A = Result A ReadFault} (Err told) (Err (fault.State found))
-    → RefusesState terms.format terms.limit initial found
-refused_within terms initial next parser told found has is = by initial next has.more.lost
+refused_within : {K : Type 0} (terms : StateTerms) (initial next : Option (List ℕ)) (parser : ParserState K) (found : StateFault)
+    → HasRefused TakesState RefusesPart 65536 terms [] initial next parser (fault.State found) → RefusesState terms.format terms.limit initial found
+refused_within terms initial next parser found has = by initial next has.more.lost
   where
     text : List ℕ
     text = has.more.bytes ++ has.more.piece
 
     of : (rest : List ℕ) → IsFaultOf terms.format terms.limit (text ++ rest) found
-    of rest = let same : told ≡ fault.State found = cc in has.refused.state found same rest
+    of = has.refused.state found refl
 
     by : (initial next : Option (List ℕ)) → Reads initial text next → RefusesState terms.format terms.limit initial found
     by None next lost = record { text = text ++ []; held = tt; is = of [] }
@@ -291,18 +243,93 @@ loses_few terms initial next more = record {
 }
 
 -- memory ran out for a part of a piece
-pub wants_part : {K : Type 0} (terms : StateTerms) (initial next : Option (List ℕ)) (parser : ParserState K) (told : ReadFault) {A : Type 0}
-    → HasRefused TakesState RefusesPart 65536 terms [] initial next parser told → ◌≡◌ {A = Result A ReadFault} (Err told) (Err fault.Memory)
-    → WantsSoFar terms.format 65536 terms.limit initial next
-wants_part terms initial next parser told has is =
-    let same : told ≡ fault.Memory = cc in
-    let wanting = has.refused.memory same in
+wants_part : {K : Type 0} (terms : StateTerms) (initial next : Option (List ℕ)) (parser : ParserState K)
+    → HasRefused TakesState RefusesPart 65536 terms [] initial next parser fault.Memory → WantsSoFar terms.format 65536 terms.limit initial next
+wants_part terms initial next parser has =
+    let wanting = has.refused.memory refl in
     let more = has.more in
     inr (record { text = more.bytes; piece = more.piece; lost = more.lost; few = more.few; at = wanting.0; wanting = wanting.1 })
 
--- a refused piece is no failure of the source
-pub refused_counts : {K : Type 0} (terms : StateTerms) (initial next : Option (List ℕ)) (parser : ParserState K) (told : ReadFault) {A : Type 0} (old new : ℕ)
-    → HasRefused TakesState RefusesPart 65536 terms [] initial next parser told → new ≡ old
-    → CountsFailure (◌≡◌ {A = Result A ReadFault} (Err told) (Err fault.Source)) old new
-refused_counts terms initial next parser told old new has same =
-    ((λ is. absurd (let source : told ≡ fault.Source = cc in has.refused.apart source), λ more. absurd (omega arith)), λ other. same)
+-- ---- how reading ends
+
+-- where nothing changed, nothing was read
+pub nothing_lost : (initial next : Option (List ℕ)) → next ≡ initial → Reads initial [] next
+nothing_lost initial next same = subst (Reads initial []) (sym same) (at initial)
+  where
+    at : (left : Option (List ℕ)) → Reads left [] left
+    at None = refl
+    at (Some left) = refl
+
+-- reading ends at a piece that is refused
+pub refused_ends : {K : Type 0} (terms : StateTerms) (initial next : Option (List ℕ)) (parser : ParserState K) (told : ReadFault) (failed failed_now : ℕ)
+    → ReadsOnePieceMore terms.format 65536 terms.limit initial next → failed_now ≡ failed
+    → HasRefused TakesState RefusesPart 65536 terms [] initial next parser told
+    → StopsReading terms.format terms.limit initial next (IsWhyUnread WantsSoFar terms.format terms.limit initial next (Some told))
+    (CountsWhy (Some told) failed failed_now)
+refused_ends terms initial next parser fault.Source failed failed_now few same has = absurd (has.refused.apart refl)
+refused_ends terms initial next parser (fault.State found) failed failed_now few same has =
+    record { few = few; outcome = refused_within terms initial next parser found has; failures = same }
+refused_ends terms initial next parser fault.Memory failed failed_now few same has =
+    record { few = few; outcome = wants_part terms initial next parser has; failures = same }
+
+-- it ends before the end of a text
+pub ends_early : (format : Format) (limit : ℕ) (initial next : Option (List ℕ)) (told : ReadFault) (failed failed_now : ℕ)
+    → StopsReading format limit initial next (IsWhyUnread WantsSoFar format limit initial next (Some told)) (CountsWhy (Some told) failed failed_now)
+    → StopsReading format limit initial next (IsWhyUnread WantsMemory format limit initial next (Some told)) (CountsWhy (Some told) failed failed_now)
+ends_early format limit initial next fault.Source failed failed_now ends = ends
+ends_early format limit initial next (fault.State found) failed failed_now ends = ends
+ends_early format limit initial next fault.Memory failed failed_now ends =
+    record { few = ends.few; outcome = wants_more ends.outcome; failures = ends.failures }
+  where
+    wants_more : WantsSoFar format 65536 limit initial next → WantsMemory format 65536 limit initial next
+    wants_more (inl nothing) = inl nothing
+    wants_more (inr part) = inr (inl part)
+
+-- it ends at the end of a text, with what is returned for the text
+pub ends_whole : {K A : Type 0} (format : Format) (limit : ℕ) (initial next : Option (List ℕ)) (parser : ParserState K) (failed failed_now : ℕ)
+    (IsMade : List ℕ → A → Type 0) (IsRead : A → Type 0) (result : Result A ReadFault)
+    → StopsReading format limit initial next (ReadsAll format limit initial parser) (failed_now ≡ failed)
+    → ((text : List ℕ) → HasRead parser format limit text → EndsText format limit text (IsMade text) result)
+    → ((text : List ℕ) (made : A) → Held initial text → IsMade text made → IsRead made)
+    → StopsReading format limit initial next (IsOutcome WantsMemory as_it_is format limit IsRead initial next result)
+    (CountsOutcome as_it_is failed failed_now result)
+ends_whole {A = A} format limit initial next parser failed failed_now IsMade IsRead result read ends of = by result (ends all.text all.read)
+  where
+    all : ReadsAll format limit initial parser
+    all = read.outcome
+
+    by : (result : Result A ReadFault) → EndsText format limit all.text (IsMade all.text) result
+        → StopsReading format limit initial next (IsOutcome WantsMemory as_it_is format limit IsRead initial next result)
+        (CountsOutcome as_it_is failed failed_now result)
+    by (Ok made) is = record { few = read.few; outcome = of all.text made all.held is; failures = read.failures }
+    by (Err fault.Source) is = absurd is
+    by (Err (fault.State found)) is =
+        record { few = read.few; outcome = record { text = all.text; held = all.held; is = is }; failures = read.failures }
+    by (Err fault.Memory) is =
+        record { few = read.few; outcome = inr (inr (is.0, record { text = all.text; held = all.held; is = is.1 })); failures = read.failures }
+
+-- what holds of what was made has another form
+pub ends_with : {S A E : Type 0} (wants : Wanting) (why : E → Option ReadFault) (left : S → Option (List ℕ)) (failures : S → ℕ) (format : Format) (limit : ℕ)
+    (IsMade IsRead : A → Type 0) (source source_now : S) (result : Result A E) → ((made : A) → IsMade made → IsRead made)
+    → EndsReadingBy wants why left failures format limit IsMade source source_now result
+    → EndsReadingBy wants why left failures format limit IsRead source source_now result
+ends_with wants why left failures format limit IsMade IsRead source source_now (Ok made) of ends =
+    record { few = ends.few; outcome = of made ends.outcome; failures = ends.failures }
+ends_with wants why left failures format limit IsMade IsRead source source_now (Err fault) of ends = ends
+
+-- if what is made of a state is the state itself, it is the text's state
+pub made_itself : (format : Format) (limit : ℕ) (text : List ℕ) (made : State) → IsMadeOf (λ made state. made ≡ state) format limit text made
+    → IsStateText format limit text made
+made_itself format limit text made of = subst (IsStateText format limit text) (sym of.made_of) of.is
+
+-- so it is for what a source held
+pub read_itself : (format : Format) (limit : ℕ) (initial : Option (List ℕ)) (made : State) → ReadsMade (λ made state. made ≡ state) format limit initial made
+    → ReadsState format limit initial made
+read_itself format limit initial made read =
+    record { text = read.text; held = read.held; is = made_itself format limit read.text made read.of }
+
+-- the join with the state of the text that a source held
+pub joined : (format : Format) (limit : ℕ) (initial : Option (List ℕ)) (text : List ℕ) (own after : State) → Held initial text
+    → JoinsText format limit text own after → JoinsState format limit initial own after
+joined format limit initial text own after held joins =
+    record { received = joins.received; read = record { text = text; held = held; is = joins.is }; join = joins.join }

@@ -3,6 +3,7 @@ pub mod ReadFaultText
 pub mod StateReading
 pub mod ParserRead
 pub mod SourceRead
+pub mod ReadEnds
 pub mod StateTaken
 pub mod Excerpts
 pub use Rattle.state_text.specs.FaultMeaning

@@ -1,5 +1,5 @@
 -- What a reader of a state's text has read.
-use Rattle.std.specs.Prelude.{◌≡◌, ℕ, ◌+◌, ◌-◌, ◌<◌, ◌≤◌, ◌⊎◌, List, ◌++◌, length, take, Option, Some, None}
+use Rattle.std.specs.Prelude.{◌≡◌, ℕ, ◌+◌, ◌-◌, ◌<◌, ◌≤◌, ◌⊎◌, List, [], ◌++◌, length, take, Option, Some, None}
 use Rattle.docker_model.specs.state.State.{State, IsJoin}
 use Rattle.docker_model.specs.state.StateText.{Format}
 use Rattle.docker_model.specs.state.StatePart.{Before, items_before, text_before, width, AreGood}
@@ -113,6 +113,12 @@ pub record IsLineOf (key : ScheduleKey) (count : ℕ) (at : Stage) : Type 0 wher
   pub entries : ℕ
   pub stamp : Stamp
   pub is : at ≡ Line entries key stamp count
+
+-- the next part is such a line, more lines come after it, and none of its bytes was read
+pub record IsInnerLine {K : Type 0} (key : ScheduleKey) (count : ℕ) (reading : StateReading K) : Type 0 where
+  pub stage : IsLineOf key count reading.stage
+  pub more : length reading.lines + 1 < count
+  pub fresh : reading.partial.items ≡ []
 
 -- one more line of the same schedule was read, and the next part is a line again
 pub record HasOneLineMore {K : Type 0} (old new : StateReading K) : Type 0 where

@@ -1,13 +1,13 @@
 //! Reads a state for a command that writes none: what the docker of a place and a day is made of,
 //! or the ledger.
-ghost use Rattle.std.specs.Prelude.{◌≡◌, ◌-◌, ◌^◌, ◌<◌, IfOk, Err};
-ghost use Rattle.cif_line.specs.Device.{CountsFailure};
+ghost use Rattle.std.specs.Prelude.{◌≡◌, ◌-◌, ◌^◌, ◌<◌};
 ghost use Rattle.docker_model.specs.state.StateText.{dks_2};
 ghost use Rattle.docker_bytes.specs.Excerpts.{IsExcerptAt};
-ghost use Rattle.docker_bytes.specs.SourceRead.{ReadsMade, ReadsState, RefusesState, ReadsOnePieceMore, WantsMemory};
+ghost use Rattle.docker_bytes.specs.ReadEnds.{EndsReading};
+ghost use Rattle.docker_bytes.specs.SourceRead.{ReadsMade, ReadsState};
 
 use crate::read::{ReadFault, read_format};
-use cif_line::{Day, PIECE, Source, Tiploc};
+use cif_line::{Day, Source, Tiploc};
 use docker_excerpt::{Excerpt, ExcerptingAt, KeptLedger, Ledger, PlaceDay};
 use state_text::format::Format;
 use std::alloc::Global;
@@ -24,14 +24,8 @@ pub fn read_excerpt<S: Source>(
     limit: u64,
 ) -> Result<Excerpt, ReadFault>
     requires { S.failures source.old < 2 ^ 64 - 1 }
-    ensures ok { IfOk result (ReadsMade (IsExcerptAt place day) dks_2 limit (S.left source.old)) }
-    ensures state { (fault : _) → result ≡ Err (ReadFault.State fault) →
-        RefusesState dks_2 limit (S.left source.old) fault }
-    ensures memory { result ≡ Err ReadFault.Memory →
-        WantsMemory dks_2 PIECE limit (S.left source.old) (S.left source.new) }
-    ensures few { ReadsOnePieceMore dks_2 PIECE limit (S.left source.old) (S.left source.new) }
-    ensures failures { CountsFailure (result ≡ Err ReadFault.Source) (S.failures source.old)
-        (S.failures source.new) }
+    ensures { EndsReading S.left S.failures dks_2 limit
+        (ReadsMade (IsExcerptAt place day) dks_2 limit (S.left source.old)) source.old source.new result }
 {
     excerpt_at::<Brand, S>(alloc, source, place, day, limit)
 }
@@ -47,14 +41,8 @@ fn excerpt_at<P: PlaceDay, S: Source>(
     requires failures { S.failures source.old < 2 ^ 64 - 1 }
     requires place { place ≡ P.place }
     requires day { day ≡ P.day }
-    ensures ok { IfOk result (ReadsMade (IsExcerptAt place day) dks_2 limit (S.left source.old)) }
-    ensures state { (fault : _) → result ≡ Err (ReadFault.State fault) →
-        RefusesState dks_2 limit (S.left source.old) fault }
-    ensures memory { result ≡ Err ReadFault.Memory →
-        WantsMemory dks_2 PIECE limit (S.left source.old) (S.left source.new) }
-    ensures few { ReadsOnePieceMore dks_2 PIECE limit (S.left source.old) (S.left source.new) }
-    ensures failures { CountsFailure (result ≡ Err ReadFault.Source) (S.failures source.old)
-        (S.failures source.new) }
+    ensures { EndsReading S.left S.failures dks_2 limit
+        (ReadsMade (IsExcerptAt place day) dks_2 limit (S.left source.old)) source.old source.new result }
 {
     let keeper: ExcerptingAt<P> = ExcerptingAt::new(alloc, place, day);
     read_format(alloc, Format::Dks2, keeper, source, limit)
@@ -69,14 +57,8 @@ pub fn read_ledger<S: Source>(
     limit: u64,
 ) -> Result<KeptLedger, ReadFault>
     requires { S.failures source.old < 2 ^ 64 - 1 }
-    ensures ok { IfOk result (ReadsState dks_2 limit (S.left source.old)) }
-    ensures state { (fault : _) → result ≡ Err (ReadFault.State fault) →
-        RefusesState dks_2 limit (S.left source.old) fault }
-    ensures memory { result ≡ Err ReadFault.Memory →
-        WantsMemory dks_2 PIECE limit (S.left source.old) (S.left source.new) }
-    ensures few { ReadsOnePieceMore dks_2 PIECE limit (S.left source.old) (S.left source.new) }
-    ensures failures { CountsFailure (result ≡ Err ReadFault.Source) (S.failures source.old)
-        (S.failures source.new) }
+    ensures { EndsReading S.left S.failures dks_2 limit
+        (ReadsState dks_2 limit (S.left source.old)) source.old source.new result }
 {
     read_format(alloc, Format::Dks2, Ledger::new(alloc), source, limit)
 }

@@ -1,16 +1,16 @@
 //! Joins a state with the one that a source holds.
-ghost use Rattle.std.specs.Prelude.{◌≡◌, ◌≢◌, ℕ, ◌-◌, ◌^◌, ◌<◌, List, IsOk, IsErr, Err};
-ghost use Rattle.cif_line.specs.Device.{CountsFailure};
+ghost use Rattle.std.specs.Prelude.{◌≡◌, ℕ, ◌-◌, ◌^◌, ◌<◌, List, IsErr};
 ghost use Rattle.docker_model.specs.state.State.{IsValid};
 ghost use Rattle.docker_model.specs.state.StateText.{dks_2};
 ghost use Rattle.docker_model.specs.state.StateText as formats;
 ghost use Rattle.docker_bytes.specs.ParserRead.{HasRead};
-ghost use Rattle.docker_bytes.specs.StateReading.{IsWhole, JoinsText};
-ghost use Rattle.docker_bytes.specs.SourceRead.{RefusesState, IsFaultOf, ReadsOnePieceMore, WantsMemory, JoinsState};
+ghost use Rattle.docker_bytes.specs.ReadEnds.{EndsReading, EndsText};
+ghost use Rattle.docker_bytes.specs.StateReading.{JoinsText};
+ghost use Rattle.docker_bytes.specs.SourceRead.{JoinsState};
 
 use crate::parser::Parser;
 use crate::read::{ReadFault, fault_of, read_pieces};
-use cif_line::{PIECE, Source};
+use cif_line::Source;
 use state_text::format::Format;
 use state_text::{Received, Receiver, State};
 use std::alloc::Global;
@@ -28,16 +28,10 @@ pub fn join_state<S: Source>(
     limit: u64,
 ) -> Result<(), ReadFault>
     requires { S.failures source.old < 2 ^ 64 - 1 }
-    ensures ok { IsOk result →
-        JoinsState dks_2 limit (S.left source.old) state.old state.new }
+    ensures reads { EndsReading S.left S.failures dks_2 limit
+        (λ _. JoinsState dks_2 limit (S.left source.old) state.old state.new)
+        source.old source.new result }
     ensures unchanged { IsErr result → state.new ≡ state.old }
-    ensures state { (fault : _) → result ≡ Err (ReadFault.State fault) →
-        RefusesState dks_2 limit (S.left source.old) fault }
-    ensures memory { result ≡ Err ReadFault.Memory →
-        WantsMemory dks_2 PIECE limit (S.left source.old) (S.left source.new) }
-    ensures few { ReadsOnePieceMore dks_2 PIECE limit (S.left source.old) (S.left source.new) }
-    ensures failures { CountsFailure (result ≡ Err ReadFault.Source) (S.failures source.old)
-        (S.failures source.new) }
 {
     // Called for its contract: the state is valid.
     let _ledger = state.ledger();
@@ -57,15 +51,10 @@ fn receive<R: Receiver, S: Source>(
     requires failures { S.failures source.old < 2 ^ 64 - 1 }
     requires valid { IsValid own }
     requires own { own ≡ R.own }
-    ensures ok { IsOk result.1 → JoinsState dks_2 limit (S.left source.old) own result.0 }
+    ensures reads { EndsReading S.left S.failures dks_2 limit
+        (λ _. JoinsState dks_2 limit (S.left source.old) own result.0)
+        source.old source.new result.1 }
     ensures unchanged { IsErr result.1 → result.0 ≡ own }
-    ensures state { (fault : _) → result.1 ≡ Err (ReadFault.State fault) →
-        RefusesState dks_2 limit (S.left source.old) fault }
-    ensures memory { result.1 ≡ Err ReadFault.Memory →
-        WantsMemory dks_2 PIECE limit (S.left source.old) (S.left source.new) }
-    ensures few { ReadsOnePieceMore dks_2 PIECE limit (S.left source.old) (S.left source.new) }
-    ensures failures { CountsFailure (result.1 ≡ Err ReadFault.Source) (S.failures source.old)
-        (S.failures source.new) }
 {
     let received: Received<R> = Received::new(alloc, own);
     let mut parser = Parser::new(alloc, Format::Dks2, limit, received);
@@ -77,17 +66,10 @@ fn receive<R: Receiver, S: Source>(
 
 /// The receiving state, joined with the state that a parser was fed.
 fn join<R: Receiver>(parser: Parser<Received<R>>) -> (State, Result<(), ReadFault>)
-    ensures ok { (format : formats.Format) (limit : ℕ) (text : List ℕ) →
-        HasRead parser format limit text → IsOk result.1 →
-        JoinsText format limit text R.own result.0 }
+    ensures ends { (format : formats.Format) (limit : ℕ) (text : List ℕ) →
+        HasRead parser format limit text →
+        EndsText format limit text (λ _. JoinsText format limit text R.own result.0) result.1 }
     ensures back { IsErr result.1 → result.0 ≡ R.own }
-    ensures state { (format : formats.Format) (limit : ℕ) (text : List ℕ) →
-        HasRead parser format limit text → (fault : _) → result.1 ≡ Err (ReadFault.State fault) →
-        IsFaultOf format limit text fault }
-    ensures memory { (format : formats.Format) (limit : ℕ) (text : List ℕ) →
-        HasRead parser format limit text → result.1 ≡ Err ReadFault.Memory →
-        IsWhole format limit text }
-    ensures source { result.1 ≢ Err ReadFault.Source }
 {
     let (state, done) = parser.join();
     match done {

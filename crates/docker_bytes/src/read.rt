@@ -1,17 +1,17 @@
 //! Reads the state that a source holds.
-ghost use Rattle.std.specs.Prelude.{◌≡◌, ◌≢◌, ℕ, ◌-◌, ◌^◌, ◌<◌, List, [], ◌++◌, length, IsOk, IfOk, Err, Some};
-ghost use Rattle.cif_line.specs.Device.{CountsFailure};
+ghost use Rattle.std.specs.Prelude.{◌≡◌, ◌≢◌, ℕ, ◌-◌, ◌^◌, ◌<◌, List, [], ◌++◌, length, IsOk, Err, Some};
 ghost use Rattle.docker_model.specs.state.StateText.{dks_2};
 ghost use Rattle.docker_model.specs.state.StateText as formats;
 ghost use Rattle.state_text.specs.FormatMeaning.{format_meant};
 ghost use Rattle.docker_bytes.specs.ParserRead.{HasRead, IsUnread};
+ghost use Rattle.docker_bytes.specs.ReadEnds.{EndsReading, EndsReadingBy, EndsText, as_it_is};
 ghost use Rattle.docker_bytes.specs.ReadFaultText.{read_fault_text};
-ghost use Rattle.docker_bytes.specs.SourceRead.{ReadsState, ReadsMade, RefusesState, IsFaultOf, ReadsOnePieceMore, ReadsAll, WantsSoFar, WantsMemory};
-ghost use Rattle.docker_bytes.specs.StateReading.{format_of, IsMadeOf, IsWhole, IsWanting};
+ghost use Rattle.docker_bytes.specs.SourceRead.{IsFaultOf, ReadsAll, ReadsMade, ReadsState, WantsSoFar};
+ghost use Rattle.docker_bytes.specs.StateReading.{format_of, IsMadeOf, IsWanting};
 
 use crate::fault::StateFault;
 use crate::parser::Parser;
-use cif_line::{FeedFault, PIECE, Source, Taker, feed_all};
+use cif_line::{FeedFault, Source, Taker, feed_all};
 use state_text::format::Format;
 use state_text::{Keeper, Maker, State, StateCause, Whole};
 use std::alloc::Global;
@@ -48,14 +48,8 @@ impl Error for ReadFault {}
 /// that never ends is read at the latest to the piece with the byte at the limit.
 pub fn read_state<S: Source>(alloc: Global, source: &mut S, limit: u64) -> Result<State, ReadFault>
     requires { S.failures source.old < 2 ^ 64 - 1 }
-    ensures ok { IfOk result (ReadsState dks_2 limit (S.left source.old)) }
-    ensures state { (fault : _) → result ≡ Err (ReadFault.State fault) →
-        RefusesState dks_2 limit (S.left source.old) fault }
-    ensures memory { result ≡ Err ReadFault.Memory →
-        WantsMemory dks_2 PIECE limit (S.left source.old) (S.left source.new) }
-    ensures few { ReadsOnePieceMore dks_2 PIECE limit (S.left source.old) (S.left source.new) }
-    ensures failures { CountsFailure (result ≡ Err ReadFault.Source) (S.failures source.old)
-        (S.failures source.new) }
+    ensures { EndsReading S.left S.failures dks_2 limit
+        (ReadsState dks_2 limit (S.left source.old)) source.old source.new result }
 {
     read_format(alloc, Format::Dks2, Whole::new(alloc), source, limit)
 }
@@ -71,16 +65,9 @@ pub(crate) fn read_format<S: Source, K: Maker>(
 ) -> Result<K::Made, ReadFault>
     requires failures { S.failures source.old < 2 ^ 64 - 1 }
     requires none { K.given keeper ≡ record { horizon = 0; ledger = []; entries = [] } }
-    ensures ok { IfOk result
-        (ReadsMade K.makes (format_meant format) limit (S.left source.old)) }
-    ensures state { (fault : _) → result ≡ Err (ReadFault.State fault) →
-        RefusesState (format_meant format) limit (S.left source.old) fault }
-    ensures memory { result ≡ Err ReadFault.Memory →
-        WantsMemory (format_meant format) PIECE limit (S.left source.old) (S.left source.new) }
-    ensures few { ReadsOnePieceMore (format_meant format) PIECE limit (S.left source.old)
-        (S.left source.new) }
-    ensures failures { CountsFailure (result ≡ Err ReadFault.Source) (S.failures source.old)
-        (S.failures source.new) }
+    ensures { EndsReading S.left S.failures (format_meant format) limit
+        (ReadsMade K.makes (format_meant format) limit (S.left source.old))
+        source.old source.new result }
 {
     let mut parser = Parser::new(alloc, format, limit, keeper);
     read_pieces(alloc, source, &mut parser)?;
@@ -97,19 +84,10 @@ pub(crate) fn read_pieces<S: Source, K: Keeper>(
     requires failures { S.failures source.old < 2 ^ 64 - 1 }
     requires unread { IsUnread parser.old }
     requires limit { parser.old.reading.limit < 2 ^ 64 }
-    ensures ok { IsOk result →
-        ReadsAll (format_of parser.old.reading) parser.old.reading.limit (S.left source.old)
-        parser.new }
-    ensures state { (fault : _) → result ≡ Err (ReadFault.State fault) →
-        RefusesState (format_of parser.old.reading) parser.old.reading.limit
-        (S.left source.old) fault }
-    ensures memory { result ≡ Err ReadFault.Memory →
-        WantsSoFar (format_of parser.old.reading) PIECE parser.old.reading.limit
-        (S.left source.old) (S.left source.new) }
-    ensures few { ReadsOnePieceMore (format_of parser.old.reading) PIECE
-        parser.old.reading.limit (S.left source.old) (S.left source.new) }
-    ensures failures { CountsFailure (result ≡ Err ReadFault.Source) (S.failures source.old)
-        (S.failures source.new) }
+    ensures { EndsReadingBy WantsSoFar as_it_is S.left S.failures (format_of parser.old.reading)
+        parser.old.reading.limit
+        (λ _. ReadsAll (format_of parser.old.reading) parser.old.reading.limit (S.left source.old)
+        parser.new) source.old source.new result }
 {
     match feed_all(alloc, source, parser) {
         Ok(_) => Ok(()),
@@ -163,15 +141,9 @@ fn feed<K: Keeper>(parser: &mut Parser<K>, piece: &[u8]) -> Result<(), ReadFault
 
 /// What is made of the state that a parser was fed.
 fn finish<K: Maker>(parser: Parser<K>) -> Result<K::Made, ReadFault>
-    ensures ok { (format : formats.Format) (limit : ℕ) (text : List ℕ) →
-        HasRead parser format limit text → IfOk result (IsMadeOf K.makes format limit text) }
-    ensures state { (format : formats.Format) (limit : ℕ) (text : List ℕ) →
-        HasRead parser format limit text → (fault : _) → result ≡ Err (ReadFault.State fault) →
-        IsFaultOf format limit text fault }
-    ensures memory { (format : formats.Format) (limit : ℕ) (text : List ℕ) →
-        HasRead parser format limit text → result ≡ Err ReadFault.Memory →
-        IsWhole format limit text }
-    ensures source { result ≢ Err ReadFault.Source }
+    ensures { (format : formats.Format) (limit : ℕ) (text : List ℕ) →
+        HasRead parser format limit text →
+        EndsText format limit text (IsMadeOf K.makes format limit text) result }
 {
     match parser.finish() {
         Ok(made) => Ok(made),

@@ -2,7 +2,7 @@
 ghost use Rattle.std.specs.Prelude.{◌≡◌, ◌+◌, ◌-◌, ◌/◌, ◌<◌, ◌≤◌, ◌↔◌, [], ◌++◌, length, min, take, IsTrue, IsOk, IsErr, IfOk, IfErr};
 ghost use Rattle.docker_model.specs.state.StatePart.{width};
 ghost use Rattle.state_text.specs.FormatMeaning.{format_meant};
-ghost use Rattle.docker_bytes.specs.StateReading.{format_of, before_of, text_of, IsReading, ReadsOn, IsPartRefused, IsFaultTold, IsUnended, IsStep, IsMadeOf, JoinsText, IsLineOf, HasOneLineMore};
+ghost use Rattle.docker_bytes.specs.StateReading.{format_of, before_of, text_of, IsReading, ReadsOn, IsPartRefused, IsFaultTold, IsUnended, IsStep, IsMadeOf, JoinsText, IsInnerLine, HasOneLineMore};
 
 use crate::fault::{StateFault, Step};
 use arrayvec::ArrayVec;
@@ -91,9 +91,7 @@ impl<K: Keeper> StateReading<K> {
     #[inline(always)]
     fn take_line(&mut self, key: &ScheduleKey, count: u32, bytes: &[u8]) -> Result<(), StateFault>
         requires reading { IsReading self.old }
-        requires stage { IsLineOf key.now count self.old.stage }
-        requires more { length self.old.lines + 1 < count }
-        requires fresh { self.old.partial.items ≡ [] }
+        requires inner { IsInnerLine key.now count self.old }
         requires wide { length bytes.now ≡ LINE }
         requires fits { self.old.reached + length bytes.now ≤ self.old.limit }
         ensures ok { IsOk result → ReadsOn self.old self.new bytes.now }

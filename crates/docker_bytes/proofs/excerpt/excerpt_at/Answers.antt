@@ -1,14 +1,18 @@
 -- The place and the day are the ones that the type names.
 use Rattle.std.proofs.Common.{sym, subst}
-use Rattle.std.specs.Prelude.{IfOk}
 use Rattle.docker_model.specs.state.StateText.{dks_2}
 use Rattle.docker_bytes.specs.Excerpts.{IsExcerptAt}
-use Rattle.docker_bytes.specs.SourceRead.{ReadsMade}
+use Rattle.docker_bytes.specs.ReadEnds.{as_it_is}
+use Rattle.docker_bytes.specs.SourceRead.{ReadsMade, WantsMemory}
+use Rattle.docker_bytes.proofs.ReadLemmas.{ends_with}
 use Rattle.docker_bytes.proofs.excerpt.excerpt_at.Goals as goal
 
-pub returns-clause-ok : goal.returns-clause-ok
-returns-clause-ok g c =
+pub returns : goal.returns
+returns g c =
     let left = g.S.Source.left c.args.source.now in
-    subst (λ day. IfOk c.read_format.result (ReadsMade (IsExcerptAt c.args.place day) dks_2 c.args.limit left)) (sym c.requires.day)
-    (subst (λ place. IfOk c.read_format.result (ReadsMade (IsExcerptAt place g.P.PlaceDay.day) dks_2 c.args.limit left)) (sym c.requires.place)
-    c.read_format.ensures.ok)
+    ends_with WantsMemory as_it_is g.S.Source.left g.S.Source.failures dks_2 c.args.limit
+    (ReadsMade (IsExcerptAt g.P.PlaceDay.place g.P.PlaceDay.day) dks_2 c.args.limit left)
+    (ReadsMade (IsExcerptAt c.args.place c.args.day) dks_2 c.args.limit left) c.args.source.now c.read_format.new.source c.read_format.result
+    (λ made read. subst (λ day. ReadsMade (IsExcerptAt c.args.place day) dks_2 c.args.limit left made) (sym c.requires.day)
+    (subst (λ place. ReadsMade (IsExcerptAt place g.P.PlaceDay.day) dks_2 c.args.limit left made) (sym c.requires.place) read))
+    c.read_format.ensures

@@ -1,6 +1,8 @@
 -- What was fed to the parser is what the source lost.
-use Rattle.std.proofs.Common.{[], ap, refl, Err}
-use Rattle.docker_bytes.proofs.ReadLemmas.{at_start, loses_few, reads_all, refused_counts, refused_within, terms_of, wants_part}
+use Rattle.std.proofs.Common.{[], ap, inl, subst, Err}
+use Rattle.cif_line.specs.FeedEnds.{EndsFeeding}
+use Rattle.docker_bytes.specs.StateTaken.{RefusesPart, TakesState}
+use Rattle.docker_bytes.proofs.ReadLemmas.{at_start, loses_few, nothing_lost, reads_all, refused_ends, terms_of}
 use Rattle.docker_bytes.proofs.read.read_pieces.Goals as goal
 
 pub feed_all-requires-clause-taking : goal.feed_all-requires-clause-taking
@@ -10,55 +12,53 @@ feed_all-requires-clause-taking g c = record {
   taken = at_start c.args.parser.now c.requires.unread c.requires.limit;
 }
 
-pub returns-in-Ok-clause-ok : goal.returns-in-Ok-clause-ok
-returns-in-Ok-clause-ok g c = λ ok.
+pub returns-in-Ok : goal.returns-in-Ok
+returns-in-Ok g c =
+    let terms = terms_of c.args.parser.now in
     let start = at_start c.args.parser.now c.requires.unread c.requires.limit in
-    reads_all (terms_of c.args.parser.now) c.in-Ok.field-0 (g.S.Source.left c.args.source.now) (g.S.Source.left c.feed_all.new.source) c.feed_all.new.taker
-    (c.in-Ok.ensures.fed (terms_of c.args.parser.now) [] start) (c.in-Ok.ensures.end refl)
+    let left = g.S.Source.left c.args.source.now in
+    let left_now = g.S.Source.left c.feed_all.new.source in
+    record {
+      few = loses_few terms left left_now (c.in-Ok.ensures.no_further terms [] start);
+      outcome = reads_all terms c.in-Ok.field-0 left left_now c.feed_all.new.taker (c.in-Ok.ensures.ends.0 terms [] start) c.in-Ok.ensures.ends.1;
+      failures = c.in-Ok.ensures.failures.1 (λ is. cc);
+    }
 
-pub returns-in-Ok-clause-few : goal.returns-in-Ok-clause-few
-returns-in-Ok-clause-few g c =
+pub returns-in-Err-Source : goal.returns-in-Err-Source
+returns-in-Err-Source g c =
+    let terms = terms_of c.args.parser.now in
     let start = at_start c.args.parser.now c.requires.unread c.requires.limit in
-    loses_few (terms_of c.args.parser.now) (g.S.Source.left c.args.source.now) (g.S.Source.left c.feed_all.new.source)
-    (c.in-Ok.ensures.no_further (terms_of c.args.parser.now) [] start)
+    record {
+      few = loses_few terms (g.S.Source.left c.args.source.now) (g.S.Source.left c.feed_all.new.source)
+          (c.in-Err-Source.ensures.no_further terms [] start);
+      outcome = tt;
+      failures = c.in-Err-Source.ensures.failures.0.0 (ap Err c.in-Err-Source.field-0-is);
+    }
 
-pub returns-in-Err-Source-clause-few : goal.returns-in-Err-Source-clause-few
-returns-in-Err-Source-clause-few g c =
+pub returns-in-Err-Memory : goal.returns-in-Err-Memory
+returns-in-Err-Memory g c =
+    let terms = terms_of c.args.parser.now in
     let start = at_start c.args.parser.now c.requires.unread c.requires.limit in
-    loses_few (terms_of c.args.parser.now) (g.S.Source.left c.args.source.now) (g.S.Source.left c.feed_all.new.source)
-    (c.in-Err-Source.ensures.no_further (terms_of c.args.parser.now) [] start)
+    let left = g.S.Source.left c.args.source.now in
+    let left_now = g.S.Source.left c.feed_all.new.source in
+    let from = c.in-Err-Memory.field-0-is in
+    let same = subst (λ told. EndsFeeding TakesState RefusesPart c.args.parser.now c.feed_all.new.taker left left_now (Err told)) from
+    c.in-Err-Memory.ensures.ends in
+    record {
+      few = loses_few terms left left_now (c.in-Err-Memory.ensures.no_further terms [] start);
+      outcome = inl (nothing_lost left left_now same.0);
+      failures = c.in-Err-Memory.ensures.failures.1 (λ is. cc);
+    }
 
-pub returns-in-Err-Memory-clause-few : goal.returns-in-Err-Memory-clause-few
-returns-in-Err-Memory-clause-few g c =
+pub returns-in-Err-Refused : goal.returns-in-Err-Refused
+returns-in-Err-Refused g c =
+    let terms = terms_of c.args.parser.now in
     let start = at_start c.args.parser.now c.requires.unread c.requires.limit in
-    loses_few (terms_of c.args.parser.now) (g.S.Source.left c.args.source.now) (g.S.Source.left c.feed_all.new.source)
-    (c.in-Err-Memory.ensures.no_further (terms_of c.args.parser.now) [] start)
-
-pub returns-in-Err-Refused-clause-state : goal.returns-in-Err-Refused-clause-state
-returns-in-Err-Refused-clause-state g c = λ found is.
-    let start = at_start c.args.parser.now c.requires.unread c.requires.limit in
-    refused_within (terms_of c.args.parser.now) (g.S.Source.left c.args.source.now) (g.S.Source.left c.feed_all.new.source) c.feed_all.new.taker
-    c.in-Err-Refused.fault found
-    (c.in-Err-Refused.ensures.refused c.in-Err-Refused.fault (ap Err c.in-Err-Refused.field-0-is) (terms_of c.args.parser.now) [] start) is
-
-pub returns-in-Err-Refused-clause-memory : goal.returns-in-Err-Refused-clause-memory
-returns-in-Err-Refused-clause-memory g c = λ is.
-    let start = at_start c.args.parser.now c.requires.unread c.requires.limit in
-    wants_part (terms_of c.args.parser.now) (g.S.Source.left c.args.source.now) (g.S.Source.left c.feed_all.new.source) c.feed_all.new.taker
-    c.in-Err-Refused.fault
-    (c.in-Err-Refused.ensures.refused c.in-Err-Refused.fault (ap Err c.in-Err-Refused.field-0-is) (terms_of c.args.parser.now) [] start) is
-
-pub returns-in-Err-Refused-clause-few : goal.returns-in-Err-Refused-clause-few
-returns-in-Err-Refused-clause-few g c =
-    let start = at_start c.args.parser.now c.requires.unread c.requires.limit in
-    loses_few (terms_of c.args.parser.now) (g.S.Source.left c.args.source.now) (g.S.Source.left c.feed_all.new.source)
-    (c.in-Err-Refused.ensures.no_further (terms_of c.args.parser.now) [] start)
-
-pub returns-in-Err-Refused-clause-failures : goal.returns-in-Err-Refused-clause-failures
-returns-in-Err-Refused-clause-failures g c =
-    let start = at_start c.args.parser.now c.requires.unread c.requires.limit in
+    let left = g.S.Source.left c.args.source.now in
+    let left_now = g.S.Source.left c.feed_all.new.source in
     let from = c.in-Err-Refused.field-0-is in
-    refused_counts (terms_of c.args.parser.now) (g.S.Source.left c.args.source.now) (g.S.Source.left c.feed_all.new.source) c.feed_all.new.taker
-    c.in-Err-Refused.fault (g.S.Source.failures c.args.source.now) (g.S.Source.failures c.feed_all.new.source)
-    (c.in-Err-Refused.ensures.refused c.in-Err-Refused.fault (ap Err from) (terms_of c.args.parser.now) [] start)
-    (c.in-Err-Refused.ensures.no_failure (λ is. cc))
+    let refused = subst (λ told. EndsFeeding TakesState RefusesPart c.args.parser.now c.feed_all.new.taker left left_now (Err told)) from
+    c.in-Err-Refused.ensures.ends in
+    refused_ends terms left left_now c.feed_all.new.taker c.in-Err-Refused.fault (g.S.Source.failures c.args.source.now)
+    (g.S.Source.failures c.feed_all.new.source) (loses_few terms left left_now (c.in-Err-Refused.ensures.no_further terms [] start))
+    (c.in-Err-Refused.ensures.failures.1 (λ is. cc)) (refused terms [] start)

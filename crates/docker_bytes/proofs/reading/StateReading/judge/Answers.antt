@@ -3,6 +3,15 @@ use Rattle.docker_bytes.specs.StateReading.{IsPartRefused}
 use Rattle.docker_bytes.proofs.ReadingLemmas.{part_read}
 use Rattle.docker_bytes.proofs.reading.StateReading.judge.Goals as goal
 
+pub take_line-requires-clause-inner : goal.take_line-requires-clause-inner
+take_line-requires-clause-inner g c =
+    let more = c.has_more.ensures.0 c.if-has_more.true in
+    record {
+      stage = record { entries = c.in-Line._entries; stamp = c.in-Line._stamp; is = c.in-Line.is };
+      more = omega arith;
+      fresh = c.requires.fresh;
+    }
+
 pub returns-then-begins_item-clause-ok : goal.returns-then-begins_item-clause-ok
 returns-then-begins_item-clause-ok g c = λ ok.
     part_read c.args.self.now _ c.args.bytes.now c.requires.reading c.requires.fresh c.requires.wide c.requires.some

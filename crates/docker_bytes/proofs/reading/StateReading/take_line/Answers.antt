@@ -8,18 +8,18 @@ use Rattle.docker_bytes.proofs.reading.StateReading.take_line.Goals as goal
 
 pub returns-in-Ok-clause-ok : goal.returns-in-Ok-clause-ok
 returns-in-Ok-clause-ok g c = λ ok.
-    let at = c.requires.stage in
+    let at = c.requires.inner.stage in
     let stays = line_leads (format_of c.args.self.now) c.args.self.now.stage at.entries c.args.key.now at.stamp c.args.count at.is
     c.args.self.now.parts c.args.self.now.lines
-    c.judged_inner_line.new.lines c.args.bytes.now c.requires.reading.ready.good (c.in-Ok.ensures.taken refl) c.requires.more
+    c.judged_inner_line.new.lines c.args.bytes.now c.requires.reading.ready.good (c.in-Ok.ensures.taken refl) c.requires.inner.more
     (c.in-Ok.ensures.up_to refl) in
     let size = c.requires.wide in
     let wide : length c.args.bytes.now ≡ width (before_of c.args.self.now) =
     c.requires.wide ∙ sym (line_width c.args.key.now c.args.count c.args.self.now.stage at c.args.self.now.parts c.args.self.now.lines) in
     let some : 0 < length c.args.bytes.now = omega arith in
-    part_read c.args.self.now _ c.args.bytes.now c.requires.reading c.requires.fresh wide some
+    part_read c.args.self.now _ c.args.bytes.now c.requires.reading c.requires.inner.fresh wide some
     (λ i. let fits = c.type_inv.bytes i in omega arith) c.requires.fits
-    stays.0 c.requires.fresh refl refl refl (inr (stays.1, refl))
+    stays.0 c.requires.inner.fresh refl refl refl (inr (stays.1, refl))
 
 pub returns-in-Ok-clause-next : goal.returns-in-Ok-clause-next
 returns-in-Ok-clause-next g c = λ ok. record {
@@ -31,7 +31,7 @@ returns-in-Ok-clause-next g c = λ ok. record {
 
 pub returns-in-Err-clause-err : goal.returns-in-Err-clause-err
 returns-in-Err-clause-err g c =
-    let at = c.requires.stage in
+    let at = c.requires.inner.stage in
     subst (IsPartRefused c.args.self.now c.args.bytes.now) (sym c.bad.ensures) (
       refl,
       line_bad (format_of c.args.self.now) c.args.self.now.stage at.entries c.args.key.now at.stamp c.args.count at.is

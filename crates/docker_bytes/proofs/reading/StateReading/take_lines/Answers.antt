@@ -30,6 +30,12 @@ lines-init g c =
       few = bounds.2;
     }
 
+pub take_line-requires-clause-inner : goal.take_line-requires-clause-inner
+take_line-requires-clause-inner g c =
+    let ahead = c.lines-test.true in
+    let few = c.lines.invariant.few in
+    record { stage = c.lines.invariant.line; more = omega arith; fresh = c.lines.invariant.none }
+
 pub returns-in_err-take_line-clause-err : goal.returns-in_err-take_line-clause-err
 returns-in_err-take_line-clause-err g c =
     let same = err_from_is_err_and c.from_residual.result c.from_residual.ensures.1 in
