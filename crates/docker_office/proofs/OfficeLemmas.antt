@@ -1,6 +1,6 @@
 -- What an office's calls promise, from what the calls below promise.
-use Rattle.std.proofs.Common.{◌≡◌, ℕ, List, [], ◌∷◌, ◌++◌, ap, sym, ◌∙◌, subst, Ok, Err}
-use Rattle.std.specs.Prelude.{Option, Result, max, IsOk, OnOk, OnErr}
+use Rattle.std.proofs.Common.{◌≡◌, ◌≢◌, ℕ, ◌+◌, List, [], ◌∷◌, ◌++◌, ap, arith, inl, inr, refl, sym, ◌∙◌, subst, Some, Ok, Err}
+use Rattle.std.specs.Prelude.{Option, Result, max, IsOk, IfErr, OnOk, OnErr}
 use Rattle.std.specs.Result.{is_ok}
 use Rattle.std.proofs.Math.Nat.{zero-max}
 use Rattle.docker_model.specs.state.State.{State, IsJoin}
@@ -10,18 +10,24 @@ use Rattle.state_laws.proofs.joins.JoinLaws.{join_commutes}
 use Rattle.state_laws.proofs.states.SummaryLaws.{join_is_summary}
 use Rattle.state_laws.proofs.texts.TextsApart.{one_text}
 use Rattle.cif_file.specs.FileRead.{FileRead, IsOfRecords}
-use Rattle.cif_file.specs.SourceRead.{ReadsText}
+use Rattle.cif_file.specs.SourceRead.{ReadsNoFurther, ReadsText, RefusesText, WantsMemory}
 use Rattle.cif_file.specs.declared.fault.FileFault.{FileFault}
 use Rattle.cif_file.specs.declared.fault.ReadFault as files
 use Rattle.cif_file.specs.declared.fault.ReadFault.TheVariants as file_faults
 use Rattle.docker_bytes.specs.Excerpts.{IsExcerptAt}
-use Rattle.docker_bytes.specs.SourceRead.{Held, ReadsMade, ReadsState, JoinsState}
+use Rattle.cif_line.specs.Device.{CountsFailure, IsEnd}
+use Rattle.cif_line.specs.FeedEnds.{most_at_once}
+use Rattle.docker_bytes.specs.ReadEnds.{BytesLeft, CountsOutcome, CountsWhy, IsOutcome, IsWhyUnread, StopsReading, Wanting}
+use Rattle.docker_bytes.specs.SourceRead.{Held, ReadsMade, ReadsState, RefusesState, JoinsState}
+use Rattle.docker_bytes.specs.declared.fault.StateFault.{StateFault}
 use Rattle.docker_bytes.specs.Values.{Excerpt}
 use Rattle.docker_bytes.specs.declared.read.ReadFault as states
 use Rattle.docker_bytes.specs.declared.read.ReadFault.TheVariants as state_faults
-use Rattle.docker_office.specs.declared.fault.OfficeFault.TheVariants.{File, Memory}
-use Rattle.docker_office.specs.Faults.{told_of_file, told_of_state}
-use Rattle.docker_office.specs.Office.{TakesFile, KnowsFileToo, HoldsState}
+use Rattle.docker_office.specs.declared.fault.OfficeFault.{OfficeFault}
+use Rattle.docker_office.specs.declared.fault.OfficeFault.TheVariants as office
+use Rattle.docker_office.specs.Faults.{IsOfFile, IsOfState, told_of_file, told_of_state}
+use Rattle.docker_office.specs.Office.{HoldsFile, TakesFile, KnowsFileToo, HoldsState}
+use Rattle.docker_office.specs.OfficeReads.{CountsTaking, IsTakingOutcome, StopsTaking, why_unread}
 
 -- ---- answers that are Ok or Err together
 
@@ -46,19 +52,49 @@ pub of_err : {A B E F : Type 0} (P : Type 0) (first : Result A E) (second : Resu
 of_err P (Err e) second same holds fault is = holds
 of_err P (Ok a) second same holds fault is = let never : ⊥ = cc in absurd never
 
--- ---- faults
+-- ---- how reading ends
 
--- if an office reports a file's fault, that was the fault in reading the file
-pub same_file_fault : (cause : files.ReadFault) (fault : FileFault) → told_of_file cause ≡ File fault → cause ≡ file_faults.File fault
-same_file_fault file_faults.Source fault same = let never : ⊥ = cc in absurd never
-same_file_fault (file_faults.File other) fault same = cc
-same_file_fault file_faults.Memory fault same = let never : ⊥ = cc in absurd never
+-- what a source held, if a file was read of it
+pub holds_file : (limit : ℕ) (left : BytesLeft) (read : FileRead) → ReadsText limit left read → HoldsFile limit left
+holds_file limit left read reads =
+    record { text = reads.text; held = reads.held; file = reads.of_text.records; is_text = reads.of_text.is_text }
 
--- it is out of memory only if the reader of a state is
-pub same_memory : (cause : states.ReadFault) → told_of_state cause ≡ Memory → cause ≡ state_faults.Memory
-same_memory state_faults.Source same = let never : ⊥ = cc in absurd never
-same_memory (state_faults.State fault) same = let never : ⊥ = cc in absurd never
-same_memory state_faults.Memory same = cc
+-- the reader of states didn't read a state, so the office reports why
+pub unread_by_office : (wants : Wanting) (format : Format) (limit : ℕ) (left left_now : BytesLeft) (failures failures_now : ℕ) (cause : states.ReadFault)
+    → StopsReading format limit left left_now (IsWhyUnread wants format limit left left_now (Some cause)) (CountsWhy (Some cause) failures failures_now)
+    → StopsReading format limit left left_now (IsWhyUnread wants format limit left left_now (why_unread (told_of_state cause)))
+    (CountsWhy (why_unread (told_of_state cause)) failures failures_now)
+unread_by_office wants format limit left left_now failures failures_now state_faults.Source ends = ends
+unread_by_office wants format limit left left_now failures failures_now (state_faults.State fault) ends = ends
+unread_by_office wants format limit left left_now failures failures_now state_faults.Memory ends = ends
+
+-- nor a file
+pub untaken : {A B : Type 0} (limit : ℕ) (IsMade : B → Type 0) (left left_now : BytesLeft) (failures failures_now : ℕ) (cause : files.ReadFault)
+    → ReadsNoFurther most_at_once limit left left_now
+    → ((fault : FileFault) → ◌≡◌ {A = Result A files.ReadFault} (Err cause) (Err (file_faults.File fault)) → RefusesText limit left fault)
+    → (◌≡◌ {A = Result A files.ReadFault} (Err cause) (Err file_faults.Memory) → WantsMemory most_at_once limit left left_now)
+    → CountsFailure (◌≡◌ {A = Result A files.ReadFault} (Err cause) (Err file_faults.Source)) failures failures_now
+    → StopsTaking limit left left_now (IsTakingOutcome limit IsMade left left_now (Err (told_of_file cause)))
+    (CountsTaking {A = B} failures failures_now (Err (told_of_file cause)))
+untaken limit IsMade left left_now failures failures_now file_faults.Source few file memory counted =
+    record { no_further = few; outcome = tt; failures = counted.0.0 refl }
+untaken limit IsMade left left_now failures failures_now (file_faults.File fault) few file memory counted =
+    record { no_further = few; outcome = file fault refl; failures = counted.1 (λ is. cc) }
+untaken limit IsMade left left_now failures failures_now file_faults.Memory few file memory counted =
+    record { no_further = few; outcome = inl (memory refl); failures = counted.1 (λ is. cc) }
+
+-- a file that was read whole is taken, or memory runs out for its state
+pub taken_whole : {A : Type 0} (limit : ℕ) (IsMade : A → Type 0) (left left_now : BytesLeft) (failures failures_now : ℕ) (read : FileRead)
+    (result : Result A OfficeFault) → ReadsNoFurther most_at_once limit left left_now → ReadsText limit left read → IsEnd left_now → failures_now ≡ failures
+    → ((made : A) → result ≡ Ok made → IsMade made) → IfErr result (λ fault. fault ≡ office.Memory)
+    → StopsTaking limit left left_now (IsTakingOutcome limit IsMade left left_now result) (CountsTaking failures failures_now result)
+taken_whole limit IsMade left left_now failures failures_now read (Ok made) few reads end same is only =
+    record { no_further = few; outcome = (is made refl, end); failures = same }
+taken_whole {A} limit IsMade left left_now failures failures_now read (Err fault) few reads end same is only =
+    subst
+    (λ (told : OfficeFault). StopsTaking limit left left_now (IsTakingOutcome limit IsMade left left_now (Err told)) (CountsTaking {A = A} failures failures_now (Err told)))
+    (sym only)
+    (record { no_further = few; outcome = inr (holds_file limit left read reads); failures = same })
 
 -- ---- states
 
@@ -126,3 +162,58 @@ pub one_excerpt : (place : List ℕ) (day limit : ℕ) (left : Option (List ℕ)
     → ReadsMade (IsExcerptAt place day) dks_2 limit left excerpt → (sent : State) → HoldsState dks_2 limit left sent → excerpt.state ≡ sent
 one_excerpt place day limit left excerpt reads sent holds =
     one_read dks_2 limit left excerpt.state sent (state_read place day limit left excerpt reads) holds
+
+-- ---- a text in memory
+
+-- a state that was read of it
+pub read_ok : {A : Type 0} (wants : Wanting) (format : Format) (limit : ℕ) (IsMade : Type 0) (left left_now : BytesLeft) (result : Result A OfficeFault)
+    → IsOutcome wants why_unread format limit (λ _. IsMade) left left_now result → IsOk result → IsMade
+read_ok wants format limit IsMade left left_now (Ok made) outcome is = outcome
+read_ok wants format limit IsMade left left_now (Err fault) outcome is = let never : ⊥ = cc in absurd never
+
+-- why it was refused
+pub read_refused : {A : Type 0} (wants : Wanting) (format : Format) (limit : ℕ) (IsMade : A → Type 0) (left left_now : BytesLeft) (result : Result A OfficeFault)
+    → IsOutcome wants why_unread format limit IsMade left left_now result → (fault : StateFault) → result ≡ Err (office.State fault)
+    → RefusesState format limit left fault
+read_refused wants format limit IsMade left left_now result outcome fault is = subst (IsOutcome wants why_unread format limit IsMade left left_now) is outcome
+
+-- a source in memory doesn't fail
+pub read_unfailed : {A : Type 0} (failures : ℕ) (result : Result A OfficeFault) → CountsOutcome why_unread failures failures result → result ≢ Err office.Source
+read_unfailed failures result counted is = let more : failures ≡ failures + 1 = subst (CountsOutcome why_unread failures failures) is counted in absurd (omega arith)
+
+-- no other fault is one of reading a state
+pub read_only : {A : Type 0} (wants : Wanting) (format : Format) (limit : ℕ) (IsMade : A → Type 0) (left left_now : BytesLeft) (result : Result A OfficeFault)
+    → IsOutcome wants why_unread format limit IsMade left left_now result → IfErr result IsOfState
+read_only wants format limit IsMade left left_now (Ok made) outcome = tt
+read_only wants format limit IsMade left left_now (Err (office.State fault)) outcome = tt
+read_only wants format limit IsMade left left_now (Err office.Source) outcome = tt
+read_only wants format limit IsMade left left_now (Err office.Memory) outcome = tt
+read_only wants format limit IsMade left left_now (Err (office.File fault)) outcome = outcome
+read_only wants format limit IsMade left left_now (Err office.Lapsed) outcome = outcome
+read_only wants format limit IsMade left left_now (Err office.Sink) outcome = outcome
+
+-- a file that was taken of it
+pub taken_ok : {A : Type 0} (limit : ℕ) (IsMade : Type 0) (left left_now : BytesLeft) (result : Result A OfficeFault)
+    → IsTakingOutcome limit (λ _. IsMade) left left_now result → IsOk result → IsMade
+taken_ok limit IsMade left left_now (Ok made) outcome is = outcome.0
+taken_ok limit IsMade left left_now (Err fault) outcome is = let never : ⊥ = cc in absurd never
+
+-- why it was refused
+pub taken_refused : {A : Type 0} (limit : ℕ) (IsMade : A → Type 0) (left left_now : BytesLeft) (result : Result A OfficeFault)
+    → IsTakingOutcome limit IsMade left left_now result → (fault : FileFault) → result ≡ Err (office.File fault) → RefusesText limit left fault
+taken_refused limit IsMade left left_now result outcome fault is = subst (IsTakingOutcome limit IsMade left left_now) is outcome
+
+-- a source in memory doesn't fail
+pub taken_unfailed : {A : Type 0} (failures : ℕ) (result : Result A OfficeFault) → CountsTaking failures failures result → result ≢ Err office.Source
+taken_unfailed failures result counted is = let more : failures ≡ failures + 1 = subst (CountsTaking failures failures) is counted in absurd (omega arith)
+
+-- no other fault is one of taking a file
+pub taken_only : {A : Type 0} (limit : ℕ) (IsMade : A → Type 0) (left left_now : BytesLeft) (result : Result A OfficeFault)
+    → IsTakingOutcome limit IsMade left left_now result → IfErr result IsOfFile
+taken_only limit IsMade left left_now (Ok made) outcome = tt
+taken_only limit IsMade left left_now (Err (office.File fault)) outcome = tt
+taken_only limit IsMade left left_now (Err office.Source) outcome = tt
+taken_only limit IsMade left left_now (Err office.Memory) outcome = tt
+taken_only limit IsMade left left_now (Err (office.State fault)) outcome = outcome
+taken_only limit IsMade left left_now (Err office.Lapsed) outcome = outcome
+taken_only limit IsMade left left_now (Err office.Sink) outcome = outcome

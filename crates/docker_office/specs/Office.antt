@@ -1,7 +1,7 @@
 -- What an office does with the state that it keeps.
 use Rattle.std.specs.Prelude.{◌≡◌, ℕ, max, ◌⊎◌, List, [], ◌∷◌, ◌++◌, Option, Some}
-use Rattle.cif_device.specs.declared.feed.TheConstants.{PIECE}
 use Rattle.cif_line.specs.Device.{Takes, TakesPart}
+pub use Rattle.cif_line.specs.FeedEnds.{most_at_once}
 use Rattle.docker_model.specs.file.FileFault.{IsFileText}
 use Rattle.docker_model.specs.state.State.{State, IsJoin, live_table}
 use Rattle.docker_model.specs.state.Summary.{IsSummary}
@@ -9,10 +9,6 @@ use Rattle.docker_model.specs.state.StateText.{Format, dks_2}
 use Rattle.docker_model.specs.state.StateFault.{IsStateText}
 use Rattle.docker_model.specs.docker.DockerText.{IsDockerText}
 use Rattle.cif_file.specs.SourceRead.{Held, WantsMemory}
-
--- the most bytes of a source that are read at once
-abbrev pub most_at_once : ℕ
-most_at_once = PIECE
 
 -- no file is known, and no horizon is set
 abbrev pub no_state : State

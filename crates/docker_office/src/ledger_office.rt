@@ -1,16 +1,16 @@
 //! An office that lists the files that a state knows, and keeps of the state only its ledger.
 ghost use Rattle.std.specs.Prelude.{◌≡◌, ◌-◌, ◌^◌, ◌<◌, IfOk, IfErr, OnOk, OnErr, Err};
 ghost use Rattle.cif_line.specs.Device.{CountsFailure, Takes, TakesPart};
-ghost use Rattle.docker_bytes.specs.SourceRead.{ReadsOnePieceMore, ReadsState, RefusesState, WantsMemory};
+ghost use Rattle.docker_bytes.specs.SourceRead.{ReadsState};
 ghost use Rattle.docker_model.specs.docker.DockerText.{files_text};
 ghost use Rattle.docker_model.specs.state.State as states;
 ghost use Rattle.docker_model.specs.state.StateText.{dks_2};
-ghost use Rattle.docker_office.specs.Faults.{IsOfState};
 ghost use Rattle.docker_office.specs.Office.{HoldsState};
+ghost use Rattle.docker_office.specs.OfficeReads.{EndsReadingState};
 
 use crate::fault::OfficeFault;
 use crate::files::write_files;
-use cif_line::{PIECE, Sink, Source};
+use cif_line::{Sink, Source};
 use docker_bytes::{KeptLedger, read_ledger};
 use std::alloc::Global;
 use std::marker::Model;
@@ -40,17 +40,10 @@ impl LedgerOffice {
         limit: u64,
     ) -> Result<LedgerOffice, OfficeFault>
         requires { S.failures source.old < 2 ^ 64 - 1 }
-        ensures ok { IfOk result (ReadsState dks_2 limit (S.left source.old)) }
+        ensures reads { EndsReadingState S.left S.failures dks_2 limit
+            (ReadsState dks_2 limit (S.left source.old)) source.old source.new result }
         ensures sent { IfOk result (λ office. (sent : states.State)
             → HoldsState dks_2 limit (S.left source.old) sent → office ≡ sent) }
-        ensures state { (fault : _) → result ≡ Err (OfficeFault.State fault)
-            → RefusesState dks_2 limit (S.left source.old) fault }
-        ensures memory { result ≡ Err OfficeFault.Memory
-            → WantsMemory dks_2 PIECE limit (S.left source.old) (S.left source.new) }
-        ensures few { ReadsOnePieceMore dks_2 PIECE limit (S.left source.old) (S.left source.new) }
-        ensures failures { CountsFailure (result ≡ Err OfficeFault.Source)
-            (S.failures source.old) (S.failures source.new) }
-        ensures only { IfErr result IsOfState }
     {
         let ledger = read_ledger(alloc, source, limit)?;
         Ok(LedgerOffice { ledger })

@@ -1,21 +1,21 @@
 //! An office, and what it can be asked for.
 ghost use Rattle.std.specs.Prelude.{◌≡◌, ℕ, List, [], ◌-◌, ◌^◌, ◌<◌, ◌≤◌, ◌⊎◌, ◌↔◌, max, IsOk, IsErr, IfErr, OnOk, OnErr, Err};
-ghost use Rattle.cif_line.specs.Device.{CountsFailure, IsEnd, Takes, TakesPart};
-ghost use Rattle.cif_file.specs.SourceRead.{ReadsNoFurther, RefusesText};
-ghost use Rattle.docker_bytes.specs.SourceRead.{JoinsState, ReadsOnePieceMore, ReadsState, RefusesState, WantsMemory};
+ghost use Rattle.cif_line.specs.Device.{CountsFailure, Takes, TakesPart};
+ghost use Rattle.docker_bytes.specs.SourceRead.{JoinsState, ReadsState};
 ghost use Rattle.docker_model.specs.docker.DockerText.{files_text};
 ghost use Rattle.docker_model.specs.state.Lapse.{IsDayRefused};
 ghost use Rattle.docker_model.specs.state.State as states;
 ghost use Rattle.docker_model.specs.state.State.{IsJoin, IsValid, raise_horizon};
 ghost use Rattle.docker_model.specs.state.StateText.{dks_1, dks_2, state_text};
 ghost use Rattle.docker_model.specs.state.Summary.{IsSummary};
-ghost use Rattle.docker_office.specs.Faults.{IsOfDocker, IsOfFile, IsOfState};
-ghost use Rattle.docker_office.specs.Office.{HoldsState, JoinsSummaries, KnowsFileToo, PrintsDocker, PrintsPart, TakesFile, WantsForFile, no_state};
+ghost use Rattle.docker_office.specs.Faults.{IsOfDocker};
+ghost use Rattle.docker_office.specs.Office.{HoldsState, JoinsSummaries, KnowsFileToo, PrintsDocker, PrintsPart, TakesFile, no_state};
+ghost use Rattle.docker_office.specs.OfficeReads.{EndsReadingState, EndsTakingFile};
 
 use crate::fault::OfficeFault;
 use crate::files::write_files;
 use cif_file::{MOST_RECORDS, read_file};
-use cif_line::{Day, Memory, PIECE, Sink, Source, Tiploc};
+use cif_line::{Day, Memory, Sink, Source, Tiploc};
 use docker_bytes::{join_state, migrate, read_state, write_state};
 use docker_day::{Merge, State, docker, write_docker};
 use std::alloc::Global;
@@ -66,20 +66,13 @@ impl Office {
     pub fn take<S: Source>(&mut self, source: &mut S, limit: u32) -> Result<(), OfficeFault>
         requires failures { S.failures source.old < 2 ^ 64 - 1 }
         requires limit { limit ≤ MOST_RECORDS }
-        ensures ok { IsOk result → TakesFile limit (S.left source.old) self.old self.new }
+        ensures takes { EndsTakingFile S.left S.failures limit
+            (λ _. TakesFile limit (S.left source.old) self.old self.new)
+            source.old source.new result }
         ensures summary { IsOk result → (files : List (List (List ℕ))) (horizon : ℕ)
             → IsSummary files horizon self.old
             → KnowsFileToo limit (S.left source.old) files horizon self.new }
         ensures unchanged { IsErr result → self.new ≡ self.old }
-        ensures file { (fault : _) → result ≡ Err (OfficeFault.File fault)
-            → RefusesText limit (S.left source.old) fault }
-        ensures memory { result ≡ Err OfficeFault.Memory
-            → WantsForFile limit (S.left source.old) (S.left source.new) }
-        ensures end { IsOk result → IsEnd (S.left source.new) }
-        ensures no_further { ReadsNoFurther PIECE limit (S.left source.old) (S.left source.new) }
-        ensures failures { CountsFailure (result ≡ Err OfficeFault.Source)
-            (S.failures source.old) (S.failures source.new) }
-        ensures only { IfErr result IsOfFile }
     {
         let file = read_file(self.alloc, source, limit)?;
         let Ok(taken) = State::of_file(self.alloc, file) else {
@@ -112,19 +105,12 @@ impl Office {
     /// `State`, `Source` or `Memory`, leaves the office as it was.
     pub fn receive<S: Source>(&mut self, source: &mut S, limit: u64) -> Result<(), OfficeFault>
         requires { S.failures source.old < 2 ^ 64 - 1 }
-        ensures ok { IsOk result
-            → JoinsState dks_2 limit (S.left source.old) self.old self.new }
+        ensures reads { EndsReadingState S.left S.failures dks_2 limit
+            (λ _. JoinsState dks_2 limit (S.left source.old) self.old self.new)
+            source.old source.new result }
         ensures summary { IsOk result
             → JoinsSummaries limit (S.left source.old) self.old self.new }
         ensures unchanged { IsErr result → self.new ≡ self.old }
-        ensures state { (fault : _) → result ≡ Err (OfficeFault.State fault)
-            → RefusesState dks_2 limit (S.left source.old) fault }
-        ensures memory { result ≡ Err OfficeFault.Memory
-            → WantsMemory dks_2 PIECE limit (S.left source.old) (S.left source.new) }
-        ensures few { ReadsOnePieceMore dks_2 PIECE limit (S.left source.old) (S.left source.new) }
-        ensures failures { CountsFailure (result ≡ Err OfficeFault.Source)
-            (S.failures source.old) (S.failures source.new) }
-        ensures only { IfErr result IsOfState }
     {
         join_state(self.alloc, &mut self.state, source, limit)?;
         Ok(())
@@ -135,18 +121,12 @@ impl Office {
     /// `Memory`, leaves the office as it was.
     pub fn reload<S: Source>(&mut self, source: &mut S, limit: u64) -> Result<(), OfficeFault>
         requires { S.failures source.old < 2 ^ 64 - 1 }
-        ensures ok { IsOk result → ReadsState dks_2 limit (S.left source.old) self.new }
+        ensures reads { EndsReadingState S.left S.failures dks_2 limit
+            (λ _. ReadsState dks_2 limit (S.left source.old) self.new)
+            source.old source.new result }
         ensures sent { IsOk result → (sent : states.State)
             → HoldsState dks_2 limit (S.left source.old) sent → self.new ≡ sent }
         ensures unchanged { IsErr result → self.new ≡ self.old }
-        ensures state { (fault : _) → result ≡ Err (OfficeFault.State fault)
-            → RefusesState dks_2 limit (S.left source.old) fault }
-        ensures memory { result ≡ Err OfficeFault.Memory
-            → WantsMemory dks_2 PIECE limit (S.left source.old) (S.left source.new) }
-        ensures few { ReadsOnePieceMore dks_2 PIECE limit (S.left source.old) (S.left source.new) }
-        ensures failures { CountsFailure (result ≡ Err OfficeFault.Source)
-            (S.failures source.old) (S.failures source.new) }
-        ensures only { IfErr result IsOfState }
     {
         self.state = read_state(self.alloc, source, limit)?;
         Ok(())
@@ -158,16 +138,10 @@ impl Office {
     /// as it was.
     pub fn migrate<S: Source>(&mut self, source: &mut S, limit: u64) -> Result<(), OfficeFault>
         requires { S.failures source.old < 2 ^ 64 - 1 }
-        ensures ok { IsOk result → ReadsState dks_1 limit (S.left source.old) self.new }
+        ensures reads { EndsReadingState S.left S.failures dks_1 limit
+            (λ _. ReadsState dks_1 limit (S.left source.old) self.new)
+            source.old source.new result }
         ensures unchanged { IsErr result → self.new ≡ self.old }
-        ensures state { (fault : _) → result ≡ Err (OfficeFault.State fault)
-            → RefusesState dks_1 limit (S.left source.old) fault }
-        ensures memory { result ≡ Err OfficeFault.Memory
-            → WantsMemory dks_1 PIECE limit (S.left source.old) (S.left source.new) }
-        ensures few { ReadsOnePieceMore dks_1 PIECE limit (S.left source.old) (S.left source.new) }
-        ensures failures { CountsFailure (result ≡ Err OfficeFault.Source)
-            (S.failures source.old) (S.failures source.new) }
-        ensures only { IfErr result IsOfState }
     {
         self.state = migrate(self.alloc, source, limit)?;
         Ok(())

@@ -2,15 +2,16 @@
 //! than may count there on that day.
 ghost use Rattle.std.specs.Prelude.{◌≡◌, ◌-◌, ◌^◌, ◌<◌, ◌⊎◌, ◌↔◌, IsOk, IfOk, IfErr, Err};
 ghost use Rattle.cif_line.specs.Device.{CountsFailure};
-ghost use Rattle.docker_bytes.specs.SourceRead.{ReadsOnePieceMore, ReadsState, RefusesState, WantsMemory};
+ghost use Rattle.docker_bytes.specs.SourceRead.{ReadsState};
 ghost use Rattle.docker_model.specs.state.Lapse.{IsDayRefused};
 ghost use Rattle.docker_model.specs.state.State as states;
 ghost use Rattle.docker_model.specs.state.StateText.{dks_2};
-ghost use Rattle.docker_office.specs.Faults.{IsOfDocker, IsOfState};
+ghost use Rattle.docker_office.specs.Faults.{IsOfDocker};
 ghost use Rattle.docker_office.specs.Office.{HoldsState, PrintsDocker, PrintsPart};
+ghost use Rattle.docker_office.specs.OfficeReads.{EndsReadingState};
 
 use crate::fault::OfficeFault;
-use cif_line::{Day, PIECE, Sink, Source, Tiploc};
+use cif_line::{Day, Sink, Source, Tiploc};
 use docker_bytes::{Excerpt, read_excerpt};
 use docker_day::write_docker;
 use std::alloc::Global;
@@ -45,20 +46,13 @@ impl PlaceOffice {
         limit: u64,
     ) -> Result<PlaceOffice, OfficeFault>
         requires { S.failures source.old < 2 ^ 64 - 1 }
-        ensures ok { IfOk result (λ office.
-            ReadsState dks_2 limit (S.left source.old) office.state) }
+        ensures reads { EndsReadingState S.left S.failures dks_2 limit
+            (λ office. ReadsState dks_2 limit (S.left source.old) office.state)
+            source.old source.new result }
         ensures sent { IfOk result (λ office. (sent : states.State)
             → HoldsState dks_2 limit (S.left source.old) sent → office.state ≡ sent) }
         ensures place { IfOk result (λ office. office.place ≡ place) }
         ensures day { IfOk result (λ office. office.day ≡ day) }
-        ensures state { (fault : _) → result ≡ Err (OfficeFault.State fault)
-            → RefusesState dks_2 limit (S.left source.old) fault }
-        ensures memory { result ≡ Err OfficeFault.Memory
-            → WantsMemory dks_2 PIECE limit (S.left source.old) (S.left source.new) }
-        ensures few { ReadsOnePieceMore dks_2 PIECE limit (S.left source.old) (S.left source.new) }
-        ensures failures { CountsFailure (result ≡ Err OfficeFault.Source)
-            (S.failures source.old) (S.failures source.new) }
-        ensures only { IfErr result IsOfState }
     {
         let excerpt = read_excerpt(alloc, source, place, day, limit)?;
         Ok(PlaceOffice { alloc, excerpt })

@@ -1,6 +1,29 @@
-use Rattle.std.proofs.Common.{length}
+use Rattle.std.proofs.Common.{length, subst, Some}
+use Rattle.docker_bytes.specs.SourceRead.{JoinsState, WantsMemory}
+use Rattle.docker_model.specs.state.StateText.{dks_2}
 use Rattle.docker_office.proofs.MetEvents.{refused_text}
+use Rattle.docker_office.proofs.OfficeLemmas.{read_ok, read_only, read_refused, read_unfailed}
 use Rattle.docker_office.proofs.steps.receive_text.Goals as goal
 
+pub returns-clause-ok : goal.returns-clause-ok
+returns-clause-ok c = λ done.
+    let limit = length c.args.text.now in
+    subst (λ text. JoinsState dks_2 limit (Some text) c.args.office.now c.receive.new.self) c.new.ensures.left
+    (read_ok WantsMemory dks_2 limit (JoinsState dks_2 limit (Some c.new.result.left) c.args.office.now c.receive.new.self) (Some c.new.result.left)
+    (Some c.receive.new.source.left) c.receive.result c.receive.ensures.reads.outcome done)
+
 pub returns-clause-state : goal.returns-clause-state
-returns-clause-state c = refused_text (length c.args.text.now) c.new.result.left c.args.text.now c.receive.result c.new.ensures.left c.receive.ensures.state
+returns-clause-state c =
+    let limit = length c.args.text.now in
+    refused_text limit c.new.result.left c.args.text.now c.receive.result c.new.ensures.left
+    (read_refused WantsMemory dks_2 limit (λ _. JoinsState dks_2 limit (Some c.new.result.left) c.args.office.now c.receive.new.self)
+    (Some c.new.result.left) (Some c.receive.new.source.left) c.receive.result c.receive.ensures.reads.outcome)
+
+pub returns-clause-source : goal.returns-clause-source
+returns-clause-source c = read_unfailed 0 c.receive.result c.receive.ensures.reads.failures
+
+pub returns-clause-only : goal.returns-clause-only
+returns-clause-only c =
+    let limit = length c.args.text.now in
+    read_only WantsMemory dks_2 limit (λ _. JoinsState dks_2 limit (Some c.new.result.left) c.args.office.now c.receive.new.self) (Some c.new.result.left)
+    (Some c.receive.new.source.left) c.receive.result c.receive.ensures.reads.outcome

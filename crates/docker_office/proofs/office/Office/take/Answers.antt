@@ -1,18 +1,34 @@
-use Rattle.std.proofs.Common.{◌≡◌}
+use Rattle.std.proofs.Common.{inr, refl, subst, sym}
+use Rattle.std.specs.Prelude.{IsOk, ⊤}
 use Rattle.std.proofs.lemmas.Result.{err_from_is_err_and}
-use Rattle.docker_office.specs.declared.fault.OfficeFault.TheVariants.{File}
-use Rattle.docker_office.specs.Faults.{told_of_file}
-use Rattle.docker_office.proofs.OfficeLemmas.{same_file_fault, takes_file, knows_file_too}
+use Rattle.docker_office.specs.Office.{TakesFile}
+use Rattle.docker_office.proofs.OfficeLemmas.{holds_file, knows_file_too, taken_whole, takes_file, untaken}
 use Rattle.docker_office.proofs.office.Office.take.Goals as goal
 
-pub returns-in_err-file-clause-file : goal.returns-in_err-file-clause-file
-returns-in_err-file-clause-file g c = λ fault is.
+pub returns-in_err-file-clause-takes : goal.returns-in_err-file-clause-takes
+returns-in_err-file-clause-takes g c =
     let same = err_from_is_err_and c.from_residual.result c.from_residual.ensures.1 in
-    let one = same.1 in
-    let two = same.2 in
-    let told : told_of_file c.in_err-file.field-0.0 ≡ File fault = cc in
-    let cause = same_file_fault c.in_err-file.field-0.0 fault told in
-    c.in_err-file.ensures.file fault (cc)
+    let left = g.S.Source.left c.args.source.now in
+    rw (same.1, same.2) (untaken c.args.limit (λ (_ : ⊤). TakesFile c.args.limit left c.args.self.now c.args.self.now) left (g.S.Source.left c.read_file.new.source)
+    (g.S.Source.failures c.args.source.now) (g.S.Source.failures c.read_file.new.source) _ c.in_err-file.ensures.no_further c.in_err-file.ensures.file
+    c.in_err-file.ensures.memory c.in_err-file.ensures.failures)
+
+pub returns-in_default-clause-takes : goal.returns-in_default-clause-takes
+returns-in_default-clause-takes g c = record {
+  no_further = c.in_ok-file.ensures.no_further;
+  outcome = inr (holds_file c.args.limit (g.S.Source.left c.args.source.now) c.in_ok-file.file c.in_ok-file.ensures.ok);
+  failures = c.in_ok-file.ensures.failures.1 (λ is. cc);
+}
+
+pub returns-clause-takes : goal.returns-clause-takes
+returns-clause-takes g c =
+    let left = g.S.Source.left c.args.source.now in
+    taken_whole c.args.limit (λ _. TakesFile c.args.limit left c.args.self.now c.join.new.self) left (g.S.Source.left c.read_file.new.source)
+    (g.S.Source.failures c.args.source.now) (g.S.Source.failures c.read_file.new.source) c.in_ok-file.file c.join.result c.in_ok-file.ensures.no_further
+    c.in_ok-file.ensures.ok (c.in_ok-file.ensures.end refl) (c.in_ok-file.ensures.failures.1 (λ is. cc))
+    (λ _ is. takes_file c.args.limit left c.in_ok-file.file c.args.self.now c.in-Ok.taken c.join.new.self c.in_ok-file.ensures.ok c.in-Ok.ensures.ok
+    (c.join.ensures.ok (subst IsOk (sym is) refl)))
+    c.join.ensures.only
 
 pub returns-clause-summary : goal.returns-clause-summary
 returns-clause-summary g c = λ done files horizon is.
