@@ -23,6 +23,12 @@ NO_PROGRAM = "there is no program docker: build it by `./docker` or install it b
 # One to seven bytes from 0x21 to 0x7E, as docker reads a TIPLOC; but a word that begins with a
 # hyphen is no TIPLOC.
 TIPLOC = re.compile(r"[!-,.-~][!-~]{0,6}")
+# The first and the last column of each field of a line of `files`, and of the description in a docker's heading, by the names in docs/FORMATS.md;
+# docs/columns compares both.
+FILE = {
+    "date of extract": (1, 10), "time of extract": (12, 15), "current file reference": (17, 23), "update indicator": (25, 25), "last file reference": (27, 33),
+}
+HEADING = {"description of the TIPLOC": (27, 52)}
 # How many bytes of answers are kept between commands.
 KEPT = 64 << 20
 # After how many seconds a process that gave no answer is ended.
@@ -60,10 +66,14 @@ def is_date(word):
         return False
 
 
+def fields(line, columns):
+    return [line[first - 1:last].strip() for first, last in columns.values()]
+
+
 def extracts_of(text):
     """The files that a text of `files` lists."""
     lines = text.decode("ascii").split("\n")[:-1]
-    return [Extract(line[:10], line[11:15], line[16:23].strip(), line[24], line[26:33].strip()) for line in lines]
+    return [Extract(*fields(line, FILE)) for line in lines]
 
 
 def missing(extracts):
@@ -74,7 +84,7 @@ def missing(extracts):
 
 def description_of(docker):
     """What the heading of a docker says of the place: nothing where nobody knows the code."""
-    return docker[26:52].decode("ascii").strip()
+    return fields(docker.decode("ascii"), HEADING)[0]
 
 
 def advice(line):

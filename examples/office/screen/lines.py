@@ -4,10 +4,19 @@ from typing import NamedTuple
 KINDS = {"A": "arrives", "P": "passes", "D": "departs", "J": "is joined", "V": "divides", "N": "goes on"}
 # What leads from an association's kind to its partner: is joined by, divides into, goes on as.
 LINKS = {"J": "by", "V": "into", "N": "as"}
+# The first and the last column of each field: of a heading, of each line, of an event's and of an association's, by the names in docs/FORMATS.md;
+# docs/columns compares both.
+HEADING = {"TIPLOC": (8, 14), "date": (16, 25), "description of the TIPLOC": (27, 52)}
+COLUMNS = {
+    "time": (1, 5), "kind": (7, 7), "train identity": (9, 12), "UID": (14, 19), "STP indicator": (21, 21), "suffix": (23, 23), "platform": (25, 27),
+    "line": (29, 31), "path": (33, 35), "public time": (37, 40),
+}
+ENDS = {"origin TIPLOC": (42, 48), "destination TIPLOC": (50, 56)}
+PARTNER = {"associated UID": (42, 47), "its train identity": (50, 53)}
 
 
 class Line(NamedTuple):
-    """A line of a docker. An event has an origin and a destination, an association a partner."""
+    """A line of a docker: its fields in the order of COLUMNS. An event has an origin and a destination, an association a partner."""
     time: str
     kind: str
     train: str
@@ -57,16 +66,14 @@ class Docker(NamedTuple):
     lines: list
 
 
-def line_of(text):
-    def columns(first, last):
-        return text[first - 1:last].strip()
+def fields(text, columns):
+    return [text[first - 1:last].strip() for first, last in columns.values()]
 
-    links = text[6] in LINKS
-    ends = (columns(42, 48), columns(50, 56))
-    return Line(
-        columns(1, 5), text[6], columns(9, 12), columns(14, 19), columns(21, 21), columns(23, 23), columns(25, 27), columns(29, 31), columns(33, 35),
-        columns(37, 40), *(("", "") if links else ends), *((columns(42, 47), columns(50, 53)) if links else ("", "")),
-    )
+
+def line_of(text):
+    none = ["", ""]
+    end = [*none, *fields(text, PARTNER)] if text[6] in LINKS else [*fields(text, ENDS), *none]
+    return Line(*fields(text, COLUMNS), *end)
 
 
 def docker_of(text):
@@ -74,4 +81,4 @@ def docker_of(text):
     heading, *lines, end, rest = text.decode("ascii").split("\n")
     if not heading.startswith("DOCKER ") or end.rstrip() != "END" or rest or any(len(line) != 56 or line.startswith("DOCKER ") for line in lines):
         raise ValueError("this is no docker")
-    return Docker(heading[7:14].strip(), heading[15:25], heading[26:52].strip(), [line_of(line) for line in lines])
+    return Docker(*fields(heading, HEADING), [line_of(line) for line in lines])
