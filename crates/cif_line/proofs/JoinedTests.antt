@@ -12,7 +12,7 @@ use Rattle.cif_line.proofs.Leftmost.{first_bad, behind_good}
 abbrev pub is_good_in : List ℕ → CheckedField → Bool
 is_good_in line field = field.is_good (columns field.first field.last line)
 
--- a test and those of some fields, joined in their order
+-- a test and the tests of some fields, joined in their order
 abbrev pub joined : List ℕ → Bool → List CheckedField → Bool
 joined line before [] = before
 joined line before (field ∷ fields) = joined line (before && is_good_in line field) fields

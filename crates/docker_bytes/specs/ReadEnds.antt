@@ -41,8 +41,8 @@ abbrev pub CountsOutcome : {A E : Type 0} → (E → Option ReadFault) → ℕ �
 CountsOutcome why failures failures_now (Ok made) = failures_now ≡ failures
 CountsOutcome why failures failures_now (Err fault) = CountsWhy (why fault) failures failures_now
 
--- nothing of a source was read after the piece that decides, this came of it, and so often did the
--- source fail
+-- nothing of a source was read after the piece that decides. This came of it, and this says how
+-- often the source failed
 pub record StopsReading (format : Format) (limit : ℕ) (left left_now : BytesLeft) (Outcome Counted : Type 0) : Type 0 where
   pub few : ReadsOnePieceMore format most_at_once limit left left_now
   pub outcome : Outcome
