@@ -51,8 +51,8 @@ CountsTaking failures failures_now (Err (State fault)) = ⊥
 CountsTaking failures failures_now (Err Lapsed) = ⊥
 CountsTaking failures failures_now (Err Sink) = ⊥
 
--- nothing of a source was read after the piece that decides, this came of it, and so often did the
--- source fail
+-- nothing of a source was read after the piece that decides. This came of it, and this says how
+-- often the source failed
 pub record StopsTaking (limit : ℕ) (left left_now : BytesLeft) (Outcome Counted : Type 0) : Type 0 where
   pub no_further : ReadsNoFurther most_at_once limit left left_now
   pub outcome : Outcome
