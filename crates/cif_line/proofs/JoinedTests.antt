@@ -59,16 +59,25 @@ passes_if_none : (line : List ℕ) (fields : List CheckedField) (test : Bool) �
     → test ≡ true ↔ (first_bad_of line fields ≡ None)
 passes_if_none line fields test is = (λ pass. (none_if_joined line true fields (sym is ∙ pass)).1, λ none. is ∙ joined_if_none line true fields none refl)
 
+-- the tests of the five times of an intermediate location, joined
+abbrev pub times_joined : List ℕ → Bool
+times_joined line =
+    (((is_scheduled_time (columns 11 15 line) && is_scheduled_time (columns 16 20 line)) && is_scheduled_time (columns 21 25 line))
+    && is_public_time (columns 26 29 line))
+    && is_public_time (columns 30 33 line)
+
 -- what the joined tests of an intermediate location's checked fields say
-pub call_tests : (line : List ℕ) (tiploc arrival departure pass public_arrival public_departure test : Bool)
-    → (((((tiploc && arrival) && departure) && pass) && public_arrival) && public_departure) ≡ test
-    → tiploc ≡ is_tiploc (columns 3 9 line) → arrival ≡ is_scheduled_time (columns 11 15 line)
-    → departure ≡ is_scheduled_time (columns 16 20 line) → pass ≡ is_scheduled_time (columns 21 25 line)
-    → public_arrival ≡ is_public_time (columns 26 29 line) → public_departure ≡ is_public_time (columns 30 33 line)
-    → test ≡ true ↔ (bad_field_of intermediate_location line ≡ None)
-call_tests line t a d p m n test joins tiploc arrival departure pass public_arrival public_departure =
+pub call_tests : (line : List ℕ) (tiploc times test : Bool) → (tiploc && times) ≡ test → tiploc ≡ is_tiploc (columns 3 9 line)
+    → times ≡ times_joined line → test ≡ true ↔ (bad_field_of intermediate_location line ≡ None)
+call_tests line t s test joins tiploc times =
     passes_if_none line (checked_fields intermediate_location line) test
-    (sym joins ∙ (λ i. ((((tiploc i && arrival i) && departure i) && pass i) && public_arrival i) && public_departure i))
+    (sym joins ∙ (λ i. tiploc i && times i)
+    ∙ regrouped (is_tiploc (columns 3 9 line)) (is_scheduled_time (columns 11 15 line)) (is_scheduled_time (columns 16 20 line))
+    (is_scheduled_time (columns 21 25 line)) (is_public_time (columns 26 29 line)) (is_public_time (columns 30 33 line)))
+  where
+    regrouped : (t a d p m n : Bool) → (t && ((((a && d) && p) && m) && n)) ≡ (((((t && a) && d) && p) && m) && n)
+    regrouped true a d p m n = refl
+    regrouped false a d p m n = refl
 
 -- what the joined tests of the checked fields of an origin or a terminating location say
 pub end_tests : (line : List ℕ) (tiploc time public test : Bool) → ((tiploc && time) && public) ≡ test → tiploc ≡ is_tiploc (columns 3 9 line)
@@ -95,11 +104,15 @@ call_last_bad line bad tiploc arrival departure pass public_arrival = by (is_pub
         (tiploc, (arrival, (departure, (pass, (public_arrival, tt))))) last
 
 -- the scheduled times of an intermediate location are good if the joined tests pass
-pub times_good : (tiploc arrival departure pass public_arrival public_departure : Bool)
-    → (((((tiploc && arrival) && departure) && pass) && public_arrival) && public_departure) ≡ true
-    → (arrival ≡ true) × (departure ≡ true) × (pass ≡ true)
-times_good true true true true m n joins = (refl, refl, refl)
-times_good true true true false m n joins = cc
-times_good true true false p m n joins = cc
-times_good true false d p m n joins = cc
-times_good false a d p m n joins = cc
+pub times_good : (line : List ℕ) (tiploc times : Bool) → (tiploc && times) ≡ true → times ≡ times_joined line
+    → (is_scheduled_time (columns 11 15 line) ≡ true) × (is_scheduled_time (columns 16 20 line) ≡ true)
+    × (is_scheduled_time (columns 21 25 line) ≡ true)
+times_good line tiploc times pass is =
+    each (is_scheduled_time (columns 11 15 line)) (is_scheduled_time (columns 16 20 line)) (is_scheduled_time (columns 21 25 line))
+    (is_public_time (columns 26 29 line)) (is_public_time (columns 30 33 line)) (sym is ∙ (both tiploc times pass).1)
+  where
+    each : (a d p m n : Bool) → ((((a && d) && p) && m) && n) ≡ true → (a ≡ true) × (d ≡ true) × (p ≡ true)
+    each true true true m n joins = (refl, refl, refl)
+    each true true false m n joins = cc
+    each true false p m n joins = cc
+    each false d p m n joins = cc

@@ -5,3 +5,4 @@ pub mod Times
 pub mod GoodFields
 pub mod Leftmost
 pub mod JoinedTests
+pub mod CallLanes

@@ -1,9 +1,9 @@
 -- Times of day, read from their fields.
-use Rattle.std.proofs.Common.{◌≡◌, ℕ, List, [], ◌∷◌, true, false, cond, Bool, ◌&&◌, Some, None, Option, ap, refl, sym, ◌∙◌, subst, take, length, ◌≤◌, ◌<◌, arith}
+use Rattle.std.proofs.Common.{◌≡◌, ℕ, ◌+◌, ◌*◌, List, [], ◌∷◌, true, false, cond, Bool, ◌&&◌, Some, None, Option, ap, refl, sym, ◌∙◌, subst, take, length, ◌<◌, arith}
 use Rattle.std.specs.Prelude.{codes, ◌==◌, ◌||◌, nat_lt, slice_index, IfSome}
 use Rattle.std.specs.List.{list_all}
 use Rattle.std.specs.Str.{bytes_eq}
-use Rattle.std.proofs.lemmas.Bool.{ltb-true}
+use Rattle.std.proofs.lemmas.Bool.{ltb-true, lt-ltb}
 use Rattle.std.specs.Char.{is_ascii_digit}
 use Rattle.docker_model.specs.records.Date.{two_digits}
 use Rattle.docker_model.specs.records.Clock.{is_blank, is_clock, is_present_time, half_minutes, is_scheduled_time, scheduled_time}
@@ -11,6 +11,7 @@ use Rattle.cif_laws.proofs.lists.BoolsAndOptions.{both}
 use Rattle.cif_laws.proofs.records.ScheduledTimes.{present_not_blank}
 use Rattle.cif_line.specs.declared.time_field.TimeField.{TimeField}
 use Rattle.cif_line.specs.TimeRead.{ReadsTime}
+use Rattle.cif_line.specs.CallRead.{half_minutes_told}
 
 -- a field of four bytes is blank if and only if it is four spaces
 pub four_spaces : (field : List ℕ) → length field ≡ 4 → bytes_eq field (codes "    ") ≡ is_blank field
@@ -59,24 +60,31 @@ blank_if : (blank present : Bool) → (blank || present) ≡ true → present �
 blank_if true present one absent = refl
 blank_if false present one absent = cc
 
--- what was read from a good field is its scheduled time
-read_is : (field : List ℕ) (read : TimeField) → ReadsTime field read → is_scheduled_time field ≡ true
-    → cond read.is_time (Some read.half_minutes) None ≡ scheduled_time field
-read_is field read reads good = by (is_present_time field) refl
+-- the half minutes of a time are fewer than those of a day
+half_minutes_bound : (field : List ℕ) → is_present_time field ≡ true → half_minutes field < 2880
+half_minutes_bound field is = by (slice_index field 4 == 72) (hour_bound field clock) (minute_bound field clock)
   where
-    by : (present : Bool) → is_present_time field ≡ present → cond read.is_time (Some read.half_minutes) None ≡ scheduled_time field
-    by true is =
-        (λ i. cond ((reads.time ∙ is) i) (Some (reads.value is i)) None) ∙ (λ i. cond (sym (present_not_blank field is) i) None (Some (half_minutes field)))
-    by false is =
-        let blank : is_blank field ≡ true = blank_if (is_blank field) (is_present_time field) good is in
-        (λ i. cond ((reads.time ∙ is) i) (Some read.half_minutes) None) ∙ (λ i. cond (sym blank i) None (Some (half_minutes field)))
+    clock : is_clock field ≡ true
+    clock = clock_of_present field is
 
--- the time that was read from a good field, which stands in some columns
-pub scheduled_read : (field shown : List ℕ) (read : TimeField) (good : Bool) (time : Option ℕ) → ReadsTime field read → field ≡ shown
-    → good ≡ (read.is_blank || read.is_time) → good ≡ true → time ≡ cond read.is_time (Some read.half_minutes) None → time ≡ scheduled_time shown
-scheduled_read field shown read good time reads same judged pass is =
-    let scheduled : is_scheduled_time field ≡ true = (λ i. sym reads.blank i || sym reads.time i) ∙ sym judged ∙ pass in
-    is ∙ read_is field read reads scheduled ∙ ap scheduled_time same
+    by : (half : Bool) → two_digits field 0 < 24 → two_digits field 2 < 60 → 2 * (60 * two_digits field 0 + two_digits field 2) + cond half 1 0 < 2880
+    by true hour minute = omega arith
+    by false hour minute = omega arith
+
+-- what is told of a good field is its scheduled time
+pub told_read : (field : List ℕ) (told : ℕ) (time : Option ℕ) → is_scheduled_time field ≡ true → told ≡ half_minutes_told field
+    → time ≡ cond (nat_lt told 2880) (Some told) None → time ≡ scheduled_time field
+told_read field told time good is read = read ∙ by (is_present_time field) refl
+  where
+    by : (present : Bool) → is_present_time field ≡ present → cond (nat_lt told 2880) (Some told) None ≡ scheduled_time field
+    by true there =
+        let same : told ≡ half_minutes field = is ∙ (λ i. cond (there i) (half_minutes field) 65535) in
+        let low : nat_lt told 2880 ≡ true = ap (λ n. nat_lt n 2880) same ∙ lt-ltb (half_minutes field) 2880 (half_minutes_bound field there) in
+        (λ i. cond (low i) (Some (same i)) None) ∙ (λ i. cond (sym (present_not_blank field there) i) None (Some (half_minutes field)))
+    by false absent =
+        let same : told ≡ 65535 = is ∙ (λ i. cond (absent i) (half_minutes field) 65535) in
+        let blank : is_blank field ≡ true = blank_if (is_blank field) (is_present_time field) good absent in
+        (λ i. cond (nat_lt (same i) 2880) (Some told) None) ∙ (λ i. cond (sym blank i) None (Some (half_minutes field)))
 
 -- the time that was read from a field in some columns, if it is one
 pub present_read : (field shown : List ℕ) (read : TimeField) (time : Option ℕ) → ReadsTime field read → field ≡ shown

@@ -5,6 +5,7 @@
 
 mod association;
 mod basic_schedule;
+mod call_fields;
 mod change_en_route;
 mod check;
 mod day;

@@ -10,6 +10,7 @@ ghost use Rattle.cif_line.specs.View.{IsTiplocRecord, bad_field_of};
 
 use crate::association::Assoc;
 use crate::basic_schedule::Basic;
+use crate::call_fields::CallFields;
 use crate::change_en_route::ChangeEnRoute;
 use crate::check::{
     FieldFault, is_date, is_date_day_first, is_days, is_end_date, is_new_tiploc, is_stp_indicator,
@@ -255,22 +256,15 @@ fn good_call_times(line: &Line) -> Option<CallTimes>
     ensures some { IsSome result ↔ (bad_field_of intermediate_location line.now ≡ None) }
     ensures times { IfSome result (AreTimesOf line.now) }
 {
-    let arrival = TimeField::read(line.field(11));
-    let departure = TimeField::read(line.field(16));
-    let pass = TimeField::read(line.field(21));
-    let are_good = is_tiploc(line.field(3))
-        & arrival.is_good()
-        & departure.is_good()
-        & pass.is_good()
-        & is_public_time(line.field(26))
-        & is_public_time(line.field(30));
+    let fields = CallFields::read(line.bytes());
+    let are_good = is_tiploc(line.field(3)) & fields.are_good;
     if !are_good {
         return None;
     }
     Some(CallTimes {
-        arrival: arrival.time(),
-        departure: departure.time(),
-        pass: pass.time(),
+        arrival: Time::from_half_minutes(fields.arrival),
+        departure: Time::from_half_minutes(fields.departure),
+        pass: Time::from_half_minutes(fields.pass),
     })
 }
 

@@ -1,5 +1,5 @@
 //! Times of day, as location records (LO, LI and LT) have them.
-ghost use Rattle.std.specs.Prelude.{◌≡◌, ◌↔◌, ◌≤◌, ◌<◌, ◌+◌, length, IsSome, is_some, IfSome, IsTrue, ◌*◌, true};
+ghost use Rattle.std.specs.Prelude.{◌≡◌, ◌↔◌, ◌≤◌, ◌<◌, ◌+◌, length, IsSome, is_some, IfSome, IsTrue, ◌*◌, true, nat_lt, Some, None, if◌then◌else◌};
 ghost use Rattle.docker_model.specs.records.Date.{two_digits};
 ghost use Rattle.docker_model.specs.records.Clock.{is_clock, minute_of, is_present_time, half_minutes, is_scheduled_time, scheduled_time, is_public_time};
 ghost use Rattle.docker_model.specs.records.PrintedTime.{shown_public, time_text};
@@ -28,12 +28,15 @@ impl Model for Time {
 }
 
 impl Time {
-    /// The time of this many half minutes from midnight.
-    pub(crate) fn from_half_minutes(half_minutes: u16) -> Time
-        requires { half_minutes < 2880 }
-        ensures { result ≡ half_minutes }
+    /// The time of this many half minutes from midnight. None from 2880 on.
+    pub(crate) fn from_half_minutes(half_minutes: u16) -> Option<Time>
+        ensures { result ≡ (if nat_lt half_minutes 2880 then Some half_minutes else None) }
     {
-        Time { half_minutes }
+        if half_minutes < 2880 {
+            Some(Time { half_minutes })
+        } else {
+            None
+        }
     }
 
     /// The scheduled time of a field HHMM, from `0000` to `2359`, followed by `H` for half a minute

@@ -79,7 +79,7 @@ impl TimeField {
         ensures { result ≡ (if self.is_time then Some self.half_minutes else None) }
     {
         if self.is_time {
-            Some(Time::from_half_minutes(self.half_minutes))
+            Time::from_half_minutes(self.half_minutes)
         } else {
             None
         }

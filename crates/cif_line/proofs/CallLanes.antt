@@ -1,0 +1,371 @@
+-- The lanes of an intermediate location's times: one field a lane, each judged and read as its
+-- definitions say.
+use Rattle.std.proofs.Common.{◌≡◌, ℕ, zero, suc, ◌+◌, ◌-◌, ◌*◌, ◌%◌, ◌^◌, ◌<◌, ◌≤◌, nat_eq, nat_lt, Bool, true, false, cond, ◌&&◌, List, [], ◌∷◌, ◌++◌, length, get_or, replicate, bit_and, bit_or, Fits, w8, refl, sym, ap, subst, ◌∙◌, arith}
+use Rattle.std.specs.Prelude.{◌==◌, ◌||◌, nat_le}
+use Rattle.std.specs.Char.{is_ascii_digit}
+use Rattle.std.proofs.lemmas.Bool.{agree_below_at, leb-true, ltb-true}
+use lib.Lanes.{chunk, top, mask_l}
+use Rattle.docker_model.specs.records.Record.{columns}
+use Rattle.docker_model.specs.records.Clock.{is_clock, is_present_time, is_scheduled_time, is_public_time, half_minutes}
+use Rattle.cif_laws.proofs.lists.BoolsAndOptions.{both}
+use Rattle.cif_line.specs.CallRead.{half_minutes_told}
+
+-- ---- masks
+
+-- a lane of a mask
+abbrev mask : Bool → ℕ
+mask b = cond b 65535 0
+
+masks_and : (p q : Bool) → bit_and (mask p) (mask q) ≡ mask (p && q)
+masks_and true true = refl
+masks_and true false = refl
+masks_and false true = refl
+masks_and false false = refl
+
+masks_or : (p q : Bool) → bit_or (mask p) (mask q) ≡ mask (p || q)
+masks_or true true = refl
+masks_or true false = refl
+masks_or false true = refl
+masks_or false false = refl
+
+mask_set : (p : Bool) → top 15 (mask p) ≡ p
+mask_set true = refl
+mask_set false = refl
+
+-- ---- one lane, by its five bytes
+
+-- what a byte is above the code of 0, in 16 bits
+abbrev above : ℕ → ℕ
+above b = (b + 65488) % 65536
+
+-- the number that two bytes spell, in 16 bits
+abbrev spells : ℕ → ℕ → ℕ
+spells a b = ((above a * 10) % 65536 + above b) % 65536
+
+-- the tests of a lane, by its bytes
+abbrev time_test : ℕ → ℕ → ℕ → ℕ → ℕ → Bool
+time_test a b c d e =
+    (((((nat_le (above a) 9 && nat_le (above b) 9) && nat_le (above c) 9) && nat_le (above d) 9) && nat_lt (spells a b) 24) && nat_lt (spells c d) 60)
+    && ((e == 72) || (e == 32))
+
+abbrev blank_test : ℕ → ℕ → ℕ → ℕ → ℕ → Bool
+blank_test a b c d e =
+    (((nat_eq (above a) 65520 && nat_eq (above b) 65520) && nat_eq (above c) 65520) && nat_eq (above d) 65520) && nat_eq e 32
+
+-- the same as masks
+abbrev time_mask : ℕ → ℕ → ℕ → ℕ → ℕ → ℕ
+time_mask a b c d e =
+    bit_and
+    (bit_and
+    (bit_and
+    (bit_and (bit_and (bit_and (mask (nat_le (above a) 9)) (mask (nat_le (above b) 9))) (mask (nat_le (above c) 9))) (mask (nat_le (above d) 9)))
+    (mask (nat_lt (spells a b) 24))) (mask (nat_lt (spells c d) 60)))
+    (bit_or (mask (e == 72)) (mask (e == 32)))
+
+abbrev blank_mask : ℕ → ℕ → ℕ → ℕ → ℕ → ℕ
+blank_mask a b c d e =
+    bit_and
+    (bit_and (bit_and (bit_and (mask (nat_eq (above a) 65520)) (mask (nat_eq (above b) 65520))) (mask (nat_eq (above c) 65520)))
+    (mask (nat_eq (above d) 65520)))
+    (mask (nat_eq e 32))
+
+-- the half minutes of a lane, in 16 bits
+abbrev lane_half_minutes : ℕ → ℕ → ℕ → ℕ → ℕ → ℕ
+lane_half_minutes a b c d e = (((spells a b * 120) % 65536 + (spells c d * 2) % 65536) % 65536 + cond (top 15 (mask (e == 72))) 1 0) % 65536
+
+five_and : (p q r s t : Bool) → bit_and (bit_and (bit_and (bit_and (mask p) (mask q)) (mask r)) (mask s)) (mask t) ≡ mask ((((p && q) && r) && s) && t)
+five_and p q r s t =
+    (λ i. bit_and (bit_and (bit_and (masks_and p q i) (mask r)) (mask s)) (mask t))
+    ∙ (λ i. bit_and (bit_and (masks_and (p && q) r i) (mask s)) (mask t))
+    ∙ (λ i. bit_and (masks_and ((p && q) && r) s i) (mask t))
+    ∙ masks_and (((p && q) && r) && s) t
+
+time_masked : (a b c d e : ℕ) → time_mask a b c d e ≡ mask (time_test a b c d e)
+time_masked a b c d e =
+    (λ i. bit_and
+    (bit_and
+    (five_and (nat_le (above a) 9) (nat_le (above b) 9) (nat_le (above c) 9) (nat_le (above d) 9) (nat_lt (spells a b) 24) i)
+    (mask (nat_lt (spells c d) 60)))
+    (masks_or (e == 72) (e == 32) i))
+    ∙ (λ i. bit_and
+    (masks_and ((((nat_le (above a) 9 && nat_le (above b) 9) && nat_le (above c) 9) && nat_le (above d) 9) && nat_lt (spells a b) 24)
+    (nat_lt (spells c d) 60) i)
+    (mask ((e == 72) || (e == 32))))
+    ∙ masks_and
+    (((((nat_le (above a) 9 && nat_le (above b) 9) && nat_le (above c) 9) && nat_le (above d) 9) && nat_lt (spells a b) 24) && nat_lt (spells c d) 60)
+    ((e == 72) || (e == 32))
+
+blank_masked : (a b c d e : ℕ) → blank_mask a b c d e ≡ mask (blank_test a b c d e)
+blank_masked a b c d e =
+    five_and (nat_eq (above a) 65520) (nat_eq (above b) 65520) (nat_eq (above c) 65520) (nat_eq (above d) 65520) (nat_eq e 32)
+
+-- ---- the tests, as the definitions have them
+
+digit_test : (b : ℕ) → b < 256 → nat_le (above b) 9 ≡ is_ascii_digit b
+digit_test b low = agree_below_at (λ x. nat_le (above x) 9) is_ascii_digit 256 b refl low
+
+space_test : (b : ℕ) → b < 256 → nat_eq (above b) 65520 ≡ (b == 32)
+space_test b low = agree_below_at (λ x. nat_eq (above x) 65520) (λ x. x == 32) 256 b refl low
+
+digit_low : (b : ℕ) → is_ascii_digit b ≡ true → 48 ≤ b
+digit_low b is = leb-true 48 b (both (nat_le 48 b) (nat_le b 57) is).0
+
+digit_high : (b : ℕ) → is_ascii_digit b ≡ true → b ≤ 57
+digit_high b is = leb-true b 57 (both (nat_le 48 b) (nat_le b 57) is).1
+
+above_is : (b : ℕ) → is_ascii_digit b ≡ true → above b ≡ b - 48
+above_is b is = omega (arith, digit_low b is, digit_high b is)
+
+-- two digits spell their number
+spells_is : (a b : ℕ) → is_ascii_digit a ≡ true → is_ascii_digit b ≡ true → spells a b ≡ 10 * (a - 48) + (b - 48)
+spells_is a b ha hb =
+    (λ i. ((above_is a ha i * 10) % 65536 + above_is b hb i) % 65536)
+    ∙ omega (arith, digit_low a ha, digit_high a ha, digit_low b hb, digit_high b hb)
+
+-- the tests of a time in the order of the lanes and of the definition; the hour and the minute need
+-- to agree only for digits
+in_order : (a b c d h m : Bool) (x y z : Bool) → (a ≡ true → b ≡ true → h ≡ x) → (c ≡ true → d ≡ true → m ≡ y)
+    → ((((((a && b) && c) && d) && h) && m) && z) ≡ ((((a && (b && (c && (d && true)))) && x) && y) && z)
+in_order true true true true h m x y z hour minute = λ i. (hour refl refl i && minute refl refl i) && z
+in_order true true true false h m x y z hour minute = refl
+in_order true true false d h m x y z hour minute = refl
+in_order true false c d h m x y z hour minute = refl
+in_order false b c d h m x y z hour minute = refl
+
+module _ (a b c d e : ℕ) (la : a < 256) (lb : b < 256) (lc : c < 256) (ld : d < 256) (le : e < 256) where
+  time_is : time_test a b c d e ≡ is_present_time (a ∷ b ∷ c ∷ d ∷ e ∷ [])
+  time_is =
+      (λ i. (((((digit_test a la i && digit_test b lb i) && digit_test c lc i) && digit_test d ld i) && nat_lt (spells a b) 24)
+      && nat_lt (spells c d) 60)
+      && ((e == 72) || (e == 32)))
+      ∙ in_order (is_ascii_digit a) (is_ascii_digit b) (is_ascii_digit c) (is_ascii_digit d) (nat_lt (spells a b) 24) (nat_lt (spells c d) 60)
+      (nat_lt (10 * (a - 48) + (b - 48)) 24) (nat_lt (10 * (c - 48) + (d - 48)) 60) ((e == 72) || (e == 32))
+      (λ ha hb i. nat_lt (spells_is a b ha hb i) 24) (λ hc hd i. nat_lt (spells_is c d hc hd i) 60)
+
+  regrouped : (p q r s t : Bool) → ((((p && q) && r) && s) && t) ≡ (p && (q && (r && (s && (t && true)))))
+  regrouped true true true true true = refl
+  regrouped true true true true false = refl
+  regrouped true true true false t = refl
+  regrouped true true false s t = refl
+  regrouped true false r s t = refl
+  regrouped false q r s t = refl
+
+  or_swapped : (p q : Bool) → (p || q) ≡ (q || p)
+  or_swapped true true = refl
+  or_swapped true false = refl
+  or_swapped false true = refl
+  or_swapped false false = refl
+
+  -- a lane is set if and only if its field is blank or a time
+  pub lane_good : top 15 (bit_or (time_mask a b c d e) (blank_mask a b c d e)) ≡ is_scheduled_time (a ∷ b ∷ c ∷ d ∷ e ∷ [])
+  lane_good =
+      (λ i. top 15 (bit_or (time_masked a b c d e i) (blank_masked a b c d e i)))
+      ∙ ap (top 15) (masks_or (time_test a b c d e) (blank_test a b c d e))
+      ∙ mask_set (time_test a b c d e || blank_test a b c d e)
+      ∙ (λ i. time_is i
+      || ((((space_test a la i && space_test b lb i) && space_test c lc i) && space_test d ld i) && (e == 32)))
+      ∙ (λ i. is_present_time (a ∷ b ∷ c ∷ d ∷ e ∷ []) || regrouped (a == 32) (b == 32) (c == 32) (d == 32) (e == 32) i)
+      ∙ or_swapped (is_present_time (a ∷ b ∷ c ∷ d ∷ e ∷ [])) _
+
+  digits_of : is_present_time (a ∷ b ∷ c ∷ d ∷ e ∷ []) ≡ true
+      → (is_ascii_digit a ≡ true) × (is_ascii_digit b ≡ true) × (is_ascii_digit c ≡ true) × (is_ascii_digit d ≡ true)
+      × (nat_lt (10 * (a - 48) + (b - 48)) 24 ≡ true) × (nat_lt (10 * (c - 48) + (d - 48)) 60 ≡ true)
+  digits_of is =
+      let one = both _ ((e == 72) || (e == 32)) is in
+      let two = both _ (nat_lt (10 * (c - 48) + (d - 48)) 60) one.0 in
+      let three = both _ (nat_lt (10 * (a - 48) + (b - 48)) 24) two.0 in
+      let four = both (is_ascii_digit a) _ three.0 in
+      let five = both (is_ascii_digit b) _ four.1 in
+      let six = both (is_ascii_digit c) _ five.1 in
+      let seven = both (is_ascii_digit d) _ six.1 in
+      (four.0, five.0, six.0, seven.0, three.1, two.1)
+
+  half_of : (half : Bool) → ◌≡◌ {A = ℕ} (cond (top 15 (mask half)) 1 0) (cond half 1 0)
+  half_of half = λ i. cond (mask_set half i) 1 0
+
+  value_is : is_present_time (a ∷ b ∷ c ∷ d ∷ e ∷ []) ≡ true → lane_half_minutes a b c d e ≡ half_minutes (a ∷ b ∷ c ∷ d ∷ e ∷ [])
+  value_is is =
+      let digits = digits_of is in
+      (λ i. (((spells_is a b digits.0 digits.1 i * 120) % 65536 + (spells_is c d digits.2 digits.3 i * 2) % 65536) % 65536
+      + half_of (e == 72) i) % 65536)
+      ∙ summed (10 * (a - 48) + (b - 48)) (10 * (c - 48) + (d - 48)) (e == 72)
+      (ltb-true (10 * (a - 48) + (b - 48)) 24 digits.4) (ltb-true (10 * (c - 48) + (d - 48)) 60 digits.5)
+    where
+      summed : (hour minute : ℕ) (half : Bool) → hour < 24 → minute < 60
+          → (((hour * 120) % 65536 + (minute * 2) % 65536) % 65536 + cond half 1 0) % 65536 ≡ 2 * (60 * hour + minute) + cond half 1 0
+      summed hour minute true lh lm = omega arith
+      summed hour minute false lh lm = omega arith
+
+  -- a lane tells the half minutes of its field
+  pub lane_told : cond (top 15 (time_mask a b c d e)) (lane_half_minutes a b c d e) 65535 ≡ half_minutes_told (a ∷ b ∷ c ∷ d ∷ e ∷ [])
+  lane_told =
+      (λ i. cond ((ap (top 15) (time_masked a b c d e) ∙ mask_set (time_test a b c d e) ∙ time_is) i) (lane_half_minutes a b c d e) 65535)
+      ∙ by (is_present_time (a ∷ b ∷ c ∷ d ∷ e ∷ [])) refl
+    where
+      by : (present : Bool) → is_present_time (a ∷ b ∷ c ∷ d ∷ e ∷ []) ≡ present
+          → cond (is_present_time (a ∷ b ∷ c ∷ d ∷ e ∷ [])) (lane_half_minutes a b c d e) 65535 ≡ half_minutes_told (a ∷ b ∷ c ∷ d ∷ e ∷ [])
+      by true is = (λ i. cond (is_present_time (a ∷ b ∷ c ∷ d ∷ e ∷ [])) (value_is is i) 65535)
+      by false is = (λ i. cond (is i) (lane_half_minutes a b c d e) 65535) ∙ (λ i. cond (sym is i) (half_minutes (a ∷ b ∷ c ∷ d ∷ e ∷ [])) 65535)
+
+-- a public time is a scheduled one that ends in a space
+public_lane : (a b c d : ℕ) → is_scheduled_time (a ∷ b ∷ c ∷ d ∷ 32 ∷ []) ≡ is_public_time (a ∷ b ∷ c ∷ d ∷ [])
+public_lane a b c d = by (a == 32) (b == 32) (c == 32) (d == 32) (is_clock (a ∷ b ∷ c ∷ d ∷ []))
+  where
+    by : (p q r s clock : Bool)
+        → ((p && (q && (r && (s && (true && true))))) || (clock && true)) ≡ ((p && (q && (r && (s && true)))) || clock)
+    by true true true true clock = refl
+    by true true true false true = refl
+    by true true true false false = refl
+    by true true false s true = refl
+    by true true false s false = refl
+    by true false r s true = refl
+    by true false r s false = refl
+    by false q r s true = refl
+    by false q r s false = refl
+
+-- ---- eight lanes
+
+-- eight lanes of which the last three have the first again
+pub eight : (a d p m n : Bool) → nat_eq (mask_l (a ∷ d ∷ p ∷ m ∷ n ∷ a ∷ a ∷ a ∷ []) % 2 ^ 64) 255 ≡ ((((a && d) && p) && m) && n)
+eight true true true true true = refl
+eight true true true true false = refl
+eight true true true false true = refl
+eight true true true false false = refl
+eight true true false true true = refl
+eight true true false true false = refl
+eight true true false false true = refl
+eight true true false false false = refl
+eight true false true true true = refl
+eight true false true true false = refl
+eight true false true false true = refl
+eight true false true false false = refl
+eight true false false true true = refl
+eight true false false true false = refl
+eight true false false false true = refl
+eight true false false false false = refl
+eight false true true true true = refl
+eight false true true true false = refl
+eight false true true false true = refl
+eight false true true false false = refl
+eight false true false true true = refl
+eight false true false true false = refl
+eight false true false false true = refl
+eight false true false false false = refl
+eight false false true true true = refl
+eight false false true true false = refl
+eight false false true false true = refl
+eight false false true false false = refl
+eight false false false true true = refl
+eight false false false true false = refl
+eight false false false false true = refl
+eight false false false false false = refl
+
+-- ---- the lanes of a line
+
+-- a list of a known length, each of its elements written out
+abbrev head_of : List ℕ → ℕ
+head_of [] = 0
+head_of (x ∷ xs) = x
+
+abbrev tail_of : List ℕ → List ℕ
+tail_of [] = []
+tail_of (x ∷ xs) = xs
+
+abbrev cells : ℕ → List ℕ → List ℕ
+cells zero xs = []
+cells (suc n) xs = head_of xs ∷ cells n (tail_of xs)
+
+cells_are : (n : ℕ) (xs : List ℕ) → length xs ≡ n → cells n xs ≡ xs
+cells_are zero [] size = refl
+cells_are zero (x ∷ xs) size = absurd (omega arith)
+cells_are (suc n) [] size = absurd (omega arith)
+cells_are (suc n) (x ∷ xs) size = ap (λ rest. x ∷ rest) (cells_are n xs (omega arith))
+
+-- the bytes that the lanes are picked from: of the scheduled times and the public ones, and of the
+-- scheduled times and spaces
+abbrev pub picked : List ℕ → ℕ → ℕ
+picked line k = get_or (chunk 10 16 line ++ chunk 25 16 line) k 0
+
+abbrev pub end_picked : List ℕ → ℕ → ℕ
+end_picked line k = get_or (chunk 10 16 line ++ replicate 16 32) k 0
+
+-- what a lane tells, by the places that it was picked from
+abbrev pub tells : List ℕ → ℕ → ℕ → ℕ → ℕ → ℕ → ℕ
+tells line a b c d e =
+    cond (top 15 (time_mask (picked line a) (picked line b) (picked line c) (picked line d) (end_picked line e)))
+    (lane_half_minutes (picked line a) (picked line b) (picked line c) (picked line d) (end_picked line e)) 65535
+
+-- whether a lane is set
+abbrev pub set_lane : List ℕ → ℕ → ℕ → ℕ → ℕ → ℕ → Bool
+set_lane line a b c d e =
+    top 15
+    (bit_or (time_mask (picked line a) (picked line b) (picked line c) (picked line d) (end_picked line e))
+    (blank_mask (picked line a) (picked line b) (picked line c) (picked line d) (end_picked line e)))
+
+-- each number of the line fits in a byte
+abbrev pub AreBytes : List ℕ → Type 0
+AreBytes line = (k : ℕ) → Fits w8 (get_or line k 0)
+
+module _ (line : List ℕ) (size : length line ≡ 80) (bytes : AreBytes line) where
+  in_cells : AreBytes (cells 80 line)
+  in_cells = subst AreBytes (sym (cells_are 80 line size)) bytes
+
+  pub arrival_told : tells line 0 1 2 3 4 ≡ half_minutes_told (columns 11 15 line)
+  arrival_told =
+      subst (λ l. tells l 0 1 2 3 4 ≡ half_minutes_told (columns 11 15 l)) (cells_are 80 line size)
+      (lane_told _ _ _ _ _ (in_cells 10).fits (in_cells 11).fits (in_cells 12).fits (in_cells 13).fits (in_cells 14).fits)
+
+  pub departure_told : tells line 5 6 7 8 9 ≡ half_minutes_told (columns 16 20 line)
+  departure_told =
+      subst (λ l. tells l 5 6 7 8 9 ≡ half_minutes_told (columns 16 20 l)) (cells_are 80 line size)
+      (lane_told _ _ _ _ _ (in_cells 15).fits (in_cells 16).fits (in_cells 17).fits (in_cells 18).fits (in_cells 19).fits)
+
+  pub pass_told : tells line 10 11 12 13 14 ≡ half_minutes_told (columns 21 25 line)
+  pass_told =
+      subst (λ l. tells l 10 11 12 13 14 ≡ half_minutes_told (columns 21 25 l)) (cells_are 80 line size)
+      (lane_told _ _ _ _ _ (in_cells 20).fits (in_cells 21).fits (in_cells 22).fits (in_cells 23).fits (in_cells 24).fits)
+
+  arrival_good : set_lane line 0 1 2 3 4 ≡ is_scheduled_time (columns 11 15 line)
+  arrival_good =
+      subst (λ l. set_lane l 0 1 2 3 4 ≡ is_scheduled_time (columns 11 15 l)) (cells_are 80 line size)
+      (lane_good _ _ _ _ _ (in_cells 10).fits (in_cells 11).fits (in_cells 12).fits (in_cells 13).fits (in_cells 14).fits)
+
+  departure_good : set_lane line 5 6 7 8 9 ≡ is_scheduled_time (columns 16 20 line)
+  departure_good =
+      subst (λ l. set_lane l 5 6 7 8 9 ≡ is_scheduled_time (columns 16 20 l)) (cells_are 80 line size)
+      (lane_good _ _ _ _ _ (in_cells 15).fits (in_cells 16).fits (in_cells 17).fits (in_cells 18).fits (in_cells 19).fits)
+
+  pass_good : set_lane line 10 11 12 13 14 ≡ is_scheduled_time (columns 21 25 line)
+  pass_good =
+      subst (λ l. set_lane l 10 11 12 13 14 ≡ is_scheduled_time (columns 21 25 l)) (cells_are 80 line size)
+      (lane_good _ _ _ _ _ (in_cells 20).fits (in_cells 21).fits (in_cells 22).fits (in_cells 23).fits (in_cells 24).fits)
+
+  public_arrival_good : set_lane line 16 17 18 19 16 ≡ is_public_time (columns 26 29 line)
+  public_arrival_good =
+      subst (λ l. set_lane l 16 17 18 19 16 ≡ is_public_time (columns 26 29 l)) (cells_are 80 line size)
+      (lane_good (get_or (cells 80 line) 25 0) (get_or (cells 80 line) 26 0) (get_or (cells 80 line) 27 0) (get_or (cells 80 line) 28 0) 32
+      (in_cells 25).fits (in_cells 26).fits (in_cells 27).fits (in_cells 28).fits (omega arith)
+      ∙ public_lane (get_or (cells 80 line) 25 0) (get_or (cells 80 line) 26 0) (get_or (cells 80 line) 27 0) (get_or (cells 80 line) 28 0))
+
+  public_departure_good : set_lane line 20 21 22 23 16 ≡ is_public_time (columns 30 33 line)
+  public_departure_good =
+      subst (λ l. set_lane l 20 21 22 23 16 ≡ is_public_time (columns 30 33 l)) (cells_are 80 line size)
+      (lane_good (get_or (cells 80 line) 29 0) (get_or (cells 80 line) 30 0) (get_or (cells 80 line) 31 0) (get_or (cells 80 line) 32 0) 32
+      (in_cells 29).fits (in_cells 30).fits (in_cells 31).fits (in_cells 32).fits (omega arith)
+      ∙ public_lane (get_or (cells 80 line) 29 0) (get_or (cells 80 line) 30 0) (get_or (cells 80 line) 31 0) (get_or (cells 80 line) 32 0))
+
+  -- all lanes are set if and only if the five fields are good
+  pub all_set :
+      nat_eq
+      (mask_l
+      (set_lane line 0 1 2 3 4 ∷ set_lane line 5 6 7 8 9 ∷ set_lane line 10 11 12 13 14 ∷ set_lane line 16 17 18 19 16
+      ∷ set_lane line 20 21 22 23 16 ∷ set_lane line 0 1 2 3 4 ∷ set_lane line 0 1 2 3 4 ∷ set_lane line 0 1 2 3 4 ∷ [])
+      % 2 ^ 64)
+      255
+      ≡ ((((is_scheduled_time (columns 11 15 line) && is_scheduled_time (columns 16 20 line)) && is_scheduled_time (columns 21 25 line))
+      && is_public_time (columns 26 29 line))
+      && is_public_time (columns 30 33 line))
+  all_set =
+      eight (set_lane line 0 1 2 3 4) (set_lane line 5 6 7 8 9) (set_lane line 10 11 12 13 14) (set_lane line 16 17 18 19 16)
+      (set_lane line 20 21 22 23 16)
+      ∙ (λ i. (((arrival_good i && departure_good i) && pass_good i) && public_arrival_good i) && public_departure_good i)

@@ -1,0 +1,87 @@
+//! The five times of an intermediate location (LI), judged and read at once, one field a lane.
+ghost use Rattle.std.specs.Prelude.{◌≡◌, ◌&&◌, length};
+ghost use Rattle.docker_model.specs.records.Record.{columns};
+ghost use Rattle.docker_model.specs.records.Clock.{is_scheduled_time, is_public_time};
+ghost use Rattle.cif_line.specs.CallRead.{half_minutes_told};
+
+use std::simd::prelude::*;
+
+/// The codes of `0`, a space and `H`.
+const ZERO: u16 = 48;
+
+const SPACE: u16 = 32;
+
+const HALF: u16 = 72;
+
+/// What stands for no time, in the place of half minutes.
+pub(crate) const NO_TIME: u16 = 65535;
+
+/// What the fields of an intermediate location's times give.
+#[derive(Clone, Copy, PartialEq, Eq, Debug)]
+pub(crate) struct CallFields {
+    /// Whether each of the five times is good.
+    pub are_good: bool,
+    /// The half minutes of the scheduled arrival, or 65535 if there are none.
+    pub arrival: u16,
+    /// The half minutes of the scheduled departure, or 65535 if there are none.
+    pub departure: u16,
+    /// The half minutes of the scheduled pass, or 65535 if there are none.
+    pub pass: u16,
+}
+
+impl CallFields {
+    /// Reads the fields of a line. Lanes 0 to 4 have the scheduled arrival, departure and pass, and
+    /// the public arrival and departure; the others have the first again. A public time ends in a
+    /// space, like a whole minute.
+    pub(crate) fn read(line: &[u8]) -> CallFields
+        requires { length line.now ≡ 80 }
+        ensures good { result.are_good ≡ ((((is_scheduled_time (columns 11 15 line.now)
+            && is_scheduled_time (columns 16 20 line.now))
+            && is_scheduled_time (columns 21 25 line.now))
+            && is_public_time (columns 26 29 line.now)) && is_public_time (columns 30 33 line.now)) }
+        ensures arrival { result.arrival ≡ half_minutes_told (columns 11 15 line.now) }
+        ensures departure { result.departure ≡ half_minutes_told (columns 16 20 line.now) }
+        ensures pass { result.pass ≡ half_minutes_told (columns 21 25 line.now) }
+    {
+        let times = u8x16::from_slice(&line[10..]);
+        let public_times = u8x16::from_slice(&line[25..]);
+        let hour_tens: u8x8 = times.shuffle(public_times, [0, 5, 10, 16, 20, 0, 0, 0]);
+        let hour_units: u8x8 = times.shuffle(public_times, [1, 6, 11, 17, 21, 1, 1, 1]);
+        let minute_tens: u8x8 = times.shuffle(public_times, [2, 7, 12, 18, 22, 2, 2, 2]);
+        let minute_units: u8x8 = times.shuffle(public_times, [3, 8, 13, 19, 23, 3, 3, 3]);
+        let end: u8x8 = times.shuffle(u8x16::splat(b' '), [4, 9, 14, 16, 16, 4, 4, 4]);
+        let (zero, nine, ten) = (u16x8::splat(ZERO), u16x8::splat(9), u16x8::splat(10));
+        let hour_tens = hour_tens.cast::<u16>() - zero;
+        let hour_units = hour_units.cast::<u16>() - zero;
+        let minute_tens = minute_tens.cast::<u16>() - zero;
+        let minute_units = minute_units.cast::<u16>() - zero;
+        let hour = hour_tens * ten + hour_units;
+        let minute = minute_tens * ten + minute_units;
+        let end = end.cast::<u16>();
+        let is_half = end.simd_eq(u16x8::splat(HALF));
+        let is_time = hour_tens.simd_le(nine)
+            & hour_units.simd_le(nine)
+            & minute_tens.simd_le(nine)
+            & minute_units.simd_le(nine)
+            & hour.simd_lt(u16x8::splat(24))
+            & minute.simd_lt(u16x8::splat(60))
+            & (is_half | end.simd_eq(u16x8::splat(SPACE)));
+        let space = u16x8::splat(SPACE) - zero;
+        let is_blank = hour_tens.simd_eq(space)
+            & hour_units.simd_eq(space)
+            & minute_tens.simd_eq(space)
+            & minute_units.simd_eq(space)
+            & end.simd_eq(u16x8::splat(SPACE));
+        let half = is_half.select(u16x8::splat(1), u16x8::splat(0));
+        let half_minutes = hour * u16x8::splat(120) + minute * u16x8::splat(2) + half;
+        let told = is_time
+            .select(half_minutes, u16x8::splat(NO_TIME))
+            .to_array();
+        CallFields {
+            are_good: (is_time | is_blank).all(),
+            arrival: told[0],
+            departure: told[1],
+            pass: told[2],
+        }
+    }
+}
