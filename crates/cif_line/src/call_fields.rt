@@ -6,15 +6,17 @@ ghost use Rattle.cif_line.specs.CallRead.{half_minutes_told};
 
 use std::simd::prelude::*;
 
-/// The codes of `0`, a space and `H`.
+/// The code of `0`.
 const ZERO: u16 = 48;
 
+/// The code of a space, which ends a whole minute.
 const SPACE: u16 = 32;
 
+/// The code of `H`, which ends half a minute.
 const HALF: u16 = 72;
 
-/// What stands for no time, in the place of half minutes.
-pub(crate) const NO_TIME: u16 = 65535;
+/// What stands for no time, in place of half minutes.
+const NO_TIME: u16 = 65535;
 
 /// What the fields of an intermediate location's times give.
 #[derive(Clone, Copy, PartialEq, Eq, Debug)]
