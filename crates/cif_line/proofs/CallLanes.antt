@@ -196,7 +196,7 @@ module _ (a b c d e : ℕ) (la : a < 256) (lb : b < 256) (lc : c < 256) (ld : d 
       summed hour minute true lh lm = omega arith
       summed hour minute false lh lm = omega arith
 
-  -- a lane tells the half minutes of its field
+  -- a lane gives the half minutes of its field
   pub lane_told : cond (top 15 (time_mask a b c d e)) (lane_half_minutes a b c d e) 65535 ≡ half_minutes_told (a ∷ b ∷ c ∷ d ∷ e ∷ [])
   lane_told =
       (λ i. cond ((ap (top 15) (time_masked a b c d e) ∙ mask_set (time_test a b c d e) ∙ time_is) i) (lane_half_minutes a b c d e) 65535)
@@ -289,7 +289,7 @@ picked line k = get_or (chunk 10 16 line ++ chunk 25 16 line) k 0
 abbrev pub end_picked : List ℕ → ℕ → ℕ
 end_picked line k = get_or (chunk 10 16 line ++ replicate 16 32) k 0
 
--- what a lane tells, by the places that it was picked from
+-- what a lane gives, by the places that it was picked from
 abbrev pub tells : List ℕ → ℕ → ℕ → ℕ → ℕ → ℕ → ℕ
 tells line a b c d e =
     cond (top 15 (time_mask (picked line a) (picked line b) (picked line c) (picked line d) (end_picked line e)))

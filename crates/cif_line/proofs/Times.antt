@@ -60,7 +60,7 @@ blank_if : (blank present : Bool) → (blank || present) ≡ true → present �
 blank_if true present one absent = refl
 blank_if false present one absent = cc
 
--- the half minutes of a time are fewer than those of a day
+-- the half minutes of a time are fewer than a day has
 half_minutes_bound : (field : List ℕ) → is_present_time field ≡ true → half_minutes field < 2880
 half_minutes_bound field is = by (slice_index field 4 == 72) (hour_bound field clock) (minute_bound field clock)
   where
@@ -71,7 +71,7 @@ half_minutes_bound field is = by (slice_index field 4 == 72) (hour_bound field c
     by true hour minute = omega arith
     by false hour minute = omega arith
 
--- what is told of a good field is its scheduled time
+-- a good field gives its scheduled time
 pub told_read : (field : List ℕ) (told : ℕ) (time : Option ℕ) → is_scheduled_time field ≡ true → told ≡ half_minutes_told field
     → time ≡ cond (nat_lt told 2880) (Some told) None → time ≡ scheduled_time field
 told_read field told time good is read = read ∙ by (is_present_time field) refl
