@@ -1,6 +1,7 @@
 use Rattle.std.proofs.Common.{◌≡◌, ◌∙◌, ap}
 use Rattle.std.proofs.lemmas.Result.{err_from_is_err_and}
-use Rattle.docker_cmd.specs.Reads.{horizon_of, sources_meant, sources_of}
+use Rattle.docker_cmd.specs.Reads.{sources_meant}
+use Rattle.docker_cmd.specs.Tasks.{horizon_of, sources_of}
 use Rattle.docker_cmd.specs.Content.{content_meant}
 use Rattle.docker_cmd.proofs.SourcesLemmas.{held_written, refused_for, second_for, task_read}
 use Rattle.docker_cmd.proofs.holding.hold_all.Goals as goal
