@@ -3,11 +3,12 @@ use Rattle.std.proofs.Common.{◌≡◌, ◌∙◌, ◌↔◌, ◌≤◌, ◌-�
 use Rattle.std.specs.Borrow.{Bor}
 use Rattle.std.proofs.lemmas.List.{length-map, take_all}
 use Rattle.std.specs.List.{list_all}
-use Rattle.docker_cmd.specs.declared.subcommands.Subcommand.{Subcommand}
-use Rattle.docker_cmd.specs.Subcommands.{ids_of, name_of, subcommand_named}
+use Rattle.docker_cmd.specs.declared.tasks.Subcommand.{Subcommand}
+use Rattle.docker_cmd.specs.Tasks.{AreWordsOf, ids_of, name_of, subcommand_named, subcommand_of}
 use Rattle.docker_cmd.specs.Words.{Text, is_plain_word, texts}
-use Rattle.docker_cmd.specs.Job.{AreWordsOf, AskNothing, IsJobOf, IsTaskOf, JobView, NameNoJob, NameNoSubcommand, NamesSubcommand, subcommand_of}
-use Rattle.docker_cmd.proofs.TaskWords.{first_word, name_back, other_words, same_subcommand, words_counted}
+use Rattle.docker_cmd.specs.Job.{AskNothing, IsJobOf, IsTaskOf, JobView, NameNoJob, NameNoSubcommand, NamesSubcommand}
+use Rattle.docker_cmd.proofs.Rows.{named_back, words_counted}
+use Rattle.docker_cmd.proofs.TaskWords.{first_word, name_back, other_words, same_subcommand}
 
 -- words that name a job name its subcommand
 pub job_subcommand : (words : List Text) (job : JobView) → IsJobOf words job → NamesSubcommand words (subcommand_of job.task) job.words
@@ -35,6 +36,13 @@ pub miscounted : (s : Subcommand) (words ids : List (Bor Text)) → texts ids �
 miscounted s words ids are never = λ task same is.
     let required = words_counted task (texts words) is ∙ ap (λ (t : Subcommand). length (ids_of t)) same in
     never (sym (length-map words (λ word. word.now)) ∙ required ∙ ap length (sym are) ∙ length-map ids (λ id. id.now))
+
+-- words whose first word names no subcommand
+pub unnamed_job : (words : List (Bor Text)) (d : Bor Text) → 1 ≤ length words → None ≡ subcommand_named (slice_index_or words 0 d).now → NameNoJob (texts words)
+unnamed_job [] d some none = absurd (omega (arith, some))
+unnamed_job (word ∷ words) d some none = λ job is.
+    let never : None ≡ Some (subcommand_of job.task) = none ∙ ap subcommand_named (ap first_word is.whole) ∙ named_back (subcommand_of job.task) in
+    cc
 
 -- plain words whose first word names a subcommand
 pub behind_asks : (words : List (Bor Text)) (d : Bor Text) (s : Subcommand) (test : Bool) → 1 ≤ length words

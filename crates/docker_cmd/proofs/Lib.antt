@@ -3,6 +3,7 @@ pub mod LineOfJobLemmas
 pub mod LineWords
 pub mod PlainWords
 pub mod RequiredWords
+pub mod Rows
 pub mod TaskWords
 pub mod FoundWords
 pub mod GrammarLemmas

@@ -8,9 +8,10 @@ use Rattle.state_laws.proofs.states.PlainLive.{live_table_is_plain}
 use Rattle.state_laws.proofs.states.SummaryLaws.{join_is_summary}
 use Rattle.docker_office.specs.Office.{TakesFile, no_state}
 use Rattle.docker_office.specs.declared.fault.OfficeFault.{OfficeFault}
-use Rattle.docker_cmd.specs.Job.{JobView, TaskView, new_task, check_task, day_task, take_task, merge_task, print_task, files_task, horizon_task, migrate_task}
-use Rattle.docker_cmd.specs.Reads.{Sources, checked_file, taken_file, sources_of, horizon_of}
-use Rattle.docker_cmd.specs.Writes.{Output, output_of}
+use Rattle.docker_cmd.specs.Job.{JobView}
+use Rattle.docker_cmd.specs.Tasks.{TaskView, check_task, day_task, files_task, horizon_of, horizon_task, merge_task, migrate_task, new_task, output_of, print_task, sources_of, take_task}
+use Rattle.docker_cmd.specs.Reads.{Sources, checked_file, taken_file}
+use Rattle.docker_cmd.specs.Writes.{Output}
 use Rattle.docker_cmd.specs.Prepared.{DeviceBytes, HasNoSource, HasReadToEnd, HasSecondSource, IsContentOf, IsOfOneFile, IsPreparedFor, IsReadOf, IsStateOf, IsWhyRefused, IsWrittenOf, ReadView, ReadsFew, file_read, office_read, under}
 
 -- no file, and no horizon

@@ -1,15 +1,16 @@
 -- The words that a subcommand requires, and the task that they name.
 use Rattle.std.proofs.Common.{◌≡◌, ◌∙◌, ℕ, List, [], ◌∷◌, length, Bool, true, false, cond, Some, None, refl, sym, ap, subst, codes, arith, slice_index_or, true≢false}
-use Rattle.std.specs.Prelude.{Option, ⊤, option_map}
+use Rattle.std.specs.Prelude.{Option, option_map}
+use Rattle.std.specs.List.{find}
 use Rattle.std.specs.Str.{bytes_eq}
 use Rattle.std.specs.Borrow.{Bor}
 use Rattle.std.proofs.lemmas.Slice.Eq.{bytes_eq-Decides}
-use Rattle.docker_cmd.specs.declared.subcommands.Subcommand.{Subcommand}
-use Rattle.docker_cmd.specs.declared.subcommands.Subcommand.TheVariants.{New, Check, Day, Take, Merge, Print, Files, Horizon, Migrate}
+use Rattle.docker_cmd.specs.declared.tasks.Subcommand.{Subcommand}
 use Rattle.docker_cmd.specs.declared.tasks.Task.{Task}
-use Rattle.docker_cmd.specs.Subcommands.{ids_of, name_of, subcommand_named}
+use Rattle.docker_cmd.specs.Tasks.{AreWordsOf, TaskView, name_of, subcommand_named, subcommands, subcommand_of, task_meant}
 use Rattle.docker_cmd.specs.Words.{NamesDay, NamesPlace, NamesStored, Text, texts}
-use Rattle.docker_cmd.specs.Job.{AreWordsOf, IsTaskOf, OfOne, OfThree, OfTwo, TaskView, subcommand_of, task_meant, new_task, check_task, day_task, take_task, merge_task, print_task, files_task, horizon_task, migrate_task}
+use Rattle.docker_cmd.specs.Job.{IsTaskOf}
+use Rattle.docker_cmd.proofs.Rows.{NameBoth, Suit, named_back, suit}
 
 -- the first of some words
 abbrev pub first_word : List Text → Text
@@ -23,138 +24,28 @@ other_words (word ∷ words) = words
 
 -- ---- names
 
--- a subcommand is found by its name
-pub named_back : (s : Subcommand) → subcommand_named (name_of s) ≡ Some s
-named_back New = refl
-named_back Check = refl
-named_back Day = refl
-named_back Take = refl
-named_back Merge = refl
-named_back Print = refl
-named_back Files = refl
-named_back Horizon = refl
-named_back Migrate = refl
-
 -- subcommands with equal names are equal
 pub same_subcommand : (s t : Subcommand) → name_of s ≡ name_of t → s ≡ t
 same_subcommand s t same =
     let found : Some s ≡ Some t = sym (named_back s) ∙ ap subcommand_named same ∙ named_back t in
     cc
 
--- a name belongs to the first of two subcommands, or to the other
-by_test : (word name : Text) (t s : Subcommand) (rest : Option Subcommand) → name ≡ name_of t → cond (bytes_eq word name) (Some t) rest ≡ Some s
-    → (rest ≡ Some s → word ≡ name_of s) → word ≡ name_of s
-by_test word name t s rest is found behind = by (bytes_eq word name) refl found
+-- the subcommand that is found for a name has this name
+found_name : (word : Text) (s : Subcommand) (ss : List Subcommand) → find (λ t. bytes_eq (name_of t) word) ss ≡ Some s → word ≡ name_of s
+found_name word s [] found = absurd (cc)
+found_name word s (t ∷ ss) found = by (bytes_eq (name_of t) word) refl found (found_name word s ss)
   where
-    by : (test : Bool) → bytes_eq word name ≡ test → cond test (Some t) rest ≡ Some s → word ≡ name_of s
-    by true same one =
+    by : (test : Bool) → bytes_eq (name_of t) word ≡ test → cond test (Some t) (find (λ u. bytes_eq (name_of u) word) ss) ≡ Some s
+        → (find (λ u. bytes_eq (name_of u) word) ss ≡ Some s → word ≡ name_of s) → word ≡ name_of s
+    by true same one rest =
         let this : t ≡ s = cc in
-        (bytes_eq-Decides word name).0 same ∙ is ∙ ap name_of this
-    by false differ other = behind other
+        sym ((bytes_eq-Decides (name_of t) word).0 same) ∙ ap name_of this
+    by false differ found rest = rest found
 
 -- the name of the subcommand that was found
 pub name_back : (word : Text) (s : Subcommand) → subcommand_named word ≡ Some s → word ≡ name_of s
-name_back word s found =
-    by_test word (codes "new") New s _ refl found (λ found.
-    by_test word (codes "check") Check s _ refl found (λ found.
-    by_test word (codes "day") Day s _ refl found (λ found.
-    by_test word (codes "take") Take s _ refl found (λ found.
-    by_test word (codes "merge") Merge s _ refl found (λ found.
-    by_test word (codes "print") Print s _ refl found (λ found.
-    by_test word (codes "files") Files s _ refl found (λ found.
-    by_test word (codes "horizon") Horizon s _ refl found (λ found.
-    by_test word (codes "migrate") Migrate s None refl found (λ none. absurd (cc))))))))))
-
--- ---- counts
-
--- one word
-one_counted : (Holds : Text → Type 0) (words : List Text) → OfOne Holds words → length words ≡ 1
-one_counted Holds [] is = absurd is
-one_counted Holds (a ∷ []) is = refl
-one_counted Holds (a ∷ b ∷ words) is = absurd is
-
--- two words
-two_counted : (Holds : Text → Text → Type 0) (words : List Text) → OfTwo Holds words → length words ≡ 2
-two_counted Holds [] is = absurd is
-two_counted Holds (a ∷ []) is = absurd is
-two_counted Holds (a ∷ b ∷ []) is = refl
-two_counted Holds (a ∷ b ∷ c ∷ words) is = absurd is
-
--- three words
-three_counted : (Holds : Text → Text → Text → Type 0) (words : List Text) → OfThree Holds words → length words ≡ 3
-three_counted Holds [] is = absurd is
-three_counted Holds (a ∷ []) is = absurd is
-three_counted Holds (a ∷ b ∷ []) is = absurd is
-three_counted Holds (a ∷ b ∷ c ∷ []) is = refl
-three_counted Holds (a ∷ b ∷ c ∷ d ∷ words) is = absurd is
-
--- a task has as many words as its subcommand requires
-pub words_counted : (task : TaskView) (words : List Text) → AreWordsOf task words → length words ≡ length (ids_of (subcommand_of task))
-words_counted new_task words is = one_counted _ words is
-words_counted check_task words is = one_counted _ words is
-words_counted (day_task place day) words is = three_counted _ words is
-words_counted take_task words is = two_counted _ words is
-words_counted merge_task words is = two_counted _ words is
-words_counted (print_task place day) words is = three_counted _ words is
-words_counted files_task words is = one_counted _ words is
-words_counted (horizon_task day) words is = two_counted _ words is
-words_counted migrate_task words is = one_counted _ words is
-
--- ---- the words of a subcommand, for any of its tasks
-
--- a timing point and a day that two words name
-pub record NameBoth (tiploc date : Text) : Type 0 where
-  pub place : List ℕ
-  pub day : ℕ
-  pub place_is : NamesPlace tiploc place
-  pub day_is : NamesDay date day
-
--- a state that can be written anew, and a day, that two words name
-pub record NameHorizon (state date : Text) : Type 0 where
-  pub stored : NamesStored state
-  pub day : ℕ
-  pub day_is : NamesDay date day
-
--- they are the words of some task of this subcommand
-abbrev pub Suit : Subcommand → List Text → Type 0
-Suit New = OfOne (λ state. NamesStored state)
-Suit Check = OfOne (λ file. ⊤)
-Suit Day = OfThree (λ file tiploc date. NameBoth tiploc date)
-Suit Take = OfTwo (λ state file. NamesStored state)
-Suit Merge = OfTwo (λ state other. NamesStored state)
-Suit Print = OfThree (λ state tiploc date. NameBoth tiploc date)
-Suit Files = OfOne (λ state. ⊤)
-Suit Horizon = OfTwo (λ state date. NameHorizon state date)
-Suit Migrate = OfOne (λ state. NamesStored state)
-
--- two words, from a stronger fact
-two_weaker : (P Q : Text → Text → Type 0) → ((a b : Text) → P a b → Q a b) → (words : List Text) → OfTwo P words → OfTwo Q words
-two_weaker P Q so [] is = is
-two_weaker P Q so (a ∷ []) is = is
-two_weaker P Q so (a ∷ b ∷ []) is = so a b is
-two_weaker P Q so (a ∷ b ∷ c ∷ words) is = is
-
--- three words, from a stronger fact
-three_weaker : (P Q : Text → Text → Text → Type 0) → ((a b c : Text) → P a b c → Q a b c) → (words : List Text) → OfThree P words → OfThree Q words
-three_weaker P Q so [] is = is
-three_weaker P Q so (a ∷ []) is = is
-three_weaker P Q so (a ∷ b ∷ []) is = is
-three_weaker P Q so (a ∷ b ∷ c ∷ []) is = so a b c is
-three_weaker P Q so (a ∷ b ∷ c ∷ d ∷ words) is = is
-
--- the words of a task suit its subcommand
-suit : (task : TaskView) (words : List Text) → AreWordsOf task words → Suit (subcommand_of task) words
-suit new_task words is = is
-suit check_task words is = is
-suit (day_task place day) words is =
-    three_weaker _ _ (λ a b c named. record { place = place; day = day; place_is = named.0; day_is = named.1 }) words is
-suit take_task words is = is
-suit merge_task words is = is
-suit (print_task place day) words is =
-    three_weaker _ _ (λ a b c named. record { place = place; day = day; place_is = named.0; day_is = named.1 }) words is
-suit files_task words is = is
-suit (horizon_task day) words is = two_weaker _ _ (λ a b named. record { stored = named.0; day = day; day_is = named.1 }) words is
-suit migrate_task words is = is
+unfolding subcommand_named
+name_back word s found = found_name word s subcommands found
 
 -- ---- what is asked for
 

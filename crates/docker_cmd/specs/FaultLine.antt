@@ -4,6 +4,7 @@ use Rattle.cif_file.specs.declared.fault.FileFault.{FileFault}
 use Rattle.cif_file.specs.Cause.{cause_text}
 use Rattle.docker_office.specs.StateFault.{StateFault}
 use Rattle.docker_office.specs.FaultText as state_text
+use Rattle.docker_cmd.specs.Tasks.{usage_line}
 use Rattle.docker_cmd.specs.declared.job_fault.JobFault.TheVariants as job
 use Rattle.docker_office.specs.declared.fault.OfficeFault.TheVariants as office
 use Rattle.docker_cmd.specs.declared.fault.Fault.{Fault}
@@ -41,10 +42,6 @@ memory_line = codes "docker: want of memory\n"
 -- the line of a device that failed
 abbrev pub device_line : List ℕ
 device_line = codes "docker: device failed\n"
-
--- the one usage line
-abbrev pub usage_line : List ℕ
-usage_line = codes "docker: usage: new STATE | check FILE | day FILE TIPLOC DATE | take STATE FILE | merge STATE OTHER | print STATE TIPLOC DATE | files STATE | horizon STATE DATE | migrate STATE\n"
 
 -- the line of a fault
 abbrev pub fault_line : Fault → List ℕ

@@ -2,8 +2,8 @@
 use Rattle.std.specs.Prelude.{List, [], ◌∷◌, true, false, codes, map, Option, Some, option_map, option_and_then}
 use Rattle.clap.specs.Walk.{Row, Rule, Text, first_of}
 use Rattle.clap.specs.Simple.{App, Shape, new_rule, new_shape}
-use Rattle.docker_cmd.specs.Subcommands.{ids_of, name_of, subcommand_named, subcommands}
-use Rattle.docker_cmd.specs.declared.subcommands.Subcommand.{Subcommand}
+use Rattle.docker_cmd.specs.Tasks.{ids_of, name_of, subcommand_named, subcommands}
+use Rattle.docker_cmd.specs.declared.tasks.Subcommand.{Subcommand}
 
 -- a word that has to follow a subcommand
 abbrev pub required_rule : Text → Rule

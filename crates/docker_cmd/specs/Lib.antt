@@ -2,7 +2,7 @@ pub mod Grammar
 pub mod Job
 pub mod JobLine
 pub mod Reads
-pub mod Subcommands
+pub mod Tasks
 pub mod Words
 pub mod Writes
 pub mod CheckLine

@@ -17,9 +17,11 @@ use Rattle.docker_office.specs.StateFault.{StateFault}
 use Rattle.docker_office.specs.declared.fault.OfficeFault.{OfficeFault}
 use Rattle.docker_office.specs.declared.fault.OfficeFault.TheVariants as office
 use Rattle.docker_office.specs.Office.{most_at_once, no_state, TakesFile, WantsForFile}
-use Rattle.docker_cmd.specs.Job.{JobView, TaskView, check_task, horizon_task}
-pub use Rattle.docker_cmd.specs.Reads.{Sources, no_source, checked_file, taken_file, one_state, state_and_file, two_states, sources_of, horizon_of}
-pub use Rattle.docker_cmd.specs.Writes.{Output, counts_written, docker_written, files_written, state_written, output_of}
+use Rattle.docker_cmd.specs.Job.{JobView}
+use Rattle.docker_cmd.specs.Tasks.{TaskView, check_task, horizon_task}
+pub use Rattle.docker_cmd.specs.Reads.{Sources, no_source, checked_file, taken_file, one_state, state_and_file, two_states}
+pub use Rattle.docker_cmd.specs.Tasks.{horizon_of, output_of, sources_of}
+pub use Rattle.docker_cmd.specs.Writes.{Output, counts_written, docker_written, files_written, state_written}
 use Rattle.docker_cmd.specs.CheckLine.{count_line}
 
 -- the most bytes that a state's text may have

@@ -1,7 +1,5 @@
 -- What a task reads.
-use Rattle.std.specs.Prelude.{ℕ, Option, Some, None}
 use Rattle.docker_model.specs.state.StateText.{Format, dks_1, dks_2}
-use Rattle.docker_cmd.specs.Job.{TaskView, new_task, check_task, day_task, take_task, merge_task, print_task, files_task, horizon_task, migrate_task}
 use Rattle.docker_cmd.specs.declared.reads.Sources as declared
 use Rattle.docker_cmd.specs.declared.reads.Sources.TheVariants as code
 
@@ -24,20 +22,3 @@ sources_meant code.State = one_state dks_2
 sources_meant code.OlderState = one_state dks_1
 sources_meant code.StateAndFile = state_and_file
 sources_meant code.TwoStates = two_states
-
--- the sources of each task
-abbrev pub sources_of : TaskView → Sources
-sources_of new_task = no_source
-sources_of check_task = checked_file
-sources_of (day_task place day) = taken_file
-sources_of take_task = state_and_file
-sources_of merge_task = two_states
-sources_of (print_task place day) = one_state dks_2
-sources_of files_task = one_state dks_2
-sources_of (horizon_task day) = one_state dks_2
-sources_of migrate_task = one_state dks_1
-
--- the horizon that a task sets on the state that it reads, if it sets one
-abbrev pub horizon_of : TaskView → Option ℕ
-horizon_of (horizon_task day) = Some day
-horizon_of _ = None

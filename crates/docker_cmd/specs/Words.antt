@@ -1,6 +1,7 @@
 -- Words, and what a word may name. A word is a text, as its bytes.
 use Rattle.std.specs.Prelude.{◌≡◌, ◌≢◌, ℕ, ◌==◌, ◌≤◌, ◌-◌, ◌++◌, Bool, false, not, List, [], ◌∷◌, length, codes, map}
 use Rattle.std.specs.Borrow.{Bor}
+use Rattle.std.specs.List.{flat_map}
 use Rattle.docker_model.specs.records.Date.{last_day}
 use Rattle.docker_model.specs.records.PrintedTime.{spaces, day_text}
 use Rattle.cif_line.specs.Tiploc.{IsTiplocText}
@@ -30,3 +31,28 @@ pub record NamesPlace (word : Text) (place : List ℕ) : Type 0 where
 pub record NamesDay (word : Text) (day : ℕ) : Type 0 where
   pub within : day ≤ last_day
   pub written : word ≡ day_text day
+
+-- there is one word, and this holds of it
+abbrev pub OfOne : (Text → Type 0) → List Text → Type 0
+OfOne Holds (first ∷ []) = Holds first
+OfOne Holds _ = ⊥
+
+-- there are two words, and this holds of them
+abbrev pub OfTwo : (Text → Text → Type 0) → List Text → Type 0
+OfTwo Holds (first ∷ second ∷ []) = Holds first second
+OfTwo Holds _ = ⊥
+
+-- there are three words, and this holds of them
+abbrev pub OfThree : (Text → Text → Text → Type 0) → List Text → Type 0
+OfThree Holds (first ∷ second ∷ third ∷ []) = Holds first second third
+OfThree Holds _ = ⊥
+
+-- a name and the names of the words after it, as a usage line has them
+abbrev pub usage_with : Text → List Text → Text
+usage_with name ids = name ++ flat_map (λ id. 32 ∷ id) ids
+
+-- texts with a bar between each two
+abbrev pub with_bars : List Text → Text
+with_bars [] = []
+with_bars (last ∷ []) = last
+with_bars (first ∷ second ∷ others) = first ++ codes " | " ++ with_bars (second ∷ others)

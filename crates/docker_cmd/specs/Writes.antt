@@ -1,6 +1,5 @@
 -- What a task writes.
 use Rattle.std.specs.Prelude.{ℕ, List}
-use Rattle.docker_cmd.specs.Job.{TaskView, new_task, check_task, day_task, take_task, merge_task, print_task, files_task, horizon_task, migrate_task}
 use Rattle.docker_cmd.specs.declared.writes.Output as declared
 use Rattle.docker_cmd.specs.declared.writes.Output.TheVariants as code
 
@@ -18,15 +17,3 @@ output_meant code.Counts = counts_written
 output_meant (code.Docker place day) = docker_written place day
 output_meant code.Files = files_written
 output_meant code.State = state_written
-
--- what each task writes
-abbrev pub output_of : TaskView → Output
-output_of new_task = state_written
-output_of check_task = counts_written
-output_of (day_task place day) = docker_written place day
-output_of take_task = state_written
-output_of merge_task = state_written
-output_of (print_task place day) = docker_written place day
-output_of files_task = files_written
-output_of (horizon_task day) = state_written
-output_of migrate_task = state_written

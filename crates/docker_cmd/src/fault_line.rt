@@ -6,6 +6,7 @@ ghost use Rattle.docker_cmd.specs.FaultLine.{status_of, fault_line, file_line, s
 
 use crate::fault::Fault;
 use crate::job_fault::JobFault;
+use crate::tasks::usage;
 use arrayvec::ArrayVec;
 use cif_file::{FileCause, FileFault};
 use docker_office::{OfficeFault, StateFault};
@@ -14,9 +15,6 @@ use itoa::Buffer;
 
 /// The line of a fault, with its line feed.
 pub type FaultText = ArrayVec<u8, 192>;
-
-const USAGE: &[u8] =
-    b"docker: usage: new STATE | check FILE | day FILE TIPLOC DATE | take STATE FILE | merge STATE OTHER | print STATE TIPLOC DATE | files STATE | horizon STATE DATE | migrate STATE\n";
 
 /// The exit status of a fault: 1 refused input, 2 usage, 3 out of memory, 4 a device.
 pub fn status(fault: &Fault) -> u8
@@ -42,7 +40,7 @@ pub fn fault_text(fault: &Fault) -> FaultText
             &mut text,
             b"docker: day refused: before horizon plus three days\n",
         ),
-        Fault::Job(JobFault::Usage) => put(&mut text, USAGE),
+        Fault::Job(JobFault::Usage) => put(&mut text, usage()),
         Fault::Job(JobFault::Memory) | Fault::Office(OfficeFault::Memory) => {
             put(&mut text, b"docker: want of memory\n")
         }

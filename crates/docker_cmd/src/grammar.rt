@@ -1,10 +1,10 @@
 //! What `clap` knows of the command line.
 ghost use Rattle.std.specs.Prelude.{◌≡◌, IfOk, [], false, map};
-ghost use Rattle.clap.specs.Words.{FailsBy, app_of, fault_of, rule_of, subcommand_of, subcommand_rows_of, with_subcommand};
+ghost use Rattle.clap.specs.Words.{FailsBy, app_of, fault_of, rule_of, subcommand_of, subcommand_rows_of};
 ghost use Rattle.clap.specs.declared.builder.Command.TheViews.{out-Command as fields_of};
 ghost use Rattle.docker_cmd.specs.Grammar.{docker_app, docker_shape, required_rule, shape_of};
 
-use crate::subcommands::Subcommand;
+use crate::tasks::Subcommand;
 use clap::{Arg, ArgMatches, Command, Error};
 use std::alloc::{AllocError, Global};
 
@@ -29,18 +29,6 @@ fn command_of<'a>(alloc: Global, subcommand: Subcommand) -> Result<Command<'a>, 
     Ok(command)
 }
 
-/// The program with one more subcommand.
-fn with_job<'a>(
-    alloc: Global,
-    docker: Command<'a>,
-    subcommand: Subcommand,
-) -> Result<Command<'a>, AllocError>
-    ensures { IfOk result (λ c. app_of c
-        ≡ with_subcommand (app_of docker.entry) (shape_of subcommand)) }
-{
-    docker.subcommand(command_of(alloc, subcommand)?)
-}
-
 /// The program: no word asks for help or for a version, and a subcommand has to come first.
 fn top<'a>(alloc: Global) -> Command<'a>
     ensures { app_of result ≡ record { top = docker_shape; subs = [] } }
@@ -57,16 +45,10 @@ fn top<'a>(alloc: Global) -> Command<'a>
 fn docker<'a>(alloc: Global) -> Result<Command<'a>, AllocError>
     ensures { IfOk result (λ c. app_of c ≡ docker_app) }
 {
-    let docker = top(alloc);
-    let docker = with_job(alloc, docker, Subcommand::New)?;
-    let docker = with_job(alloc, docker, Subcommand::Check)?;
-    let docker = with_job(alloc, docker, Subcommand::Day)?;
-    let docker = with_job(alloc, docker, Subcommand::Take)?;
-    let docker = with_job(alloc, docker, Subcommand::Merge)?;
-    let docker = with_job(alloc, docker, Subcommand::Print)?;
-    let docker = with_job(alloc, docker, Subcommand::Files)?;
-    let docker = with_job(alloc, docker, Subcommand::Horizon)?;
-    let docker = with_job(alloc, docker, Subcommand::Migrate)?;
+    let mut docker = top(alloc);
+    for subcommand in Subcommand::all() {
+        docker = docker.subcommand(command_of(alloc, *subcommand)?)?;
+    }
     Ok(docker)
 }
 

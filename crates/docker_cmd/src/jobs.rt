@@ -1,10 +1,8 @@
 //! Jobs.
 ghost use Rattle.std.specs.Prelude.{◌≡◌, length, map, string_bytes};
-ghost use Rattle.docker_cmd.specs.Job.{day_of, subcommand_of, task_meant, tiploc_of};
-ghost use Rattle.docker_cmd.specs.Subcommands.{ids_of};
+ghost use Rattle.docker_cmd.specs.Tasks.{day_of, ids_of, subcommand_of, task_meant, tiploc_of};
 
-use crate::subcommands::Subcommand;
-use crate::tasks::Task;
+use crate::tasks::{Subcommand, Task};
 use cif_line::{Day, Tiploc};
 use std::marker::Model;
 
@@ -17,8 +15,8 @@ pub struct Job {
 
 impl Model for Job {
     ghost use Rattle.std.specs.Prelude.{◌≡◌, length, map, string_bytes};
-    ghost use Rattle.docker_cmd.specs.Job.{JobView, subcommand_of, task_meant};
-    ghost use Rattle.docker_cmd.specs.Subcommands.{ids_of};
+    ghost use Rattle.docker_cmd.specs.Job.{JobView};
+    ghost use Rattle.docker_cmd.specs.Tasks.{ids_of, subcommand_of, task_meant};
 
     ghost Value = { JobView };
 

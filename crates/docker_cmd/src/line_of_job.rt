@@ -56,7 +56,7 @@ fn job_of_line(alloc: Global, line: &[u8]) -> Result<Job, JobFault>
 }
 
 /// A line as text.
-fn text_of(line: &[u8]) -> &str
+pub fn text_of(line: &[u8]) -> &str
     requires { IsLineText line.now }
     ensures { result.now ≡ line.now }
 {
@@ -83,8 +83,8 @@ fn read_byte<S: Source>(source: &mut S) -> Result<Option<u8>, JobFault>
     }
 }
 
-/// The piece before the first space, and the text after it.
-fn split_at_space(text: &str) -> Option<(&str, &str)>
+/// The piece before the first space, and the text after it. None if there is no space.
+pub fn split_at_space(text: &str) -> Option<(&str, &str)>
     ensures pieces { MatchOption result (position_or_len is_space text.now
         ≡ length text.now) (λ parts.
         (parts.0.now ≡ before_first is_space text.now)

@@ -1,47 +1,223 @@
-//! What a job asks for.
-ghost use Rattle.std.specs.Prelude.{◌≡◌};
-ghost use Rattle.docker_cmd.specs.Job.{day_of, subcommand_of, task_meant, tiploc_of};
-ghost use Rattle.docker_cmd.specs.Reads.{horizon_of, sources_meant, sources_of};
-ghost use Rattle.docker_cmd.specs.Writes.{output_meant, output_of};
+//! The table of subcommands, with a row for each, and the task that each names.
+ghost use Rattle.std.specs.Prelude.{◌≡◌, IfSome, IsNone, None, Some, codes, find, if◌then◌else◌, length, map, option_map};
+ghost use Rattle.std.specs.Option.{option_copied};
+ghost use Rattle.std.specs.Str.{bytes_eq};
+ghost use Rattle.docker_cmd.specs.Job.{IsTaskOf};
+ghost use Rattle.docker_cmd.specs.Reads.{sources_meant};
+ghost use Rattle.docker_cmd.specs.Tasks.{day_of, horizon_of, ids_of, name_of, output_of, row_meant, row_of, sources_of, subcommand_named, subcommand_of, subcommands, task_meant, tiploc_of, usage_line};
+ghost use Rattle.docker_cmd.specs.Words.{NamesDay, NamesPlace, texts};
+ghost use Rattle.docker_cmd.specs.Writes.{output_meant};
 
 use crate::reads::Sources;
-use crate::subcommands::Subcommand;
 use crate::writes::Output;
 use cif_line::{Day, Tiploc};
+
+/// The subcommands.
+#[derive(Clone, Copy, PartialEq, Eq, Debug)]
+pub enum Subcommand {
+    /// An empty state.
+    New,
+    /// Whether a file is whole, and how many records and changes it has.
+    Check,
+    /// The docker of a timing point on a day, from an office that took one file.
+    Day,
+    /// The state of an office after it takes one more file.
+    Take,
+    /// The state of an office after it receives another state.
+    Merge,
+    /// The docker of a timing point on a day.
+    Print,
+    /// The files that a state lists.
+    Files,
+    /// The state under a horizon that may be later.
+    Horizon,
+    /// The state whose text is in the older format.
+    Migrate,
+}
+
+/// A row of the table of subcommands.
+#[derive(Clone, Copy, Debug)]
+pub(crate) struct Row<'a> {
+    /// The name.
+    name: &'a str,
+    /// The names of the words after it. Each of them is required.
+    ids: &'a [&'a str],
+    /// What is read, in the order of the words.
+    reads: Sources,
+}
+
+impl<'a> Row<'a> {
+    /// The row with these columns.
+    fn of(name: &'a str, ids: &'a [&'a str], reads: Sources) -> Row<'a>
+        ensures name { result.name.now ≡ name.now }
+        ensures ids { result.ids.now ≡ ids.now }
+        ensures reads { result.reads ≡ reads }
+    {
+        Row { name, ids, reads }
+    }
+}
+
+impl Subcommand {
+    /// All of them, in the order of the usage line.
+    pub(crate) fn all<'a>() -> &'a [Subcommand]
+        ensures { result.now ≡ subcommands }
+    {
+        &[
+            Subcommand::New,
+            Subcommand::Check,
+            Subcommand::Day,
+            Subcommand::Take,
+            Subcommand::Merge,
+            Subcommand::Print,
+            Subcommand::Files,
+            Subcommand::Horizon,
+            Subcommand::Migrate,
+        ]
+    }
+
+    /// Its row of the table.
+    pub(crate) fn row<'a>(self) -> Row<'a>
+        ensures { row_meant result ≡ row_of self }
+    {
+        match self {
+            Subcommand::New => Row::of("new", &["STATE"], Sources::None),
+            Subcommand::Check => Row::of("check", &["FILE"], Sources::CheckedFile),
+            Subcommand::Day => Row::of("day", &["FILE", "TIPLOC", "DATE"], Sources::TakenFile),
+            Subcommand::Take => Row::of("take", &["STATE", "FILE"], Sources::StateAndFile),
+            Subcommand::Merge => Row::of("merge", &["STATE", "OTHER"], Sources::TwoStates),
+            Subcommand::Print => Row::of("print", &["STATE", "TIPLOC", "DATE"], Sources::State),
+            Subcommand::Files => Row::of("files", &["STATE"], Sources::State),
+            Subcommand::Horizon => Row::of("horizon", &["STATE", "DATE"], Sources::State),
+            Subcommand::Migrate => Row::of("migrate", &["STATE"], Sources::OlderState),
+        }
+    }
+
+    /// Its name, the first of the words.
+    pub fn name<'a>(self) -> &'a str
+        ensures { result.now ≡ name_of self }
+    {
+        self.row().name
+    }
+
+    /// The names of the words after it.
+    pub(crate) fn ids<'a>(self) -> &'a [&'a str]
+        ensures { map (λ id. id.now) result.now ≡ ids_of self }
+    {
+        self.row().ids
+    }
+
+    /// Whether this is its name.
+    fn is_named(self, name: &str) -> bool
+        ensures { result ≡ bytes_eq (name_of self) name.now }
+    {
+        self.name() == name
+    }
+
+    /// The subcommand of this name.
+    #[tactic(auto, unfolding(crate::specs::Tasks::subcommand_named))]
+    pub(crate) fn of_name(name: &str) -> Option<Subcommand>
+        ensures { result ≡ subcommand_named name.now }
+    {
+        first_named(Subcommand::all(), name).copied()
+    }
+
+    /// The task that it names with these words, which are as many as it requires. None if the
+    /// state is `stdin` and has to be written anew, or if a word names no timing point or no day.
+    pub(crate) fn task(self, words: &[&str]) -> Option<Task>
+        requires { length words.now ≡ length (ids_of self) }
+        ensures { IsTaskOf self (texts words.now) (option_map task_meant result) }
+    {
+        match self {
+            Subcommand::New => unless_stdin(words[0], Task::New),
+            Subcommand::Check => Some(Task::Check),
+            Subcommand::Day => {
+                let (place, day) = place_and_day(words[1], words[2])?;
+                Some(Task::Day { place, day })
+            }
+            Subcommand::Take => unless_stdin(words[0], Task::Take),
+            Subcommand::Merge => unless_stdin(words[0], Task::Merge),
+            Subcommand::Print => {
+                let (place, day) = place_and_day(words[1], words[2])?;
+                Some(Task::Print { place, day })
+            }
+            Subcommand::Files => Some(Task::Files),
+            Subcommand::Horizon => {
+                let day = Day::from_iso(words[1])?;
+                unless_stdin(words[0], Task::Horizon { day })
+            }
+            Subcommand::Migrate => unless_stdin(words[0], Task::Migrate),
+        }
+    }
+}
+
+/// The usage line: the names and the words of the table.
+pub(crate) fn usage<'a>() -> &'a [u8]
+    ensures { result.now ≡ usage_line }
+{
+    b"docker: usage: new STATE | check FILE | day FILE TIPLOC DATE | take STATE FILE | merge STATE OTHER | print STATE TIPLOC DATE | files STATE | horizon STATE DATE | migrate STATE\n"
+}
+
+/// The first of some subcommands that has this name.
+fn first_named<'a>(subcommands: &'a [Subcommand], name: &str) -> Option<&'a Subcommand>
+    ensures { option_copied result
+        ≡ find (λ subcommand. bytes_eq (name_of subcommand) name.now) subcommands.now }
+{
+    subcommands
+        .iter()
+        .find(|subcommand| subcommand.is_named(name))
+}
+
+/// The task, if its state can be written anew: standard input can't.
+fn unless_stdin(state: &str, task: Task) -> Option<Task>
+    ensures { result ≡ if bytes_eq state.now (codes "stdin") then None else Some task }
+{
+    if state == "stdin" { None } else { Some(task) }
+}
+
+/// The timing point and the day that two words name.
+fn place_and_day(tiploc: &str, date: &str) -> Option<(Tiploc, Day)>
+    ensures pair { IfSome result (λ pair. NamesPlace tiploc.now pair.0 × NamesDay date.now pair.1) }
+    ensures none { IsNone result → (place : _) (day : _) → NamesPlace tiploc.now place
+        → ¬ NamesDay date.now day }
+{
+    let place = Tiploc::from_text(tiploc)?;
+    let day = Day::from_iso(date)?;
+    Some((place, day))
+}
 
 /// What a job asks for: its subcommand, with the timing point and the day that its words name.
 #[derive(Clone, Copy, PartialEq, Eq, Debug)]
 pub enum Task {
-    /// `new STATE`.
+    /// `new`.
     New,
-    /// `check FILE`.
+    /// `check`.
     Check,
-    /// `day FILE TIPLOC DATE`.
+    /// `day`.
     Day {
         /// The timing point.
         place: Tiploc,
         /// The day.
         day: Day,
     },
-    /// `take STATE FILE`.
+    /// `take`.
     Take,
-    /// `merge STATE OTHER`.
+    /// `merge`.
     Merge,
-    /// `print STATE TIPLOC DATE`.
+    /// `print`.
     Print {
         /// The timing point.
         place: Tiploc,
         /// The day.
         day: Day,
     },
-    /// `files STATE`.
+    /// `files`.
     Files,
-    /// `horizon STATE DATE`.
+    /// `horizon`.
     Horizon {
         /// The day.
         day: Day,
     },
-    /// `migrate STATE`.
+    /// `migrate`.
     Migrate,
 }
 
@@ -82,19 +258,12 @@ impl Task {
             _ => None,
         }
     }
+
     /// What it reads.
     pub fn reads(self) -> Sources
         ensures { sources_meant result ≡ sources_of (task_meant self) }
     {
-        match self {
-            Task::New => Sources::None,
-            Task::Check => Sources::CheckedFile,
-            Task::Day { .. } => Sources::TakenFile,
-            Task::Take => Sources::StateAndFile,
-            Task::Merge => Sources::TwoStates,
-            Task::Print { .. } | Task::Files | Task::Horizon { .. } => Sources::State,
-            Task::Migrate => Sources::OlderState,
-        }
+        self.subcommand().row().reads
     }
 
     /// What it writes after reading.

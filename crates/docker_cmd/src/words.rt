@@ -8,7 +8,7 @@ ghost use Rattle.docker_cmd.specs.Words.{is_plain_word, texts};
 
 use crate::grammar::matches;
 use crate::job_fault::JobFault;
-use crate::subcommands::Subcommand;
+use crate::tasks::Subcommand;
 use arrayvec::ArrayVec;
 use clap::ArgMatches;
 use clap::error::ErrorKind;

@@ -16,8 +16,7 @@ use Rattle.cif_file.specs.SourceRead.{Held}
 use Rattle.docker_cmd.specs.Office.{HoldsState}
 use Rattle.docker_cmd.specs.SourceRead.{ReadsState}
 use Rattle.docker_cmd.specs.OfficeFault.{OfficeFault}
-use Rattle.docker_cmd.specs.Words.{NamesDay, Text}
-use Rattle.docker_cmd.specs.Job.{OfOne}
+use Rattle.docker_cmd.specs.Words.{NamesDay, OfOne, Text}
 use Rattle.docker_desk.specs.Lines.{LineView, whole_line, bad_line, cut_line}
 use Rattle.docker_cmd.specs.JobLine.{words_in}
 use Rattle.docker_desk.specs.Requests.{RequestView, behind_word, print_request, train_request, files_request, renew_request, take_request, merge_request, horizon_request, save_request}

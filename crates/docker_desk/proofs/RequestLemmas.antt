@@ -1,10 +1,13 @@
 -- What a line asks for, word by word.
-use Rattle.std.proofs.Common.{◌≡◌, ℕ, List, [], ◌∷◌, None, subst}
-use Rattle.docker_cmd.specs.Words.{NamesDay, Text}
-use Rattle.docker_cmd.specs.Job.{OfTwo}
+use Rattle.std.proofs.Common.{◌≡◌, ◌∙◌, ℕ, Bool, true, false, cond, List, [], ◌∷◌, Some, None, refl, sym, ap, subst}
+use Rattle.std.specs.Prelude.{Option, find}
+use Rattle.std.specs.Str.{bytes_eq}
+use Rattle.std.proofs.lemmas.Slice.Eq.{bytes_eq-Decides}
+use Rattle.docker_cmd.specs.Words.{NamesDay, OfTwo, Text}
 use Rattle.docker_cmd.specs.JobLine.{words_in}
-use Rattle.docker_desk.specs.Requests.{FitsRest, NamesTrain, print_request, train_request, files_request, renew_request, take_request, merge_request, horizon_request, save_request}
-use Rattle.docker_desk.specs.declared.verbs.Verb.TheVariants as verb
+use Rattle.docker_desk.specs.Requests.{AsksFor, HasRest, IsRequestOf, RequestView, behind_word, first_word, is_writing, name_of, verb_named, verb_of, verbs, FitsRest, NamesTrain, print_request, train_request, files_request, renew_request, take_request, merge_request, horizon_request, save_request}
+use Rattle.docker_desk.specs.declared.requests.Verb.{Verb}
+use Rattle.docker_desk.specs.declared.requests.Verb.TheVariants as verb
 
 -- if two words aren't a train and a day, no train is asked for
 pub no_train : (rest : List ℕ) (word date : Text) → words_in rest ≡ word ∷ date ∷ []
@@ -18,3 +21,62 @@ no_train rest word date two none (take_request file) same has = cc
 no_train rest word date two none (merge_request other) same has = cc
 no_train rest word date two none (horizon_request day) same has = cc
 no_train rest word date two none save_request same has = cc
+
+-- ---- names
+
+-- a verb is found by its name
+named_back : (v : Verb) → verb_named (name_of v) ≡ Some v
+unfolding verb_named
+named_back verb.Print = refl
+named_back verb.Train = refl
+named_back verb.Files = refl
+named_back verb.Renew = refl
+named_back verb.Take = refl
+named_back verb.Merge = refl
+named_back verb.Horizon = refl
+named_back verb.Save = refl
+
+-- a verb that is found by a name has this name
+found_name : (word : Text) (v : Verb) (vs : List Verb) → find (λ u. bytes_eq (name_of u) word) vs ≡ Some v → word ≡ name_of v
+found_name word v [] found = absurd (cc)
+found_name word v (u ∷ vs) found = by (bytes_eq (name_of u) word) refl found (found_name word v vs)
+  where
+    by : (test : Bool) → bytes_eq (name_of u) word ≡ test → cond test (Some u) (find (λ w. bytes_eq (name_of w) word) vs) ≡ Some v
+        → (find (λ w. bytes_eq (name_of w) word) vs ≡ Some v → word ≡ name_of v) → word ≡ name_of v
+    by true same one rest =
+        let this : u ≡ v = cc in
+        sym ((bytes_eq-Decides (name_of u) word).0 same) ∙ ap name_of this
+    by false differ found rest = rest found
+
+name_back : (word : Text) (v : Verb) → verb_named word ≡ Some v → word ≡ name_of v
+unfolding verb_named
+name_back word v found = found_name word v verbs found
+
+-- ---- requests
+
+-- a line whose first word is no verb asks for nothing
+pub no_verb : (may_write : Bool) (line : List ℕ) (word : Text) → word ≡ first_word line → None ≡ verb_named word → AsksFor may_write line None
+no_verb may_write line word first none = λ request is.
+    let never : None ≡ Some (verb_of request) = none ∙ ap verb_named (first ∙ is.name) ∙ named_back (verb_of request) in
+    cc
+
+module _ (may_write : Bool) (line : List ℕ) (word : Text) (v : Verb) (first : word ≡ first_word line) (found : Some v ≡ verb_named word) where
+  -- its verb is the request's
+  of_request : (request : RequestView) → IsRequestOf may_write line request → verb_of request ≡ v
+  of_request request is =
+      let one : Some v ≡ Some (verb_of request) = found ∙ ap verb_named (first ∙ is.name) ∙ named_back (verb_of request) in
+      cc
+
+  -- a verb that isn't allowed asks for nothing
+  pub not_allowed : ((is_writing v ≡ true → may_write ≡ true) → ⊥) → AsksFor may_write line None
+  not_allowed never = λ request is. never (subst (λ u. is_writing u ≡ true → may_write ≡ true) (of_request request is) is.allowed)
+
+  -- a verb that is allowed asks for what its rest fits
+  pub asked_by : (rest : List ℕ) (request : Option RequestView) → rest ≡ behind_word line → (is_writing v ≡ true → may_write ≡ true) → FitsRest v rest request
+      → AsksFor may_write line request
+  asked_by rest None behind allowed fits = λ request is. fits request (of_request request is) (subst (HasRest request) (sym behind) is.rest)
+  asked_by rest (Some request) behind allowed fits = record {
+    name = sym first ∙ name_back word v (sym found) ∙ ap name_of (sym fits.0);
+    rest = subst (HasRest request) behind fits.1;
+    allowed = subst (λ u. is_writing u ≡ true → may_write ≡ true) (sym fits.0) allowed;
+  }

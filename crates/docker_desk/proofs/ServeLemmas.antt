@@ -10,7 +10,7 @@ use Rattle.docker_program.specs.Devices.{IsCounted}
 use Rattle.docker_program.specs.Past.{with_look}
 use Rattle.docker_program.specs.Program.{FaultSink}
 use Rattle.docker_desk.specs.Desk.{DeskView}
-use Rattle.docker_desk.specs.Replies.{usage_line}
+use Rattle.docker_desk.specs.Requests.{usage_line}
 use Rattle.docker_desk.specs.declared.ending.Ending.{Ending}
 use Rattle.docker_desk.specs.declared.ending.Ending.TheVariants.{Ended, InputFailed, InputEndless, OutputFailed}
 use Rattle.docker_desk.specs.Moments.{Moment, setting}

@@ -1,14 +1,10 @@
 -- The words of a line: the first word, and the others.
-use Rattle.std.proofs.Common.{◌≡◌, ◌≢◌, ℕ, ◌+◌, ◌<◌, ◌≤◌, List, [], ◌∷◌, ◌++◌, length, take, drop, ap, ◌∙◌, refl, sym, subst, Bool, true, false, cond, suc, arith, rules, tests, append-nil, length-drop, inl, inr, get_or}
-use Rattle.std.specs.Prelude.{◌==◌, not, filter, ◌&&◌, ◌⊎◌, nat_le}
-use Rattle.std.specs.List.{slice_split, position_or_len, before_first, after_first, AllByRecursion, AllPass}
-use Rattle.std.specs.Str.{IsAscii}
+use Rattle.std.proofs.Common.{◌≡◌, ◌≢◌, ℕ, ◌+◌, ◌<◌, ◌≤◌, List, [], ◌∷◌, ◌++◌, length, take, drop, ap, ◌∙◌, refl, sym, subst, Bool, true, false, cond, suc, arith, rules, tests, append-nil, length-drop}
+use Rattle.std.specs.Prelude.{◌==◌, not, filter}
+use Rattle.std.specs.List.{slice_split, position_or_len, before_first, after_first, AllByRecursion}
 use Rattle.std.proofs.lemmas.List.{length-take-le, take_all}
 use Rattle.std.proofs.lemmas.List.Elements.{All-from_recursion}
 use Rattle.std.proofs.lemmas.List.Splits.{slice_split-cons_yes, slice_split_first, slice_split_none}
-use Rattle.std.proofs.lemmas.Str.Ascii.{IsAscii-from_all}
-use Rattle.std.proofs.lemmas.Bool.Decides.{leb_tells}
-use Rattle.docker_model.specs.records.Record.{is_printable}
 use Rattle.docker_cmd.specs.JobLine.{is_space, word_or_none, words_in}
 use Rattle.docker_desk.specs.Requests.{behind_word, first_word, without_spaces}
 
@@ -178,21 +174,3 @@ word_stays (b ∷ text) some = by (is_space b) refl some
 pub spaces_nowhere : (text : List ℕ) → position_or_len is_space text ≡ length text → without_spaces text ≡ text
 spaces_nowhere [] end = refl
 spaces_nowhere (b ∷ text) end = (λ i. cond ((no_space (b ∷ text) end).0 i) (without_spaces text) (b ∷ text))
-
--- ---- a line as text
-
--- a printable byte is ASCII
-printable_small : (b : ℕ) → is_printable b ≡ true → b < 128
-printable_small b good = by (leb_tells b 126) good
-  where
-    by : ((nat_le b 126 ≡ true) × (b ≤ 126)) ⊎ ((nat_le b 126 ≡ false) × (126 < b)) → (nat_le 32 b && nat_le b 126) ≡ true → b < 128
-    by (inl small) good = omega (arith, small.1)
-    by (inr large) good = absurd (under (nat_le 32 b) (nat_le b 126) large.0 good)
-      where
-        under : (one two : Bool) → two ≡ false → (one && two) ≡ true → ⊥
-        under true two false_ both = cc
-        under false two false_ both = cc
-
--- so a line is ASCII
-pub line_ascii : (line : List ℕ) → AllPass is_printable line → IsAscii line
-line_ascii line good = IsAscii-from_all line (λ k d within. printable_small (get_or line k d) (good k d within))

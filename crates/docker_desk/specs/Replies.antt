@@ -1,9 +1,10 @@
 -- The answers to requests.
-use Rattle.std.specs.Prelude.{ℕ, List, [], codes}
+use Rattle.std.specs.Prelude.{ℕ, List, []}
 use Rattle.docker_cmd.specs.OfficeFault.{OfficeFault}
 use Rattle.docker_cmd.specs.FaultLine.{fault_line, status_of}
 use Rattle.docker_cmd.specs.declared.fault.Fault.TheVariants.{Office}
 use Rattle.docker_desk.specs.Answers.{answer_text}
+use Rattle.docker_desk.specs.Requests.{usage_line}
 use Rattle.docker_desk.specs.declared.reply.Answer.{Answer}
 use Rattle.docker_desk.specs.declared.reply.Answer.TheVariants as code
 
@@ -19,10 +20,6 @@ answer_meant (code.Text page) = done_with page.text
 answer_meant code.Done = done_with []
 answer_meant (code.Refused fault) = refused_for fault
 answer_meant code.Usage = no_request
-
--- the line that answers a line that asks for nothing
-abbrev pub usage_line : List ℕ
-usage_line = codes "desk: usage: [--write] STATE, and then a line for each request: print TIPLOC DATE | train UID DATE | files | renew | with --write take FILE | merge OTHER | horizon DATE | save\n"
 
 -- the status of an answer
 abbrev pub status_told : AnswerView → ℕ

@@ -1,13 +1,13 @@
 -- What a line asks for. Its first word names a request, and what comes after that word has to fit.
-use Rattle.std.specs.Prelude.{◌≡◌, ℕ, Bool, true, false, if◌then◌else◌, List, [], ◌∷◌, Option, Some, None, IsTrue, codes}
+use Rattle.std.specs.Prelude.{◌≡◌, ℕ, Bool, true, false, not, if◌then◌else◌, List, [], ◌∷◌, ◌++◌, Option, Some, None, IsTrue, codes, filter, find, map}
 use Rattle.std.specs.Str.{bytes_eq}
 use Rattle.std.specs.List.{before_first, after_first}
 use Rattle.docker_model.specs.records.Record.{IsTextOfLength}
-use Rattle.docker_cmd.specs.Words.{Text, NamesDay, NamesPlace, NamesStored, is_plain_word}
-use Rattle.docker_cmd.specs.Job.{OfOne, OfTwo}
+use Rattle.docker_cmd.specs.Words.{NamesDay, NamesPlace, NamesStored, OfOne, OfTwo, Text, is_plain_word, usage_with, with_bars}
 use Rattle.docker_cmd.specs.JobLine.{is_space, words_in}
-use Rattle.docker_desk.specs.declared.verbs.Verb.{Verb}
-use Rattle.docker_desk.specs.declared.verbs.Verb.TheVariants as verb
+use Rattle.docker_desk.specs.declared.requests.RequestRow as given
+use Rattle.docker_desk.specs.declared.requests.Verb.{Verb}
+use Rattle.docker_desk.specs.declared.requests.Verb.TheVariants as verb
 use Rattle.docker_desk.specs.declared.requests.Request.{Request}
 use Rattle.docker_desk.specs.declared.requests.Request.TheVariants as code
 
@@ -44,40 +44,57 @@ verb_of (merge_request other) = verb.Merge
 verb_of (horizon_request day) = verb.Horizon
 verb_of save_request = verb.Save
 
+-- a row of the table of requests: the word, the names of what comes after it, and whether the
+-- request changes what is known, or the file; then it is allowed only if the desk may write
+pub record RequestRow : Type 0 where
+  pub name : Text
+  pub ids : List Text
+  pub writes : Bool
+
+-- a row with these columns
+abbrev pub row : Text → List Text → Bool → RequestRow
+row name ids writes = record { name = name; ids = ids; writes = writes }
+
+-- the row that a row of the code's type means
+abbrev pub row_meant : given.RequestRow → RequestRow
+row_meant it = row it.name.now (map (λ id. id.now) it.ids.now) it.writes
+
+-- the table
+abbrev pub row_of : Verb → RequestRow
+row_of verb.Print = row (codes "print") (codes "TIPLOC" ∷ codes "DATE" ∷ []) false
+row_of verb.Train = row (codes "train") (codes "UID" ∷ codes "DATE" ∷ []) false
+row_of verb.Files = row (codes "files") [] false
+row_of verb.Renew = row (codes "renew") [] false
+row_of verb.Take = row (codes "take") (codes "FILE" ∷ []) true
+row_of verb.Merge = row (codes "merge") (codes "OTHER" ∷ []) true
+row_of verb.Horizon = row (codes "horizon") (codes "DATE" ∷ []) true
+row_of verb.Save = row (codes "save") [] true
+
+-- all of these words
+abbrev pub verbs : List Verb
+verbs = verb.Print ∷ verb.Train ∷ verb.Files ∷ verb.Renew ∷ verb.Take ∷ verb.Merge ∷ verb.Horizon ∷ verb.Save ∷ []
+
 -- the bytes of such a word
 abbrev pub name_of : Verb → Text
-name_of verb.Print = codes "print"
-name_of verb.Train = codes "train"
-name_of verb.Files = codes "files"
-name_of verb.Renew = codes "renew"
-name_of verb.Take = codes "take"
-name_of verb.Merge = codes "merge"
-name_of verb.Horizon = codes "horizon"
-name_of verb.Save = codes "save"
+name_of verb = (row_of verb).name
+
+-- whether a request with this word needs a desk that may write
+abbrev pub is_writing : Verb → Bool
+is_writing verb = (row_of verb).writes
 
 -- the word that has these bytes
-abbrev pub verb_named : Text → Option Verb
-verb_named name =
-    if bytes_eq name (codes "print") then Some verb.Print else
-    (if bytes_eq name (codes "train") then Some verb.Train else
-    (if bytes_eq name (codes "files") then Some verb.Files else
-    (if bytes_eq name (codes "renew") then Some verb.Renew else
-    (if bytes_eq name (codes "take") then Some verb.Take else
-    (if bytes_eq name (codes "merge") then Some verb.Merge else
-    (if bytes_eq name (codes "horizon") then Some verb.Horizon else
-    (if bytes_eq name (codes "save") then Some verb.Save else None)))))))
+unfoldable pub verb_named : Text → Option Verb
+verb_named name = find (λ verb. bytes_eq (name_of verb) name) verbs
 
--- whether a request with this word changes what is known, or the file; then it is allowed only if
--- the desk may write
-abbrev pub is_writing : Verb → Bool
-is_writing verb.Print = false
-is_writing verb.Train = false
-is_writing verb.Files = false
-is_writing verb.Renew = false
-is_writing verb.Take = true
-is_writing verb.Merge = true
-is_writing verb.Horizon = true
-is_writing verb.Save = true
+-- the requests of these words, as the usage line has them
+abbrev pub usages : List Verb → Text
+usages requests = with_bars (map (λ verb. usage_with (name_of verb) (row_of verb).ids) requests)
+
+-- the line that answers a line that asks for nothing
+abbrev pub usage_line : Text
+usage_line =
+    codes "desk: usage: [--write] STATE, and then a line for each request: " ++ usages (filter (λ verb. not (is_writing verb)) verbs)
+    ++ codes " | with --write " ++ usages (filter is_writing verbs) ++ codes "\n"
 
 -- a text without the spaces that it begins with
 abbrev pub without_spaces : List ℕ → List ℕ

@@ -8,12 +8,11 @@ use Rattle.docker_cmd.specs.OfficeFault.{OfficeFault}
 use Rattle.docker_cmd.specs.Prepared.{DeviceBytes, most_bytes}
 use Rattle.docker_cmd.specs.Words.{Text}
 use Rattle.docker_cmd.specs.declared.fault.Fault.TheVariants.{Office}
-use Rattle.docker_desk.specs.Requests.{NamesFile}
+use Rattle.docker_desk.specs.Requests.{NamesFile, usage_line}
 use Rattle.docker_program.specs.Devices.{IsCounted}
 use Rattle.docker_program.specs.Past.{Past, with_look}
 use Rattle.docker_program.specs.Program.{FaultSink}
 use Rattle.docker_desk.specs.Desk.{DeskView, RefusesToReceive}
-use Rattle.docker_desk.specs.Replies.{usage_line}
 use Rattle.docker_desk.specs.declared.ending.Ending.{Ending}
 use Rattle.docker_desk.specs.declared.ending.Ending.TheVariants.{Ended, InputFailed, InputEndless, OutputFailed}
 use Rattle.docker_desk.specs.Moments.{Moment, setting}

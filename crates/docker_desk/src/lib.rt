@@ -18,7 +18,6 @@ mod saving;
 mod serving;
 mod session;
 mod terms;
-mod verbs;
 mod words;
 
 pub use ahead::Ahead;
@@ -30,7 +29,7 @@ pub use lines::{Asked, InputFault, next_line};
 pub use opening::open_session;
 pub use page::Page;
 pub use program::serve;
-pub use reply::{Answer, USAGE, write_reply};
+pub use reply::{Answer, write_reply};
 pub use requests::{Request, file_named, request_in};
 pub use serving::{serve_lines, serve_next};
 pub use session::Session;

@@ -7,7 +7,7 @@ ghost use Rattle.docker_desk.specs.Serving.{FailsOnce, Serves, around, failures}
 
 use crate::ending::{end_session, tell_line};
 use crate::opening::open_session;
-use crate::reply::USAGE;
+use crate::requests::usage;
 use crate::serving::serve_lines;
 use crate::terms::terms_in;
 use cif_line::{Sink, Source};
@@ -51,7 +51,7 @@ where
         → S.passed stdin.new ≡ S.passed stdin.old }
 {
     let Some(terms) = terms_in(words) else {
-        tell_line(USAGE, faults);
+        tell_line(usage(), faults);
         return 2;
     };
     match open_session(alloc, terms.name, files, store) {

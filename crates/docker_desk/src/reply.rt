@@ -8,12 +8,9 @@ ghost use Rattle.docker_desk.specs.Replies.{answer_meant, bytes_told};
 
 use crate::answers::write_answer;
 use crate::page::Page;
+use crate::requests::usage;
 use cif_line::{Failed, Sink};
 use docker_cmd::{Fault, OfficeFault, fault_text, status};
-
-/// The line that answers a line that asks for nothing.
-pub const USAGE: &[u8] =
-    b"desk: usage: [--write] STATE, and then a line for each request: print TIPLOC DATE | train UID DATE | files | renew | with --write take FILE | merge OTHER | horizon DATE | save\n";
 
 /// The answer to a request.
 #[derive(Debug, Drop)]
@@ -42,7 +39,7 @@ pub fn write_reply<K: Sink>(answer: &Answer, sink: &mut K) -> Result<(), Failed>
         Answer::Text(page) => write_answer(0, page.text(), sink),
         Answer::Done => write_answer(0, b"", sink),
         Answer::Refused(fault) => write_refusal(fault, sink),
-        Answer::Usage => write_answer(2, USAGE, sink),
+        Answer::Usage => write_answer(2, usage(), sink),
     }
 }
 

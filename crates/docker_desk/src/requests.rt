@@ -1,45 +1,167 @@
-//! What a line asks for.
-ghost use Rattle.std.specs.Prelude.{◌≡◌, ◌≢◌, ℕ, List, [], option_map, IfSome, IsNone, IsSome};
+//! The table of requests, with a row for each, and what a line asks for.
+ghost use Rattle.std.specs.Prelude.{◌≡◌, ◌≢◌, ◌↔◌, ℕ, List, [], option_map, IfSome, IsNone, IsSome, find, true};
+ghost use Rattle.std.specs.Option.{option_copied};
+ghost use Rattle.std.specs.Str.{bytes_eq};
 ghost use Rattle.docker_cmd.specs.JobLine.{IsLineText, words_in};
-ghost use Rattle.docker_desk.specs.Requests.{AsksFor, FitsRest, NamesFile, NamesTrain, request_meant};
+ghost use Rattle.docker_desk.specs.Requests.{AsksFor, FitsRest, NamesFile, NamesTrain, is_writing, name_of, request_meant, row_meant, row_of, usage_line, verb_named, verbs};
 ghost use Rattle.docker_cmd.specs.Words.{is_plain_word};
-ghost use Rattle.docker_desk.specs.declared.verbs.Verb.TheVariants as verb;
+ghost use Rattle.docker_desk.specs.declared.requests.Verb.TheVariants as verb;
 
-use crate::verbs::Verb;
-use crate::words::{has_word, next_word, one_word, text_of, two_words};
+use crate::words::{has_word, next_word, one_word, two_words};
 use cif_line::{Day, Tiploc, Uid};
+use docker_cmd::text_of;
+
+/// The words that name requests.
+#[derive(Clone, Copy, PartialEq, Eq, Debug)]
+pub enum Verb {
+    /// The docker of a timing point on a day.
+    Print,
+    /// The schedule that is chosen for a train on a day.
+    Train,
+    /// The files that are known.
+    Files,
+    /// Joins what is known with what the state's file holds.
+    Renew,
+    /// Adds one file to what is known.
+    Take,
+    /// Joins what is known with another state.
+    Merge,
+    /// Sets a horizon, which may be later.
+    Horizon,
+    /// Writes what is known to the state's file.
+    Save,
+}
+
+/// A row of the table of requests.
+#[derive(Clone, Copy, Debug)]
+struct RequestRow<'a> {
+    /// The word.
+    name: &'a str,
+    /// The names of what comes after it.
+    ids: &'a [&'a str],
+    /// Whether only a desk that may write allows it.
+    writes: bool,
+}
+
+impl<'a> RequestRow<'a> {
+    /// The row with these columns.
+    fn of(name: &'a str, ids: &'a [&'a str], writes: bool) -> RequestRow<'a>
+        ensures name { result.name.now ≡ name.now }
+        ensures ids { result.ids.now ≡ ids.now }
+        ensures writes { result.writes ≡ writes }
+    {
+        RequestRow { name, ids, writes }
+    }
+}
+
+impl Verb {
+    /// All of them, in the order of the usage line.
+    fn all<'a>() -> &'a [Verb]
+        ensures { result.now ≡ verbs }
+    {
+        &[
+            Verb::Print,
+            Verb::Train,
+            Verb::Files,
+            Verb::Renew,
+            Verb::Take,
+            Verb::Merge,
+            Verb::Horizon,
+            Verb::Save,
+        ]
+    }
+
+    /// Its row of the table.
+    fn row<'a>(self) -> RequestRow<'a>
+        ensures { row_meant result ≡ row_of self }
+    {
+        match self {
+            Verb::Print => RequestRow::of("print", &["TIPLOC", "DATE"], false),
+            Verb::Train => RequestRow::of("train", &["UID", "DATE"], false),
+            Verb::Files => RequestRow::of("files", &[], false),
+            Verb::Renew => RequestRow::of("renew", &[], false),
+            Verb::Take => RequestRow::of("take", &["FILE"], true),
+            Verb::Merge => RequestRow::of("merge", &["OTHER"], true),
+            Verb::Horizon => RequestRow::of("horizon", &["DATE"], true),
+            Verb::Save => RequestRow::of("save", &[], true),
+        }
+    }
+
+    /// Whether this is its name.
+    fn is_named(self, name: &str) -> bool
+        ensures { result ≡ bytes_eq (name_of self) name.now }
+    {
+        self.row().name == name
+    }
+
+    /// The verb of this name.
+    #[tactic(auto, unfolding(crate::specs::Requests::verb_named))]
+    fn of_name(name: &str) -> Option<Verb>
+        ensures { result ≡ verb_named name.now }
+    {
+        first_named(Verb::all(), name).copied()
+    }
+
+    /// Whether only a desk that may write allows it.
+    fn is_writing(self) -> bool
+        ensures { result ≡ is_writing self }
+    {
+        self.row().writes
+    }
+
+    /// Whether a desk allows it that may or may not write.
+    fn is_allowed(self, may_write: bool) -> bool
+        ensures { (result ≡ true) ↔ (is_writing self ≡ true → may_write ≡ true) }
+    {
+        may_write || !self.is_writing()
+    }
+}
+
+/// The usage line: the names of the table and what comes after them.
+pub(crate) fn usage<'a>() -> &'a [u8]
+    ensures { result.now ≡ usage_line }
+{
+    b"desk: usage: [--write] STATE, and then a line for each request: print TIPLOC DATE | train UID DATE | files | renew | with --write take FILE | merge OTHER | horizon DATE | save\n"
+}
+
+/// The first of some verbs that has this name.
+fn first_named<'a>(verbs: &'a [Verb], name: &str) -> Option<&'a Verb>
+    ensures { option_copied result ≡ find (λ verb. bytes_eq (name_of verb) name.now) verbs.now }
+{
+    verbs.iter().find(|verb| verb.is_named(name))
+}
 
 /// A request.
 #[derive(Clone, Copy, Debug)]
 pub enum Request<'a> {
-    /// `print TIPLOC DATE`: the docker of a timing point on a day.
+    /// `print`.
     Print {
         /// The timing point.
         place: Tiploc,
         /// The day.
         day: Day,
     },
-    /// `train UID DATE`: the schedule that is chosen for a train on a day.
+    /// `train`.
     Train {
         /// The train.
         uid: Uid,
         /// The day.
         day: Day,
     },
-    /// `files`: the files that are known.
+    /// `files`.
     Files,
-    /// `renew`: joins what is known with what the state's file holds.
+    /// `renew`.
     Renew,
-    /// `take FILE`: adds one file to what is known.
+    /// `take`, with the file.
     Take(&'a str),
-    /// `merge OTHER`: joins what is known with another state.
+    /// `merge`, with the other state.
     Merge(&'a str),
-    /// `horizon DATE`: sets a horizon, which may be later.
+    /// `horizon`.
     Horizon {
         /// The day.
         day: Day,
     },
-    /// `save`: writes what is known to the state's file.
+    /// `save`.
     Save,
 }
 
@@ -51,10 +173,10 @@ pub fn request_in(line: &[u8], may_write: bool) -> Option<Request<'_>>
 {
     let (name, rest) = next_word(text_of(line))?;
     let verb = Verb::of_name(name)?;
-    if verb.is_writing() && !may_write {
-        return None;
+    if verb.is_allowed(may_write) {
+        return request_of(verb, rest);
     }
-    request_of(verb, rest)
+    None
 }
 
 /// The request with this name and this rest.

@@ -1,34 +1,9 @@
 //! The words of a line.
-ghost use Rattle.std.specs.Prelude.{◌≡◌, ◌+◌, ◌<◌, [], ◌∷◌, length, MatchOption, IfSome, IsNone, ◌↔◌, false, option_map};
-ghost use Rattle.std.specs.List.{position_or_len, before_first, after_first};
-ghost use Rattle.docker_cmd.specs.JobLine.{IsLineText, is_space, words_in};
+ghost use Rattle.std.specs.Prelude.{◌≡◌, [], ◌∷◌, IfSome, IsNone, ◌↔◌, false, option_map};
+ghost use Rattle.docker_cmd.specs.JobLine.{words_in};
 ghost use Rattle.docker_desk.specs.Requests.{HasOneWord, HasTwoWords, behind_word, first_word, without_spaces};
 
-use std::str;
-
-/// A line as text.
-pub(crate) fn text_of(line: &[u8]) -> &str
-    requires { IsLineText line.now }
-    ensures { result.now ≡ line.now }
-{
-    match str::from_utf8(line) {
-        Ok(text) => text,
-        Err(_) => unreachable!(),
-    }
-}
-
-/// The piece before the first space, and what comes after the space.
-fn split_at_space(text: &str) -> Option<(&str, &str)>
-    ensures pieces { MatchOption result (position_or_len is_space text.now
-        ≡ length text.now) (λ parts.
-        (parts.0.now ≡ before_first is_space text.now)
-        × (parts.1.now ≡ after_first is_space text.now)
-        × (position_or_len is_space text.now < length text.now)) }
-    ensures lengths { IfSome result (λ parts.
-        length parts.0.now + 1 + length parts.1.now ≡ length text.now) }
-{
-    text.split_once(' ')
-}
+use docker_cmd::split_at_space;
 
 /// A text without the spaces that it begins with.
 fn without_spaces(text: &str) -> &str

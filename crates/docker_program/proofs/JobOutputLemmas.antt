@@ -4,7 +4,8 @@ use Rattle.std.specs.Prelude.{ℕ, List, [], ◌++◌, Option, Result, ⊤}
 use Rattle.cif_line.specs.Device.{Takes}
 use Rattle.cif_file.specs.SourceRead.{Held}
 use Rattle.docker_cmd.specs.Words.{Text}
-use Rattle.docker_cmd.specs.Writes.{Output, counts_written, docker_written, files_written, state_written, output_of}
+use Rattle.docker_cmd.specs.Writes.{Output, counts_written, docker_written, files_written, state_written}
+use Rattle.docker_cmd.specs.Tasks.{output_of}
 use Rattle.docker_cmd.specs.FaultLine.{status_of}
 use Rattle.docker_cmd.specs.Prepared.{DeviceBytes, EndsEmitting, GainsOutput, IsDocker, IsRefusedDocker, PreparedView, ReadView, file_read, office_read}
 use Rattle.docker_cmd.specs.OfficeFault.{OfficeFault}

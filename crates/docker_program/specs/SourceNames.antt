@@ -4,8 +4,9 @@ use Rattle.std.specs.Str.{bytes_eq}
 use Rattle.docker_cmd.specs.Words.{Text}
 use Rattle.docker_cmd.specs.Job.{JobView}
 use Rattle.docker_cmd.specs.Reads as reads
-use Rattle.docker_cmd.specs.Reads.{Sources, sources_of}
-use Rattle.docker_cmd.specs.Writes.{Output, counts_written, docker_written, files_written, state_written, output_of}
+use Rattle.docker_cmd.specs.Reads.{Sources}
+use Rattle.docker_cmd.specs.Tasks.{output_of, sources_of}
+use Rattle.docker_cmd.specs.Writes.{Output, counts_written, docker_written, files_written, state_written}
 use Rattle.docker_program.specs.declared.names.SourceNames as declared
 use Rattle.docker_program.specs.declared.names.SourceNames.TheVariants as code
 

@@ -2,7 +2,7 @@ use Rattle.std.proofs.Common.{◌≡◌, ◌∙◌, ◌<◌, ◌+◌, ◌||◌, 
 use Rattle.std.proofs.lemmas.List.{map-append, take_more}
 use Rattle.clap.specs.Words.{App, Text, with_rule}
 use Rattle.docker_cmd.specs.Grammar.{required_rule, words_shape}
-use Rattle.docker_cmd.specs.Subcommands.{name_of}
+use Rattle.docker_cmd.specs.Tasks.{name_of}
 use Rattle.docker_cmd.proofs.grammar.command_of.Goals as goal
 
 -- the program that `command_of` has made of these ids

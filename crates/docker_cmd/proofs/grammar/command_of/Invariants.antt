@@ -2,7 +2,7 @@ use Rattle.std.proofs.Common.{◌≡◌, [], false, map, take}
 use Rattle.clap.specs.Words.{app_of}
 use Rattle.clap.specs.declared.builder.Command.TheViews.{out-Command as fields_of}
 use Rattle.docker_cmd.specs.Grammar.{words_shape}
-use Rattle.docker_cmd.specs.Subcommands.{ids_of, name_of}
+use Rattle.docker_cmd.specs.Tasks.{ids_of, name_of}
 use Rattle.docker_cmd.proofs.grammar.command_of.Given as goal
 
 -- the command has the words so far

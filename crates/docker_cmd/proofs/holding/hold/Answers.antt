@@ -1,10 +1,9 @@
 use Rattle.std.proofs.Common.{◌≡◌, ◌∙◌, ap, inl, refl, sym}
 use Rattle.std.proofs.lemmas.Result.{err_from_is_err_and}
 use Rattle.docker_cmd.specs.Holding.{place_read}
-use Rattle.docker_cmd.specs.Job.{files_task, print_task, task_meant}
+use Rattle.docker_cmd.specs.Tasks.{files_task, output_of, print_task, sources_of, task_meant}
 use Rattle.docker_cmd.specs.Prepared.{office_read}
-use Rattle.docker_cmd.specs.Reads.{sources_of}
-use Rattle.docker_cmd.specs.Writes.{docker_written, output_of}
+use Rattle.docker_cmd.specs.Writes.{docker_written}
 use Rattle.docker_cmd.proofs.SourcesLemmas.{read_of_task, refused_for, some_of_task}
 use Rattle.docker_cmd.proofs.holding.hold.Goals as goal
 

@@ -1,6 +1,6 @@
 -- `auto` proves these too: they are written so that a wrong body is refused without a long search.
 use Rattle.std.proofs.Common.{rules}
-use Rattle.docker_cmd.proofs.job_of_words.place_and_day.Goals as goal
+use Rattle.docker_cmd.proofs.tasks.place_and_day.Goals as goal
 
 pub returns-in_err-place-clause-none : goal.returns-in_err-place-clause-none
 returns-in_err-place-clause-none c = search rules

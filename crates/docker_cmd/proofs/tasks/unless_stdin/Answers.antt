@@ -1,6 +1,6 @@
 -- `auto` proves these too: they are written so that a wrong body is refused without a long search.
 use Rattle.std.proofs.Common.{rules}
-use Rattle.docker_cmd.proofs.job_of_words.unless_stdin.Goals as goal
+use Rattle.docker_cmd.proofs.tasks.unless_stdin.Goals as goal
 
 pub returns-then-eq : goal.returns-then-eq
 returns-then-eq c = search rules

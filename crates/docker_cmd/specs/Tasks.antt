@@ -1,0 +1,141 @@
+-- The table of subcommands, with a row for each, and the task that each names.
+use Rattle.std.specs.Prelude.{ℕ, List, [], ◌∷◌, ◌++◌, Option, Some, None, codes, map, ⊤}
+use Rattle.std.specs.List.{find}
+use Rattle.std.specs.Str.{bytes_eq}
+use Rattle.docker_model.specs.state.StateText.{dks_1, dks_2}
+use Rattle.docker_cmd.specs.Reads.{Sources, no_source, checked_file, taken_file, one_state, state_and_file, two_states, sources_meant}
+use Rattle.docker_cmd.specs.Words.{NamesDay, NamesPlace, NamesStored, OfOne, OfThree, OfTwo, Text, usage_with, with_bars}
+use Rattle.docker_cmd.specs.Writes.{Output, counts_written, docker_written, files_written, state_written}
+use Rattle.docker_cmd.specs.declared.tasks.Row as code
+use Rattle.docker_cmd.specs.declared.tasks.Subcommand.{Subcommand}
+use Rattle.docker_cmd.specs.declared.tasks.Subcommand.TheVariants.{New, Check, Day, Take, Merge, Print, Files, Horizon, Migrate}
+use Rattle.docker_cmd.specs.declared.tasks.Task.{Task}
+use Rattle.docker_cmd.specs.declared.tasks.Task.TheVariants as task
+
+-- a row: the name of a subcommand, the names of the words after it, and what is read
+pub record Row : Type 0 where
+  pub name : Text
+  pub ids : List Text
+  pub reads : Sources
+
+-- a row with these columns
+abbrev pub row : Text → List Text → Sources → Row
+row name ids reads = record { name = name; ids = ids; reads = reads }
+
+-- the row that a row of the code's type means
+abbrev pub row_meant : code.Row → Row
+row_meant given = row given.name.now (map (λ id. id.now) given.ids.now) (sources_meant given.reads)
+
+-- the table
+abbrev pub row_of : Subcommand → Row
+row_of New = row (codes "new") (codes "STATE" ∷ []) no_source
+row_of Check = row (codes "check") (codes "FILE" ∷ []) checked_file
+row_of Day = row (codes "day") (codes "FILE" ∷ codes "TIPLOC" ∷ codes "DATE" ∷ []) taken_file
+row_of Take = row (codes "take") (codes "STATE" ∷ codes "FILE" ∷ []) state_and_file
+row_of Merge = row (codes "merge") (codes "STATE" ∷ codes "OTHER" ∷ []) two_states
+row_of Print = row (codes "print") (codes "STATE" ∷ codes "TIPLOC" ∷ codes "DATE" ∷ []) (one_state dks_2)
+row_of Files = row (codes "files") (codes "STATE" ∷ []) (one_state dks_2)
+row_of Horizon = row (codes "horizon") (codes "STATE" ∷ codes "DATE" ∷ []) (one_state dks_2)
+row_of Migrate = row (codes "migrate") (codes "STATE" ∷ []) (one_state dks_1)
+
+-- all subcommands
+abbrev pub subcommands : List Subcommand
+subcommands = New ∷ Check ∷ Day ∷ Take ∷ Merge ∷ Print ∷ Files ∷ Horizon ∷ Migrate ∷ []
+
+-- the name of a subcommand
+abbrev pub name_of : Subcommand → Text
+name_of subcommand = (row_of subcommand).name
+
+-- the names of the words after it
+abbrev pub ids_of : Subcommand → List Text
+ids_of subcommand = (row_of subcommand).ids
+
+-- the subcommand with a name
+unfoldable pub subcommand_named : Text → Option Subcommand
+subcommand_named name = find (λ subcommand. bytes_eq (name_of subcommand) name) subcommands
+
+-- the one usage line
+abbrev pub usage_line : Text
+usage_line = codes "docker: usage: " ++ with_bars (map (λ subcommand. usage_with (name_of subcommand) (ids_of subcommand)) subcommands) ++ codes "\n"
+
+-- what a job asks for: the subcommand, with the timing point and the day number that its words name
+pub data TaskView : Type 0 where
+  new_task : TaskView
+  check_task : TaskView
+  day_task : (place : List ℕ) (day : ℕ) → TaskView
+  take_task : TaskView
+  merge_task : TaskView
+  print_task : (place : List ℕ) (day : ℕ) → TaskView
+  files_task : TaskView
+  horizon_task : (day : ℕ) → TaskView
+  migrate_task : TaskView
+
+-- what the code's task means
+abbrev pub task_meant : Task → TaskView
+task_meant task.New = new_task
+task_meant task.Check = check_task
+task_meant (task.Day place day) = day_task place day
+task_meant task.Take = take_task
+task_meant task.Merge = merge_task
+task_meant (task.Print place day) = print_task place day
+task_meant task.Files = files_task
+task_meant (task.Horizon day) = horizon_task day
+task_meant task.Migrate = migrate_task
+
+-- its subcommand
+abbrev pub subcommand_of : TaskView → Subcommand
+subcommand_of new_task = New
+subcommand_of check_task = Check
+subcommand_of (day_task place day) = Day
+subcommand_of take_task = Take
+subcommand_of merge_task = Merge
+subcommand_of (print_task place day) = Print
+subcommand_of files_task = Files
+subcommand_of (horizon_task day) = Horizon
+subcommand_of migrate_task = Migrate
+
+-- its timing point, if it has one
+abbrev pub tiploc_of : TaskView → Option (List ℕ)
+tiploc_of (day_task place day) = Some place
+tiploc_of (print_task place day) = Some place
+tiploc_of _ = None
+
+-- its day, if it has one
+abbrev pub day_of : TaskView → Option ℕ
+day_of (day_task place day) = Some day
+day_of (print_task place day) = Some day
+day_of (horizon_task day) = Some day
+day_of _ = None
+
+-- the words after the subcommand that belong to it
+abbrev pub AreWordsOf : TaskView → List Text → Type 0
+AreWordsOf new_task = OfOne (λ state. NamesStored state)
+AreWordsOf check_task = OfOne (λ file. ⊤)
+AreWordsOf (day_task place day) = OfThree (λ file tiploc date. NamesPlace tiploc place × NamesDay date day)
+AreWordsOf take_task = OfTwo (λ state file. NamesStored state)
+AreWordsOf merge_task = OfTwo (λ state other. NamesStored state)
+AreWordsOf (print_task place day) = OfThree (λ state tiploc date. NamesPlace tiploc place × NamesDay date day)
+AreWordsOf files_task = OfOne (λ state. ⊤)
+AreWordsOf (horizon_task day) = OfTwo (λ state date. NamesStored state × NamesDay date day)
+AreWordsOf migrate_task = OfOne (λ state. NamesStored state)
+
+-- what it reads
+abbrev pub sources_of : TaskView → Sources
+sources_of task = (row_of (subcommand_of task)).reads
+
+-- what it writes
+abbrev pub output_of : TaskView → Output
+output_of new_task = state_written
+output_of check_task = counts_written
+output_of (day_task place day) = docker_written place day
+output_of take_task = state_written
+output_of merge_task = state_written
+output_of (print_task place day) = docker_written place day
+output_of files_task = files_written
+output_of (horizon_task day) = state_written
+output_of migrate_task = state_written
+
+-- the horizon that it sets on the state that it reads, if it sets one
+abbrev pub horizon_of : TaskView → Option ℕ
+horizon_of (horizon_task day) = Some day
+horizon_of _ = None
