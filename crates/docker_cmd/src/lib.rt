@@ -28,5 +28,6 @@ pub use line_of_job::{job_line, split_at_space, text_of};
 pub use output::emit;
 pub use prepared_job::{Prepared, prepare};
 pub use reads::Sources;
+pub use sources::MOST_BYTES;
 pub use tasks::{Subcommand, Task};
 pub use writes::Output;

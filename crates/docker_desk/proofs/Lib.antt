@@ -2,7 +2,7 @@ pub mod LineLemmas
 pub mod WordLemmas
 pub mod RequestLemmas
 pub mod WritingLemmas
-pub mod SavingLemmas
+mod ReadFiles
 mod TermsLemmas
 mod KnownLemmas
 mod FixedLemmas

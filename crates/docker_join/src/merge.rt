@@ -5,6 +5,9 @@ use std::alloc::Global;
 
 /// What can be joined. For valid values the join is commutative, associative and idempotent, if the
 /// joins succeed.
+///
+/// The programs join states only. File stamps, stamps, entries and tables can be joined too: this is
+/// a part of what the library offers, with the same laws.
 pub trait Merge: Sized {
     // the values for which the laws hold
     ghost is_valid: { Self → Type 0 };

@@ -1,3 +1,4 @@
 pub mod JobSourcesLemmas
 pub mod JobOutputLemmas
 pub mod ProgramLemmas
+pub mod SavingLemmas

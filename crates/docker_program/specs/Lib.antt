@@ -2,4 +2,5 @@ pub mod Devices
 pub mod SourceNames
 pub mod Past
 pub mod Program
+pub mod Saving
 pub mod RealDevices
