@@ -1,24 +1,68 @@
 -- What was read of two sources, from what was read of each.
-use Rattle.std.proofs.Common.{◌≡◌, ◌≢◌, ◌+◌, ◌⊎◌, ℕ, arith, refl, sym, subst, inl, inr, Err}
-use Rattle.std.specs.Prelude.{Result}
-use Rattle.cif_file.specs.SourceRead.{RefusesText}
-use Rattle.cif_file.specs.declared.fault.FileFault.{FileFault}
+use Rattle.std.proofs.Common.{◌≡◌, ◌⊎◌, ℕ, arith, refl, sym, subst, inl, inr, Err}
 use Rattle.docker_model.specs.file.File.{most_records}
-use Rattle.docker_model.specs.state.State.{State}
-use Rattle.docker_model.specs.state.StateText.{dks_2}
-use Rattle.docker_office.specs.Faults.{IsOfFile, IsOfState}
-use Rattle.docker_office.specs.Office.{WantsForFile}
-use Rattle.docker_office.specs.SourceRead.{RefusesState}
-use Rattle.docker_office.specs.StateFault.{StateFault}
+use Rattle.docker_model.specs.state.StateText.{Format, dks_2}
+use Rattle.docker_office.specs.OfficeReads.{CountsTaking, IsTakingOutcome, why_unread}
+use Rattle.docker_office.specs.ReadEnds.{CountsWhy, IsWhyUnread, StopsReading}
+use Rattle.docker_office.specs.SourceRead.{WantsMemory}
 use Rattle.docker_office.specs.declared.fault.OfficeFault.{OfficeFault}
 use Rattle.docker_office.specs.declared.fault.OfficeFault.TheVariants as office
 use Rattle.docker_cmd.specs.Reads.{sources_meant}
 use Rattle.docker_cmd.specs.declared.reads.Sources.{Sources}
-use Rattle.docker_cmd.specs.Prepared.{DeviceBytes, FailsBy, HasNoSource, HasReadToEnd, HoldsSomeState, IsContentOf, IsWhyRefused, ReadView, ReadsFew, ReadsFewOfFile, ReadsFewOfState, WantsForState, most_bytes, one_state, state_and_file, two_states}
+use Rattle.docker_cmd.specs.Prepared.{DeviceBytes, FailsBy, HasNoSource, HasReadToEnd, HoldsSomeState, IsContentOf, IsWhyRefused, ReadView, ReadsFew, ReadsFewOfFile, ReadsFewOfState, most_bytes, one_state, state_and_file, taken_file, two_states}
 
--- two answers with the same fault have the same fault
-pub same_fault : {A : Type 0} (one two : OfficeFault) → ◌≡◌ {A = Result A OfficeFault} (Err one) (Err two) → one ≡ two
-same_fault one two is = cc
+-- ---- one source
+
+-- a source that should have held a state was refused
+pub state_refused_alone : (format : Format) (first left second : DeviceBytes) (failed failed_now : ℕ) (fault : OfficeFault)
+    → StopsReading format most_bytes first left (IsWhyUnread WantsMemory format most_bytes first left (why_unread fault))
+    (CountsWhy (why_unread fault) failed failed_now)
+    → ReadsFew (one_state format) first left second second (IsWhyRefused (one_state format) first left second second fault)
+state_refused_alone format first left second failed failed_now fault ends = record { first_few = ends.few; second_few = refl; ends = by fault ends.outcome }
+  where
+    by : (fault : OfficeFault) → IsWhyUnread WantsMemory format most_bytes first left (why_unread fault)
+        → IsWhyRefused (one_state format) first left second second fault
+    by (office.File fault) why = elim why [ ]
+    by (office.State fault) why = why
+    by office.Source why = tt
+    by office.Memory why = why
+    by office.Lapsed why = why
+    by office.Sink why = why
+
+-- it failed if that is why, and another source did not
+pub state_failed_alone : (one one_now two : ℕ) (fault : OfficeFault) → CountsWhy (why_unread fault) one one_now → FailsBy one one_now two two fault
+state_failed_alone one one_now two (office.File fault) counted = elim counted [ ]
+state_failed_alone one one_now two (office.State fault) counted = (counted, refl)
+state_failed_alone one one_now two office.Source counted = omega arith
+state_failed_alone one one_now two office.Memory counted = (counted, refl)
+state_failed_alone one one_now two office.Lapsed counted = counted
+state_failed_alone one one_now two office.Sink counted = counted
+
+-- a file that an office takes was refused
+pub file_refused_alone : {A : Type 0} (IsMade : A → Type 0) (first left second : DeviceBytes) (fault : OfficeFault) → ReadsFewOfFile first left
+    → IsTakingOutcome most_records IsMade first left (Err fault)
+    → ReadsFew taken_file first left second second (IsWhyRefused taken_file first left second second fault)
+file_refused_alone IsMade first left second fault few outcome = record { first_few = few; second_few = refl; ends = by fault outcome }
+  where
+    by : (fault : OfficeFault) → IsTakingOutcome most_records IsMade first left (Err fault) → IsWhyRefused taken_file first left second second fault
+    by (office.File fault) why = why
+    by (office.State fault) why = elim why [ ]
+    by office.Source why = tt
+    by office.Memory why = why
+    by office.Lapsed why = why
+    by office.Sink why = why
+
+-- its source failed if that is why
+pub file_failed_alone : (A : Type 0) (one one_now two : ℕ) (fault : OfficeFault) → CountsTaking {A = A} one one_now (Err fault)
+    → FailsBy one one_now two two fault
+file_failed_alone A one one_now two (office.File fault) counted = (counted, refl)
+file_failed_alone A one one_now two (office.State fault) counted = elim counted [ ]
+file_failed_alone A one one_now two office.Source counted = omega arith
+file_failed_alone A one one_now two office.Memory counted = (counted, refl)
+file_failed_alone A one one_now two office.Lapsed counted = counted
+file_failed_alone A one one_now two office.Sink counted = counted
+
+-- ---- two sources
 
 -- if a state is refused, a file after it is left unread
 pub file_unread : (first left second : DeviceBytes) (fault : OfficeFault)
@@ -49,66 +93,66 @@ state_unread first left second fault reads = record { first_few = reads.first_fe
     by office.Sink why = why
 
 -- why a file after a good state was refused
-pub file_refused : (first left second second_left : DeviceBytes) (fault : OfficeFault) → HoldsSomeState first → ReadsFewOfState dks_2 first left
-    → ReadsFewOfFile second second_left → IsOfFile fault
-    → ((file : FileFault) → fault ≡ office.File file → RefusesText most_records second file)
-    → (fault ≡ office.Memory → WantsForFile most_records second second_left)
+pub file_refused : {A : Type 0} (IsMade : A → Type 0) (first left second second_left : DeviceBytes) (fault : OfficeFault) → HoldsSomeState first
+    → ReadsFewOfState dks_2 first left → ReadsFewOfFile second second_left → IsTakingOutcome most_records IsMade second second_left (Err fault)
     → ReadsFew state_and_file first left second second_left (IsWhyRefused state_and_file first left second second_left fault)
-file_refused first left second second_left fault holds few second_few only file memory = record {
+file_refused IsMade first left second second_left fault holds few second_few outcome = record {
   first_few = few;
   second_few = inr (holds, second_few);
-  ends = by fault only file memory;
+  ends = by fault outcome;
 }
   where
-    by : (fault : OfficeFault) → IsOfFile fault → ((file : FileFault) → fault ≡ office.File file → RefusesText most_records second file)
-        → (fault ≡ office.Memory → WantsForFile most_records second second_left) → IsWhyRefused state_and_file first left second second_left fault
-    by (office.File fault) only file memory = (holds, file fault refl)
-    by (office.State fault) only file memory = elim only [ ]
-    by office.Source only file memory = tt
-    by office.Memory only file memory = inr (holds, memory refl)
-    by office.Lapsed only file memory = only
-    by office.Sink only file memory = only
+    by : (fault : OfficeFault) → IsTakingOutcome most_records IsMade second second_left (Err fault)
+        → IsWhyRefused state_and_file first left second second_left fault
+    by (office.File fault) why = (holds, why)
+    by (office.State fault) why = elim why [ ]
+    by office.Source why = tt
+    by office.Memory why = inr (holds, why)
+    by office.Lapsed why = why
+    by office.Sink why = why
 
 -- why a state after a good one was refused
-pub state_refused : (first left second second_left : DeviceBytes) (fault : OfficeFault) → HoldsSomeState first → ReadsFewOfState dks_2 first left
-    → ReadsFewOfState dks_2 second second_left → IsOfState fault
-    → ((state : StateFault) → fault ≡ office.State state → RefusesState dks_2 most_bytes second state)
-    → (fault ≡ office.Memory → WantsForState dks_2 second second_left)
+pub state_refused : (first left second second_left : DeviceBytes) (failed failed_now : ℕ) (fault : OfficeFault) → HoldsSomeState first
+    → ReadsFewOfState dks_2 first left
+    → StopsReading dks_2 most_bytes second second_left (IsWhyUnread WantsMemory dks_2 most_bytes second second_left (why_unread fault))
+    (CountsWhy (why_unread fault) failed failed_now)
     → ReadsFew two_states first left second second_left (IsWhyRefused two_states first left second second_left fault)
-state_refused first left second second_left fault holds few second_few only state memory = record {
+state_refused first left second second_left failed failed_now fault holds few read = record {
   first_few = few;
-  second_few = inr (holds, second_few);
-  ends = by fault only state memory;
+  second_few = inr (holds, read.few);
+  ends = by fault read.outcome;
 }
   where
-    by : (fault : OfficeFault) → IsOfState fault → ((state : StateFault) → fault ≡ office.State state → RefusesState dks_2 most_bytes second state)
-        → (fault ≡ office.Memory → WantsForState dks_2 second second_left) → IsWhyRefused two_states first left second second_left fault
-    by (office.State fault) only state memory = inr (holds, state fault refl)
-    by (office.File fault) only state memory = elim only [ ]
-    by office.Source only state memory = tt
-    by office.Memory only state memory = inr (holds, memory refl)
-    by office.Lapsed only state memory = only
-    by office.Sink only state memory = only
+    by : (fault : OfficeFault) → IsWhyUnread WantsMemory dks_2 most_bytes second second_left (why_unread fault)
+        → IsWhyRefused two_states first left second second_left fault
+    by (office.State fault) why = inr (holds, why)
+    by (office.File fault) why = elim why [ ]
+    by office.Source why = tt
+    by office.Memory why = inr (holds, why)
+    by office.Lapsed why = why
+    by office.Sink why = why
 
 -- a file was refused after a source that didn't fail
-pub file_failed : (one one_now two two_now : ℕ) (fault : OfficeFault) → one_now ≡ one → IsOfFile fault → (fault ≡ office.Source → two_now ≡ two + 1)
-    → (fault ≢ office.Source → two_now ≡ two) → FailsBy one one_now two two_now fault
-file_failed one one_now two two_now (office.File fault) same only rose unfailed = (same, unfailed (λ is. cc))
-file_failed one one_now two two_now (office.State fault) same only rose unfailed = elim only [ ]
-file_failed one one_now two two_now office.Source same only rose unfailed = let more : two_now ≡ two + 1 = rose refl in omega arith
-file_failed one one_now two two_now office.Memory same only rose unfailed = (same, unfailed (λ is. cc))
-file_failed one one_now two two_now office.Lapsed same only rose unfailed = only
-file_failed one one_now two two_now office.Sink same only rose unfailed = only
+pub file_failed : (A : Type 0) (one one_now two two_now : ℕ) (fault : OfficeFault) → one_now ≡ one → CountsTaking {A = A} two two_now (Err fault)
+    → FailsBy one one_now two two_now fault
+file_failed A one one_now two two_now (office.File fault) same counted = (same, counted)
+file_failed A one one_now two two_now (office.State fault) same counted = elim counted [ ]
+file_failed A one one_now two two_now office.Source same counted = omega arith
+file_failed A one one_now two two_now office.Memory same counted = (same, counted)
+file_failed A one one_now two two_now office.Lapsed same counted = counted
+file_failed A one one_now two two_now office.Sink same counted = counted
 
 -- a state was refused after a source that didn't fail
-pub state_failed : (one one_now two two_now : ℕ) (fault : OfficeFault) → one_now ≡ one → IsOfState fault → (fault ≡ office.Source → two_now ≡ two + 1)
-    → (fault ≢ office.Source → two_now ≡ two) → FailsBy one one_now two two_now fault
-state_failed one one_now two two_now (office.File fault) same only rose unfailed = elim only [ ]
-state_failed one one_now two two_now (office.State fault) same only rose unfailed = (same, unfailed (λ is. cc))
-state_failed one one_now two two_now office.Source same only rose unfailed = let more : two_now ≡ two + 1 = rose refl in omega arith
-state_failed one one_now two two_now office.Memory same only rose unfailed = (same, unfailed (λ is. cc))
-state_failed one one_now two two_now office.Lapsed same only rose unfailed = only
-state_failed one one_now two two_now office.Sink same only rose unfailed = only
+pub state_failed : (one one_now two two_now : ℕ) (fault : OfficeFault) → one_now ≡ one → CountsWhy (why_unread fault) two two_now
+    → FailsBy one one_now two two_now fault
+state_failed one one_now two two_now (office.File fault) same counted = elim counted [ ]
+state_failed one one_now two two_now (office.State fault) same counted = (same, counted)
+state_failed one one_now two two_now office.Source same counted = omega arith
+state_failed one one_now two two_now office.Memory same counted = (same, counted)
+state_failed one one_now two two_now office.Lapsed same counted = counted
+state_failed one one_now two two_now office.Sink same counted = counted
+
+-- ---- the sources of a task
 
 -- what was read of the sources that were asked for
 pub read_at : (asked sources : Sources) (first left second second_left : DeviceBytes) (read : ReadView) → asked ≡ sources

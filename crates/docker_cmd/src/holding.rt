@@ -1,14 +1,13 @@
 //! What a job holds of what it has read: `print` and `files` hold no more of a state than they
 //! write.
-ghost use Rattle.std.specs.Prelude.{◌≡◌, ◌-◌, ◌^◌, ◌<◌, ◌⊎◌, ℕ, IfOk};
-ghost use Rattle.docker_model.specs.state.StateText.{dks_2};
-ghost use Rattle.docker_cmd.specs.Holding.{IsWrittenFrom, held_meant, place_read};
-ghost use Rattle.docker_cmd.specs.Prepared.{CountsSources, DeviceBytes, HasNoSource, HasSecondSource, HoldsSomeState, ReadsContent, ReadsTask, office_read, one_state, output_of, sources_of};
+ghost use Rattle.std.specs.Prelude.{◌≡◌, ◌-◌, ◌^◌, ◌<◌, ◌⊎◌, IfOk};
+ghost use Rattle.docker_cmd.specs.Holding.{IsWrittenFrom, held_meant};
+ghost use Rattle.docker_cmd.specs.Prepared.{CountsSources, HasNoSource, HasSecondSource, HoldsSomeState, ReadsTask, output_of, sources_of};
 
 use crate::jobs::Job;
-use crate::sources::{Content, MOST_BYTES, read_sources};
+use crate::sources::{Content, MOST_BYTES, read_content};
 use crate::tasks::Task;
-use cif_line::{Day, Source, Tiploc};
+use cif_line::Source;
 use docker_office::{LedgerOffice, OfficeFault, PlaceOffice};
 use std::alloc::Global;
 
@@ -43,11 +42,11 @@ pub(crate) fn hold<S: Source, T: Source>(
 {
     match job.task() {
         Task::Print { place, day } => {
-            let office = place_of_state(alloc, place, day, first)?;
+            let office = PlaceOffice::read(alloc, place, day, first, MOST_BYTES)?;
             Ok(Holding::Place(office))
         }
         Task::Files => {
-            let ledger = ledger_of_state(alloc, first)?;
+            let ledger = LedgerOffice::read(alloc, first, MOST_BYTES)?;
             Ok(Holding::Ledger(ledger))
         }
         _ => hold_all(alloc, job, first, second),
@@ -72,37 +71,6 @@ fn hold_all<S: Source, T: Source>(
         (T.failures second.old) (T.failures second.new) }
     ensures written { IfOk result (IsWrittenFrom (output_of job.now.task)) }
 {
-    let content = read_sources(alloc, job.task().reads(), first, second)?;
+    let content = read_content(alloc, job.task().reads(), first, second)?;
     Ok(Holding::Whole(content.under(job.task().horizon())))
-}
-
-/// An office at a timing point for a day, of the state that a source holds.
-fn place_of_state<S: Source>(
-    alloc: Global,
-    place: Tiploc,
-    day: Day,
-    source: &mut S,
-) -> Result<PlaceOffice, OfficeFault>
-    requires { S.failures source.old < 2 ^ 64 - 1 }
-    ensures reads { (second : DeviceBytes) → ReadsContent place_read (one_state dks_2)
-        (S.left source.old) (S.left source.new) second second result }
-    ensures place { IfOk result (λ office. office.place ≡ place) }
-    ensures day { IfOk result (λ office. office.day ≡ day) }
-    ensures counted { (second : ℕ) → CountsSources result
-        (S.failures source.old) (S.failures source.new) second second }
-{
-    let office = PlaceOffice::read(alloc, place, day, source, MOST_BYTES)?;
-    Ok(office)
-}
-
-/// The ledger of the state that a source holds.
-fn ledger_of_state<S: Source>(alloc: Global, source: &mut S) -> Result<LedgerOffice, OfficeFault>
-    requires { S.failures source.old < 2 ^ 64 - 1 }
-    ensures reads { (second : DeviceBytes) → ReadsContent office_read (one_state dks_2)
-        (S.left source.old) (S.left source.new) second second result }
-    ensures counted { (second : ℕ) → CountsSources result
-        (S.failures source.old) (S.failures source.new) second second }
-{
-    let office = LedgerOffice::read(alloc, source, MOST_BYTES)?;
-    Ok(office)
 }

@@ -29,6 +29,7 @@ pub use line_of_job::job_line;
 pub use output::emit;
 pub use prepared_job::{Prepared, prepare};
 pub use reads::Sources;
+pub use sources::MOST_BYTES;
 pub use subcommands::Subcommand;
 pub use tasks::Task;
 pub use writes::Output;

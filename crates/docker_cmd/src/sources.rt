@@ -3,7 +3,9 @@ ghost use Rattle.std.specs.Prelude.{◌≡◌, ◌-◌, ◌^◌, ◌<◌, ◌⊎
 ghost use Rattle.docker_cmd.specs.Reads.{sources_meant};
 ghost use Rattle.docker_model.specs.state.StateText.{dks_1, dks_2};
 ghost use Rattle.docker_cmd.specs.Content.{content_meant};
-ghost use Rattle.docker_cmd.specs.Prepared.{CountsSources, DeviceBytes, HasNoSource, HasSecondSource, HoldsSomeState, ReadsContent, checked_file, file_read, office_read, one_state, state_and_file, taken_file, two_states, under};
+ghost use Rattle.docker_cmd.specs.Prepared.{CountsSources, DeviceBytes, HasNoSource, HasSecondSource, HoldsSomeState, ReadsContent, checked_file, file_read, most_bytes, office_read, state_and_file, taken_file, two_states, under};
+ghost use Rattle.docker_office.specs.OfficeReads.{EndsReadingState};
+ghost use Rattle.docker_office.specs.SourceRead.{ReadsState};
 
 use crate::reads::Sources;
 use cif_file::{FileCount, MOST_RECORDS, judge_file};
@@ -12,7 +14,7 @@ use docker_office::{Office, OfficeFault};
 use std::alloc::Global;
 
 /// The most bytes that a state's text may have.
-pub(crate) const MOST_BYTES: u64 = 1_099_511_627_776;
+pub const MOST_BYTES: u64 = 1_099_511_627_776;
 
 /// What a job has read.
 #[derive(Debug, Drop)]
@@ -38,8 +40,8 @@ impl Content {
     }
 }
 
-/// Reads these sources, in their order.
-pub(crate) fn read_sources<S: Source, T: Source>(
+/// Reads these sources, in their order, and returns what they held.
+pub(crate) fn read_content<S: Source, T: Source>(
     alloc: Global,
     sources: Sources,
     first: &mut S,
@@ -95,10 +97,8 @@ fn office_of_file<S: Source>(alloc: Global, source: &mut S) -> Result<Office, Of
 /// An office with the state that a source holds.
 fn office_of_state<S: Source>(alloc: Global, source: &mut S) -> Result<Office, OfficeFault>
     requires { S.failures source.old < 2 ^ 64 - 1 }
-    ensures reads { (second : DeviceBytes) → ReadsContent office_read (one_state dks_2)
-        (S.left source.old) (S.left source.new) second second result }
-    ensures counted { (second : ℕ) → CountsSources result
-        (S.failures source.old) (S.failures source.new) second second }
+    ensures { EndsReadingState S.left S.failures dks_2 most_bytes
+        (ReadsState dks_2 most_bytes (S.left source.old)) source.old source.new result }
 {
     let mut office = Office::new(alloc);
     office.reload(source, MOST_BYTES)?;
@@ -108,10 +108,8 @@ fn office_of_state<S: Source>(alloc: Global, source: &mut S) -> Result<Office, O
 /// An office with the state that a source holds in the older format.
 fn office_of_older_state<S: Source>(alloc: Global, source: &mut S) -> Result<Office, OfficeFault>
     requires { S.failures source.old < 2 ^ 64 - 1 }
-    ensures reads { (second : DeviceBytes) → ReadsContent office_read (one_state dks_1)
-        (S.left source.old) (S.left source.new) second second result }
-    ensures counted { (second : ℕ) → CountsSources result
-        (S.failures source.old) (S.failures source.new) second second }
+    ensures { EndsReadingState S.left S.failures dks_1 most_bytes
+        (ReadsState dks_1 most_bytes (S.left source.old)) source.old source.new result }
 {
     let mut office = Office::new(alloc);
     office.migrate(source, MOST_BYTES)?;

@@ -1,10 +1,12 @@
 use Rattle.std.proofs.Common.{◌≡◌, ◌∙◌, ap, inl, refl, sym}
 use Rattle.std.proofs.lemmas.Result.{err_from_is_err_and}
+use Rattle.docker_model.specs.state.StateText.{dks_2}
 use Rattle.docker_cmd.specs.Holding.{place_read}
 use Rattle.docker_cmd.specs.Job.{files_task, print_task, task_meant}
 use Rattle.docker_cmd.specs.Prepared.{office_read}
 use Rattle.docker_cmd.specs.Reads.{sources_of}
 use Rattle.docker_cmd.specs.Writes.{docker_written, output_of}
+use Rattle.docker_cmd.proofs.ReadingLemmas.{state_failed_alone, state_refused_alone}
 use Rattle.docker_cmd.proofs.SourcesLemmas.{read_of_task, refused_for, some_of_task}
 use Rattle.docker_cmd.proofs.holding.hold.Goals as goal
 
@@ -12,12 +14,14 @@ pub returns-in_ok-office-in-Print : goal.returns-in_ok-office-in-Print
 returns-in_ok-office-in-Print g c =
     let second = g.T.Source.left c.args.second.now in
     let at : c.args.job.now.task ≡ print_task c.in-Print.place c.in-Print.day = sym c.task.ensures ∙ ap task_meant c.in-Print.is in
+    let read = c.in_ok-office-in-Print.ensures.reads in
     record {
-      reads = read_of_task c.args.job.now.task (print_task c.in-Print.place c.in-Print.day) (g.S.Source.left c.args.first.now) (g.S.Source.left c.place_of_state.new.source) second second
-          (place_read c.in_ok-office-in-Print.office) at (c.in_ok-office-in-Print.ensures.reads second);
+      reads = read_of_task c.args.job.now.task (print_task c.in-Print.place c.in-Print.day) (g.S.Source.left c.args.first.now)
+          (g.S.Source.left c.read.new.source) second second (place_read c.in_ok-office-in-Print.office) at
+          (record { first_few = read.few; second_few = refl; ends = (read.outcome, tt) });
       none = some_of_task _ c.args.job.now.task (print_task c.in-Print.place c.in-Print.day) at (λ none. cc);
       order = inl refl;
-      counted = c.in_ok-office-in-Print.ensures.counted (g.T.Source.failures c.args.second.now);
+      counted = (read.failures, refl);
       written = ap output_of at
           ∙ sym (λ i. docker_written (c.in_ok-office-in-Print.ensures.place i) (c.in_ok-office-in-Print.ensures.day i));
     }
@@ -25,14 +29,18 @@ returns-in_ok-office-in-Print g c =
 pub returns-in_err-office-in-Print : goal.returns-in_err-office-in-Print
 returns-in_err-office-in-Print g c =
     let same = err_from_is_err_and c.from_residual.result c.from_residual.ensures.1 in
+    let first = g.S.Source.left c.args.first.now in
+    let left = g.S.Source.left c.read.new.source in
     let second = g.T.Source.left c.args.second.now in
+    let failed = g.S.Source.failures c.args.first.now in
+    let failed_now = g.S.Source.failures c.read.new.source in
     let at : c.args.job.now.task ≡ print_task c.in-Print.place c.in-Print.day = sym c.task.ensures ∙ ap task_meant c.in-Print.is in
     rw (same.1, same.2) (record {
-      reads = refused_for (sources_of (print_task c.in-Print.place c.in-Print.day)) (sources_of c.args.job.now.task) (g.S.Source.left c.args.first.now)
-          (g.S.Source.left c.place_of_state.new.source) second second _ (sym (ap sources_of at)) (c.in_err-office-in-Print.ensures.reads second);
+      reads = refused_for (sources_of (print_task c.in-Print.place c.in-Print.day)) (sources_of c.args.job.now.task) first left second second _
+          (sym (ap sources_of at)) (state_refused_alone dks_2 first left second failed failed_now _ c.in_err-office-in-Print.ensures.reads);
       none = some_of_task _ c.args.job.now.task (print_task c.in-Print.place c.in-Print.day) at (λ none. cc);
       order = inl refl;
-      counted = c.in_err-office-in-Print.ensures.counted (g.T.Source.failures c.args.second.now);
+      counted = state_failed_alone failed failed_now (g.T.Source.failures c.args.second.now) _ c.in_err-office-in-Print.ensures.reads.failures;
       written = tt;
     })
 
@@ -40,25 +48,30 @@ pub returns-in_ok-ledger-in-Files : goal.returns-in_ok-ledger-in-Files
 returns-in_ok-ledger-in-Files g c =
     let second = g.T.Source.left c.args.second.now in
     let at : c.args.job.now.task ≡ files_task = sym c.task.ensures ∙ ap task_meant c.in-Files.is in
+    let read = c.in_ok-ledger-in-Files.ensures.reads in
     record {
-      reads = read_of_task c.args.job.now.task (files_task) (g.S.Source.left c.args.first.now) (g.S.Source.left c.ledger_of_state.new.source) second second
-          (office_read c.in_ok-ledger-in-Files.ledger) at (c.in_ok-ledger-in-Files.ensures.reads second);
-      none = some_of_task _ c.args.job.now.task (files_task) at (λ none. cc);
+      reads = read_of_task c.args.job.now.task files_task (g.S.Source.left c.args.first.now) (g.S.Source.left c.read-in-Files.new.source) second second
+          (office_read c.in_ok-ledger-in-Files.ledger) at (record { first_few = read.few; second_few = refl; ends = (read.outcome, tt) });
+      none = some_of_task _ c.args.job.now.task files_task at (λ none. cc);
       order = inl refl;
-      counted = c.in_ok-ledger-in-Files.ensures.counted (g.T.Source.failures c.args.second.now);
+      counted = (read.failures, refl);
       written = ap output_of at;
     }
 
 pub returns-in_err-ledger-in-Files : goal.returns-in_err-ledger-in-Files
 returns-in_err-ledger-in-Files g c =
     let same = err_from_is_err_and c.from_residual-in_err-ledger-in-Files.result c.from_residual-in_err-ledger-in-Files.ensures.1 in
+    let first = g.S.Source.left c.args.first.now in
+    let left = g.S.Source.left c.read-in-Files.new.source in
     let second = g.T.Source.left c.args.second.now in
+    let failed = g.S.Source.failures c.args.first.now in
+    let failed_now = g.S.Source.failures c.read-in-Files.new.source in
     let at : c.args.job.now.task ≡ files_task = sym c.task.ensures ∙ ap task_meant c.in-Files.is in
     rw (same.1, same.2) (record {
-      reads = refused_for (sources_of (files_task)) (sources_of c.args.job.now.task) (g.S.Source.left c.args.first.now)
-          (g.S.Source.left c.ledger_of_state.new.source) second second _ (sym (ap sources_of at)) (c.in_err-ledger-in-Files.ensures.reads second);
-      none = some_of_task _ c.args.job.now.task (files_task) at (λ none. cc);
+      reads = refused_for (sources_of files_task) (sources_of c.args.job.now.task) first left second second _ (sym (ap sources_of at))
+          (state_refused_alone dks_2 first left second failed failed_now _ c.in_err-ledger-in-Files.ensures.reads);
+      none = some_of_task _ c.args.job.now.task files_task at (λ none. cc);
       order = inl refl;
-      counted = c.in_err-ledger-in-Files.ensures.counted (g.T.Source.failures c.args.second.now);
+      counted = state_failed_alone failed failed_now (g.T.Source.failures c.args.second.now) _ c.in_err-ledger-in-Files.ensures.reads.failures;
       written = tt;
     })

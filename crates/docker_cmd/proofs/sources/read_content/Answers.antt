@@ -1,11 +1,12 @@
 use Rattle.std.proofs.Common.{sym, subst, inl, inr, refl}
 use Rattle.std.proofs.lemmas.Result.{err_from_is_err_and}
+use Rattle.docker_model.specs.state.StateText.{dks_1, dks_2}
 use Rattle.docker_cmd.specs.Reads.{sources_meant}
 use Rattle.docker_cmd.specs.declared.reads.Sources.{Sources}
 use Rattle.docker_cmd.specs.declared.reads.Sources.TheVariants as code
 use Rattle.docker_cmd.specs.Prepared.{HasSecondSource, file_read, office_read}
-use Rattle.docker_cmd.proofs.ReadingLemmas.{read_at, read_second, refused_at, some_at}
-use Rattle.docker_cmd.proofs.sources.read_sources.Goals as goal
+use Rattle.docker_cmd.proofs.ReadingLemmas.{read_at, read_second, refused_at, some_at, state_failed_alone, state_refused_alone}
+use Rattle.docker_cmd.proofs.sources.read_content.Goals as goal
 
 pub returns-in_ok-counts_of_file-in-CheckedFile : goal.returns-in_ok-counts_of_file-in-CheckedFile
 returns-in_ok-counts_of_file-in-CheckedFile g c =
@@ -58,10 +59,10 @@ returns-in_ok-office_of_state-in-State g c =
     let second = g.T.Source.left c.args.second.now in
     record {
       reads = read_at c.args.sources code.State (g.S.Source.left c.args.first.now) (g.S.Source.left c.office_of_state.new.source) second second
-          (office_read c.in_ok-office_of_state-in-State.field-0) c.in-State.is (c.in_ok-office_of_state-in-State.ensures.reads second);
+          (office_read c.in_ok-office_of_state-in-State.field-0) c.in-State.is (record { first_few = c.in_ok-office_of_state-in-State.ensures.few; second_few = refl; ends = (c.in_ok-office_of_state-in-State.ensures.outcome, tt) });
       none = some_at _ c.args.sources code.State c.in-State.is (λ none. cc);
       order = inl refl;
-      counted = c.in_ok-office_of_state-in-State.ensures.counted (g.T.Source.failures c.args.second.now);
+      counted = (c.in_ok-office_of_state-in-State.ensures.failures, refl);
     }
 
 pub returns-in_err-office_of_state-in-State : goal.returns-in_err-office_of_state-in-State
@@ -70,10 +71,10 @@ returns-in_err-office_of_state-in-State g c =
     let second = g.T.Source.left c.args.second.now in
     rw (same.1, same.2) (record {
       reads = refused_at c.args.sources code.State (g.S.Source.left c.args.first.now) (g.S.Source.left c.office_of_state.new.source) second second
-          _ c.in-State.is (c.in_err-office_of_state-in-State.ensures.reads second);
+          _ c.in-State.is (state_refused_alone dks_2 (g.S.Source.left c.args.first.now) (g.S.Source.left c.office_of_state.new.source) second (g.S.Source.failures c.args.first.now) (g.S.Source.failures c.office_of_state.new.source) _ c.in_err-office_of_state-in-State.ensures);
       none = some_at _ c.args.sources code.State c.in-State.is (λ none. cc);
       order = inl refl;
-      counted = c.in_err-office_of_state-in-State.ensures.counted (g.T.Source.failures c.args.second.now);
+      counted = state_failed_alone (g.S.Source.failures c.args.first.now) (g.S.Source.failures c.office_of_state.new.source) (g.T.Source.failures c.args.second.now) _ c.in_err-office_of_state-in-State.ensures.failures;
     })
 
 pub returns-in_ok-office_of_older_state-in-OlderState : goal.returns-in_ok-office_of_older_state-in-OlderState
@@ -81,10 +82,10 @@ returns-in_ok-office_of_older_state-in-OlderState g c =
     let second = g.T.Source.left c.args.second.now in
     record {
       reads = read_at c.args.sources code.OlderState (g.S.Source.left c.args.first.now) (g.S.Source.left c.office_of_older_state.new.source) second second
-          (office_read c.in_ok-office_of_older_state-in-OlderState.field-0) c.in-OlderState.is (c.in_ok-office_of_older_state-in-OlderState.ensures.reads second);
+          (office_read c.in_ok-office_of_older_state-in-OlderState.field-0) c.in-OlderState.is (record { first_few = c.in_ok-office_of_older_state-in-OlderState.ensures.few; second_few = refl; ends = (c.in_ok-office_of_older_state-in-OlderState.ensures.outcome, tt) });
       none = some_at _ c.args.sources code.OlderState c.in-OlderState.is (λ none. cc);
       order = inl refl;
-      counted = c.in_ok-office_of_older_state-in-OlderState.ensures.counted (g.T.Source.failures c.args.second.now);
+      counted = (c.in_ok-office_of_older_state-in-OlderState.ensures.failures, refl);
     }
 
 pub returns-in_err-office_of_older_state-in-OlderState : goal.returns-in_err-office_of_older_state-in-OlderState
@@ -93,10 +94,10 @@ returns-in_err-office_of_older_state-in-OlderState g c =
     let second = g.T.Source.left c.args.second.now in
     rw (same.1, same.2) (record {
       reads = refused_at c.args.sources code.OlderState (g.S.Source.left c.args.first.now) (g.S.Source.left c.office_of_older_state.new.source) second second
-          _ c.in-OlderState.is (c.in_err-office_of_older_state-in-OlderState.ensures.reads second);
+          _ c.in-OlderState.is (state_refused_alone dks_1 (g.S.Source.left c.args.first.now) (g.S.Source.left c.office_of_older_state.new.source) second (g.S.Source.failures c.args.first.now) (g.S.Source.failures c.office_of_older_state.new.source) _ c.in_err-office_of_older_state-in-OlderState.ensures);
       none = some_at _ c.args.sources code.OlderState c.in-OlderState.is (λ none. cc);
       order = inl refl;
-      counted = c.in_err-office_of_older_state-in-OlderState.ensures.counted (g.T.Source.failures c.args.second.now);
+      counted = state_failed_alone (g.S.Source.failures c.args.first.now) (g.S.Source.failures c.office_of_older_state.new.source) (g.T.Source.failures c.args.second.now) _ c.in_err-office_of_older_state-in-OlderState.ensures.failures;
     })
 
 pub returns-in_ok-office_of_state_and_file-in-StateAndFile : goal.returns-in_ok-office_of_state_and_file-in-StateAndFile
