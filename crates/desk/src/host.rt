@@ -1,37 +1,42 @@
 //! A session on the real devices.
 use docker_desk::serve;
 use docker_program::{
-    Fault, Folder, InputDevice, JobFault, OnHost, OutputDevice, run_on_host, tell,
+    Fault, Folder, InputDevice, JobFault, OutputDevice, hold_standard, own_words, tell,
 };
 use std::process::ExitCode;
-
-/// The program that serves a session.
-struct Serving;
-
-impl OnHost for Serving {
-    fn with_words(rt: &HostRuntime, words: &[&str]) -> u8 {
-        serve(
-            rt.alloc(),
-            words,
-            &mut InputDevice::stdin(rt),
-            &mut InputDevice::without_file(rt),
-            &mut Folder::new(rt),
-            &mut OutputDevice::stdout(rt),
-            &mut OutputDevice::stderr(rt),
-        )
-    }
-
-    /// A word that is no text asks for as little as no words do.
-    fn without_words(rt: &HostRuntime, fault: JobFault) -> u8 {
-        match fault {
-            JobFault::Usage => Self::with_words(rt, &[]),
-            fault => tell(&Fault::Job(fault), &mut OutputDevice::stderr(rt)),
-        }
-    }
-}
 
 /// Serves a desk with the program's words, standard input, output and error, and returns its exit
 /// status.
 pub fn run(rt: &HostRuntime) -> ExitCode {
-    run_on_host::<Serving>(rt)
+    let _standard = hold_standard(rt);
+    ExitCode::from(serve_own_words(rt))
+}
+
+/// Serves what the program's own words ask for, if they can be had. A word that is no text asks for
+/// as little as no words do.
+fn serve_own_words(rt: &HostRuntime) -> u8 {
+    match own_words(rt).and_then(|words| serve_strings(rt, words.as_slice())) {
+        Ok(status) => status,
+        Err(JobFault::Usage) => serve_words(rt, &[]),
+        Err(fault) => tell(&Fault::Job(fault), &mut OutputDevice::stderr(rt)),
+    }
+}
+
+/// Serves a desk with these words. Returns `Memory` if there is no room to pass them on.
+fn serve_strings(rt: &HostRuntime, words: &[String]) -> Result<u8, JobFault> {
+    let words: Vec<&str> = words.iter().map(|word| word.as_str()).collect(rt.alloc())?;
+    Ok(serve_words(rt, words.as_slice()))
+}
+
+/// Serves a desk with these words instead of the program's own.
+fn serve_words(rt: &HostRuntime, words: &[&str]) -> u8 {
+    serve(
+        rt.alloc(),
+        words,
+        &mut InputDevice::stdin(rt),
+        &mut InputDevice::without_file(rt),
+        &mut Folder::new(rt),
+        &mut OutputDevice::stdout(rt),
+        &mut OutputDevice::stderr(rt),
+    )
 }

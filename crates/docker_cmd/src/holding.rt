@@ -49,9 +49,28 @@ pub(crate) fn hold<S: Source, T: Source>(
             let ledger = LedgerOffice::read(alloc, first, MOST_BYTES)?;
             Ok(Holding::Ledger(ledger))
         }
-        _ => {
-            let content = read_content(alloc, job.task().reads(), first, second)?;
-            Ok(Holding::Whole(content.under(job.task().horizon())))
-        }
+        _ => hold_all(alloc, job, first, second),
     }
+}
+
+/// Reads what a job reads, and holds all of it.
+fn hold_all<S: Source, T: Source>(
+    alloc: Global,
+    job: &Job,
+    first: &mut S,
+    second: &mut T,
+) -> Result<Holding, OfficeFault>
+    requires first { S.failures first.old < 2 ^ 64 - 1 }
+    requires second { T.failures second.old < 2 ^ 64 - 1 }
+    ensures reads { ReadsTask held_meant job.now.task
+        (S.left first.old) (S.left first.new) (T.left second.old) (T.left second.new) result }
+    ensures none { HasNoSource (sources_of job.now.task) → first.new ≡ first.old }
+    ensures order { (second.new ≡ second.old) ⊎ (HasSecondSource (sources_of job.now.task) ×
+        HoldsSomeState (S.left first.old) × (S.failures first.new ≡ S.failures first.old)) }
+    ensures counted { CountsSources result (S.failures first.old) (S.failures first.new)
+        (T.failures second.old) (T.failures second.new) }
+    ensures written { IfOk result (IsWrittenFrom (output_of job.now.task)) }
+{
+    let content = read_content(alloc, job.task().reads(), first, second)?;
+    Ok(Holding::Whole(content.under(job.task().horizon())))
 }

@@ -2,7 +2,7 @@ pub mod LineLemmas
 pub mod WordLemmas
 pub mod RequestLemmas
 pub mod WritingLemmas
-mod ReadFiles
+pub mod SavingLemmas
 mod TermsLemmas
 mod KnownLemmas
 mod FixedLemmas

@@ -1,17 +1,19 @@
 -- What a desk knows, and what each request makes of it.
-use Rattle.std.specs.Prelude.{◌≡◌, ◌<◌, ℕ, Bool, List, Option, option_map, Result, Ok, Err, ⊤}
+use Rattle.std.specs.Prelude.{◌≡◌, ◌<◌, ℕ, Bool, List, Option, option_map, ◌⊎◌, Result, Ok, Err, ⊤}
 use Rattle.docker_model.specs.file.File.{most_records}
 use Rattle.docker_model.specs.state.State.{State, live_table}
-use Rattle.docker_model.specs.state.StateText.{dks_2}
+use Rattle.docker_model.specs.state.StateText.{dks_2, state_text}
 use Rattle.docker_model.specs.state.Lapse.{IsDayRefused}
 use Rattle.docker_model.specs.docker.DockerText.{IsDockerText, files_text}
-use Rattle.cif_file.specs.SourceRead.{RefusesText}
+use Rattle.cif_file.specs.SourceRead.{Held, RefusesText}
 use Rattle.docker_train.specs.TrainText.{IsTrainText}
 use Rattle.docker_cmd.specs.SourceRead.{JoinsState, RefusesState}
 use Rattle.docker_cmd.specs.Office.{TakesFile}
 use Rattle.docker_cmd.specs.OfficeFault.{OfficeFault}
 use Rattle.docker_cmd.specs.OfficeFault.TheVariants as office
 use Rattle.docker_cmd.specs.Prepared.{DeviceBytes, most_bytes}
+use Rattle.docker_cmd.specs.Words.{Text}
+use Rattle.docker_program.specs.Devices.{LeavesOtherFiles}
 use Rattle.docker_program.specs.Past.{Past, with_draft, with_look}
 use Rattle.docker_desk.specs.Replies.{AnswerView, done_with, refused_for, no_request}
 
@@ -87,6 +89,32 @@ EndsTaking held old new (Err fault) = RefusesToTake held fault × (new ≡ old)
 abbrev pub EndsReceiving : DeviceBytes → State → State → Result ⊤ OfficeFault → Type 0
 EndsReceiving held old new (Ok done) = JoinsState dks_2 most_bytes held old new
 EndsReceiving held old new (Err fault) = RefusesToReceive held fault × (new ≡ old)
+
+-- the file of this name holds the text of the state, and each other file is as it was
+pub record StoresState (name : Text) (state : State)
+    (files files_now : Text → DeviceBytes) : Type 0 where
+  pub held : Held (files_now name) (state_text dks_2 state)
+  pub others : LeavesOtherFiles name files files_now
+
+-- the file of this name is as it was, or holds the whole text of the state; each other file is as
+-- it was
+pub record StoresAllOrNothing (name : Text) (state : State)
+    (files files_now : Text → DeviceBytes) : Type 0 where
+  pub either : (files_now name ≡ files name) ⊎ Held (files_now name) (state_text dks_2 state)
+  pub others : LeavesOtherFiles name files files_now
+
+-- how saving a state ends: it is stored; or the device failed or the file isn't the one that was
+-- seen; or memory ran out
+abbrev pub EndsSaving : Text → State → (Text → DeviceBytes) → (Text → DeviceBytes)
+    → Result ⊤ OfficeFault → Type 0
+EndsSaving name state files files_now (Ok done) = StoresState name state files files_now
+EndsSaving name state files files_now (Err office.Sink) =
+    StoresAllOrNothing name state files files_now
+EndsSaving name state files files_now (Err office.Memory) = files_now ≡ files
+EndsSaving name state files files_now (Err office.Source) = ⊥
+EndsSaving name state files files_now (Err office.Lapsed) = ⊥
+EndsSaving name state files files_now (Err (office.File fault)) = ⊥
+EndsSaving name state files files_now (Err (office.State fault)) = ⊥
 
 -- what was asked of the store after a saving: a draft from the look of this number and, if the
 -- draft took its file's place, one more look

@@ -7,8 +7,7 @@ use Rattle.docker_desk.specs.Lines.{LineView, whole_line, bad_line, cut_line}
 use Rattle.docker_desk.specs.Requests.{AsksFor, RequestView, print_request, train_request, files_request, renew_request, take_request, merge_request, horizon_request, save_request}
 use Rattle.docker_program.specs.Devices.{IsCounted}
 use Rattle.docker_program.specs.Past.{with_look}
-use Rattle.docker_program.specs.Saving.{EndsSaving}
-use Rattle.docker_desk.specs.Desk.{DeskView, EndsReceiving, EndsTaking, IsDockerAnswer, IsFilesAnswer, IsTrainAnswer, past_of_saving}
+use Rattle.docker_desk.specs.Desk.{DeskView, EndsReceiving, EndsSaving, EndsTaking, IsDockerAnswer, IsFilesAnswer, IsTrainAnswer, past_of_saving}
 use Rattle.docker_desk.specs.Replies.{AnswerView, done_with, no_request, refused_for, status_told}
 use Rattle.docker_desk.specs.Moments.{Moment, Setting, Step}
 

@@ -4,19 +4,22 @@ ghost use Rattle.docker_model.specs.state.State.{raise_horizon};
 ghost use Rattle.docker_program.specs.Devices.{IsCounted, LeavesNoDraft};
 ghost use Rattle.docker_program.specs.Past.{with_look};
 ghost use Rattle.docker_program.specs.Program.{result_status};
-ghost use Rattle.docker_program.specs.Saving.{EndsSaving};
-ghost use Rattle.docker_desk.specs.Desk.{EndsReceiving, EndsTaking, IsDockerAnswer, IsFilesAnswer, IsTrainAnswer, past_of_saving};
+ghost use Rattle.docker_desk.specs.Desk.{EndsReceiving, EndsSaving, EndsTaking, IsDockerAnswer, IsFilesAnswer, IsTrainAnswer, past_of_saving};
 ghost use Rattle.docker_desk.specs.Replies.{answer_meant};
 
 use crate::page::Page;
 use crate::reply::Answer;
+use crate::saving::store_office;
 use cif_file::MOST_RECORDS;
 use cif_line::{Day, Tiploc, Uid};
-use docker_cmd::{MOST_BYTES, Office, OfficeFault};
-use docker_program::{Files, Looked, Stores, store_office};
+use docker_cmd::{Office, OfficeFault};
+use docker_program::{Files, Looked, Stores};
 use docker_train::{TrainFault, print_train};
 use std::alloc::Global;
 use std::marker::Model;
+
+/// The most bytes that a state's text may have.
+pub const MOST_BYTES: u64 = 1_099_511_627_776;
 
 /// A desk: an office, and whether something was taken, merged or set since it was last saved.
 #[derive(Debug, Drop)]

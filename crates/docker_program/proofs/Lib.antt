@@ -1,4 +1,3 @@
 pub mod JobSourcesLemmas
 pub mod JobOutputLemmas
 pub mod ProgramLemmas
-pub mod SavingLemmas

@@ -2,5 +2,4 @@ pub mod Devices
 pub mod SourceNames
 pub mod Past
 pub mod Program
-pub mod Saving
 pub mod RealDevices

@@ -1,11 +1,11 @@
 //! Where a job writes.
-ghost use Rattle.std.specs.Prelude.{◌≡◌, ◌+◌, ◌-◌, ◌^◌, ◌<◌, Some, option_map};
+ghost use Rattle.std.specs.Prelude.{◌≡◌, ◌+◌, ◌-◌, ◌^◌, ◌<◌, Some, Err, option_map};
 ghost use Rattle.docker_program.specs.Devices.{IsCounted, LeavesNoDraft, written};
 ghost use Rattle.docker_program.specs.SourceNames.{stored_by};
 ghost use Rattle.docker_program.specs.Past.{with_draft, with_draft_from};
 ghost use Rattle.docker_program.specs.Program.{EndsWriting, result_status};
 
-use crate::saving::store_office;
+use crate::files::OpenFault;
 use crate::stores::{Looked, Stores};
 use cif_line::Sink;
 use docker_cmd::{OfficeFault, Prepared, emit};
@@ -37,8 +37,7 @@ pub(crate) fn write_output<W: Stores, K: Sink>(
     }
 }
 
-/// Stores the state that a job has made in the file that was looked at. A job that writes a file
-/// writes a state.
+/// Writes what a job has read to the file that was looked at.
 fn write_file<W: Stores>(
     prepared: &Prepared<'_>,
     looked: Looked<'_, W::Seen>,
@@ -54,8 +53,20 @@ fn write_file<W: Stores>(
     ensures asked { W.past store.new
         ≡ option_map (with_draft (W.number looked.entry.seen)) (W.past store.old) }
 {
-    let Some(office) = prepared.office() else {
-        unreachable!()
+    let mut draft = match store.create(looked) {
+        Ok(draft) => draft,
+        Err(OpenFault::Failed) => return Err(OfficeFault::Sink),
+        Err(OpenFault::Memory) => return Err(OfficeFault::Memory),
     };
-    store_office(office, looked, store)
+    match emit(prepared, &mut draft) {
+        Ok(()) => {}
+        Err(fault) => {
+            store.discard(draft);
+            return Err(fault);
+        }
+    }
+    let Ok(()) = store.complete(draft) else {
+        return Err(OfficeFault::Sink);
+    };
+    Ok(())
 }

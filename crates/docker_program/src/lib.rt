@@ -13,7 +13,6 @@ mod job_sources;
 mod names;
 mod program;
 mod request;
-mod saving;
 mod standard;
 mod stores;
 
@@ -22,7 +21,7 @@ pub use docker_cmd::{Fault, JobFault};
 pub use fault_report::tell;
 pub use files::{Files, OpenFault};
 pub use folder::{Draft, Folder, Seen};
-pub use host::{OnHost, run, run_on_host, run_words};
+pub use host::{own_words, run, run_words};
 pub use program::perform;
-pub use saving::store_office;
+pub use standard::{Standard, hold_standard};
 pub use stores::{Looked, Stores};

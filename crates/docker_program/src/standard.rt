@@ -8,13 +8,13 @@ const LAST_STANDARD: i32 = 2;
 /// What is held under the numbers of the standard streams that are closed. It can be neither read
 /// nor written.
 #[derive(Drop)]
-pub(crate) struct Standard {
+pub struct Standard {
     _streams: [Option<File>; 3],
 }
 
 /// Takes the numbers of the standard streams that are closed, until what it returns is dropped. So
 /// no file is opened under such a number, and then read or written as that stream.
-pub(crate) fn hold_standard(rt: &HostRuntime) -> Standard {
+pub fn hold_standard(rt: &HostRuntime) -> Standard {
     Standard {
         _streams: [hold_one(rt), hold_one(rt), hold_one(rt)],
     }

@@ -1,14 +1,12 @@
 use Rattle.std.proofs.Common.{◌≡◌, ◌∙◌, ap, inl, refl, sym}
 use Rattle.std.proofs.lemmas.Result.{err_from_is_err_and}
 use Rattle.docker_model.specs.state.StateText.{dks_2}
-use Rattle.docker_cmd.specs.Content.{content_meant}
 use Rattle.docker_cmd.specs.Holding.{place_read}
-use Rattle.docker_cmd.specs.Tasks.{files_task, horizon_of, output_of, print_task, sources_of, task_meant}
+use Rattle.docker_cmd.specs.Tasks.{files_task, output_of, print_task, sources_of, task_meant}
 use Rattle.docker_cmd.specs.Prepared.{office_read}
-use Rattle.docker_cmd.specs.Reads.{sources_meant}
 use Rattle.docker_cmd.specs.Writes.{docker_written}
 use Rattle.docker_cmd.proofs.ReadingLemmas.{state_failed_alone, state_refused_alone}
-use Rattle.docker_cmd.proofs.SourcesLemmas.{held_written, read_of_task, refused_for, second_for, some_of_task, task_read}
+use Rattle.docker_cmd.proofs.SourcesLemmas.{read_of_task, refused_for, some_of_task}
 use Rattle.docker_cmd.proofs.holding.hold.Goals as goal
 
 pub returns-in_ok-office-in-Print : goal.returns-in_ok-office-in-Print

@@ -12,7 +12,7 @@ returns-in_err-content g c =
     let at : sources_meant c.reads.result ≡ sources_of c.args.job.now.task = c.reads.ensures ∙ ap sources_of c.task.ensures in
     rw (same.1, same.2) (record {
       reads = refused_for (sources_meant c.reads.result) (sources_of c.args.job.now.task) (g.S.Source.left c.args.first.now)
-          (g.S.Source.left c.read_sources.new.first) (g.T.Source.left c.args.second.now) (g.T.Source.left c.read_sources.new.second) _
+          (g.S.Source.left c.read_content.new.first) (g.T.Source.left c.args.second.now) (g.T.Source.left c.read_content.new.second) _
           at c.in_err-content.ensures.reads;
       none = λ none. c.in_err-content.ensures.none (at ∙ none);
       order = second_for _ _ at c.in_err-content.ensures.order;
@@ -30,8 +30,8 @@ returns g c =
     let made = content_meant c.under.result in
     let at : sources_meant c.reads.result ≡ sources_of c.args.job.now.task = c.reads.ensures ∙ ap sources_of c.task.ensures in
     record {
-      reads = task_read task sources c.horizon.result first (g.S.Source.left c.read_sources.new.first) second
-          (g.T.Source.left c.read_sources.new.second) own made at (c.horizon.ensures ∙ ap horizon_of c.task-2.ensures) c.under.ensures
+      reads = task_read task sources c.horizon.result first (g.S.Source.left c.read_content.new.first) second
+          (g.T.Source.left c.read_content.new.second) own made at (c.horizon.ensures ∙ ap horizon_of c.task-2.ensures) c.under.ensures
           c.in_ok-content.ensures.reads;
       none = λ none. c.in_ok-content.ensures.none (at ∙ none);
       order = second_for _ _ at c.in_ok-content.ensures.order;

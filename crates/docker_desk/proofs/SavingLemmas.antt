@@ -10,14 +10,14 @@ use Rattle.docker_cmd.specs.Prepared.{DeviceBytes}
 use Rattle.docker_cmd.specs.OfficeFault.{OfficeFault}
 use Rattle.docker_cmd.specs.OfficeFault.TheVariants as office
 use Rattle.docker_program.specs.Devices.{IsEither, LeavesOtherFiles}
-use Rattle.docker_program.specs.Saving.{EndsSaving, StoresState, StoresStateOrNothing}
+use Rattle.docker_desk.specs.Desk.{EndsSaving, StoresAllOrNothing, StoresState}
 
 -- a call that leaves all other files as they were still does so after one that leaves all files
 leaves_on : (name : Text) (one two three : Text → DeviceBytes) → two ≡ one → LeavesOtherFiles name two three → LeavesOtherFiles name one three
 leaves_on name one two three same next = λ other differs. next other differs ∙ ap (λ (held : Text → DeviceBytes). held other) same
 
 -- if no file changed, all or nothing was stored
-pub all_kept : (name : Text) (state : State) (files files_now : Text → DeviceBytes) → files_now ≡ files → StoresStateOrNothing name state files files_now
+pub all_kept : (name : Text) (state : State) (files files_now : Text → DeviceBytes) → files_now ≡ files → StoresAllOrNothing name state files files_now
 all_kept name state files files_now same = record {
   either = inl (ap (λ (held : Text → DeviceBytes). held name) same);
   others = λ other differs. ap (λ (held : Text → DeviceBytes). held other) same;
@@ -47,7 +47,7 @@ stored_whole name state files made files_now before after same others empty gain
 -- if a draft was written whole, but may not have taken its file's place, all or nothing was stored
 pub stored_or_kept : (name : Text) (state : State) (files made files_now : Text → DeviceBytes) (before after : DeviceBytes) → made ≡ files
     → LeavesOtherFiles name made files_now → Held before [] → Takes before (state_text dks_2 state) after → IsEither (made name) after (files_now name)
-    → StoresStateOrNothing name state files files_now
+    → StoresAllOrNothing name state files files_now
 stored_or_kept name state files made files_now before after same others empty gained either =
     record { either = by either; others = leaves_on name files made files_now same others }
   where

@@ -3,16 +3,14 @@ ghost use Rattle.std.specs.Prelude.{◌≡◌, ◌-◌, ◌^◌, ◌<◌, option
 ghost use Rattle.docker_program.specs.Devices.{IsCounted, LeavesNoDraft};
 ghost use Rattle.docker_program.specs.Past.{with_draft};
 ghost use Rattle.docker_program.specs.Program.{result_status};
-ghost use Rattle.docker_program.specs.Saving.{EndsSaving};
+ghost use Rattle.docker_desk.specs.Desk.{EndsSaving};
 
-use crate::files::OpenFault;
-use crate::stores::{Looked, Stores};
 use docker_cmd::{Office, OfficeFault};
+use docker_program::{Looked, OpenFault, Stores};
 
 /// Writes the text of an office's state to a draft of the file that was looked at, and puts the
-/// draft in the place of that file. If that fails, no draft is left, and the file is as it was or
-/// holds the whole text.
-pub fn store_office<W: Stores>(
+/// draft in the place of that file.
+pub(crate) fn store_office<W: Stores>(
     office: &Office,
     looked: Looked<'_, W::Seen>,
     store: &mut W,

@@ -1,7 +1,7 @@
 use Rattle.std.proofs.Common.{◌≡◌, ◌+◌, Err, ap, arith, rules}
 use Rattle.docker_cmd.specs.OfficeFault.TheVariants as office
-use Rattle.docker_program.proofs.SavingLemmas.{all_kept, ends_in_part, stored_or_kept, stored_whole}
-use Rattle.docker_program.proofs.saving.store_office.Goals as goal
+use Rattle.docker_desk.proofs.SavingLemmas.{all_kept, ends_in_part, stored_or_kept, stored_whole}
+use Rattle.docker_desk.proofs.saving.store_office.Goals as goal
 
 pub returns-in-Err-Failed-clause-ends : goal.returns-in-Err-Failed-clause-ends
 returns-in-Err-Failed-clause-ends g c =
