@@ -1,13 +1,12 @@
 //! What a job has read.
-ghost use Rattle.std.specs.Prelude.{◌≡◌, ◌-◌, ◌^◌, ◌<◌, ◌⊎◌, IfOk, IfSome, IsSome};
+ghost use Rattle.std.specs.Prelude.{◌≡◌, ◌-◌, ◌^◌, ◌<◌, ◌⊎◌, IfOk};
 ghost use Rattle.docker_cmd.specs.Holding.{IsWrittenFrom, held_meant};
-ghost use Rattle.docker_cmd.specs.Prepared.{CountsSources, HasNoSource, HasSecondSource, HoldsSomeState, IsOfOneFile, ReadsInOrder, office_read, output_of, sources_of, state_written, taken_file};
+ghost use Rattle.docker_cmd.specs.Prepared.{CountsSources, HasNoSource, HasSecondSource, HoldsSomeState, IsOfOneFile, ReadsInOrder, output_of, sources_of, taken_file};
 
 use crate::holding::{Holding, hold};
 use crate::jobs::Job;
-use crate::sources::Content;
 use cif_line::Source;
-use docker_office::{Office, OfficeFault};
+use docker_office::OfficeFault;
 use std::alloc::Global;
 use std::marker::Model;
 
@@ -48,18 +47,6 @@ impl<'a> Prepared<'a> {
         ensures written { IsWrittenFrom (output_of self.now.job.task) result.now }
     {
         &self.held
-    }
-
-    /// The office with the whole state that was read, if it holds one. A job that writes a state
-    /// holds one.
-    pub fn office(&self) -> Option<&Office>
-        ensures read { IfSome result (λ office. self.now.read ≡ office_read office.now) }
-        ensures some { output_of self.now.job.task ≡ state_written → IsSome result }
-    {
-        match self.held() {
-            Holding::Whole(Content::Office(office)) => Some(office),
-            _ => None,
-        }
     }
 }
 

@@ -3,6 +3,7 @@ pub mod WordLemmas
 pub mod RequestLemmas
 pub mod WritingLemmas
 pub mod SavingLemmas
+mod ReadFiles
 mod TermsLemmas
 mod KnownLemmas
 mod FixedLemmas

@@ -12,14 +12,11 @@ use crate::reply::Answer;
 use crate::saving::store_office;
 use cif_file::MOST_RECORDS;
 use cif_line::{Day, Tiploc, Uid};
-use docker_cmd::{Office, OfficeFault};
+use docker_cmd::{MOST_BYTES, Office, OfficeFault};
 use docker_program::{Files, Looked, Stores};
 use docker_train::{TrainFault, print_train};
 use std::alloc::Global;
 use std::marker::Model;
-
-/// The most bytes that a state's text may have.
-pub const MOST_BYTES: u64 = 1_099_511_627_776;
 
 /// A desk: an office, and whether something was taken, merged or set since it was last saved.
 #[derive(Debug, Drop)]

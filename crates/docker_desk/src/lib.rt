@@ -23,7 +23,7 @@ mod words;
 pub use ahead::Ahead;
 pub use answering::answer_line;
 pub use answers::write_answer;
-pub use desk::{Desk, MOST_BYTES};
+pub use desk::Desk;
 pub use ending::Ending;
 pub use lines::{Asked, InputFault, next_line};
 pub use opening::open_session;

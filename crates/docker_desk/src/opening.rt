@@ -5,9 +5,9 @@ ghost use Rattle.docker_program.specs.Past.{with_look};
 ghost use Rattle.docker_program.specs.Program.{result_status};
 ghost use Rattle.docker_desk.specs.Serving.{EndsOpening};
 
-use crate::desk::{Desk, MOST_BYTES};
+use crate::desk::Desk;
 use crate::session::Session;
-use docker_cmd::{Office, OfficeFault};
+use docker_cmd::{MOST_BYTES, Office, OfficeFault};
 use docker_program::{Files, Stores};
 use std::alloc::Global;
 

@@ -1,22 +1,12 @@
 //! The job that the program is asked for.
-ghost use Rattle.std.specs.Prelude.{◌≡◌, ◌≢◌, ◌-◌, ◌^◌, ◌<◌, ◌↔◌, [], IfOk, Err};
+ghost use Rattle.std.specs.Prelude.{◌≡◌, ◌-◌, ◌^◌, ◌<◌, [], IfOk, Err};
 ghost use Rattle.cif_line.specs.Device.{CountsFailure};
-ghost use Rattle.docker_cmd.specs.Job.{IsJobOf, NameNoJob};
 ghost use Rattle.docker_cmd.specs.Words.{texts};
 ghost use Rattle.docker_program.specs.Program.{AskForNone, AskForSome, AsksAtMost, AsksFor};
 
 use cif_line::Source;
 use docker_cmd::{Job, JobFault, job, job_line};
 use std::alloc::Global;
-
-/// The job that these words name.
-fn named_job(alloc: Global, words: &[&str]) -> Result<Job, JobFault>
-    ensures job { IfOk result (λ job. IsJobOf (texts words.now) job) }
-    ensures usage { (result ≡ Err JobFault.Usage) ↔ NameNoJob (texts words.now) }
-    ensures source { result ≢ Err JobFault.Source }
-{
-    job(alloc, words)
-}
 
 /// The job that the words name or, if there are none, the first line of standard input.
 pub(crate) fn requested_job<S: Source>(
@@ -39,6 +29,6 @@ pub(crate) fn requested_job<S: Source>(
     if words.is_empty() {
         job_line(alloc, stdin)
     } else {
-        named_job(alloc, words)
+        job(alloc, words)
     }
 }

@@ -13,4 +13,4 @@ asks_none (word ∷ words) input some none = none
 pub returns-else-is_empty-clause-usage : goal.returns-else-is_empty-clause-usage
 returns-else-is_empty-clause-usage g c =
     let some : length c.args.words.now ≢ 0 = search rules in
-    λ usage. asks_none c.args.words.now (g.S.Source.left c.args.stdin.now) some (c.named_job.ensures.usage.0 usage)
+    λ usage. asks_none c.args.words.now (g.S.Source.left c.args.stdin.now) some (c.job.ensures.usage.0 usage)
