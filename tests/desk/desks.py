@@ -4,6 +4,7 @@ import pathlib
 import re
 import select
 import subprocess
+import sys
 import typing
 
 from cases import PATIENCE, Unlike, holds, same
@@ -91,6 +92,15 @@ def docker(*words):
 def desk(*words, given=b"", **options):
     """Runs a desk on all these lines at once."""
     return run([DESK, *words], given, **options)
+
+
+def build(state):
+    """The launchers build the programs if needed. They make and read a first state."""
+    for name, words in (("docker", ["new", state]), ("desk", [state])):
+        if not os.environ.get(name.upper()):
+            command = [ROOT / name, *words]
+            if subprocess.run(command, check=False, stdin=subprocess.DEVNULL).returncode:
+                sys.exit(f"{name} isn't built, or fails")
 
 
 def preload(source):
