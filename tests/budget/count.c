@@ -1,0 +1,87 @@
+// Preloaded under a program that callgrind runs. It counts growths of memory, and reads and writes.
+// A portion of the run ends when standard input is read, and at the end. At the end the program
+// leaves a line for each portion in the file that COUNTED names:
+//   how often memory grew, and the most bytes held at a time beyond what was held at first;
+//   the greatest request for memory, less the bytes that were read before it;
+//   how many reads there were, and of how many bytes; and how many writes, and of how many bytes.
+// callgrind leaves the instructions of each portion.
+#include "../growth/growths.h"
+#include <fcntl.h>
+#include <limits.h>
+#include <stdio.h>
+#include <unistd.h>
+#include <valgrind/callgrind.h>
+
+enum { MOST = 64 };
+
+struct portion {
+  long growths, peak, at_once, reads, bytes_read, writes, bytes_written;
+};
+
+static struct portion ended[MOST], portion;
+static long held, held_at_first;
+static int count;
+
+static void end_portion(void) {
+  CALLGRIND_DUMP_STATS;
+  if (count == MOST) abort();
+  ended[count++] = portion;
+  portion = (struct portion){0};
+  held_at_first = held;
+}
+
+static int is_refused(size_t size) {
+  long beyond = (size < LONG_MAX ? (long)size : LONG_MAX) - portion.bytes_read;
+  portion.growths++;
+  if (beyond > portion.at_once) portion.at_once = beyond;
+  return 0;
+}
+
+static void *grown(size_t before, void *block) {
+  if (!block) return NULL;
+  held += (long)malloc_usable_size(block) - (long)before;
+  if (held - held_at_first > portion.peak) portion.peak = held - held_at_first;
+  return block;
+}
+
+void free(void *block) {
+  held -= (long)malloc_usable_size(block);
+  NEXT(free)(block);
+}
+
+ssize_t read(int from, void *into, size_t size) {
+  if (from == STDIN_FILENO) end_portion();
+  ssize_t got = NEXT(read)(from, into, size);
+  portion.reads++;
+  if (got > 0) portion.bytes_read += got;
+  return got;
+}
+
+ssize_t write(int to, const void *bytes, size_t size) {
+  ssize_t took = NEXT(write)(to, bytes, size);
+  portion.writes++;
+  if (took > 0) portion.bytes_written += took;
+  return took;
+}
+
+// Another name of the same call.
+ssize_t __write(int to, const void *bytes, size_t size) { return write(to, bytes, size); }
+
+// What is wrapped is looked for before the program begins, so that it costs the program nothing.
+__attribute__((constructor)) static void begin(void) {
+  free(realloc(malloc(1), 2));
+  if (read(-1, NULL, 0) == 0 || write(-1, NULL, 0) == 0) abort();
+  portion = (struct portion){0};
+  held_at_first = held;
+}
+
+__attribute__((destructor)) static void leave_counts(void) {
+  end_portion();
+  const char *counted = getenv("COUNTED");
+  int out = counted ? open(counted, O_CREAT | O_TRUNC | O_WRONLY, 0600) : -1;
+  for (int i = 0; i < count; i++) {
+    struct portion *p = &ended[i];
+    dprintf(out, "%ld %ld %ld ", p->growths, p->peak, p->at_once);
+    dprintf(out, "%ld %ld %ld %ld\n", p->reads, p->bytes_read, p->writes, p->bytes_written);
+  }
+}

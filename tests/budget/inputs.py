@@ -1,0 +1,181 @@
+"""The extract, the updates and the states over which the budget is measured. They are the same on
+every machine."""
+import pathlib
+import subprocess
+
+import desks
+import extracts
+
+UIDS = 3000
+PLACES = 700
+# The files that the ledger of a state knows before it takes one.
+LEDGER = 200
+# The day of the dockers, and the horizon that is set.
+DAY = "2024-06-12"
+HORIZON = "2024-05-01"
+HUB = "ASHFELD"
+# What the text of a state begins with, and an older one.
+MARK, OLD_MARK = b"DKS2\0\0", b"DKS1"
+# The numbers of two bytes: 2005-09-26 and 01:05.
+LONG_AGO = (16705).to_bytes(2, "big") + (65).to_bytes(2, "big")
+
+
+def mixed(number, salt, below):
+    """A number below a limit, by two numbers. It seems random and isn't."""
+    hashed = (number * 2654435761 + salt * 40503 + 12345) & 0xFFFFFFFF
+    hashed = ((hashed ^ hashed >> 15) * 0x2C1B3C6D) & 0xFFFFFFFF
+    return ((hashed ^ hashed >> 12) * below) >> 32
+
+
+def place_of(number):
+    return HUB if number == 0 else f"P{number:05}X"
+
+
+def uid_of(number):
+    return f"{'CGLPWY'[number % 6]}{number:05}"
+
+
+def clock(half_minutes):
+    minutes, half = half_minutes // 2 % 1440, half_minutes % 2
+    return f"{minutes // 60:02}{minutes % 60:02}{'H' if half else ' '}"
+
+
+def route(number):
+    """The places of a train: a stretch of a line of places, one time in five by the hub."""
+    first, step = mixed(number, 1, PLACES), 1 + mixed(number, 2, 3)
+    stops = 3 + mixed(number, 3, 26)
+    at = [place_of(1 + (first + step * stop) % (PLACES - 1)) for stop in range(stops)]
+    if mixed(number, 4, 5) == 0:
+        at[mixed(number, 5, stops)] = HUB
+    return at
+
+
+def journey(number, salt):
+    """The locations of a train, with a change en route in one of ten. Some trains pass midnight."""
+    at, time = route(number), 2 * mixed(number, salt, 1400)
+    lines = [extracts.origin(at[0], clock(time), "1", "FL")]
+    for stop, place in enumerate(at[1:-1]):
+        time += 6 + mixed(number + stop, salt + 1, 12)
+        if mixed(number * 31 + stop, 6, 70) == 0:
+            lines.append(extracts.record(f"CR{place:8} OO2C{stop:02}"))
+        if mixed(number * 31 + stop, 7, 3) == 0:
+            lines.append(extracts.passes(place, clock(time)))
+        else:
+            lines.append(extracts.calls(place, clock(time), clock(time + 2)))
+    return "".join(lines) + extracts.terminus(at[-1], clock(time + 9), "2")
+
+
+def base(number, salt=8, transaction="N"):
+    """A permanent schedule. A third of them ended before the horizon."""
+    last = "240420" if mixed(number, 9, 3) == 0 else "241214"
+    days = ("1111100", "1111111", "0000011", "1111110")[mixed(number, 10, 4)]
+    train = f"{1 + mixed(number, 11, 9)}{'ABCM'[number % 4]}{number % 100:02}"
+    extra = extracts.record("BX         NTY") if number % 2 else ""
+    return (extracts.basic(transaction, uid_of(number), "231210", last, days, train)
+            + extra + journey(number, salt))
+
+
+def overlay(number, transaction="N"):
+    first, last = f"2406{1 + mixed(number, 12, 15):02}", f"2406{16 + mixed(number, 12, 15):02}"
+    schedule = extracts.basic(
+        transaction, uid_of(number), first, last, "1111111", "1X99", stp="O")
+    return schedule + journey(number, 13)
+
+
+def cancellation(number):
+    day = f"2406{10 + mixed(number, 14, 10):02}"
+    return extracts.basic("N", uid_of(number), day, day, "1111111", stp="C")
+
+
+def link(number, last="241214"):
+    at = route(number)[-1]
+    return extracts.association(uid_of(number), uid_of((number + 1) % UIDS), "231210", last, at)
+
+
+def full():
+    """An extract in the order of national ones: places, associations, and schedules by UID."""
+    parts = [extracts.header("240609", "DFROC1A")]
+    for number in range(PLACES):
+        parts.append(extracts.place("TI", place_of(number), f"PLACE {number}"))
+    parts += [link(number) for number in range(0, UIDS, 7)]
+    for number in range(UIDS):
+        parts.append(base(number))
+        if number % 5 == 0:
+            parts.append(overlay(number))
+        if number % 4 == 0:
+            parts.append(cancellation(number))
+    return extracts.extract(*parts)
+
+
+def update(date, reference, turn):
+    """An update: some places change, and of every twentieth UID something is new."""
+    parts = [extracts.header(date, reference)]
+    for number in range(20 + turn, 50, 3):
+        new = place_of(number).replace("X", "Y") if number % 2 else ""
+        parts.append(extracts.place("TA", place_of(number), f"PLACE {number}, AGAIN", new))
+    parts += [link(number, "240720") for number in range(turn, UIDS, 70)]
+    for number in range(turn, UIDS, 20):
+        match number // 20 % 4:
+            case 0:
+                parts.append(base(number, 15, "R"))
+            case 1:
+                parts.append(extracts.basic("D", uid_of(number), "231210"))
+            case 2:
+                parts.append(cancellation(number + 1))
+            case _:
+                parts.append(base(UIDS + number, 8))
+    return extracts.extract(*parts)
+
+
+def item(number):
+    return LONG_AGO + b"A%06dULASTREF" % number
+
+
+def ledger(first):
+    """The text of a state that knows files, every second number from the first one, and no more."""
+    items = [item(first + 2 * number) for number in range(LEDGER)]
+    return MARK + LEDGER.to_bytes(8, "big") + b"".join(items) + bytes(8)
+
+
+def endless():
+    """Texts of states that are cut short, each named by a count in it that has no end."""
+    one = MARK + (1).to_bytes(8, "big") + item(0)
+    stamp = item(0)[:11] + (2).to_bytes(4, "big")
+    places = b"".join(
+        b"\1" + place_of(number).encode() + stamp + b"\1" + b" " * 63 for number in range(1, 600)
+    )
+    lines = extracts.basic("N", "C00001", "600101", "991231", "1111111")
+    lines += extracts.origin(HUB, "0900") + 599 * extracts.passes(HUB, "0900 ")
+    key = b"C00001" + bytes(2) + b"P"
+    schedule = b"\3" + key + stamp + b"\1" + (4 * 10**9).to_bytes(4, "big")
+    schedule += lines.replace("\n", "").encode()
+    return {
+        "files": MARK + b"\xff" * 8 + b"".join(item(number) for number in range(3000)),
+        "entries": one + b"\xff" * 8 + places,
+        "lines of a schedule": one + (1).to_bytes(8, "big") + schedule,
+    }
+
+
+def docker(*words):
+    """Runs a command that has to succeed."""
+    subprocess.run([desks.DOCKER, *words], check=True, stdin=subprocess.DEVNULL)
+
+
+def make(folder):
+    """Leaves all inputs in a folder, in which this process is."""
+    texts = {
+        "full.cif": full(),
+        "update.cif": update("240610", "DFROC1B", 0),
+        "second.cif": update("240611", "DFROC1C", 7),
+    }
+    for name, text in texts.items():
+        pathlib.Path(folder, name).write_text(text, encoding="ascii")
+    for name, first, file in (("full.state", 0, "full.cif"), ("second.state", 1, "second.cif")):
+        pathlib.Path(folder, name).write_bytes(ledger(first))
+        docker("take", f"{folder}/{name}", f"{folder}/{file}")
+    docker("new", f"{folder}/empty.state")
+    text = pathlib.Path(folder, "full.state").read_bytes()
+    pathlib.Path(folder, "old.state").write_bytes(OLD_MARK + text[len(MARK):])
+    for name, text in endless().items():
+        pathlib.Path(folder, f"endless {name}").write_bytes(text)
+        pathlib.Path(folder, f"endless {name}.old").write_bytes(OLD_MARK + text[len(MARK):])

@@ -1,0 +1,38 @@
+// The calls by which a program's memory grows, wrapped. What is preloaded includes this, and says
+// before each growth whether it is refused, and after it what became of it.
+#define _GNU_SOURCE
+#include <dlfcn.h>
+#include <errno.h>
+#include <malloc.h>
+#include <stdlib.h>
+
+// The call that is wrapped.
+#define NEXT(name)                                      \
+  ({                                                    \
+    static __typeof__(&name) next;                      \
+    if (!next) next = dlsym(RTLD_NEXT, #name);          \
+    next;                                               \
+  })
+
+// Whether a growth to this many bytes is refused.
+static int is_refused(size_t size);
+// Takes note of a block that had `before` bytes, and returns it. It is NULL if there is no memory.
+static void *grown(size_t before, void *block);
+
+void *malloc(size_t size) { return is_refused(size) ? NULL : grown(0, NEXT(malloc)(size)); }
+
+void *realloc(void *old, size_t size) {
+  size_t before = malloc_usable_size(old);
+  return is_refused(size) ? NULL : grown(before, NEXT(realloc)(old, size));
+}
+
+void *aligned_alloc(size_t alignment, size_t size) {
+  return is_refused(size) ? NULL : grown(0, NEXT(aligned_alloc)(alignment, size));
+}
+
+int posix_memalign(void **out, size_t alignment, size_t size) {
+  if (is_refused(size)) return ENOMEM;
+  int error = NEXT(posix_memalign)(out, alignment, size);
+  if (!error) grown(0, *out);
+  return error;
+}
