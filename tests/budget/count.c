@@ -81,6 +81,7 @@ __attribute__((destructor)) static void leave_counts(void) {
   int out = counted ? open(counted, O_CREAT | O_TRUNC | O_WRONLY, 0600) : -1;
   for (int i = 0; i < count; i++) {
     struct portion *p = &ended[i];
-    dprintf(out, "%ld %ld %ld %ld %ld %ld %ld\n", p->growths, p->peak, p->at_once, p->reads, p->bytes_read, p->writes, p->bytes_written);
+    dprintf(out, "%ld %ld %ld ", p->growths, p->peak, p->at_once);
+    dprintf(out, "%ld %ld %ld %ld\n", p->reads, p->bytes_read, p->writes, p->bytes_written);
   }
 }

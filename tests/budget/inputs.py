@@ -147,7 +147,8 @@ def endless():
     lines = extracts.basic("N", "C00001", "600101", "991231", "1111111")
     lines += extracts.origin(HUB, "0900") + 599 * extracts.passes(HUB, "0900 ")
     key = b"C00001" + bytes(2) + b"P"
-    schedule = b"\3" + key + stamp + b"\1" + (4 * 10**9).to_bytes(4, "big") + lines.replace("\n", "").encode()
+    schedule = b"\3" + key + stamp + b"\1" + (4 * 10**9).to_bytes(4, "big")
+    schedule += lines.replace("\n", "").encode()
     return {
         "files": MARK + b"\xff" * 8 + b"".join(item(number) for number in range(3000)),
         "entries": one + b"\xff" * 8 + places,
