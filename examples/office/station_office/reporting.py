@@ -30,7 +30,8 @@ def says_known(office, out):
     if wrong or not extracts:
         office.status = max(office.status, STALE)
     for extract in known_of(office, extracts):
-        office.report(Fault(1, office.state, f"it knows the {extract.name}, which is withdrawn: `station-office withdraw {office.state} {extract.reference}` drops it"))
+        drops = f"`station-office withdraw {office.state} {extract.reference}` drops it"
+        office.report(Fault(1, office.state, f"it knows the {extract.name}, which is withdrawn: {drops}"))
 
 
 def missing(extracts):

@@ -81,11 +81,13 @@ def offices_with(office, extract):
 def sends(office):
     """Packs STATE into swap/, under the office's name. A file of that name that another office put there stays."""
     if known := known_of(office, office.files()):
-        raise Fault(1, office.state, f"it isn't sent: it knows the {known[0].name}, which is withdrawn. `station-office withdraw {office.state} {known[0].reference}` drops it")
+        drops = f"`station-office withdraw {office.state} {known[0].reference}` drops it"
+        raise Fault(1, office.state, f"it isn't sent: it knows the {known[0].name}, which is withdrawn. {drops}")
     target = own(office)
     target.parent.mkdir(exist_ok=True)
     if target.exists() and not is_ours(office, target):
-        raise Fault(1, target, f"it isn't what this office put there, so it stays. Another office has the name {name_of(office)}. Remove {name_file(office)}, and this office gets a name of its own")
+        remedy = f"Remove {name_file(office)}, and this office gets a name of its own"
+        raise Fault(1, target, f"it isn't what this office put there, so it stays. Another office has the name {name_of(office)}. {remedy}")
     part = target.with_name(f".{target.name}.part")
     try:
         packing.pack(office.state, part)
@@ -94,4 +96,5 @@ def sends(office):
         os.replace(part, target)
     except OSError as error:
         part.unlink(missing_ok=True)
-        raise Fault(4, office.state, f"it can't be put into {target.parent}", *office.shortage(size_of(target) or size_of(office.state) // 4, target.parent), *filter(None, [error.strerror])) from None
+        needs = size_of(target) or size_of(office.state) // 4
+        raise Fault(4, office.state, f"it can't be put into {target.parent}: {error.strerror or error}", *office.shortage(needs, target.parent)) from None
