@@ -13,7 +13,8 @@ from .withdrawn import known_of
 
 
 class Found(NamedTuple):
-    """An extract that docker accepts: its text in a file, its header, its digest, and how many changes it has."""
+    """An extract that docker accepts, and how it says so: its text in a file, its header, its digest, and how many changes it has."""
+    accepted: str
     plain: pathlib.Path
     extract: dockers.Extract
     digest: str
@@ -46,6 +47,7 @@ def takes(office, path):
         found = looks_at(office, path)
         if not is_known(office, path, found):
             believes(office, path, found)
+            office.say(path, found.accepted)
             joins(office, path, found)
         keeps(office, path, found)
     except PutAside as fault:
@@ -64,8 +66,7 @@ def looks_at(office, path):
         accepted = office.docker(path, "check", plain).decode("ascii").strip()
     except Fault as fault:
         raise Refused(1, path, *fault.lines) if fault.status == 1 else fault from None
-    office.say(path, accepted)
-    found = Found(plain, header_of(head[:80]), digest_of(plain), int(re.search(r"(\d+) changes", accepted)[1]))
+    found = Found(accepted, plain, header_of(head[:80]), digest_of(plain), int(re.search(r"(\d+) changes", accepted)[1]))
     if known_of(office, [found.extract]):
         still = swap.offices_with(office, found.extract)
         raise Refused(1, path, f"the {found.extract.name} is withdrawn here, so it isn't taken", *(f"office {name} still has to withdraw it" for name in still))
